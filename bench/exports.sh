@@ -28,5 +28,5 @@ libraries=$(realpath "$libraries")
 cc -std=gnu11 -O2 -Wall -Wextra -Iinclude -Ic/tests bench/exports.c "$libraries/libetherparse.a" -o "$work/exports"
 "$work/exports"
 in_rattle benchmarks 20000 built_udp_ipv4 sliced_udp_ipv4
-in_rattle reassembly_benchmarks 200000 interleaved
+in_rattle benchmarks 200000 interleaved
 ETHERPARSE_LIB_DIR=$libraries PYTHONDONTWRITEBYTECODE=1 PYTHONPATH=python /usr/bin/python3 bench/exports.py

@@ -1,5 +1,4 @@
-//! The benchmarks of `reassembly_benchmarks` and `colliding_benchmarks` in plain Rust, with the same arguments and the
-//! same lines.
+//! The benchmarks of reassembly of the program `benchmarks` in plain Rust, with the same arguments and the same lines.
 
 // The answers to lines need more of a packet.
 #[allow(dead_code)]

@@ -11,18 +11,17 @@ source bench/common.sh
 source bench/common_lines.sh
 
 # A turn is a message of 8192 fragments.
-race_by_name reassembly_benchmarks plain_reassembly 8192 order ascending descending even_first shuffled
+race_by_name benchmarks plain_reassembly 8192 order ascending descending even_first shuffled
 
 # A turn is 100,000 messages of two fragments.
-race_by_name reassembly_benchmarks plain_reassembly 200000 pool interleaved
-race_by_name colliding_benchmarks plain_reassembly 200000 pool interleaved_random
+race_by_name benchmarks plain_reassembly 200000 pool interleaved interleaved_random
 
 # A turn is 8000 messages of two fragments.
 colliding=()
 for names in 1000 2000 4000 8000; do
     colliding+=("colliding_$names" "colliding_${names}_random")
 done
-race_by_name colliding_benchmarks plain_reassembly 16000 "colliding names" "${colliding[@]}"
+race_by_name benchmarks plain_reassembly 16000 "colliding names" "${colliding[@]}"
 
 # A message of 8,188 fragments through the whole program `netlines`, fifty times in each order.
 rounds=10

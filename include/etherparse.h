@@ -1,9 +1,9 @@
 /* Packets sliced, judged, summed, built and put together by proved code. Written by tools/bindings.
    What a caller owes:
-   - no pointer is null, also where the length behind it is 0, and each points to as many bytes or
+   - no pointer is null, also where the length after it is 0, and each points to as many bytes or
      structs as that length says, at most PTRDIFF_MAX bytes of memory that was written before;
    - nobody writes during a call what it reads, nor reads or writes what it writes; what it writes
-     overlaps nothing else that it is handed.
+     overlaps nothing else that is passed.
    No call keeps a pointer, blocks or ends the process.
    Calls may call malloc, realloc and free, which come from one allocator and align blocks as
    usual. None is made in a signal handler, nor in the forked child of a process with threads.
@@ -20,13 +20,13 @@ extern "C" {
 
 /* It is done, or there was nothing to do. */
 #define EP_DONE 0
-/* The output has no room. */
+/* The output is too short. */
 #define EP_NO_ROOM 1
 /* Out of memory. */
 #define EP_NO_MEMORY 2
-/* A field is refused. */
+/* A packet, a fragment, a field of a plan or a payload is refused. */
 #define EP_REFUSED 3
-/* It isn't open, or is open already, or keeps a message. */
+/* The pool isn't open, or is open already, or keeps a message. */
 #define EP_WRONG_STATE 4
 /* A message is complete. */
 #define EP_COMPLETED 5
@@ -40,7 +40,7 @@ extern "C" {
 #define EP_REFUSAL_LINUX_SLL_HARDWARE_TYPE 3
 /* A MACsec version other than 0. */
 #define EP_REFUSAL_MACSEC_VERSION 4
-/* A MACsec short length without room for the ether type. */
+/* A MACsec short length below that of the ether type. */
 #define EP_REFUSAL_MACSEC_SHORT_LEN 5
 /* An IP version other than 4 and 6. */
 #define EP_REFUSAL_IP_VERSION 6
@@ -52,7 +52,7 @@ extern "C" {
 #define EP_REFUSAL_IPV6_VERSION 9
 /* A payload length 0 of an authentication header. */
 #define EP_REFUSAL_AUTH_HEADER_LEN 10
-/* Hop-by-hop options behind another extension header. */
+/* Hop-by-hop options after another extension header. */
 #define EP_REFUSAL_HOP_BY_HOP_NOT_AT_START 11
 /* A TCP data offset below 5. */
 #define EP_REFUSAL_TCP_DATA_OFFSET 12
@@ -113,27 +113,27 @@ typedef struct {
     size_t place;
     /* Of too few bytes: where their number comes from. */
     uint32_t source;
-    /* Of a header that breaks its format: the field that it holds in place of a right one. */
+    /* Of a header that breaks its format: the wrong value of its field. */
     uint32_t value;
 } ep_refusal;
 
-/* Why a part of a message is refused. All fields are 0 where it isn't. */
+/* Why a fragment is refused. All fields are 0 where it isn't. */
 typedef struct {
     /* 0 not refused, 1 others follow it and its length is no multiple of 8, 2 it ends beyond 65535
-       bytes, 3 it ends elsewhere than the message, 4 over IPv6 it overlaps another part: then the
-       message is dropped with all of its parts. */
+       bytes, 3 it ends elsewhere than the datagram, 4 over IPv6 it overlaps another fragment: then
+       the datagram is dropped with all of its fragments. */
     uint32_t kind;
-    /* Of kinds 1, 2 and 4: its offset in the message, in units of 8 bytes. */
+    /* Of kinds 1, 2 and 4: its offset in the datagram, in units of 8 bytes. */
     uint16_t offset;
-    /* Of kind 3: the end of the message, in bytes. */
+    /* Of kind 3: the end of the datagram, in bytes. */
     uint16_t previous_end;
     /* Of kind 3: its own end, in bytes. */
     uint16_t end;
-    /* Of kinds 1, 2 and 4: its length. */
+    /* Of kinds 1, 2 and 4: its length, in bytes. */
     size_t len;
 } ep_part_refusal;
 
-/* A message that was put together. All fields are 0 where there is none. */
+/* A reassembled message. All fields are 0 where there is none. */
 typedef struct {
     /* How many bytes it has. */
     size_t len;
@@ -153,25 +153,25 @@ typedef struct {
 
 /* What became of a frame that a pool was given, or of the message that it kept. */
 typedef struct {
-    /* 5 where a message is complete and written, 1 where it is complete and has no room, and 0 where
-       none is complete; 2 out of memory, 3 refused, 4 in a wrong state. */
+    /* 5 where a message is complete and written, 1 where it is complete and the output is too short
+       for it, and 0 where none is complete; 2 out of memory, 3 refused, 4 in a wrong state. */
     uint32_t status;
     /* Why the frame is refused. */
     ep_refusal refusal;
-    /* Why the part of a message that the frame has is refused. */
+    /* Why the fragment in the frame is refused. */
     ep_part_refusal part;
     /* The message that is complete. */
     ep_message message;
 } ep_added;
 
-/* What became of a packet that was to be built. */
+/* The result of building a packet. */
 typedef struct {
-    /* 0 where it is built, 1 where the output has no room for its length, 2 where there is no
+    /* 0 where it is built, 1 where the output is shorter than the packet, 2 where there is no
        memory, 3 where a field of the plan, or the payload, is refused. */
     uint32_t status;
     /* The first field of the plan at fault, where it is refused, else 0. */
     uint32_t field;
-    /* The length of the packet, where it is built or has no room, else 0. */
+    /* The length of the packet, where it is built or the output is too short, else 0. */
     size_t len;
 } ep_built;
 
@@ -191,11 +191,11 @@ typedef struct {
     uint16_t hardware_type;
     /* Of a cooked capture: how many bytes of the address are the sender's, as it states it. */
     uint16_t address_len;
-    /* Of a cooked capture: the sender's address, and bytes without meaning behind it. */
+    /* Of a cooked capture: the sender's address, and bytes without meaning after it. */
     uint8_t address[8];
 } ep_link;
 
-/* Where bytes stand in those that were handed in. */
+/* Where bytes are in those that were passed. */
 typedef struct {
     /* The offset of the first byte. */
     size_t offset;
@@ -205,11 +205,11 @@ typedef struct {
 
 /* A tag between link header and packet. The fields of other kinds are 0. */
 typedef struct {
-    /* Where the tag itself stands. */
+    /* Where the tag itself is. */
     ep_part header;
     /* 0 none, 1 VLAN, 2 MACsec. */
     uint32_t kind;
-    /* The ether type of what follows, 0 behind a changed or encrypted MACsec payload. */
+    /* The ether type of what follows, 0 where a changed or encrypted MACsec payload follows. */
     uint16_t ether_type;
     /* Of VLAN: the identifier. */
     uint16_t vlan_id;
@@ -237,7 +237,7 @@ typedef struct {
     uint64_t channel;
 } ep_tag;
 
-/* An IPv4 packet (RFC 791). Its options stand at the end of its header. */
+/* An IPv4 packet (RFC 791). Its options are the last bytes of its header. */
 typedef struct {
     /* The header, options included. */
     ep_part header;
@@ -251,11 +251,11 @@ typedef struct {
     uint8_t destination[4];
     /* The length of header and payload, as the header states it. */
     uint16_t total_len;
-    /* What the parts of one message share. */
+    /* The identification, which the fragments of one datagram share. */
     uint16_t identification;
-    /* The offset of the payload in the message, in units of 8 bytes. */
+    /* The offset of the payload in the datagram, in units of 8 bytes. */
     uint16_t fragment_offset;
-    /* The header checksum, as it stands. */
+    /* The header checksum, as the header states it. */
     uint16_t header_checksum;
     /* Differentiated services code point. */
     uint8_t dscp;
@@ -265,13 +265,13 @@ typedef struct {
     uint8_t time_to_live;
     /* The number of what follows the header. */
     uint8_t protocol;
-    /* The number of the payload, behind an authentication header. */
+    /* The number of the payload, after an authentication header. */
     uint8_t payload_number;
     /* Whether the packet may not be fragmented. */
     bool dont_fragment;
-    /* Whether other parts follow. */
+    /* Whether other fragments follow. */
     bool more_fragments;
-    /* Whether the payload is a part of a message. */
+    /* Whether the payload is a fragment. */
     bool is_part;
 } ep_ipv4;
 
@@ -289,11 +289,11 @@ typedef struct {
     uint8_t destination[16];
     /* The flow label. */
     uint32_t flow_label;
-    /* What the parts of one message share, by the first fragment header. */
+    /* The identification, which the fragments of one datagram share, by the first fragment header. */
     uint32_t identification;
     /* The payload length, as the header states it. */
     uint16_t payload_length;
-    /* The offset of the payload in the message, in units of 8 bytes, by the first fragment header. */
+    /* The offset of the payload in the datagram, in units of 8 bytes, by the first fragment header. */
     uint16_t fragment_offset;
     /* The traffic class. */
     uint8_t traffic_class;
@@ -301,13 +301,13 @@ typedef struct {
     uint8_t next_header;
     /* Hops that are left. */
     uint8_t hop_limit;
-    /* The number of the payload, behind the extension headers. */
+    /* The number of the payload, after the extension headers. */
     uint8_t payload_number;
     /* Whether there is a fragment header. */
     bool has_fragment_header;
-    /* Whether other parts follow, by the first fragment header. */
+    /* Whether other fragments follow, by the first fragment header. */
     bool more_fragments;
-    /* Whether the payload is a part of a message. */
+    /* Whether the payload is a fragment. */
     bool is_part;
 } ep_ipv6;
 
@@ -343,11 +343,11 @@ typedef struct {
     uint16_t destination_port;
     /* The length of header and payload, as the header states it; 0 in a jumbogram. */
     uint16_t stated_len;
-    /* The checksum, as it stands; 0 where none was sent. */
+    /* The checksum, as the header states it; 0 where none was sent. */
     uint16_t checksum;
 } ep_udp;
 
-/* A TCP segment (RFC 9293). Its options stand behind the first 20 bytes of the header. */
+/* A TCP segment (RFC 9293). Its options follow the first 20 bytes of the header. */
 typedef struct {
     /* The header, options included. */
     ep_part header;
@@ -363,7 +363,7 @@ typedef struct {
     uint16_t destination_port;
     /* The window. */
     uint16_t window_size;
-    /* The checksum, as it stands. */
+    /* The checksum, as the header states it. */
     uint16_t checksum;
     /* The urgent pointer. */
     uint16_t urgent_pointer;
@@ -393,7 +393,7 @@ typedef struct {
     ep_part header;
     /* What follows it. */
     ep_part payload;
-    /* The checksum, as it stands. */
+    /* The checksum, as the header states it. */
     uint16_t checksum;
     /* The type. */
     uint8_t icmp_type;
@@ -403,19 +403,19 @@ typedef struct {
     uint8_t rest[4];
 } ep_icmp;
 
-/* What is told of a packet. Every [`EpPart`] counts from the front of the bytes that were handed
-   in. The fields of a layer that isn't there are 0, and all but `refusal` are where it is
+/* The fields of a packet. Every [`EpPart`] counts from the start of the bytes that were passed.
+   The fields of a layer that isn't there are 0, and all but `refusal` are where the packet is
    refused. */
 typedef struct {
-    /* Why there is no packet. */
+    /* Why the packet is refused. */
     ep_refusal refusal;
     /* The link header. */
     ep_link link;
     /* How many tags there are. */
     uint32_t tag_count;
-    /* The tags behind the link header, in their order. */
+    /* The tags after the link header, in their order. */
     ep_tag tags[3];
-    /* What the last ether type names. */
+    /* The payload that the last ether type names. */
     ep_part ether_payload;
     /* The network layer: 0 none, 1 ARP, 4 IPv4, 6 IPv6. */
     uint32_t net;
@@ -435,7 +435,7 @@ typedef struct {
     ep_icmp icmp;
 } ep_packet;
 
-/* What a packet is to be built of. The fields of headers that it doesn't ask for don't count.
+/* The headers of a packet to build. The fields of headers that it doesn't have are ignored.
    Lengths, checksums, ether types and the numbers of headers follow from it. */
 typedef struct {
     /* The link header: 0 none, 1 Ethernet II, 2 a Linux cooked capture of an Ethernet device. */
@@ -450,7 +450,7 @@ typedef struct {
     uint16_t address_len;
     /* Of a cooked capture: the sender's address. */
     uint8_t address[8];
-    /* How many VLAN tags stand behind an Ethernet II header: 0, 1 or 2. */
+    /* How many VLAN tags follow an Ethernet II header: 0, 1 or 2. */
     uint32_t tag_count;
     /* The identifier of the first of them, 0 to 4095. */
     uint16_t outer_vlan_id;
@@ -510,12 +510,11 @@ typedef struct {
     bool cwr;
     /* Of TCP: how many bytes of options there are, at most 40. */
     size_t options_len;
-    /* Of TCP: the options. They are filled up with 0 to whole words. */
+    /* Of TCP: the options. They are padded with 0 to whole words of 4 bytes. */
     uint8_t options[40];
 } ep_plan;
 
-/* The messages that are on their way in parts. It begins as zeros, and is changed by these calls
-   alone. */
+/* A pool that reassembles datagrams. It starts as zeros, and only these calls change it. */
 typedef struct {
     /* Whether it was opened and not freed. */
     bool is_open;
@@ -523,58 +522,58 @@ typedef struct {
     void *held;
 } ep_pool;
 
-/* Builds the packet of a plan with this payload, at the front of the output. The status is 0
-   where it is built, 1 where the output has no room for its length, 2 where there is no memory,
+/* Builds the packet of a plan with this payload, at the start of the output. The status is 0
+   where it is built, 1 where the output is shorter than the packet, 2 where there is no memory,
    and 3 where a field of the plan, or the payload, is refused. Where it isn't 0 the output is as
    it was. */
 ep_built ep_build(const ep_plan *plan, const uint8_t *payload, size_t payload_len, uint8_t *output, size_t output_len);
 
-/* The checksum of the bytes, as it stands in a header, high byte first. */
+/* The checksum of the bytes, as a header has it, high byte first. */
 uint16_t ep_checksum(const uint8_t *bytes, size_t bytes_len);
 
-/* Whether the words of the bytes sum to all ones, as those of a text with a right checksum do. */
+/* Whether the words of the bytes sum to all ones, as those of bytes with a right checksum do. */
 bool ep_checksum_is_right(const uint8_t *bytes, size_t bytes_len);
 
-/* Opens a pool with no message. The result is 0 where it is open, 2 where there is no memory,
+/* Opens a pool without fragments. The result is 0 where it is open, 2 where there is no memory,
    and 4 where it was open before. Where it isn't 0 nothing is changed. */
 uint32_t ep_pool_new(ep_pool *pool);
 
-/* Takes an Ethernet II frame, which came at this time on this channel. Messages of other
-   channels are other messages. The status is 5 where a message is complete with it: then it
-   stands at the front of the output. It is 1 where the message has no room: then the pool keeps
-   it until `ep_pool_take` hands it out. It is 0 where no message is complete, since the frame is
-   no part of one, or its message waits for others. It is 2 where there is no memory for the
-   part, and 3 where the frame or the part is refused: then all messages are as they were, but
-   that of a part of refusal 4 is dropped. It is 4 where the pool isn't open or keeps a message:
-   then nothing is changed. */
+/* Takes an Ethernet II frame, which came at this time on this channel. Fragments of different
+   channels belong to different datagrams. The status is 5 where a message is complete with it:
+   then the output starts with the message. It is 1 where the output is shorter than the message:
+   then the pool keeps it until `ep_pool_take` returns it. It is 0 where no message is complete,
+   since the frame is no fragment, or its datagram waits for others. It is 2 where there is no
+   memory for the fragment, and 3 where the frame or the fragment is refused: then all
+   reassemblies are as they were, but that of a fragment of refusal 4 is dropped. It is 4 where
+   the pool isn't open or keeps a message: then nothing is changed. */
 ep_added ep_pool_add(ep_pool *pool, const uint8_t *frame, size_t frame_len, uint64_t time, uint32_t channel, uint8_t *output, size_t output_len);
 
-/* Hands out the message that a pool keeps. The status is 5 where it stands at the front of the
-   output, 1 where it has no room, and 4 where the pool isn't open or keeps none. */
+/* Returns the message that a pool keeps. The status is 5 where the output starts with it, 1
+   where the output is shorter than the message, and 4 where the pool isn't open or keeps none. */
 ep_added ep_pool_take(ep_pool *pool, uint8_t *output, size_t output_len);
 
-/* Drops the messages whose last part came before this time. The result is 0, or 4 where the pool
-   isn't open. */
+/* Drops the reassemblies whose last fragment came before this time. The result is 0, or 4 where
+   the pool isn't open. */
 uint32_t ep_pool_forget_before(ep_pool *pool, uint64_t time);
 
-/* How many messages are on their way, 0 where the pool isn't open. One that is complete isn't
+/* How many datagrams are not complete, 0 where the pool isn't open. A complete message isn't
    counted. */
 size_t ep_pool_open(ep_pool *pool);
 
 /* Frees a pool and all that it holds. One that isn't open stays as it is. */
 void ep_pool_free(ep_pool *pool);
 
-/* Tells the parts of an Ethernet II frame, or why it is refused. */
+/* Gives the parts of an Ethernet II frame, or why it is refused. */
 ep_packet ep_slice_ethernet(const uint8_t *bytes, size_t bytes_len);
 
-/* Tells the parts of a packet of a Linux cooked capture, or why it is refused. */
+/* Gives the parts of a packet of a Linux cooked capture, or why it is refused. */
 ep_packet ep_slice_linux_sll(const uint8_t *bytes, size_t bytes_len);
 
-/* Tells the parts of an IP packet of either version, or why it is refused. */
+/* Gives the parts of an IP packet of either version, or why it is refused. */
 ep_packet ep_slice_ip(const uint8_t *bytes, size_t bytes_len);
 
 /* The verdict on the message in an Ethernet II frame: 0 no checksum, 1 a right one, 2 a wrong
-   one, 3 no uncut message that can be read. */
+   one, 3 no whole message that can be read. */
 uint32_t ep_verdict_ethernet(const uint8_t *bytes, size_t bytes_len);
 
 /* That in a packet of a Linux cooked capture, numbered as by `ep_verdict_ethernet`. */

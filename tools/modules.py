@@ -104,8 +104,8 @@ def is_tests(crate):
     return crate.endswith(("_tests", "_examples", "_rows"))
 
 
-# What the programs of benchmarks share, and the tests: like them they have no contract, law or test.
-SHARED = ("benchmark_runs", "fault_devices")
+# What the tests share: like them it has no contract, law or test.
+SHARED = ("fault_devices",)
 
 
 def libraries():

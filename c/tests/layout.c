@@ -214,7 +214,7 @@ _Static_assert(offsetof(netlines_session, is_open) == 0 && sizeof(((netlines_ses
 _Static_assert(offsetof(netlines_session, held) == 8 && sizeof(((netlines_session *)0)->held) == 8, "netlines_session.held");
 _Static_assert(__builtin_types_compatible_p(__typeof__(netlines_answers), uint32_t (const uint8_t *text, size_t text_len, uint8_t *output, size_t output_len, size_t *written)), "netlines_answers");
 _Static_assert(__builtin_types_compatible_p(__typeof__(netlines_open), uint32_t (netlines_session *session)), "netlines_open");
-_Static_assert(__builtin_types_compatible_p(__typeof__(netlines_feed), uint32_t (netlines_session *session, const uint8_t *piece, size_t piece_len, uint8_t *output, size_t output_len, size_t *written)), "netlines_feed");
+_Static_assert(__builtin_types_compatible_p(__typeof__(netlines_feed), uint32_t (netlines_session *session, const uint8_t *chunk, size_t chunk_len, uint8_t *output, size_t output_len, size_t *written)), "netlines_feed");
 _Static_assert(__builtin_types_compatible_p(__typeof__(netlines_finish), uint32_t (netlines_session *session, uint8_t *output, size_t output_len, size_t *written)), "netlines_finish");
 _Static_assert(__builtin_types_compatible_p(__typeof__(netlines_close), void (netlines_session *session)), "netlines_close");
 

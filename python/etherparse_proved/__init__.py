@@ -72,8 +72,8 @@ _KINDS_WITHOUT_VALUE = (_raw.REFUSAL_AUTH_HEADER_LEN, _raw.REFUSAL_HOP_BY_HOP_NO
 class Refused(ValueError):
     """A packet that breaks its format.
 
-    `kind` and `layer` are numbered as in etherparse.h, `reason` is the name that `kind` has there behind EP_REFUSAL_. Of
-    too few bytes `needed`, `there`, `place` and `source` are told, of a header that breaks its format `value`, the field
+    `kind` and `layer` are numbered as in etherparse.h, `reason` is the name that `kind` has there after EP_REFUSAL_. Of
+    too few bytes `needed`, `there`, `place` and `source` are set, of a header that breaks its format `value`, the field
     that it holds.
     """
 
@@ -194,7 +194,7 @@ class Packet:
 
     @property
     def tags(self) -> List[Tag]:
-        """The VLAN tags and MACsec headers behind it, in their order."""
+        """The VLAN tags and MACsec headers after it, in their order."""
         return [Tag(self._frame, tag) for tag in self._fields.tags[: self._fields.tag_count]]
 
     @property
@@ -299,7 +299,7 @@ class BuildRefused(ValueError):
 
 @dataclass(frozen=True)
 class PlannedEthernet:
-    """An Ethernet II header, and up to two VLAN tags of these identifiers behind it."""
+    """An Ethernet II header, and up to two VLAN tags of these identifiers after it."""
 
     source: bytes
     destination: bytes
@@ -493,10 +493,10 @@ class Pool:
             raise MemoryError
         if added.status != _raw.COMPLETED:
             return None
-        told = added.message
-        ends = (getattr(told, f"ipv{told.ip_version}_{end}") for end in ("source", "destination"))
+        message = added.message
+        ends = (getattr(message, f"ipv{message.ip_version}_{end}") for end in ("source", "destination"))
         source, destination = (ipaddress.ip_address(bytes(end)) for end in ends)
-        return Message(source, destination, told.number, _c.string_at(self._room, told.len))
+        return Message(source, destination, message.number, _c.string_at(self._room, message.len))
 
     def forget_before(self, time: int) -> None:
         """Drops the messages whose last part came before this time."""
@@ -520,7 +520,7 @@ class Pool:
         self.close()
 
 
-def _handed_out(call, room: int) -> bytes:
+def _with_output(call, room: int) -> bytes:
     """Calls again with the room that is needed, where there was too little."""
     while True:
         output, written = (_c.c_uint8 * room)(), _c.c_size_t(0)
@@ -528,7 +528,7 @@ def _handed_out(call, room: int) -> bytes:
         if status == _raw.NETLINES_ANSWERED:
             return _c.string_at(output, written.value)
         if status == _raw.NETLINES_WRONG_STATE:
-            raise ValueError("the session is closed, or was told the end")
+            raise ValueError("the session is closed, or has ended")
         if status != _raw.NETLINES_NO_ROOM:
             raise MemoryError
         room = written.value
@@ -536,11 +536,11 @@ def _handed_out(call, room: int) -> bytes:
 
 def answers(text: bytes) -> bytes:
     """The answers to all lines of a text, each ended by a line feed; raises MemoryError."""
-    return _handed_out(lambda *room: _netlines.netlines_answers(text, len(text), *room), len(text) + 64)
+    return _with_output(lambda *room: _netlines.netlines_answers(text, len(text), *room), len(text) + 64)
 
 
 class Session:
-    """Lines that come in pieces of any length, and the answers to them as they come. It stays on the thread that made it.
+    """Lines that come in chunks of any length, and the answers to them as they come. It stays on the thread that made it.
 
     Fed in any pieces, the answers are `answers` of the whole. After a MemoryError it is closed.
 
@@ -563,11 +563,11 @@ class Session:
             taken = left.pop() if left else b""
             return _netlines.netlines_feed(_c.byref(self._raw), taken, len(taken), *room)
 
-        return _handed_out(call, 256)
+        return _with_output(call, 256)
 
     def finish(self) -> bytes:
         """The answers that are left, with that to a last line that no line feed ended."""
-        return _handed_out(lambda *room: _netlines.netlines_finish(_c.byref(self._raw), *room), 256)
+        return _with_output(lambda *room: _netlines.netlines_finish(_c.byref(self._raw), *room), 256)
 
     def close(self) -> None:
         """Frees what the session holds. Closing it again does nothing."""

@@ -4,13 +4,13 @@ import ctypes as c
 
 # It is done, or there was nothing to do.
 DONE = 0
-# The output has no room.
+# The output is too short.
 NO_ROOM = 1
 # Out of memory.
 NO_MEMORY = 2
-# A field is refused.
+# A packet, a fragment, a field of a plan or a payload is refused.
 REFUSED = 3
-# It isn't open, or is open already, or keeps a message.
+# The pool isn't open, or is open already, or keeps a message.
 WRONG_STATE = 4
 # A message is complete.
 COMPLETED = 5
@@ -24,7 +24,7 @@ REFUSAL_LINUX_SLL_PACKET_TYPE = 2
 REFUSAL_LINUX_SLL_HARDWARE_TYPE = 3
 # A MACsec version other than 0.
 REFUSAL_MACSEC_VERSION = 4
-# A MACsec short length without room for the ether type.
+# A MACsec short length below that of the ether type.
 REFUSAL_MACSEC_SHORT_LEN = 5
 # An IP version other than 4 and 6.
 REFUSAL_IP_VERSION = 6
@@ -36,7 +36,7 @@ REFUSAL_IPV4_HEADER_LEN = 8
 REFUSAL_IPV6_VERSION = 9
 # A payload length 0 of an authentication header.
 REFUSAL_AUTH_HEADER_LEN = 10
-# Hop-by-hop options behind another extension header.
+# Hop-by-hop options after another extension header.
 REFUSAL_HOP_BY_HOP_NOT_AT_START = 11
 # A TCP data offset below 5.
 REFUSAL_TCP_DATA_OFFSET = 12
@@ -84,11 +84,11 @@ SOURCE_ARP_ADDR_LENGTHS = 7
 
 # The answers are written.
 NETLINES_ANSWERED = 0
-# The output has no room for the answers.
+# The output is too short for the answers.
 NETLINES_NO_ROOM = 1
 # Out of memory.
 NETLINES_NO_MEMORY = 2
-# The session isn't open, or was told the end, or is open already.
+# The session isn't open, or its text has ended, or it is open already.
 NETLINES_WRONG_STATE = 3
 
 
@@ -107,7 +107,7 @@ class EpRefusal(c.Structure):
 
 
 class EpPartRefusal(c.Structure):
-    """Why a part of a message is refused. All fields are 0 where it isn't."""
+    """Why a fragment is refused. All fields are 0 where it isn't."""
 
     _fields_ = [
         ("kind", c.c_uint32),
@@ -119,7 +119,7 @@ class EpPartRefusal(c.Structure):
 
 
 class EpMessage(c.Structure):
-    """A message that was put together. All fields are 0 where there is none."""
+    """A reassembled message. All fields are 0 where there is none."""
 
     _fields_ = [
         ("len", c.c_size_t),
@@ -144,7 +144,7 @@ class EpAdded(c.Structure):
 
 
 class EpBuilt(c.Structure):
-    """What became of a packet that was to be built."""
+    """The result of building a packet."""
 
     _fields_ = [
         ("status", c.c_uint32),
@@ -169,7 +169,7 @@ class EpLink(c.Structure):
 
 
 class EpPart(c.Structure):
-    """Where bytes stand in those that were handed in."""
+    """Where bytes are in those that were passed."""
 
     _fields_ = [
         ("offset", c.c_size_t),
@@ -200,7 +200,7 @@ class EpTag(c.Structure):
 
 
 class EpIpv4(c.Structure):
-    """An IPv4 packet (RFC 791). Its options stand at the end of its header."""
+    """An IPv4 packet (RFC 791). Its options are the last bytes of its header."""
 
     _fields_ = [
         ("header", EpPart),
@@ -275,7 +275,7 @@ class EpUdp(c.Structure):
 
 
 class EpTcp(c.Structure):
-    """A TCP segment (RFC 9293). Its options stand behind the first 20 bytes of the header."""
+    """A TCP segment (RFC 9293). Its options follow the first 20 bytes of the header."""
 
     _fields_ = [
         ("header", EpPart),
@@ -313,7 +313,7 @@ class EpIcmp(c.Structure):
 
 
 class EpPacket(c.Structure):
-    """What is told of a packet. Every [`EpPart`] counts from the front of the bytes that were handed in. The fields of a layer that isn't there are 0, and all but `refusal` are where it is refused."""
+    """The fields of a packet. Every [`EpPart`] counts from the start of the bytes that were passed. The fields of a layer that isn't there are 0, and all but `refusal` are where the packet is refused."""
 
     _fields_ = [
         ("refusal", EpRefusal),
@@ -333,7 +333,7 @@ class EpPacket(c.Structure):
 
 
 class EpPlan(c.Structure):
-    """What a packet is to be built of. The fields of headers that it doesn't ask for don't count. Lengths, checksums, ether types and the numbers of headers follow from it."""
+    """The headers of a packet to build. The fields of headers that it doesn't have are ignored. Lengths, checksums, ether types and the numbers of headers follow from it."""
 
     _fields_ = [
         ("link", c.c_uint32),
@@ -377,7 +377,7 @@ class EpPlan(c.Structure):
 
 
 class EpPool(c.Structure):
-    """The messages that are on their way in parts. It begins as zeros, and is changed by these calls alone."""
+    """A pool that reassembles datagrams. It starts as zeros, and only these calls change it."""
 
     _fields_ = [
         ("is_open", c.c_bool),
@@ -386,7 +386,7 @@ class EpPool(c.Structure):
 
 
 class NetlinesSession(c.Structure):
-    """Lines that come in pieces. It begins as zeros, and is changed by these calls alone."""
+    """Lines that come in chunks. It starts as zeros, and is changed by these calls alone."""
 
     _fields_ = [
         ("is_open", c.c_bool),

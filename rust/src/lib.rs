@@ -22,17 +22,17 @@ use std::fmt;
 /// Slices an Ethernet II frame.
 pub fn slice_ethernet(frame: &[u8]) -> Result<Packet<'_>, Refusal> {
     // SAFETY: pointer and length are one slice's, here and below.
-    Packet::told(frame, unsafe { raw::ep_slice_ethernet(frame.as_ptr(), frame.len()) })
+    Packet::from_raw(frame, unsafe { raw::ep_slice_ethernet(frame.as_ptr(), frame.len()) })
 }
 
 /// Slices a packet of a Linux cooked capture.
 pub fn slice_linux_sll(packet: &[u8]) -> Result<Packet<'_>, Refusal> {
-    Packet::told(packet, unsafe { raw::ep_slice_linux_sll(packet.as_ptr(), packet.len()) })
+    Packet::from_raw(packet, unsafe { raw::ep_slice_linux_sll(packet.as_ptr(), packet.len()) })
 }
 
 /// Slices an IP packet of either version.
 pub fn slice_ip(packet: &[u8]) -> Result<Packet<'_>, Refusal> {
-    Packet::told(packet, unsafe { raw::ep_slice_ip(packet.as_ptr(), packet.len()) })
+    Packet::from_raw(packet, unsafe { raw::ep_slice_ip(packet.as_ptr(), packet.len()) })
 }
 
 /// What the checksum of a message tells.
@@ -96,12 +96,12 @@ impl Error for OutOfMemory {}
 /// The answers to all lines of a text, each ended by a line feed.
 pub fn answers(text: &[u8]) -> Result<Vec<u8>, OutOfMemory> {
     // SAFETY: the output was written, and nothing overlaps.
-    handed_out(|output, written| unsafe {
+    with_output(|output, written| unsafe {
         raw::netlines_answers(text.as_ptr(), text.len(), output.as_mut_ptr(), output.len(), written)
     })
 }
 
-/// Lines that come in pieces of any length, and the answers to them as they come. Fed in any pieces,
+/// Lines that come in chunks of any length, and the answers to them as they come. Fed in any chunks,
 /// the answers are [`answers`] of the whole. After [`OutOfMemory`] it answers nothing more.
 #[derive(Debug)]
 pub struct Session {
@@ -120,29 +120,29 @@ impl Session {
         }
     }
 
-    /// Takes a piece, and gives the answers to all lines that ended since the last call.
-    pub fn feed(&mut self, piece: &[u8]) -> Result<Vec<u8>, OutOfMemory> {
-        let mut piece = piece;
-        handed_out(|output, written| {
+    /// Takes a chunk, and returns the answers to all lines that ended since the last call.
+    pub fn feed(&mut self, chunk: &[u8]) -> Result<Vec<u8>, OutOfMemory> {
+        let mut chunk = chunk;
+        with_output(|output, written| {
             // SAFETY: the output was written, and nothing overlaps; below, too.
             let status = unsafe {
                 raw::netlines_feed(
                     &mut self.raw,
-                    piece.as_ptr(),
-                    piece.len(),
+                    chunk.as_ptr(),
+                    chunk.len(),
                     output.as_mut_ptr(),
                     output.len(),
                     written,
                 )
             };
-            piece = &[];
+            chunk = &[];
             status
         })
     }
 
     /// The answers that are left, with that to a last line that no line feed ended.
     pub fn finish(mut self) -> Result<Vec<u8>, OutOfMemory> {
-        handed_out(|output, written| unsafe {
+        with_output(|output, written| unsafe {
             raw::netlines_finish(&mut self.raw, output.as_mut_ptr(), output.len(), written)
         })
     }
@@ -156,7 +156,7 @@ impl Drop for Session {
 }
 
 // Calls again with the room that is needed, where there was too little.
-fn handed_out(mut call: impl FnMut(&mut [u8], &mut usize) -> u32) -> Result<Vec<u8>, OutOfMemory> {
+fn with_output(mut call: impl FnMut(&mut [u8], &mut usize) -> u32) -> Result<Vec<u8>, OutOfMemory> {
     let mut output = vec![0; 256];
     loop {
         let mut written = 0;

@@ -45,14 +45,14 @@ pub enum Transport<'p> {
 }
 
 impl<'a> Packet<'a> {
-    pub(crate) fn told(bytes: &'a [u8], fields: EpPacket) -> Result<Packet<'a>, Refusal> {
-        match Refusal::told(&fields.refusal) {
+    pub(crate) fn from_raw(bytes: &'a [u8], fields: EpPacket) -> Result<Packet<'a>, Refusal> {
+        match Refusal::from_raw(&fields.refusal) {
             Some(refusal) => Err(refusal),
             None => Ok(Packet { bytes, fields }),
         }
     }
 
-    /// All that was told.
+    /// All fields.
     #[must_use]
     pub fn fields(&self) -> &EpPacket {
         &self.fields
@@ -78,7 +78,7 @@ impl<'a> Packet<'a> {
         }
     }
 
-    /// The tags behind the link header.
+    /// The tags after the link header.
     #[must_use]
     pub fn tags(&self) -> &[EpTag] {
         &self.fields.tags[..self.fields.tag_count as usize]

@@ -124,7 +124,7 @@ impl Error for BuildError {}
 
 impl PlanField {
     // The other fields hold what a `Plan` can't say wrongly.
-    fn told(number: u32) -> PlanField {
+    fn from_raw(number: u32) -> PlanField {
         match number {
             raw::FIELD_PACKET_TYPE => PlanField::PacketType,
             raw::FIELD_TAG_COUNT => PlanField::TagCount,
@@ -263,7 +263,7 @@ pub fn build(plan: &Plan, payload: &[u8]) -> Result<Vec<u8>, BuildError> {
             output.truncate(built.len);
             Ok(output)
         }
-        raw::REFUSED => Err(BuildError::Refused(PlanField::told(built.field))),
+        raw::REFUSED => Err(BuildError::Refused(PlanField::from_raw(built.field))),
         _ => Err(BuildError::OutOfMemory),
     }
 }

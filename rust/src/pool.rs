@@ -41,7 +41,7 @@ pub enum PartRefusal {
         /// Its length.
         len: usize,
     },
-    /// It ends behind byte 65535.
+    /// It ends after byte 65535.
     TooLong {
         /// Its offset in the message, in units of 8 bytes.
         offset: u16,
@@ -110,7 +110,7 @@ impl fmt::Display for AddError {
 impl Error for AddError {}
 
 impl PartRefusal {
-    fn told(raw: &EpPartRefusal) -> Option<PartRefusal> {
+    fn from_raw(raw: &EpPartRefusal) -> Option<PartRefusal> {
         let EpPartRefusal { offset, previous_end, end, len, .. } = *raw;
         match raw.kind {
             0 => None,
@@ -123,7 +123,7 @@ impl PartRefusal {
 }
 
 impl Message {
-    fn told(raw: &EpMessage, room: &[u8]) -> Message {
+    fn from_raw(raw: &EpMessage, room: &[u8]) -> Message {
         let (source, destination) = if raw.ip_version == 4 {
             (IpAddr::from(Ipv4Addr::from(raw.ipv4_source)), IpAddr::from(Ipv4Addr::from(raw.ipv4_destination)))
         } else {
@@ -145,7 +145,7 @@ impl Pool {
         }
     }
 
-    /// Takes an Ethernet II frame, which came at this time on this channel, and hands out the message that is
+    /// Takes an Ethernet II frame, which came at this time on this channel, and returns the message that is
     /// complete with it. Messages of other channels are other messages.
     pub fn add(&mut self, frame: &[u8], time: u64, channel: u32) -> Result<Option<Message>, AddError> {
         // SAFETY: pointers and lengths are those of slices that were written, and nothing overlaps.
@@ -162,8 +162,8 @@ impl Pool {
         };
         match added.status {
             raw::DONE => Ok(None),
-            raw::COMPLETED => Ok(Some(Message::told(&added.message, &self.room))),
-            _ => Err(match (Refusal::told(&added.refusal), PartRefusal::told(&added.part)) {
+            raw::COMPLETED => Ok(Some(Message::from_raw(&added.message, &self.room))),
+            _ => Err(match (Refusal::from_raw(&added.refusal), PartRefusal::from_raw(&added.part)) {
                 (Some(refusal), _) => AddError::Frame(refusal),
                 (_, Some(refusal)) => AddError::Part(refusal),
                 _ => AddError::OutOfMemory,

@@ -3,13 +3,13 @@
 
 /// It is done, or there was nothing to do.
 pub const DONE: u32 = 0;
-/// The output has no room.
+/// The output is too short.
 pub const NO_ROOM: u32 = 1;
 /// Out of memory.
 pub const NO_MEMORY: u32 = 2;
-/// A field is refused.
+/// A packet, a fragment, a field of a plan or a payload is refused.
 pub const REFUSED: u32 = 3;
-/// It isn't open, or is open already, or keeps a message.
+/// The pool isn't open, or is open already, or keeps a message.
 pub const WRONG_STATE: u32 = 4;
 /// A message is complete.
 pub const COMPLETED: u32 = 5;
@@ -23,7 +23,7 @@ pub const REFUSAL_LINUX_SLL_PACKET_TYPE: u32 = 2;
 pub const REFUSAL_LINUX_SLL_HARDWARE_TYPE: u32 = 3;
 /// A MACsec version other than 0.
 pub const REFUSAL_MACSEC_VERSION: u32 = 4;
-/// A MACsec short length without room for the ether type.
+/// A MACsec short length below that of the ether type.
 pub const REFUSAL_MACSEC_SHORT_LEN: u32 = 5;
 /// An IP version other than 4 and 6.
 pub const REFUSAL_IP_VERSION: u32 = 6;
@@ -35,7 +35,7 @@ pub const REFUSAL_IPV4_HEADER_LEN: u32 = 8;
 pub const REFUSAL_IPV6_VERSION: u32 = 9;
 /// A payload length 0 of an authentication header.
 pub const REFUSAL_AUTH_HEADER_LEN: u32 = 10;
-/// Hop-by-hop options behind another extension header.
+/// Hop-by-hop options after another extension header.
 pub const REFUSAL_HOP_BY_HOP_NOT_AT_START: u32 = 11;
 /// A TCP data offset below 5.
 pub const REFUSAL_TCP_DATA_OFFSET: u32 = 12;
@@ -82,11 +82,11 @@ pub const SOURCE_TCP_HEADER_LEN: u32 = 6;
 pub const SOURCE_ARP_ADDR_LENGTHS: u32 = 7;
 /// The answers are written.
 pub const NETLINES_ANSWERED: u32 = 0;
-/// The output has no room for the answers.
+/// The output is too short for the answers.
 pub const NETLINES_NO_ROOM: u32 = 1;
 /// Out of memory.
 pub const NETLINES_NO_MEMORY: u32 = 2;
-/// The session isn't open, or was told the end, or is open already.
+/// The session isn't open, or its text has ended, or it is open already.
 pub const NETLINES_WRONG_STATE: u32 = 3;
 
 /// The layers' names, from number 1 on.
@@ -135,29 +135,29 @@ pub struct EpRefusal {
     pub place: usize,
     /// Of too few bytes: where their number comes from.
     pub source: u32,
-    /// Of a header that breaks its format: the field that it holds in place of a right one.
+    /// Of a header that breaks its format: the wrong value of its field.
     pub value: u32,
 }
 
-/// Why a part of a message is refused. All fields are 0 where it isn't.
+/// Why a fragment is refused. All fields are 0 where it isn't.
 #[repr(C)]
 #[derive(Clone, Copy, Debug, PartialEq, Eq)]
 pub struct EpPartRefusal {
-    /// 0 not refused, 1 others follow it and its length is no multiple of 8, 2 it ends beyond
-    /// 65535 bytes, 3 it ends elsewhere than the message, 4 over IPv6 it overlaps another part: then
-    /// the message is dropped with all of its parts.
+    /// 0 not refused, 1 others follow it and its length is no multiple of 8, 2 it ends beyond 65535
+    /// bytes, 3 it ends elsewhere than the datagram, 4 over IPv6 it overlaps another fragment: then
+    /// the datagram is dropped with all of its fragments.
     pub kind: u32,
-    /// Of kinds 1, 2 and 4: its offset in the message, in units of 8 bytes.
+    /// Of kinds 1, 2 and 4: its offset in the datagram, in units of 8 bytes.
     pub offset: u16,
-    /// Of kind 3: the end of the message, in bytes.
+    /// Of kind 3: the end of the datagram, in bytes.
     pub previous_end: u16,
     /// Of kind 3: its own end, in bytes.
     pub end: u16,
-    /// Of kinds 1, 2 and 4: its length.
+    /// Of kinds 1, 2 and 4: its length, in bytes.
     pub len: usize,
 }
 
-/// A message that was put together. All fields are 0 where there is none.
+/// A reassembled message. All fields are 0 where there is none.
 #[repr(C)]
 #[derive(Clone, Copy, Debug, PartialEq, Eq)]
 pub struct EpMessage {
@@ -181,27 +181,27 @@ pub struct EpMessage {
 #[repr(C)]
 #[derive(Clone, Copy, Debug, PartialEq, Eq)]
 pub struct EpAdded {
-    /// 5 where a message is complete and written, 1 where it is complete and has no room, and 0
-    /// where none is complete; 2 out of memory, 3 refused, 4 in a wrong state.
+    /// 5 where a message is complete and written, 1 where it is complete and the output is too
+    /// short for it, and 0 where none is complete; 2 out of memory, 3 refused, 4 in a wrong state.
     pub status: u32,
     /// Why the frame is refused.
     pub refusal: EpRefusal,
-    /// Why the part of a message that the frame has is refused.
+    /// Why the fragment in the frame is refused.
     pub part: EpPartRefusal,
     /// The message that is complete.
     pub message: EpMessage,
 }
 
-/// What became of a packet that was to be built.
+/// The result of building a packet.
 #[repr(C)]
 #[derive(Clone, Copy, Debug, PartialEq, Eq)]
 pub struct EpBuilt {
-    /// 0 where it is built, 1 where the output has no room for its length, 2 where there is no memory,
-    /// 3 where a field of the plan, or the payload, is refused.
+    /// 0 where it is built, 1 where the output is shorter than the packet, 2 where there is no
+    /// memory, 3 where a field of the plan, or the payload, is refused.
     pub status: u32,
     /// The first field of the plan at fault, where it is refused, else 0.
     pub field: u32,
-    /// The length of the packet, where it is built or has no room, else 0.
+    /// The length of the packet, where it is built or the output is too short, else 0.
     pub len: usize,
 }
 
@@ -223,11 +223,11 @@ pub struct EpLink {
     pub hardware_type: u16,
     /// Of a cooked capture: how many bytes of the address are the sender's, as it states it.
     pub address_len: u16,
-    /// Of a cooked capture: the sender's address, and bytes without meaning behind it.
+    /// Of a cooked capture: the sender's address, and bytes without meaning after it.
     pub address: [u8; 8],
 }
 
-/// Where bytes stand in those that were handed in.
+/// Where bytes are in those that were passed.
 #[repr(C)]
 #[derive(Clone, Copy, Debug, PartialEq, Eq)]
 pub struct EpPart {
@@ -241,11 +241,11 @@ pub struct EpPart {
 #[repr(C)]
 #[derive(Clone, Copy, Debug, PartialEq, Eq)]
 pub struct EpTag {
-    /// Where the tag itself stands.
+    /// Where the tag itself is.
     pub header: EpPart,
     /// 0 none, 1 VLAN, 2 MACsec.
     pub kind: u32,
-    /// The ether type of what follows, 0 behind a changed or encrypted MACsec payload.
+    /// The ether type of what follows, 0 where a changed or encrypted MACsec payload follows.
     pub ether_type: u16,
     /// Of VLAN: the identifier.
     pub vlan_id: u16,
@@ -273,7 +273,7 @@ pub struct EpTag {
     pub channel: u64,
 }
 
-/// An IPv4 packet (RFC 791). Its options stand at the end of its header.
+/// An IPv4 packet (RFC 791). Its options are the last bytes of its header.
 #[repr(C)]
 #[derive(Clone, Copy, Debug, PartialEq, Eq)]
 pub struct EpIpv4 {
@@ -289,11 +289,11 @@ pub struct EpIpv4 {
     pub destination: [u8; 4],
     /// The length of header and payload, as the header states it.
     pub total_len: u16,
-    /// What the parts of one message share.
+    /// The identification, which the fragments of one datagram share.
     pub identification: u16,
-    /// The offset of the payload in the message, in units of 8 bytes.
+    /// The offset of the payload in the datagram, in units of 8 bytes.
     pub fragment_offset: u16,
-    /// The header checksum, as it stands.
+    /// The header checksum, as the header states it.
     pub header_checksum: u16,
     /// Differentiated services code point.
     pub dscp: u8,
@@ -303,13 +303,13 @@ pub struct EpIpv4 {
     pub time_to_live: u8,
     /// The number of what follows the header.
     pub protocol: u8,
-    /// The number of the payload, behind an authentication header.
+    /// The number of the payload, after an authentication header.
     pub payload_number: u8,
     /// Whether the packet may not be fragmented.
     pub dont_fragment: bool,
-    /// Whether other parts follow.
+    /// Whether other fragments follow.
     pub more_fragments: bool,
-    /// Whether the payload is a part of a message.
+    /// Whether the payload is a fragment.
     pub is_part: bool,
 }
 
@@ -329,11 +329,12 @@ pub struct EpIpv6 {
     pub destination: [u8; 16],
     /// The flow label.
     pub flow_label: u32,
-    /// What the parts of one message share, by the first fragment header.
+    /// The identification, which the fragments of one datagram share, by the first fragment header.
     pub identification: u32,
     /// The payload length, as the header states it.
     pub payload_length: u16,
-    /// The offset of the payload in the message, in units of 8 bytes, by the first fragment header.
+    /// The offset of the payload in the datagram, in units of 8 bytes, by the first fragment
+    /// header.
     pub fragment_offset: u16,
     /// The traffic class.
     pub traffic_class: u8,
@@ -341,13 +342,13 @@ pub struct EpIpv6 {
     pub next_header: u8,
     /// Hops that are left.
     pub hop_limit: u8,
-    /// The number of the payload, behind the extension headers.
+    /// The number of the payload, after the extension headers.
     pub payload_number: u8,
     /// Whether there is a fragment header.
     pub has_fragment_header: bool,
-    /// Whether other parts follow, by the first fragment header.
+    /// Whether other fragments follow, by the first fragment header.
     pub more_fragments: bool,
-    /// Whether the payload is a part of a message.
+    /// Whether the payload is a fragment.
     pub is_part: bool,
 }
 
@@ -387,11 +388,11 @@ pub struct EpUdp {
     pub destination_port: u16,
     /// The length of header and payload, as the header states it; 0 in a jumbogram.
     pub stated_len: u16,
-    /// The checksum, as it stands; 0 where none was sent.
+    /// The checksum, as the header states it; 0 where none was sent.
     pub checksum: u16,
 }
 
-/// A TCP segment (RFC 9293). Its options stand behind the first 20 bytes of the header.
+/// A TCP segment (RFC 9293). Its options follow the first 20 bytes of the header.
 #[repr(C)]
 #[derive(Clone, Copy, Debug, PartialEq, Eq)]
 pub struct EpTcp {
@@ -409,7 +410,7 @@ pub struct EpTcp {
     pub destination_port: u16,
     /// The window.
     pub window_size: u16,
-    /// The checksum, as it stands.
+    /// The checksum, as the header states it.
     pub checksum: u16,
     /// The urgent pointer.
     pub urgent_pointer: u16,
@@ -441,7 +442,7 @@ pub struct EpIcmp {
     pub header: EpPart,
     /// What follows it.
     pub payload: EpPart,
-    /// The checksum, as it stands.
+    /// The checksum, as the header states it.
     pub checksum: u16,
     /// The type.
     pub icmp_type: u8,
@@ -451,20 +452,21 @@ pub struct EpIcmp {
     pub rest: [u8; 4],
 }
 
-/// What is told of a packet. Every [`EpPart`] counts from the front of the bytes that were handed
-/// in. The fields of a layer that isn't there are 0, and all but `refusal` are where it is refused.
+/// The fields of a packet. Every [`EpPart`] counts from the start of the bytes that were passed.
+/// The fields of a layer that isn't there are 0, and all but `refusal` are where the packet is
+/// refused.
 #[repr(C)]
 #[derive(Clone, Copy, Debug, PartialEq, Eq)]
 pub struct EpPacket {
-    /// Why there is no packet.
+    /// Why the packet is refused.
     pub refusal: EpRefusal,
     /// The link header.
     pub link: EpLink,
     /// How many tags there are.
     pub tag_count: u32,
-    /// The tags behind the link header, in their order.
+    /// The tags after the link header, in their order.
     pub tags: [EpTag; 3],
-    /// What the last ether type names.
+    /// The payload that the last ether type names.
     pub ether_payload: EpPart,
     /// The network layer: 0 none, 1 ARP, 4 IPv4, 6 IPv6.
     pub net: u32,
@@ -484,7 +486,7 @@ pub struct EpPacket {
     pub icmp: EpIcmp,
 }
 
-/// What a packet is to be built of. The fields of headers that it doesn't ask for don't count.
+/// The headers of a packet to build. The fields of headers that it doesn't have are ignored.
 /// Lengths, checksums, ether types and the numbers of headers follow from it.
 #[repr(C)]
 #[derive(Clone, Copy, Debug, PartialEq, Eq)]
@@ -501,7 +503,7 @@ pub struct EpPlan {
     pub address_len: u16,
     /// Of a cooked capture: the sender's address.
     pub address: [u8; 8],
-    /// How many VLAN tags stand behind an Ethernet II header: 0, 1 or 2.
+    /// How many VLAN tags follow an Ethernet II header: 0, 1 or 2.
     pub tag_count: u32,
     /// The identifier of the first of them, 0 to 4095.
     pub outer_vlan_id: u16,
@@ -561,12 +563,11 @@ pub struct EpPlan {
     pub cwr: bool,
     /// Of TCP: how many bytes of options there are, at most 40.
     pub options_len: usize,
-    /// Of TCP: the options. They are filled up with 0 to whole words.
+    /// Of TCP: the options. They are padded with 0 to whole words of 4 bytes.
     pub options: [u8; 40],
 }
 
-/// The messages that are on their way in parts. It begins as zeros, and is changed by these calls
-/// alone.
+/// A pool that reassembles datagrams. It starts as zeros, and only these calls change it.
 #[repr(C)]
 #[derive(Clone, Copy, Debug, PartialEq, Eq)]
 pub struct EpPool {
@@ -576,13 +577,13 @@ pub struct EpPool {
     pub held: *mut std::ffi::c_void,
 }
 
-/// Lines that come in pieces. It begins as zeros, and is changed by these calls alone.
+/// Lines that come in chunks. It starts as zeros, and is changed by these calls alone.
 #[repr(C)]
 #[derive(Clone, Copy, Debug, PartialEq, Eq)]
 pub struct NetlinesSession {
     /// Whether it was opened and not closed.
     pub is_open: bool,
-    /// For these calls alone.
+    /// Used by these calls alone.
     pub held: *mut std::ffi::c_void,
 }
 
@@ -604,7 +605,7 @@ unsafe extern "C" {
     pub(crate) fn ep_verdict_ip(bytes: *const u8, bytes_len: usize) -> u32;
     pub(crate) fn netlines_answers(text: *const u8, text_len: usize, output: *mut u8, output_len: usize, written: *mut usize) -> u32;
     pub(crate) fn netlines_open(session: *mut NetlinesSession) -> u32;
-    pub(crate) fn netlines_feed(session: *mut NetlinesSession, piece: *const u8, piece_len: usize, output: *mut u8, output_len: usize, written: *mut usize) -> u32;
+    pub(crate) fn netlines_feed(session: *mut NetlinesSession, chunk: *const u8, chunk_len: usize, output: *mut u8, output_len: usize, written: *mut usize) -> u32;
     pub(crate) fn netlines_finish(session: *mut NetlinesSession, output: *mut u8, output_len: usize, written: *mut usize) -> u32;
     pub(crate) fn netlines_close(session: *mut NetlinesSession);
 }

@@ -38,7 +38,7 @@ pub struct Layer(pub u32);
 /// Where the length that bounds a layer comes from.
 #[derive(Clone, Copy, Debug, PartialEq, Eq)]
 pub enum LenSource {
-    /// The bytes that were handed in.
+    /// The bytes that were passed.
     Slice,
     /// The short length of a MACsec header.
     MacsecShortLength,
@@ -75,7 +75,7 @@ pub enum Fault {
     Ipv6Version,
     /// An authentication header of length 0.
     AuthHeaderLen,
-    /// Hop-by-hop options behind another extension header.
+    /// Hop-by-hop options after another extension header.
     HopByHopNotAtStart,
     /// A TCP data offset below 5.
     TcpDataOffset,
@@ -83,7 +83,7 @@ pub enum Fault {
 
 impl Refusal {
     /// None where nothing is refused.
-    pub(crate) fn told(raw: &EpRefusal) -> Option<Refusal> {
+    pub(crate) fn from_raw(raw: &EpRefusal) -> Option<Refusal> {
         let layer = Layer(raw.layer);
         let fault = match raw.kind {
             raw::REFUSAL_NONE => return None,
@@ -93,7 +93,7 @@ impl Refusal {
                     needed: raw.needed,
                     there: raw.there,
                     place: raw.place,
-                    source: LenSource::told(raw.source),
+                    source: LenSource::from_raw(raw.source),
                 });
             }
             raw::REFUSAL_LINUX_SLL_PACKET_TYPE => Fault::LinuxSllPacketType,
@@ -120,7 +120,7 @@ impl fmt::Display for Layer {
 }
 
 impl LenSource {
-    fn told(number: u32) -> LenSource {
+    fn from_raw(number: u32) -> LenSource {
         match number {
             raw::SOURCE_SLICE => LenSource::Slice,
             raw::SOURCE_MACSEC_SHORT_LENGTH => LenSource::MacsecShortLength,

@@ -32,7 +32,7 @@ def told():
     """The words of each example, and the lines that they tell."""
     with open(PAGE, encoding="utf-8") as page:
         text = page.read()
-    (rest,) = re.findall(r"\(line 6 goes on: `(.+)`\)", text)
+    (rest,) = re.findall(r"\(line 6 continues: `(.+)`\)", text)
     examples = re.findall(EXAMPLE, text)
     assert [words.split()[0] for words, _ in examples] == ["show", "json", "summary"]
     for words, block in examples:

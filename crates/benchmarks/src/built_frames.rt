@@ -1,14 +1,14 @@
 //! Frames that are built, one after another in the same memory.
 use crate::job::PACKETS;
+use crate::measured::{Measured, Repeats};
 use crate::random::Random;
-use benchmark_runs::{Measured, Repeats};
 use etherparse::PacketBuilder;
 use etherparse::err::packet::BuildWriteError;
 use std::alloc::{AllocError, Global};
 use std::io;
 use std::time::{Duration, Instant};
 
-/// More than any of the frames has.
+/// The capacity of the buffer in bytes: more than any of the frames has.
 const ROOM: usize = 192;
 
 const DESTINATION: [u8; 6] = [2, 0, 0, 0, 0, 2];
@@ -23,7 +23,7 @@ const IPV6_SOURCE: [u8; 16] = [0x20, 1, 0x0d, 0xb8, 0, 0, 0, 0, 0, 0, 0, 0, 0, 0
 
 const IPV6_DESTINATION: [u8; 16] = [0x20, 1, 0x0d, 0xb8, 0, 0, 0, 0, 0, 0, 0, 0, 0, 0, 0, 2];
 
-/// A frame that brings a payload.
+/// A frame that carries a payload.
 pub trait Frame {
     /// Appends it. It has no contract: its bytes are compared with those of a plain program.
     fn append(payload: &[u8], frame: &mut Vec<u8>) -> Result<(), BuildWriteError>;
@@ -57,7 +57,7 @@ impl Frame for TcpIpv6 {
     }
 }
 
-/// Builds the frames of 1000 payloads of 1 to 64 bytes, again and again. The sum begins with all
+/// Builds the frames of 1000 payloads of 1 to 64 bytes, again and again. The sum starts with all
 /// their bytes, and goes on from turn to turn with the last eight of each. It has no contract: the
 /// time is a measurement, and the sum is compared with that of a plain program.
 pub fn measure<F: Frame>(rt: &HostRuntime, repeats: Repeats) -> io::Result<Measured> {
@@ -92,8 +92,8 @@ fn payloads(alloc: Global) -> Result<Vec<Vec<u8>>, AllocError> {
     Ok(payloads)
 }
 
-/// A frame in the place of the last one, and none where it is refused.
-/// It has no contract: its bytes are compared with those of a plain program.
+/// Replaces the last frame by a new one, and by none where it is refused. It has no contract: its
+/// bytes are compared with those of a plain program.
 fn build<F: Frame>(payload: &[u8], frame: &mut Vec<u8>) {
     frame.clear();
     if F::append(payload, frame).is_err() {

@@ -98,8 +98,8 @@ fn sum_of_slice(packet: &[u8]) -> u64 {
     }
 }
 
-/// The sum of all that the getters give; it has no contract, as it is compared with that of a plain
-/// program.
+/// The sum of all that the getters return; it has no contract, as it is compared with that of a
+/// plain program.
 fn sum_of_packet(packet: &IpSlice) -> u64 {
     let addresses = sum_of_address(packet.source_addr()).wrapping_add(sum_of_address(
         packet.destination_addr(),

@@ -4,11 +4,11 @@ use crate::random::Random;
 use ep_ip::Ipv4HeaderSlice;
 use std::alloc::{AllocError, Global};
 
-/// Headers of 20 to 60 bytes, with other bytes behind them.
+/// Headers of 20 to 60 bytes, with other bytes after them.
 pub struct Ipv4Headers;
 
 impl Job for Ipv4Headers {
-    /// A header with any fields, and other bytes behind it. It has no contract: any would do.
+    /// A header with any fields, and other bytes after it. It has no contract: any would do.
     fn packet(alloc: Global, random: &mut Random) -> Result<Vec<u8>, AllocError> {
         let mut packet = Vec::new(alloc);
         packet.push(0x45 + random.below(11))?;

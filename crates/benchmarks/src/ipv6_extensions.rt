@@ -50,7 +50,7 @@ impl<const HEADERS: u8> Job for ReadExtensions<HEADERS> {
     }
 }
 
-/// The number of the first header, the headers and up to 63 bytes behind them; it has no contract,
+/// The number of the first header, the headers and up to 63 bytes after them; it has no contract,
 /// as any row would do.
 fn row(alloc: Global, random: &mut Random, headers: u8) -> Result<Vec<u8>, AllocError> {
     let mut row = Vec::new(alloc);
@@ -69,8 +69,8 @@ fn row(alloc: Global, random: &mut Random, headers: u8) -> Result<Vec<u8>, Alloc
             append_options(random, 17, &mut row)?;
         }
     }
-    let behind = random.below(64);
-    random.append(usize::from(behind), &mut row)?;
+    let following = random.below(64);
+    random.append(usize::from(following), &mut row)?;
     Ok(row)
 }
 
@@ -84,7 +84,7 @@ fn append_options(random: &mut Random, next: u8, row: &mut Vec<u8>) -> Result<()
 /// It has no contract: the sum is compared with that of a plain program.
 fn sum_of_extensions(extensions: &Ipv6Extensions) -> u64 {
     let routing = match &extensions.routing {
-        Some(routing) => sum_of_raw(&routing.routing).wrapping_add(sum_of_place(
+        Some(routing) => sum_of_raw(&routing.routing).wrapping_add(sum_of_slot(
             &routing.final_destination_options,
         )),
         None => 2,
@@ -103,16 +103,16 @@ fn sum_of_extensions(extensions: &Ipv6Extensions) -> u64 {
             .wrapping_add(sum_of_bytes(header.raw_icv())),
         None => 4,
     };
-    sum_of_place(&extensions.hop_by_hop_options)
-        .wrapping_add(sum_of_place(&extensions.destination_options))
+    sum_of_slot(&extensions.hop_by_hop_options)
+        .wrapping_add(sum_of_slot(&extensions.destination_options))
         .wrapping_add(routing)
         .wrapping_add(fragment)
         .wrapping_add(auth)
 }
 
 /// It has no contract: the sum is compared with that of a plain program.
-fn sum_of_place(place: &Option<Ipv6RawExtHeader>) -> u64 {
-    match place {
+fn sum_of_slot(slot: &Option<Ipv6RawExtHeader>) -> u64 {
+    match slot {
         Some(header) => sum_of_raw(header),
         None => 1,
     }

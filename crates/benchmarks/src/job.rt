@@ -1,6 +1,6 @@
 //! What a benchmark is, and how its time is taken.
+use crate::measured::{Measured, Repeats};
 use crate::random::Random;
-use benchmark_runs::{Measured, Repeats};
 use std::alloc::{AllocError, Global};
 use std::io;
 use std::time::{Duration, Instant};
@@ -13,7 +13,7 @@ pub trait Job {
     /// The bytes of a packet that the job is done with; it has no contract, as any would do.
     fn packet(alloc: Global, random: &mut Random) -> Result<Vec<u8>, AllocError>;
 
-    /// Does the job with a packet, and gives the sum of all that it computed. It has no contract:
+    /// Does the job with a packet, and returns the sum of all that it computed. It has no contract:
     /// the sum is compared with that of a plain program.
     fn sum(packet: &[u8]) -> u64;
 }

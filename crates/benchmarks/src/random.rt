@@ -3,7 +3,7 @@ ghost use Rattle.std.specs.Prelude.{◌<◌};
 
 use std::alloc::AllocError;
 
-/// A generator of numbers, begun at a fixed seed.
+/// A generator of numbers, started at a fixed seed.
 #[derive(Drop)]
 pub struct Random {
     state: u64,

@@ -10,7 +10,7 @@ use ep_tcpudp::TcpSlice;
 use std::alloc::{AllocError, Global};
 
 /// Ethernet II frames of one kind: UDP over IPv4 (0), TCP with options over IPv4 (1), UDP over IPv6
-/// (2), UDP over IPv4 behind one VLAN tag (3) and behind two (4), UDP over IPv6 with hop-by-hop and
+/// (2), UDP over IPv4 after one VLAN tag (3) and after two (4), UDP over IPv6 with hop-by-hop and
 /// destination options (5), ARP (6), and frames that are refused (7).
 pub struct SlicedFrames<const KIND: u8>;
 
@@ -262,7 +262,7 @@ fn sum_of_net(packet: &NetSlice) -> u64 {
     }
 }
 
-/// The second half of an address, which tells interfaces apart. It has no contract: the sum is
+/// The second half of an address, which identifies an interface. It has no contract: the sum is
 /// compared with that of a plain program.
 fn half(address: [u8; 16]) -> [u8; 8] {
     let [_, _, _, _, _, _, _, _, a, b, c, d, e, f, g, h] = address;

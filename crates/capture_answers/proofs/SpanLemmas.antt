@@ -12,30 +12,31 @@ use Rattle.captures.specs.Lines.{Packet, blank, counted_by, forget_text, has_pas
 use Rattle.captures.specs.Numbers.{capped}
 use Rattle.captures.specs.Texts.{with_line_ends}
 use Rattle.captures.specs.declared.extra.Extra.TheVariants.{Forget}
-use Rattle.commands.specs.Commands.Command.{Forget as Forgets}
-use Rattle.commands.specs.Written.{written_forget}
-use Rattle.commands.proofs.WrittenLemmas.{written_forget-asks, written_forget-one_line}
-use Rattle.etherparse.specs.defrag.IpFragId.{fragment_in, rule_over, same_name}
-use Rattle.etherparse.specs.defrag.PoolCalls.{Lists, after_fragment, no_lists, retained_from}
-use Rattle.etherparse.specs.fragments.Fragments.{Fragment, fragment}
-use Rattle.etherparse.specs.fragments.declared.defrag.overlap_rule.OverlapRule.{OverlapRule}
-use Rattle.etherparse.specs.fragments.Outcome.{Held, Outcome, held_after, outcome}
-use Rattle.etherparse.specs.fragments.Outcome.Outcome.{Clash, Completed, Refusal, Waiting}
+use Rattle.line_grammar.specs.Commands.Command.{Forget as Forgets}
+use Rattle.line_grammar.specs.Written.{written_forget}
+use Rattle.line_grammar.proofs.WrittenLemmas.{written_forget-requests, written_forget-one_line}
+use Rattle.etherparse.specs.IpFragId.{fragment_in, rule_over, same_name}
+use Rattle.etherparse.specs.PoolCalls.{Lists, after_fragment, no_lists, retained_from}
+use Rattle.etherparse.specs.Fragments.{Fragment, fragment}
+use Rattle.etherparse.specs.declared.defrag.overlap_rule.OverlapRule.{OverlapRule}
+use Rattle.etherparse.specs.Outcome.{Held, Outcome, held_after, outcome}
+use Rattle.etherparse.specs.Outcome.Outcome.{Clash, Completed, Refusal, Waiting}
 use Rattle.etherparse.specs.packet.Class.{Class, FragmentName, class_of}
 use Rattle.etherparse.specs.packet.Class.Class.{Whole, Cut, Other, Refused}
-use Rattle.line_answers.specs.Answers.{class_answer, frame_meaning, outcome_answer}
-use Rattle.line_answers.specs.Arrivals.{lists_after_lines}
-use Rattle.line_answers.proofs.AnswerLemmas.{lists_after_lines-nil}
+use Rattle.netlines.specs.Answers.{class_answer, frame_meaning, outcome_answer}
+use Rattle.netlines.specs.Arrivals.{lists_after_lines}
+use Rattle.netlines.proofs.AnswerLemmas.{lists_after_lines-nil}
 use Rattle.lines.specs.Lines.{lines_of}
-use Rattle.lines.specs.Replies.{replies_after}
+use Rattle.lines.specs.LineAnswers.{answers_to_later}
 use Rattle.capture_answers.specs.PacketAnswers.{Ledger, lists_since, lists_with_packet, packet_answer}
 use Rattle.capture_answers.specs.PacketAnswers.{spanned_answers, spanned_from, kept}
-use Rattle.capture_answers.proofs.LineLemmas.{line_listed, line_replied}
-use Rattle.capture_answers.proofs.PlainLemmas.{no_lines, packet_listed, packet_replied, text_of}
+use Rattle.capture_answers.proofs.LineLemmas.{line_listed, line_answered}
+use Rattle.capture_answers.proofs.PlainLemmas.{no_lines, packet_listed, packet_answered, text_of}
 
 -- ---- what is held of one datagram
 
--- by the lines, of which there are so many, and by the packets, of which one has this number next
+-- by the lines, of which there are `lines`, and by the packets, of which the next one has this
+-- number
 record Alike (line first lines number : ℕ) (h g : Held) : Type 0 where
   pub same : h.fragments ≡ g.fragments
   pub since : nat_lt h.time line ≡ nat_lt g.time first
@@ -88,18 +89,18 @@ module _ (line first lines number : ℕ) (h g : Held) (a : Alike line first line
       by_packet = omega (arith, a.by_packet);
     }
 
-    fragment_alike : (name : FragmentName) (channel other : ℕ) (told : Option (FragmentName × Fragment))
+    fragment_alike : (name : FragmentName) (channel other : ℕ) (with_forget_line : Option (FragmentName × Fragment))
         → Alike line first (lines + 1) (number + 1)
-        (after_fragment name channel told (lines + 1) other h)
-        (after_fragment name channel told number other g)
+        (after_fragment name channel with_forget_line (lines + 1) other h)
+        (after_fragment name channel with_forget_line number other g)
     fragment_alike name channel other None = record {
       same = a.same;
       since = a.since;
       by_line = omega (arith, a.by_line);
       by_packet = omega (arith, a.by_packet);
     }
-    fragment_alike name channel other (Some told) =
-        tested_alike (rule_over name.addresses) told.1 (same_name told.0 name && (other == channel))
+    fragment_alike name channel other (Some with_forget_line) =
+        tested_alike (rule_over name.addresses) with_forget_line.1 (same_name with_forget_line.0 name && (other == channel))
 
   -- a span has passed, and the next line and packet begin another
   dropped_alike : (b c : Bool) → b ≡ c
@@ -146,7 +147,7 @@ class_alike lists own line first n number all (Cut name offset more bytes) chann
 class_alike lists own line first n number all Other channel = refl
 class_alike lists own line first n number all Refused channel = refl
 
--- ---- how far lines have come, where spans are counted
+-- ---- the ledger after some lines, where spans are counted
 
 abbrev at : ℕ → (lines begin line : ℕ) → Ledger
 at seconds lines begin line =
@@ -171,11 +172,11 @@ module _ (seconds lines begin line time : ℕ) (some : 0 < lines) (few : lines +
 
 -- ---- packet by packet
 
--- behind these lines, with the next packet's number and the lists by packets
+-- after these lines, with the next packet's number and the lists by packets
 record Come (left line first number : ℕ) (earlier : List (List ℕ)) (own : Lists) : Type 0 where
   pub some : 0 < length earlier
   pub named : line ≤ length earlier
-  pub begun : first ≤ number
+  pub started : first ≤ number
   pub few : length earlier + 2 * left + 1 < 2 ^ 64
   pub alike : AreAlike line first (length earlier) number (lists_after_lines earlier) own
 
@@ -186,13 +187,13 @@ packet_come : (left line first number : ℕ) (earlier : List (List ℕ)) (own : 
     → AreAlike line first (length earlier) number (lists_after_lines earlier) own
     → Come left line first (number + 1) (earlier ++ text_of packet ∷ [])
     (lists_with_packet own number packet)
-packet_come left line first number earlier own packet fits named begun few alike =
+packet_come left line first number earlier own packet fits named started few alike =
     let count : length earlier + 1 ≡ length (earlier ++ text_of packet ∷ []) =
     sym (length-append earlier (text_of packet ∷ [])) in
     record {
       some = omega (arith, count);
       named = omega (arith, count);
-      begun = omega arith;
+      started = omega arith;
       few = omega (arith, count);
       alike = λ name channel.
           subst (λ (n : ℕ). Alike line first n (number + 1)
@@ -200,7 +201,7 @@ packet_come left line first number earlier own packet fits named begun few alike
           (lists_with_packet own number packet name channel)) count
           (subst (λ (l : Lists). Alike line first (length earlier + 1) (number + 1) (l name channel)
           (lists_with_packet own number packet name channel)) (sym (packet_listed earlier packet fits))
-          (fragment_alike line first (length earlier) number _ _ (alike name channel) named begun
+          (fragment_alike line first (length earlier) number _ _ (alike name channel) named started
           name channel packet.origin.channel (fragment_in (class_of packet.frame))));
     }
 
@@ -209,7 +210,7 @@ module _ (seconds : ℕ) (packet : Packet) (packets : List Packet) (fits : HasLi
     (come : Come (length packets + 1) line first number earlier own)
     (next : (begin line first number : ℕ) (earlier : List (List ℕ)) (own : Lists)
     → Come (length packets) line first number earlier own
-    → replies_after frame_meaning earlier
+    → answers_to_later frame_meaning earlier
     (lines_of (lines_from (at seconds (length earlier) begin line) packets))
     ≡ with_line_ends
     (spanned_from seconds (at seconds (length earlier) begin line) first own number packets)) where
@@ -219,10 +220,10 @@ module _ (seconds : ℕ) (packet : Packet) (packets : List Packet) (fits : HasLi
   abbrev counted : Bool → Ledger
   counted passed = counted_by passed ledger packet.origin.time
 
-  -- the replies where a span has passed, or has not
+  -- the answers where a span has passed, or has not
   abbrev Answered : Bool → Type 0
   Answered passed =
-      replies_after frame_meaning earlier
+      answers_to_later frame_meaning earlier
       (lines_of ((forget_text passed ledger ++ line_of packet) ++ lines_from (counted passed) packets))
       ≡ with_line_ends ((if passed then codes "ok" ∷ [] else [])
       ++ packet_answer (kept passed first own) packet
@@ -237,16 +238,16 @@ module _ (seconds : ℕ) (packet : Packet) (packets : List Packet) (fits : HasLi
       counted_more seconds (length earlier) begin line packet.origin.time come.some
       (omega (arith, come.few))
       ∙ ap (λ (n : ℕ). at seconds n begin line) count in
-      ap (λ (l : Ledger). replies_after frame_meaning earlier
+      ap (λ (l : Ledger). answers_to_later frame_meaning earlier
       (lines_of (line_of packet ++ lines_from l packets))) goes
-      ∙ packet_replied earlier packet fits
+      ∙ packet_answered earlier packet fits
       (lines_from (at seconds (length mid) begin line) packets)
       ∙ ap₂ (λ (a later : List ℕ). a ++ 10 ∷ later)
       (class_alike (lists_after_lines earlier) own line first (length earlier) number come.alike
       (class_of packet.frame) packet.origin.channel)
       (next begin line first (number + 1) mid (lists_with_packet own number packet)
       (packet_come (length packets) line first number earlier own packet fits
-      (omega (arith, come.named)) come.begun (omega (arith, come.few)) come.alike))
+      (omega (arith, come.named)) come.started (omega (arith, come.few)) come.alike))
       ∙ ap (λ (l : Ledger). packet_answer own packet
       ++ 10 ∷ with_line_ends (spanned_from seconds l first
       (lists_with_packet own number packet) (number + 1) packets)) (sym goes)
@@ -255,40 +256,40 @@ module _ (seconds : ℕ) (packet : Packet) (packets : List Packet) (fits : HasLi
   passed =
       let forgets = written_forget line in
       let fit : line < 2 ^ 64 = omega (arith, come.named, come.few) in
-      let told = earlier ++ forgets ∷ [] in
-      let one : length earlier + 1 ≡ length told = sym (length-append earlier (forgets ∷ [])) in
-      let mid = told ++ text_of packet ∷ [] in
-      let count : length told + 1 ≡ length mid = sym (length-append told (text_of packet ∷ [])) in
+      let with_forget_line = earlier ++ forgets ∷ [] in
+      let one : length earlier + 1 ≡ length with_forget_line = sym (length-append earlier (forgets ∷ [])) in
+      let mid = with_forget_line ++ text_of packet ∷ [] in
+      let count : length with_forget_line + 1 ≡ length mid = sym (length-append with_forget_line (text_of packet ∷ [])) in
       let left = lists_since first own in
       let is_one_line = written_forget-one_line line fit in
-      let asks = written_forget-asks line fit in
-      let goes : counted true ≡ at seconds (length mid) packet.origin.time (length told) =
+      let requests = written_forget-requests line fit in
+      let goes : counted true ≡ at seconds (length mid) packet.origin.time (length with_forget_line) =
       counted_passed seconds (length earlier) begin line packet.origin.time come.some
       (omega (arith, come.few))
       ∙ ap₂ (λ (n k : ℕ). at seconds n packet.origin.time k) (omega (arith, one, count)) one in
-      let rest = lines_from (at seconds (length mid) packet.origin.time (length told)) packets in
-      let alike : AreAlike (length told) number (length told) number (lists_after_lines told) left =
+      let rest = lines_from (at seconds (length mid) packet.origin.time (length with_forget_line)) packets in
+      let alike : AreAlike (length with_forget_line) number (length with_forget_line) number (lists_after_lines with_forget_line) left =
       λ name channel.
-      subst (λ (n : ℕ). Alike n number n number (lists_after_lines told name channel)
+      subst (λ (n : ℕ). Alike n number n number (lists_after_lines with_forget_line name channel)
       (left name channel)) one
       (subst (λ (l : Lists). Alike (length earlier + 1) number (length earlier + 1) number
       (l name channel) (left name channel))
-      (sym (line_listed earlier forgets [] (Forgets line) is_one_line asks))
+      (sym (line_listed earlier forgets [] (Forgets line) is_one_line requests))
       (forget_alike line first (length earlier) number _ _ (come.alike name channel))) in
-      ap (λ (l : Ledger). replies_after frame_meaning earlier
+      ap (λ (l : Ledger). answers_to_later frame_meaning earlier
       (lines_of ((forget_text true ledger ++ line_of packet) ++ lines_from l packets))) goes
-      ∙ ap (λ (t : List ℕ). replies_after frame_meaning earlier (lines_of t))
+      ∙ ap (λ (t : List ℕ). answers_to_later frame_meaning earlier (lines_of t))
       (append_assoc (forgets ++ 10 ∷ []) (line_of packet) rest
       ∙ append_assoc forgets (10 ∷ []) (line_of packet ++ rest))
-      ∙ line_replied earlier forgets (line_of packet ++ rest) (Forgets line) is_one_line asks
+      ∙ line_answered earlier forgets (line_of packet ++ rest) (Forgets line) is_one_line requests
       ∙ ap (λ (t : List ℕ). codes "ok" ++ 10 ∷ t)
-      (packet_replied told packet fits rest
+      (packet_answered with_forget_line packet fits rest
       ∙ ap₂ (λ (a later : List ℕ). a ++ 10 ∷ later)
-      (class_alike (lists_after_lines told) left (length told) number (length told) number alike
+      (class_alike (lists_after_lines with_forget_line) left (length with_forget_line) number (length with_forget_line) number alike
       (class_of packet.frame) packet.origin.channel)
-      (next packet.origin.time (length told) number (number + 1) mid
+      (next packet.origin.time (length with_forget_line) number (number + 1) mid
       (lists_with_packet left number packet)
-      (packet_come (length packets) (length told) number number told left packet fits
+      (packet_come (length packets) (length with_forget_line) number number with_forget_line left packet fits
       (omega arith) (omega arith) (omega (arith, one, come.few)) alike))
       ∙ ap (λ (l : Ledger). packet_answer left packet
       ++ 10 ∷ with_line_ends (spanned_from seconds l number
@@ -301,7 +302,7 @@ module _ (seconds : ℕ) (packet : Packet) (packets : List Packet) (fits : HasLi
 spans_from : (seconds : ℕ) (packets : List Packet) → AllByRecursion HasLine packets
     → (begin line first number : ℕ) (earlier : List (List ℕ)) (own : Lists)
     → Come (length packets) line first number earlier own
-    → replies_after frame_meaning earlier
+    → answers_to_later frame_meaning earlier
     (lines_of (lines_from (at seconds (length earlier) begin line) packets))
     ≡ with_line_ends
     (spanned_from seconds (at seconds (length earlier) begin line) first own number packets)
@@ -311,7 +312,7 @@ spans_from seconds (packet ∷ packets) all begin line first number earlier own 
     (record {
       some = come.some;
       named = come.named;
-      begun = come.begun;
+      started = come.started;
       few = omega (arith, come.few);
       alike = come.alike;
     })
@@ -327,11 +328,11 @@ none_alike name channel =
 
 pub spans_answered : (seconds : ℕ) (packets : List Packet) → AllByRecursion HasLine packets
     → length packets < 2 ^ 63
-    → replies_after frame_meaning [] (lines_of (lines_from (blank (Forget seconds)) packets))
+    → answers_to_later frame_meaning [] (lines_of (lines_from (blank (Forget seconds)) packets))
     ≡ with_line_ends (spanned_answers seconds packets)
 spans_answered seconds [] all few = no_lines []
 spans_answered seconds (packet ∷ packets) all few =
-    packet_replied [] packet all.0 (lines_from (at seconds 1 packet.origin.time 1) packets)
+    packet_answered [] packet all.0 (lines_from (at seconds 1 packet.origin.time 1) packets)
     ∙ ap₂ (λ (l : Lists) (later : List ℕ). packet_answer l packet ++ 10 ∷ later) lists_after_lines-nil
     (spans_from seconds packets all.1 packet.origin.time 1 1 2 (text_of packet ∷ [])
     (lists_with_packet no_lists 1 packet)

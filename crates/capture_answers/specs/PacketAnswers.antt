@@ -4,9 +4,9 @@
 use Rattle.std.specs.Prelude.{ℕ, ◌+◌, Bool, if◌then◌else◌, List, [], ◌∷◌, ◌++◌, codes}
 use Rattle.captures.specs.Lines.{Packet, blank, has_passed, noted}
 use Rattle.captures.specs.declared.extra.Extra.TheVariants.{Forget, Nothing}
-use Rattle.etherparse.specs.defrag.PoolCalls.{Lists, lists_with_frame, no_lists, retained_from}
+use Rattle.etherparse.specs.PoolCalls.{Lists, lists_with_frame, no_lists, retained_from}
 use Rattle.etherparse.specs.packet.Class.{class_of}
-use Rattle.line_answers.specs.Answers.{class_answer}
+use Rattle.netlines.specs.Answers.{class_answer}
 
 -- the answer to a packet, where these are the accepted fragments of each datagram
 abbrev pub packet_answer : Lists → Packet → List ℕ
@@ -42,9 +42,9 @@ lists_since first lists name channel = retained_from first (lists name channel)
 abbrev pub kept : (passed : Bool) → (first : ℕ) → Lists → Lists
 kept passed first lists = if passed then lists_since first lists else lists
 
--- the same where a `forget` line stands before each packet with which a span has passed. That line is
--- answered `ok`, and datagrams stay of which a fragment was accepted since that span began, with the
--- packet of this number
+-- the same where a `forget` line comes before each packet with which a span has passed. That line
+-- is answered `ok`, and datagrams stay of which a fragment was accepted since that span began, with
+-- the packet of this number
 abbrev pub spanned_from : (seconds : ℕ) → Ledger → (first : ℕ) → Lists → (number : ℕ)
     → List Packet → List (List ℕ)
 spanned_from seconds ledger first lists number [] = []

@@ -7,7 +7,7 @@ ghost use Rattle.captures.specs.Texts.{with_line_ends};
 ghost use Rattle.captures.specs.declared.extra.Extra.TheVariants.{Forget, Nothing};
 ghost use Rattle.captures.specs.declared.translation.skipped.Skipped.{Skipped};
 ghost use Rattle.captures.specs.declared.unfit.Unfit.{Unfit};
-ghost use Rattle.line_answers.specs.Answers.{answers_of};
+ghost use Rattle.netlines.specs.Answers.{answers_of};
 ghost use Rattle.capture_answers.specs.PacketAnswers.{packet_answers, spanned_answers};
 
 use captures::laws::captured_packets_have_lines;

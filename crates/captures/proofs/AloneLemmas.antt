@@ -1,4 +1,4 @@
--- The packets of a capture are known by its bytes.
+-- The packets of a capture are determined by its bytes.
 use Rattle.std.proofs.Common.{◌≡◌, ◌∙◌, sym, ap, ap₂, refl, subst, ℕ, ◌+◌, ◌-◌, ◌*◌, ◌/◌, ◌%◌, ◌<◌}
 use Rattle.std.proofs.Common.{◌≤◌}
 use Rattle.std.proofs.Common.{◌==◌, arith, List, [], ◌++◌, length, take, drop, append_assoc}
@@ -8,7 +8,7 @@ use Rattle.std.proofs.Math.Seq.{take-append_seam, drop-append_seam}
 use Rattle.std.proofs.lemmas.Bool.{ne_eqb, or_cases}
 use Rattle.std.proofs.lemmas.List.{get_or-append-add}
 use Rattle.hex.specs.Hex.{IsBytes}
-use Rattle.captures.specs.Framed.{link_for, told_frame}
+use Rattle.captures.specs.Framed.{link_for, reported_frame}
 use Rattle.captures.specs.Lines.{packets_of}
 use Rattle.captures.specs.Numbers.{half, word}
 use Rattle.captures.specs.Pcap.{is_magic, link_type}
@@ -36,10 +36,10 @@ use Rattle.captures.specs.declared.time.clock.Clock.{Clock}
 
 -- ---- parts of the same bytes
 
--- fronts of the same length are the same,
-pub front_same : (bytes u r u' r' : List ℕ) → bytes ≡ u ++ r → bytes ≡ u' ++ r'
+-- prefixes of the same length are the same,
+pub prefix_same : (bytes u r u' r' : List ℕ) → bytes ≡ u ++ r → bytes ≡ u' ++ r'
     → length u ≡ length u' → u ≡ u'
-front_same bytes u r u' r' parts parts' size =
+prefix_same bytes u r u' r' parts parts' size =
     sym (take-append_seam u r) ∙ ap (take (length u)) (sym parts) ∙ ap (λ n. take n bytes) size
     ∙ ap (take (length u')) parts' ∙ take-append_seam u' r'
 
@@ -50,8 +50,8 @@ rest_same bytes u r u' r' parts parts' size =
     sym (drop-append_seam u r) ∙ ap (drop (length u)) (sym parts) ∙ ap (λ n. drop n bytes) size
     ∙ ap (drop (length u')) parts' ∙ drop-append_seam u' r'
 
-pub bytes_behind : (u r : List ℕ) → IsBytes (u ++ r) → IsBytes r
-bytes_behind u r all i = subst (λ (b : ℕ). b < 256) (get_or-append-add u r i 0) (all (length u + i))
+pub bytes_after : (u r : List ℕ) → IsBytes (u ++ r) → IsBytes r
+bytes_after u r all i = subst (λ (b : ℕ). b < 256) (get_or-append-add u r i 0) (all (length u + i))
 
 -- ---- a number in one byte order, and another in the other
 
@@ -60,10 +60,10 @@ first_byte : (a b c d n m : ℕ) → a < 256 → b < 256 → c < 256 → d < 256
     → n / 16777216 ≡ m % 256
 first_byte a b c d n m la lb lc ld big little = omega arith
 
--- the byte at the place is the highest of the one and the lowest of the other
-spelled_twice : (bytes : List ℕ) (p n m : ℕ) → IsBytes bytes → word Big bytes p ≡ n
+-- the byte at the offset is the highest of the one and the lowest of the other
+encoded_twice : (bytes : List ℕ) (p n m : ℕ) → IsBytes bytes → word Big bytes p ≡ n
     → word Little bytes p ≡ m → n / 16777216 ≡ m % 256
-spelled_twice bytes p n m all big little =
+encoded_twice bytes p n m all big little =
     first_byte (slice_index bytes p) (slice_index bytes (p + 1)) (slice_index bytes (p + 2))
     (slice_index bytes (p + 3)) n m
     (all p) (all (p + 1)) (all (p + 2)) (all (p + 3)) big little
@@ -71,7 +71,7 @@ spelled_twice bytes p n m all big little =
 magic_once : (bytes : List ℕ) → IsBytes bytes → word Big bytes 8 ≡ byte_order_magic
     → word Little bytes 8 ≡ byte_order_magic → ⊥
 magic_once bytes all big little = let first =
-    spelled_twice bytes 8 byte_order_magic byte_order_magic all big little in absurd (omega arith)
+    encoded_twice bytes 8 byte_order_magic byte_order_magic all big little in absurd (omega arith)
 
 one_order : (P : ByteOrder → Type 0) → (P Big → P Little → ⊥) → (o o' : ByteOrder) → P o → P o'
     → o ≡ o'
@@ -89,16 +89,16 @@ order_alone order o o' bytes all (inr h) (inr h') =
     one_order (λ (p : ByteOrder). word p bytes 8 ≡ byte_order_magic) (magic_once bytes all) o o'
     h.1 h'.1
 
--- the order of a front is that of the bytes
-pub order_more : (order o : ByteOrder) (bytes front rest : List ℕ) → bytes ≡ front ++ rest
-    → 12 ≤ length front → HasOrder order front o → HasOrder order bytes o
-order_more order o bytes front rest parts size (inl h) =
-    inl (λ e. h.0 (sym (word_of Big bytes front rest 0 parts (omega arith)) ∙ e), h.1)
-order_more order o bytes front rest parts size (inr h) =
+-- the byte order of a prefix is that of the bytes
+pub order_more : (order o : ByteOrder) (bytes prefix rest : List ℕ) → bytes ≡ prefix ++ rest
+    → 12 ≤ length prefix → HasOrder order prefix o → HasOrder order bytes o
+order_more order o bytes prefix rest parts size (inl h) =
+    inl (λ e. h.0 (sym (word_of Big bytes prefix rest 0 parts (omega arith)) ∙ e), h.1)
+order_more order o bytes prefix rest parts size (inr h) =
     inr (
-      word_of Big bytes front rest 0 parts (omega arith)
+      word_of Big bytes prefix rest 0 parts (omega arith)
           ∙ h.0,
-      word_of o bytes front rest 8 parts (omega arith) ∙ h.1,
+      word_of o bytes prefix rest 8 parts (omega arith) ∙ h.1,
     )
 
 -- the two magic numbers of a classic capture
@@ -112,13 +112,13 @@ file_once : (bytes : List ℕ) → IsBytes bytes → (word Big bytes 0 ≡ 0xa1b
     ⊎ (word Big bytes 0 ≡ 0xa1b23c4d) → (word Little bytes 0 ≡ 0xa1b2c3d4)
     ⊎ (word Little bytes 0 ≡ 0xa1b23c4d) → ⊥
 file_once bytes all (inl big) (inl little) = let first =
-    spelled_twice bytes 0 0xa1b2c3d4 0xa1b2c3d4 all big little in absurd (omega arith)
+    encoded_twice bytes 0 0xa1b2c3d4 0xa1b2c3d4 all big little in absurd (omega arith)
 file_once bytes all (inl big) (inr little) = let first =
-    spelled_twice bytes 0 0xa1b2c3d4 0xa1b23c4d all big little in absurd (omega arith)
+    encoded_twice bytes 0 0xa1b2c3d4 0xa1b23c4d all big little in absurd (omega arith)
 file_once bytes all (inr big) (inl little) = let first =
-    spelled_twice bytes 0 0xa1b23c4d 0xa1b2c3d4 all big little in absurd (omega arith)
+    encoded_twice bytes 0 0xa1b23c4d 0xa1b2c3d4 all big little in absurd (omega arith)
 file_once bytes all (inr big) (inr little) = let first =
-    spelled_twice bytes 0 0xa1b23c4d 0xa1b23c4d all big little in absurd (omega arith)
+    encoded_twice bytes 0 0xa1b23c4d 0xa1b23c4d all big little in absurd (omega arith)
 
 pub file_order : (o o' : ByteOrder) (bytes : List ℕ) → IsBytes bytes
     → IsTrue (is_magic (word o bytes 0)) → IsTrue (is_magic (word o' bytes 0)) → o ≡ o'
@@ -134,8 +134,8 @@ no_section_in Big bytes all m big = absurd (elim (is_one (word Big bytes 0) m) [
   | inr e ↦ omega arith
 ])
 no_section_in Little bytes all m big = absurd (elim (is_one (word Little bytes 0) m) [
-  | inl e ↦ (let first = spelled_twice bytes 0 section_header 0xa1b2c3d4 all big e in omega arith)
-  | inr e ↦ (let first = spelled_twice bytes 0 section_header 0xa1b23c4d all big e in omega arith)
+  | inl e ↦ (let first = encoded_twice bytes 0 section_header 0xa1b2c3d4 all big e in omega arith)
+  | inr e ↦ (let first = encoded_twice bytes 0 section_header 0xa1b23c4d all big e in omega arith)
 ])
 
 -- ---- what a block says
@@ -145,7 +145,7 @@ no_packets : (origin origin' : Origin) (frame frame' : List ℕ) → frame ≡ [
 no_packets origin origin' frame frame' none none' =
     ap (packets_of origin) none ∙ ap (packets_of origin') (sym none')
 
--- where and when a packet was captured, in a block that tells the time, and in one that doesn't
+-- where and when a packet was captured, in a block that has the time, and in one that hasn't
 abbrev pub timed_origin : Section → ByteOrder → List ℕ → ℕ → Origin
 timed_origin section order block interface = record {
   channel = section.first + interface;
@@ -243,7 +243,7 @@ with_interface section snap clock links = record section {
   clocks = clocks_with section clock;
 }
 
--- the section and the packet after a block are known by what it says
+-- the section and the packet after a block are determined by what it says
 becomes_once : (section : Section) (order : ByteOrder) (content : Content)
     (after after' : Section) (origin origin' : Origin) (frame frame' : List ℕ)
     → Becomes section order content after origin frame
@@ -273,7 +273,7 @@ classic_same : (passing : Passing) {order order' : ByteOrder} {unit unit' : Time
     → Classic order unit link passing ≡ Classic order' unit' link' passing
 classic_same passing order unit link = λ i. Classic (order i) (unit i) (link i) passing
 
--- two readings of bytes as a unit and what follows it are one
+-- bytes are a unit and what follows it in one way only
 module _ (bytes u r u' r' : List ℕ) (all : IsBytes bytes) (parts : bytes ≡ u ++ r)
     (parts' : bytes ≡ u' ++ r') (after after' : State) (origin origin' : Origin)
     (frame frame' : List ℕ) where
@@ -288,11 +288,11 @@ module _ (bytes u r u' r' : List ℕ) (all : IsBytes bytes) (parts : bytes ≡ u
       let order = order_alone section.order b.order b'.order bytes all
       (order_more section.order b.order bytes u r parts long b.has_order)
       (order_more section.order b'.order bytes u' r' parts' long' b'.has_order) in
-      let told = word_of b.order bytes u r 4 parts (omega arith) ∙ b.block.front in
-      let told' = word_of b'.order bytes u' r' 4 parts' (omega arith) ∙ b'.block.front in
-      let size : length u ≡ length u' = sym told
-      ∙ ap (λ (o : ByteOrder). word o bytes 4) order ∙ told' in
-      let same = front_same bytes u r u' r' parts parts' size in
+      let reported = word_of b.order bytes u r 4 parts (omega arith) ∙ b.block.prefix in
+      let reported' = word_of b'.order bytes u' r' 4 parts' (omega arith) ∙ b'.block.prefix in
+      let size : length u ≡ length u' = sym reported
+      ∙ ap (λ (o : ByteOrder). word o bytes 4) order ∙ reported' in
+      let same = prefix_same bytes u r u' r' parts parts' size in
       let says' = subst (λ (o : ByteOrder). Says section o u b'.reads.content) (sym order)
       (subst (λ (l : List ℕ). Says section b'.order l b'.reads.content)
       (sym same) b'.reads.says) in
@@ -313,7 +313,7 @@ module _ (bytes u r u' r' : List ℕ) (all : IsBytes bytes) (parts : bytes ≡ u
       (sym (word_of o.order bytes u r 0 parts (omega arith))) o.header.magic in
       let magic' = subst (λ (n : ℕ). IsTrue (is_magic n))
       (sym (word_of o'.order bytes u' r' 0 parts' (omega arith))) o'.header.magic in
-      let unit = front_same bytes u r u' r' parts parts' (size ∙ sym size') in
+      let unit = prefix_same bytes u r u' r' parts parts' (size ∙ sym size') in
       let order = file_order o.order o'.order bytes all magic magic' in
       let link = some_same (sym o.known
       ∙ ap₂ (λ (p : ByteOrder) (l : List ℕ). link_for unfit (link_type p l)) order unit
@@ -337,17 +337,17 @@ module _ (bytes u r u' r' : List ℕ) (all : IsBytes bytes) (parts : bytes ≡ u
       let packet' = i'.packet in
       let size = p.size in
       let size' = p'.size in
-      let front = parts ∙ ap (λ l. l ++ r) p.parts ∙ append_assoc p.head packet r in
-      let front' = parts' ∙ ap (λ l. l ++ r') p'.parts ∙ append_assoc p'.head packet' r' in
-      let head = front_same bytes p.head (packet ++ r) p'.head
-      (packet' ++ r') front front' (size ∙ sym size') in
-      let behind = rest_same bytes p.head (packet ++ r) p'.head
-      (packet' ++ r') front front' (size ∙ sym size') in
+      let prefix = parts ∙ ap (λ l. l ++ r) p.parts ∙ append_assoc p.head packet r in
+      let prefix' = parts' ∙ ap (λ l. l ++ r') p'.parts ∙ append_assoc p'.head packet' r' in
+      let head = prefix_same bytes p.head (packet ++ r) p'.head
+      (packet' ++ r') prefix prefix' (size ∙ sym size') in
+      let following = rest_same bytes p.head (packet ++ r) p'.head
+      (packet' ++ r') prefix prefix' (size ∙ sym size') in
       let count : length packet ≡ length packet' =
       sym p.captured ∙ ap (λ (l : List ℕ). word order l 8) head ∙ p'.captured in
-      let packets = front_same (packet ++ r) packet r packet' r' refl behind count in
-      let frames = some_same (sym i.is_told ∙ ap (told_frame passing.unfit link) packets
-      ∙ i'.is_told) in
+      let packets = prefix_same (packet ++ r) packet r packet' r' refl following count in
+      let frames = some_same (sym i.is_reported ∙ ap (reported_frame passing.unfit link) packets
+      ∙ i'.is_reported) in
       let unit = p.parts ∙ ap₂ (λ (a b : List ℕ). a ++ b) head packets ∙ sym p'.parts in (
         unit,
         i.next

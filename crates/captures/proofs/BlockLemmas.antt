@@ -1,6 +1,6 @@
 -- What a block can't say.
-use Rattle.std.proofs.Common.{◌≡◌, ◌∙◌, sym, ap, ap₂, refl, ℕ, ◌+◌, ◌==◌, ◌≤◌, List, ◌++◌, length, inl, inr}
-use Rattle.std.proofs.Common.{arith}
+use Rattle.std.proofs.Common.{◌≡◌, ◌∙◌, sym, ap, ap₂, refl, ℕ, ◌+◌, ◌-◌, ◌%◌, ◌==◌, ◌≤◌, List, ◌++◌}
+use Rattle.std.proofs.Common.{arith, length, inl, inr}
 use Rattle.std.specs.Prelude.{slice_index, if◌then◌else◌, Option, Some, None, MatchOption}
 use Rattle.std.proofs.lemmas.List.{get_or_append_left, get_or-append-add}
 use Rattle.captures.specs.Numbers.{half, word}
@@ -89,81 +89,81 @@ no_simple section order block kind none (Holds origin link packet) (inr (inr say
     none origin link packet says
 no_simple section order block kind none Nothing says = says.4 kind
 
--- a number of the front
-pub word_front : (order : ByteOrder) (front rest : List ℕ) (p : ℕ) → p + 4 ≤ length front
-    → word order (front ++ rest) p ≡ word order front p
-word_front Big front rest p fits =
+-- a number in the prefix
+pub word_prefix : (order : ByteOrder) (prefix rest : List ℕ) (p : ℕ) → p + 4 ≤ length prefix
+    → word order (prefix ++ rest) p ≡ word order prefix p
+word_prefix Big prefix rest p fits =
     rw (
-      get_or_append_left front rest 0 p (omega arith),
-      get_or_append_left front rest 0 (p + 1)
+      get_or_append_left prefix rest 0 p (omega arith),
+      get_or_append_left prefix rest 0 (p + 1)
           (omega arith),
-      get_or_append_left front rest 0 (p + 2)
+      get_or_append_left prefix rest 0 (p + 2)
           (omega arith),
-      get_or_append_left front rest 0 (p + 3) (omega arith),
+      get_or_append_left prefix rest 0 (p + 3) (omega arith),
     ) refl
-word_front Little front rest p fits =
+word_prefix Little prefix rest p fits =
     rw (
-      get_or_append_left front rest 0 p (omega arith),
-      get_or_append_left front rest 0 (p + 1)
+      get_or_append_left prefix rest 0 p (omega arith),
+      get_or_append_left prefix rest 0 (p + 1)
           (omega arith),
-      get_or_append_left front rest 0 (p + 2)
+      get_or_append_left prefix rest 0 (p + 2)
           (omega arith),
-      get_or_append_left front rest 0 (p + 3) (omega arith),
+      get_or_append_left prefix rest 0 (p + 3) (omega arith),
     ) refl
 
--- a record's origin stands in its head
-pub origin_front : (order : ByteOrder) (time_unit : TimeUnit) (head packet : List ℕ)
+-- a record's origin is read from its head
+pub origin_prefix : (order : ByteOrder) (time_unit : TimeUnit) (head packet : List ℕ)
     → 16 ≤ length head
     → record_origin order time_unit head ≡ record_origin order time_unit (head ++ packet)
-origin_front order time_unit head packet long =
+origin_prefix order time_unit head packet long =
     sym (ap₂ (λ (s p : ℕ). origin_at (record_time time_unit s p))
-    (word_front order head packet 0 (omega arith)) (word_front order head packet 4 (omega arith)))
+    (word_prefix order head packet 0 (omega arith)) (word_prefix order head packet 4 (omega arith)))
 
-pub word_of : (order : ByteOrder) (bytes front rest : List ℕ) (p : ℕ) → bytes ≡ front ++ rest
-    → p + 4 ≤ length front → word order bytes p ≡ word order front p
-word_of order bytes front rest p parts fits =
-    ap (λ l. word order l p) parts ∙ word_front order front rest p fits
+pub word_of : (order : ByteOrder) (bytes prefix rest : List ℕ) (p : ℕ) → bytes ≡ prefix ++ rest
+    → p + 4 ≤ length prefix → word order bytes p ≡ word order prefix p
+word_of order bytes prefix rest p parts fits =
+    ap (λ l. word order l p) parts ∙ word_prefix order prefix rest p fits
 
-pub order_of : (order order' : ByteOrder) (bytes front rest : List ℕ) → bytes ≡ front ++ rest
-    → 12 ≤ length front → HasOrder order bytes order' → HasOrder order front order'
-order_of order order' bytes front rest parts size (inl h) =
-    inl (rw (word_of Big bytes front rest 0 parts (omega arith)) at h.0, h.1)
-order_of order order' bytes front rest parts size (inr h) =
+order_of : (order order' : ByteOrder) (bytes prefix rest : List ℕ) → bytes ≡ prefix ++ rest
+    → 12 ≤ length prefix → HasOrder order bytes order' → HasOrder order prefix order'
+order_of order order' bytes prefix rest parts size (inl h) =
+    inl (rw (word_of Big bytes prefix rest 0 parts (omega arith)) at h.0, h.1)
+order_of order order' bytes prefix rest parts size (inr h) =
     inr (
-      rw (word_of Big bytes front rest 0 parts (omega arith)) at h.0,
+      rw (word_of Big bytes prefix rest 0 parts (omega arith)) at h.0,
       rw
-          (word_of order' bytes front rest 8 parts (omega arith)) at h.1,
+          (word_of order' bytes prefix rest 8 parts (omega arith)) at h.1,
     )
 
--- a number behind the front
-byte_back : (front rest : List ℕ) (i : ℕ)
-    → slice_index (front ++ rest) (length front + i) ≡ slice_index rest i
-byte_back front rest i = get_or-append-add front rest i 0
+-- a number after the prefix
+byte_back : (prefix rest : List ℕ) (i : ℕ)
+    → slice_index (prefix ++ rest) (length prefix + i) ≡ slice_index rest i
+byte_back prefix rest i = get_or-append-add prefix rest i 0
 
-first_back : (front rest : List ℕ) → slice_index (front ++ rest) (length front) ≡ slice_index rest 0
-first_back front rest = let at : length front ≡ length front + 0 = omega arith in
-    ap (slice_index (front ++ rest)) at ∙ byte_back front rest 0
+first_back : (prefix rest : List ℕ) → slice_index (prefix ++ rest) (length prefix) ≡ slice_index rest 0
+first_back prefix rest = let at : length prefix ≡ length prefix + 0 = omega arith in
+    ap (slice_index (prefix ++ rest)) at ∙ byte_back prefix rest 0
 
-pub word_back : (order : ByteOrder) (front rest : List ℕ)
-    → word order (front ++ rest) (length front) ≡ word order rest 0
-word_back Big front rest =
+pub word_back : (order : ByteOrder) (prefix rest : List ℕ)
+    → word order (prefix ++ rest) (length prefix) ≡ word order rest 0
+word_back Big prefix rest =
     rw (
-      first_back front rest,
-      byte_back front rest 1,
-      byte_back front rest
+      first_back prefix rest,
+      byte_back prefix rest 1,
+      byte_back prefix rest
           2,
-      byte_back front rest 3,
+      byte_back prefix rest 3,
     ) refl
-word_back Little front rest =
+word_back Little prefix rest =
     rw (
-      first_back front rest,
-      byte_back front rest 1,
-      byte_back front rest
+      first_back prefix rest,
+      byte_back prefix rest 1,
+      byte_back prefix rest
           2,
-      byte_back front rest 3,
+      byte_back prefix rest 3,
     ) refl
 
--- what the front tells is so of more bytes
+-- what the prefix shows holds of more bytes
 skipped_same : (order : ByteOrder) (bytes bytes' : List ℕ) → word Big bytes 0 ≡ word Big bytes' 0
     → word order bytes 0 ≡ word order bytes' 0 → IsSkipped order bytes → IsSkipped order bytes'
 skipped_same order bytes bytes' big own s = (
@@ -177,17 +177,17 @@ skipped_same order bytes bytes' big own s = (
   ),
 )
 
-pub skipped_front : (order : ByteOrder) (bytes front rest : List ℕ) → bytes ≡ front ++ rest
-    → 4 ≤ length front → IsSkipped order front → IsSkipped order bytes
-skipped_front order bytes front rest parts size =
-    skipped_same order front bytes (sym (word_of Big bytes front rest 0 parts size))
-    (sym (word_of order bytes front rest 0 parts size))
+pub skipped_prefix : (order : ByteOrder) (bytes prefix rest : List ℕ) → bytes ≡ prefix ++ rest
+    → 4 ≤ length prefix → IsSkipped order prefix → IsSkipped order bytes
+skipped_prefix order bytes prefix rest parts size =
+    skipped_same order prefix bytes (sym (word_of Big bytes prefix rest 0 parts size))
+    (sym (word_of order bytes prefix rest 0 parts size))
 
-pub skipped_of : (order : ByteOrder) (bytes front rest : List ℕ) → bytes ≡ front ++ rest
-    → 4 ≤ length front → IsSkipped order bytes → IsSkipped order front
-skipped_of order bytes front rest parts size =
-    skipped_same order bytes front (word_of Big bytes front rest 0 parts size)
-    (word_of order bytes front rest 0 parts size)
+pub skipped_of : (order : ByteOrder) (bytes prefix rest : List ℕ) → bytes ≡ prefix ++ rest
+    → 4 ≤ length prefix → IsSkipped order bytes → IsSkipped order prefix
+skipped_of order bytes prefix rest parts size =
+    skipped_same order bytes prefix (word_of Big bytes prefix rest 0 parts size)
+    (word_of order bytes prefix rest 0 parts size)
 
 pub taken_of : (order : ByteOrder) (bytes block rest : List ℕ) (len : ℕ) → bytes ≡ block ++ rest
     → 4 ≤ length block → length block ≡ len → IsTaken order bytes len
@@ -195,6 +195,23 @@ pub taken_of : (order : ByteOrder) (bytes block rest : List ℕ) (len : ℕ) →
 taken_of order bytes block rest len parts size whole (inl few) = inl (omega arith)
 taken_of order bytes block rest len parts size whole (inr skipped) =
     inr (skipped_of order bytes block rest parts size skipped)
+
+-- a whole block at the start of bytes
+pub whole_block : (order order' : ByteOrder) (bytes block rest : List ℕ) → bytes ≡ block ++ rest
+    → 12 ≤ length block → length block % 4 ≡ 0 → length block ≡ word order' bytes 4
+    → word order' block (length block - 4) ≡ length block → HasOrder order bytes order'
+    → IsTaken order' bytes (word order' bytes 4)
+    → HasOrder order block order' × IsBlock order' block × IsTaken order' block (length block)
+whole_block order order' bytes block rest parts size words whole back has_order taken = (
+  order_of order order' bytes block rest parts size has_order,
+  record {
+    size = size;
+    words = words;
+    prefix = sym (word_of order' bytes block rest 4 parts (omega arith)) ∙ sym whole;
+    back = back;
+  },
+  taken_of order' bytes block rest (word order' bytes 4) parts (omega arith) whole taken,
+)
 
 -- a whole block is refused
 by_error : (section : Section) (order : ByteOrder) (bytes block : List ℕ) (error : CaptureError)

@@ -1,4 +1,4 @@
--- Parts of bytes are bytes.
+-- Prefixes and suffixes of bytes are bytes.
 use Rattle.std.proofs.Common.{ℕ, zero, suc, ◌<◌, arith, List, [], ◌∷◌, ◌++◌, take, drop}
 use Rattle.std.specs.List.{AllByRecursion}
 use Rattle.hex.specs.Hex.{IsBytes}
@@ -25,9 +25,9 @@ bytes_take zero xs all = tt
 bytes_take (suc n) [] all = tt
 bytes_take (suc n) (x ∷ xs) all = (all.0, bytes_take n xs all.1)
 
-pub bytes_front : (xs ys : List ℕ) → Bytes (xs ++ ys) → Bytes xs
-bytes_front [] ys all = tt
-bytes_front (x ∷ xs) ys all = (all.0, bytes_front xs ys all.1)
+pub bytes_prefix : (xs ys : List ℕ) → Bytes (xs ++ ys) → Bytes xs
+bytes_prefix [] ys all = tt
+bytes_prefix (x ∷ xs) ys all = (all.0, bytes_prefix xs ys all.1)
 
 pub bytes_back : (xs ys : List ℕ) → Bytes (xs ++ ys) → Bytes ys
 bytes_back [] ys all = all

@@ -3,9 +3,9 @@ use Rattle.std.proofs.Common.{◌≡◌, sym, ap, subst, ℕ, ◌+◌, ◌*◌, 
 use Rattle.std.proofs.Common.{◌∷◌, length, drop, inl, inr}
 use Rattle.std.specs.Prelude.{min}
 use Rattle.std.specs.List.{AllByRecursion}
-use Rattle.captures.proofs.ByteLemmas.{Bytes, bytes_by, bytes_at, bytes_drop, bytes_take, bytes_front}
+use Rattle.captures.proofs.ByteLemmas.{Bytes, bytes_by, bytes_at, bytes_drop, bytes_take, bytes_prefix}
 use Rattle.captures.proofs.ByteLemmas.{bytes_back}
-use Rattle.captures.proofs.FramedLemmas.{told_bytes, told_fits}
+use Rattle.captures.proofs.FramedLemmas.{reported_bytes, reported_fits}
 use Rattle.captures.specs.ComeBack.{HasLine, CapturedPacketsHaveLines}
 use Rattle.captures.specs.Lines.{Packet, packets_of}
 use Rattle.captures.specs.Numbers.{half, word}
@@ -14,13 +14,13 @@ use Rattle.captures.specs.Pcapng.Content.{Opens, OpensOther, Describes, Holds, N
 use Rattle.captures.specs.Units.{IsUnit, IsBlockUnit, Row, in_a_row, no_section}
 use Rattle.captures.specs.declared.byte_order.ByteOrder.{ByteOrder}
 use Rattle.captures.specs.declared.limits.TheConstants.{TIME_LIMIT}
-use Rattle.commands.specs.declared.limits.TheConstants.{FRAME_LIMIT}
+use Rattle.line_grammar.specs.declared.limits.TheConstants.{FRAME_LIMIT}
 use Rattle.captures.specs.Times.{moved, nanoseconds_in, nanoseconds_of}
 use Rattle.captures.specs.declared.link.kind.Link.{Link}
 use Rattle.captures.specs.declared.pcapng.section.Section.{Section}
 use Rattle.captures.specs.declared.translation.state.State.{State}
 use Rattle.captures.specs.declared.translation.state.State.TheVariants.{Start, Classic, Pcapng}
-use Rattle.runs.proofs.CallLemmas.{AllByRecursion-append}
+use Rattle.device_runs.proofs.CallLemmas.{AllByRecursion-append}
 use Rattle.captures.specs.declared.origin.Origin.{Origin}
 
 most_time : (n : ℕ) → min n TIME_LIMIT ≤ TIME_LIMIT
@@ -65,15 +65,15 @@ timed_fits interface section order block after origin frame range bytes number l
     let number' = ap (λ (o : Origin). o.channel) becomes.1 in
     let in' = says.fits in
     let time = ap (λ (o : Origin). o.time) becomes.1 in
-    let told_time = says.time in
+    let reported_time = says.time in
     let most = most_time (moved (clock_at section interface).offset
     (nanoseconds_of (clock_at section interface).resolution
     (2 ^ 32 * word order block 12 + word order block 16))) in
     let held' : Bytes held = subst Bytes (sym says.bytes)
     (bytes_take (length held) (drop 28 block) (bytes_drop 28 block bytes)) in (
       subst (λ (s : Section). s.first < 2 ^ 32) (sym becomes.0) range,
-      fits_line origin frame (told_fits section.passing.unfit link held frame becomes.2)
-          (told_bytes section.passing.unfit link held frame held' becomes.2) (omega arith) (omega arith),
+      fits_line origin frame (reported_fits section.passing.unfit link held frame becomes.2)
+          (reported_bytes section.passing.unfit link held frame held' becomes.2) (omega arith) (omega arith),
     )
 
 block_fits : (section : Section) (order : ByteOrder) (block : List ℕ) (after : Section)
@@ -106,12 +106,12 @@ block_fits section order block after origin frame range bytes
     let number' = ap (λ (o : Origin). o.channel) becomes.1 in
     let first = says.number in
     let time = ap (λ (o : Origin). o.time) becomes.1 in
-    let told_time = says.time in
+    let reported_time = says.time in
     let held' : Bytes held = subst Bytes (sym says.bytes)
     (bytes_take (length held) (drop 12 block) (bytes_drop 12 block bytes)) in (
       subst (λ (s : Section). s.first < 2 ^ 32) (sym becomes.0) range,
-      fits_line origin frame (told_fits section.passing.unfit link held frame becomes.2)
-          (told_bytes section.passing.unfit link held frame held' becomes.2) (omega arith)
+      fits_line origin frame (reported_fits section.passing.unfit link held frame becomes.2)
+          (reported_bytes section.passing.unfit link held frame held' becomes.2) (omega arith)
           (omega arith),
     )
 block_fits section order block after origin frame range bytes Nothing says becomes = (
@@ -143,9 +143,9 @@ unit_fits (Classic order time_unit link passing) unit after origin frame range b
     + nanoseconds_in time_unit * word order unit 4) in
     let p = i.is_record in (
       subst InRange (sym i.next) tt,
-      fits_line origin frame (told_fits passing.unfit link i.packet frame i.is_told)
-          (told_bytes passing.unfit link i.packet frame
-          (bytes_back p.head i.packet (subst Bytes p.parts bytes)) i.is_told) (omega arith)
+      fits_line origin frame (reported_fits passing.unfit link i.packet frame i.is_reported)
+          (reported_bytes passing.unfit link i.packet frame
+          (bytes_back p.head i.packet (subst Bytes p.parts bytes)) i.is_reported) (omega arith)
           (omega arith),
     )
 unit_fits (Pcapng section) unit after origin frame range bytes is =
@@ -157,7 +157,7 @@ row_fits : (state : State) (units : List (List ℕ)) (packets : List Packet) (af
 row_fits state [] packets after range bytes row = subst (AllByRecursion HasLine) (sym row.0) tt
 row_fits state (unit ∷ units) packets after range bytes row =
     let first = unit_fits state unit row.0 row.1 row.2 range
-    (bytes_front unit (in_a_row units) bytes) row.4 in
+    (bytes_prefix unit (in_a_row units) bytes) row.4 in
     let later = row_fits row.0 units row.3 after first.0
     (bytes_back unit (in_a_row units) bytes) row.5 in
     subst (AllByRecursion HasLine) (sym row.6)
@@ -167,4 +167,4 @@ pub captured_packets_have_lines : CapturedPacketsHaveLines
 captured_packets_have_lines unfit bytes packets skipped all capture =
     let p = capture.passes in
     row_fits (Start unfit) p.units packets capture.state tt
-    (bytes_front (in_a_row p.units) [] (subst Bytes p.parts (bytes_by bytes all))) p.row
+    (bytes_prefix (in_a_row p.units) [] (subst Bytes p.parts (bytes_by bytes all))) p.row

@@ -32,14 +32,14 @@ ten_some n = let most = ten_most 0 n (omega arith) in omega arith
 pub ten_fits : (n : ℕ) → n < 20 → 10 ^ n < 2 ^ 64
 ten_fits n few = let most = ten_most n 19 (omega arith) in omega arith
 
--- so many parts make no whole
+-- where 10^20 units or more make a second, no count of 64 bits has a whole second
 pub no_parts : (count n : ℕ) → count < 2 ^ 64 → 20 ≤ n → count / 10 ^ n ≡ 0
 no_parts count n few long =
     let most = ten_most 20 n long in
     let less = div_below count (10 ^ n) 1 (omega arith) (omega arith) in
     omega arith
 
--- of parts this small no count of 64 bits has one nanosecond
+-- where 10^29 units or more make a second, no count of 64 bits has one nanosecond
 pub few_parts : (resolution count : ℕ) → count < 2 ^ 64 → 29 ≤ resolution → resolution < 128
     → nanoseconds_of resolution count ≡ 0
 few_parts resolution count fits small ten =
@@ -48,10 +48,10 @@ few_parts resolution count fits small ten =
 
 -- ---- options
 
-pub options_end : (n : ℕ) (order : ByteOrder) (rest : List ℕ) (clock told : Clock)
-    → clock_by n order rest clock ≡ told → ends_options order rest ≡ true → clock ≡ told
-options_end zero order rest clock told is ends = is
-options_end (suc n) order rest clock told is ends = rw ends at is
+pub options_end : (n : ℕ) (order : ByteOrder) (rest : List ℕ) (clock reported : Clock)
+    → clock_by n order rest clock ≡ reported → ends_options order rest ≡ true → clock ≡ reported
+options_end zero order rest clock reported is ends = is
+options_end (suc n) order rest clock reported is ends = rw ends at is
 
 by_size : (few : Bool) (n : ℕ) (b c : Bool) → nat_lt n 4 ≡ few → (few || b || c) ≡ false → 4 ≤ n
 by_size true n b c is more = absurd (cc)
@@ -62,12 +62,12 @@ pub long_enough : (order : ByteOrder) (rest : List ℕ) → ends_options order r
 long_enough order rest more = by_size (nat_lt (length rest) 4) (length rest)
     (half order rest 0 == 0) (nat_lt (length rest) (4 + half order rest 2)) refl more
 
-pub options_more : (n : ℕ) (order : ByteOrder) (rest later : List ℕ) (clock told : Clock)
-    → length rest ≤ n → clock_by n order rest clock ≡ told → ends_options order rest ≡ false
+pub options_more : (n : ℕ) (order : ByteOrder) (rest later : List ℕ) (clock reported : Clock)
+    → length rest ≤ n → clock_by n order rest clock ≡ reported → ends_options order rest ≡ false
     → 4 ≤ length rest → later ≡ drop (min (option_len order rest) (length rest)) rest → length later + 4 ≤ length rest
-    → (m : ℕ) × (length later ≤ m) × (clock_by m order later (with_option order rest clock) ≡ told)
-options_more zero order rest later clock told few is more long here shorter = absurd (omega arith)
-options_more (suc n) order rest later clock told few is more long here shorter = (
+    → (m : ℕ) × (length later ≤ m) × (clock_by m order later (with_option order rest clock) ≡ reported)
+options_more zero order rest later clock reported few is more long here shorter = absurd (omega arith)
+options_more (suc n) order rest later clock reported few is more long here shorter = (
   n,
   omega arith,
   ap (λ (l : List ℕ). clock_by n order l (with_option order rest clock))

@@ -8,23 +8,23 @@ use Rattle.captures.specs.ComeBack.{at_its_time, with_time, without_time, TimedL
 use Rattle.captures.specs.Lines.{Packet, packets_of, line_of, lines_of, timed_line_of}
 use Rattle.captures.specs.Runs.{IsCapture}
 use Rattle.captures.specs.Skipping.{none_skipped}
-use Rattle.captures.specs.Spelling.{IsWritable, capture_of, origin_of, packet_of, packets_in}
-use Rattle.captures.specs.Texts.{with_line_ends, HandIn, IsText, with_last_line_end}
+use Rattle.captures.specs.Encoding.{IsWritable, capture_of, origin_of, packet_of, packets_in}
+use Rattle.captures.specs.Texts.{with_line_ends, GiveFrames, IsText, with_last_line_end}
 use Rattle.captures.specs.declared.extra.Extra.TheVariants.{Nothing, Times}
 use Rattle.captures.specs.declared.origin.Origin.{Origin}
 use Rattle.captures.specs.declared.time.time_unit.TimeUnit.{TimeUnit}
 use Rattle.captures.specs.declared.time.time_unit.TimeUnit.TheVariants.{Microseconds, Nanoseconds}
 use Rattle.captures.specs.declared.unfit.Unfit.{Unfit}
-use Rattle.captures.proofs.SpellingLemmas.{capture_is}
+use Rattle.captures.proofs.EncodingLemmas.{capture_is}
 use Rattle.captures.proofs.TextLemmas.{ends_ended}
-use Rattle.commands.specs.TimedLines.{TimedFrame, timed_frame_of}
-use Rattle.commands.specs.Written.{written_frame, written_timed_frame}
-use Rattle.commands.proofs.WrittenLemmas.{written_frame-one_line}
-use Rattle.commands.proofs.WrittenTimes.{written_frame-timed, written_timed_frame-one_line}
-use Rattle.commands.proofs.WrittenTimes.{written_timed_frame-timed}
+use Rattle.line_grammar.specs.TimedLines.{TimedFrame, timed_frame_of}
+use Rattle.line_grammar.specs.Written.{written_frame, written_timed_frame}
+use Rattle.line_grammar.proofs.WrittenLemmas.{written_frame-one_line}
+use Rattle.line_grammar.proofs.WrittenTimes.{written_frame-timed, written_timed_frame-one_line}
+use Rattle.line_grammar.proofs.WrittenTimes.{written_timed_frame-timed}
 use Rattle.lines.specs.Lines.{HasNoNewline}
 
--- ---- a packet's line, without its end, hands its frame in
+-- ---- a packet's line, without its line end, gives its frame
 
 text_of : Packet → List ℕ
 text_of packet = written_frame packet.origin.channel packet.frame
@@ -34,10 +34,10 @@ unfolding text_of
 line_is packet rest =
     append_assoc (written_frame packet.origin.channel packet.frame) (10 ∷ []) rest
 
-hands_in : (packet : Packet) → HasLine packet
+line_gives_frame : (packet : Packet) → HasLine packet
     → timed_frame_of (text_of packet) ≡ Some (at_no_time packet)
 unfolding text_of
-hands_in packet fits =
+line_gives_frame packet fits =
     written_frame-timed packet.origin.channel packet.frame fits.number fits.bytes fits.some fits.short
 
 one_line : (packet : Packet) → HasLine packet → HasNoNewline (text_of packet)
@@ -58,10 +58,10 @@ timed_line_is packet rest =
     append_assoc (written_timed_frame packet.origin.channel packet.frame packet.origin.time)
     (10 ∷ []) rest
 
-timed_hands_in : (packet : Packet) → HasLine packet
+timed_line_gives_frame : (packet : Packet) → HasLine packet
     → timed_frame_of (timed_text_of packet) ≡ Some (at_its_time packet)
 unfolding timed_text_of
-timed_hands_in packet fits =
+timed_line_gives_frame packet fits =
     written_timed_frame-timed packet.origin.channel packet.frame packet.origin.time fits.number
     fits.bytes fits.some fits.short (omega (arith, fits.time))
 
@@ -75,22 +75,22 @@ timed_one_line packet fits =
 
 module _ (line text : Packet → List ℕ) (timed : Packet → TimedFrame)
     (ended : (packet : Packet) (rest : List ℕ) → line packet ++ rest ≡ text packet ++ 10 ∷ rest)
-    (hands : (packet : Packet) → HasLine packet → timed_frame_of (text packet) ≡ Some (timed packet))
+    (gives_frames : (packet : Packet) → HasLine packet → timed_frame_of (text packet) ≡ Some (timed packet))
     (one : (packet : Packet) → HasLine packet → HasNoNewline (text packet)) where
   all_ended : (packets : List Packet) → flat_map line packets ≡ with_line_ends (map text packets)
   all_ended [] = refl
   all_ended (packet ∷ packets) = ended packet (flat_map line packets)
       ∙ ap (λ l. text packet ++ 10 ∷ l) (all_ended packets)
 
-  all_hand_in : (packets : List Packet) → AllByRecursion HasLine packets
-      → HandIn (map text packets) (map timed packets)
-  all_hand_in [] all = refl
-  all_hand_in (packet ∷ packets) all = (
+  all_give_frames : (packets : List Packet) → AllByRecursion HasLine packets
+      → GiveFrames (map text packets) (map timed packets)
+  all_give_frames [] all = refl
+  all_give_frames (packet ∷ packets) all = (
     timed packet,
     map timed packets,
     one packet all.0,
-    hands packet all.0,
-    all_hand_in packets all.1,
+    gives_frames packet all.0,
+    all_give_frames packets all.1,
     refl,
   )
 
@@ -107,31 +107,31 @@ module _ (line text : Packet → List ℕ) (timed : Packet → TimedFrame)
     length (map text packets),
     record {
       lines = map text packets;
-      each = all_hand_in packets all;
+      each = all_give_frames packets all;
       number = refl;
       parts = last_ended packets ∙ sym (append-nil (with_line_ends (map text packets)));
     },
   )
 
 -- the frames' capture
-module _ (time_unit : TimeUnit) (timed : Packet → TimedFrame) (told : Packet → Packet)
+module _ (time_unit : TimeUnit) (timed : Packet → TimedFrame) (reported : Packet → Packet)
     (fits : (packet : Packet) → HasLine packet → IsWritable (timed packet))
     (same : (packet : Packet) → HasLine packet
-    → packet_of time_unit (timed packet) ≡ told packet ∷ []) where
+    → packet_of time_unit (timed packet) ≡ reported packet ∷ []) where
   all_writable : (packets : List Packet) → AllByRecursion HasLine packets
       → AllByRecursion IsWritable (map timed packets)
   all_writable [] all = tt
   all_writable (packet ∷ packets) all = (fits packet all.0, all_writable packets all.1)
 
   same_packets : (packets : List Packet) → AllByRecursion HasLine packets
-      → packets_in time_unit (map timed packets) ≡ map told packets
+      → packets_in time_unit (map timed packets) ≡ map reported packets
   same_packets [] all = refl
   same_packets (packet ∷ packets) all =
       ap (λ l. l ++ packets_in time_unit (map timed packets)) (same packet all.0)
-      ∙ ap (λ l. told packet ∷ l) (same_packets packets all.1)
+      ∙ ap (λ l. reported packet ∷ l) (same_packets packets all.1)
 
   is_capture : (unfit : Unfit) (packets : List Packet) → AllByRecursion HasLine packets
-      → IsCapture unfit (capture_of time_unit (map timed packets)) (map told packets) none_skipped
+      → IsCapture unfit (capture_of time_unit (map timed packets)) (map reported packets) none_skipped
   is_capture unfit packets all =
       subst (λ (ps : List Packet). IsCapture unfit (capture_of time_unit (map timed packets))
       ps none_skipped) (same_packets packets all)
@@ -187,7 +187,7 @@ timed_lines (packet ∷ packets) = ap (λ l. timed_line_of packet ++ l) (timed_l
 pub lines_come_back : LinesComeBack
 lines_come_back packets all = (
   subst (λ (l : List ℕ). IsText l (map at_no_time packets)) (sym (plain_lines packets))
-      (is_text line_of text_of at_no_time line_is hands_in one_line packets all),
+      (is_text line_of text_of at_no_time line_is line_gives_frame one_line packets all),
   λ unfit time_unit. is_capture time_unit at_no_time without_time without_writable
       (without_same time_unit) unfit packets all,
 )
@@ -195,7 +195,7 @@ lines_come_back packets all = (
 pub timed_lines_come_back : TimedLinesComeBack
 timed_lines_come_back packets all = (
   subst (λ (l : List ℕ). IsText l (map at_its_time packets)) (sym (timed_lines packets))
-      (is_text timed_line_of timed_text_of at_its_time timed_line_is timed_hands_in timed_one_line
+      (is_text timed_line_of timed_text_of at_its_time timed_line_is timed_line_gives_frame timed_one_line
       packets all),
   λ unfit time_unit. is_capture time_unit at_its_time (with_time time_unit) timed_writable
       (timed_same time_unit) unfit packets all,

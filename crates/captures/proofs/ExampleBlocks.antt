@@ -1,4 +1,4 @@
--- The packets in the blocks of a capture by hand.
+-- The packets in the blocks of the example capture.
 use Rattle.std.proofs.Common.{arith, drop, refl, take, List, ℕ}
 use Rattle.captures.specs.Examples.{cooked_packet, cut_simple_block, described_section}
 use Rattle.captures.specs.Examples.{enhanced_block, obsolete_block, origin_at, simple_block}

@@ -1,4 +1,4 @@
--- The packet in a classic capture by hand.
+-- The packet in the example of a classic capture.
 use Rattle.std.proofs.Common.{arith, inl, refl, take, List, [], ◌∷◌, ◌++◌, ℕ}
 use Rattle.captures.specs.Examples.{cooked_packet, file_header, opened_file, origin_at, packet_at}
 use Rattle.captures.specs.Examples.{packet_record}
@@ -12,14 +12,14 @@ use Rattle.captures.specs.declared.unfit.Unfit.TheVariants.{Refuse}
 pub passes_record : (rest : List ℕ) → Passes (Start Refuse) (file_header ++ packet_record ++ rest)
     (packet_at 1700000000250000000 ∷ []) opened_file rest
 passes_record rest =
-    let told = packet_at 1700000000250000000 in
+    let reported = packet_at 1700000000250000000 in
     record {
       units = file_header ∷ packet_record ∷ [];
       row = (
         opened_file,
         origin_at 0,
         [],
-        told ∷ [],
+        reported ∷ [],
         inl (
           record {
             order = Big;
@@ -32,8 +32,8 @@ passes_record rest =
         ),
         (
           opened_file,
-          told.origin,
-          told.frame,
+          reported.origin,
+          reported.frame,
           [],
           (
             record {
@@ -45,7 +45,7 @@ passes_record rest =
                 captured = refl;
               };
               fits = omega arith;
-              is_told = refl;
+              is_reported = refl;
               next = refl;
             },
             refl,

@@ -1,4 +1,4 @@
--- Which messages are dropped.
+-- Which reassemblies are dropped.
 use Rattle.std.proofs.Common.{◌≡◌, ◌∙◌, sym, ap, subst, refl, ℕ, zero, suc, ◌+◌, ◌-◌, ◌*◌, ◌^◌}
 use Rattle.std.proofs.Common.{◌<◌, ◌≤◌, ◌==◌, arith, Bool, true, false, List, [], ◌∷◌, ◌++◌, inl, inr}
 use Rattle.std.specs.Prelude.{◌⊎◌, if◌then◌else◌}
@@ -12,7 +12,7 @@ use Rattle.captures.proofs.SpanLemmas.{has_or_not, spans_drop, spans_keep}
 use Rattle.captures.specs.declared.extra.Extra.TheVariants.{Forget}
 use Rattle.captures.specs.declared.text.ledger.Ledger.{Ledger}
 
--- how far lines have come, where spans are counted
+-- the ledger after some lines, where spans are counted
 abbrev at : ℕ → (lines begin line : ℕ) → Ledger
 at seconds lines begin line =
     record { extra = Forget seconds; lines = lines; begin = begin; line = line }
@@ -72,7 +72,7 @@ module _ (seconds lines begin line : ℕ) (some : 0 < lines) (packet : Packet)
       ∙ ap (λ l. forgets seconds l packets)
       (counted_more seconds lines begin line packet.origin.time some is)
 
--- ---- how far lines come
+-- ---- the ledger, packet by packet
 
 -- after a packet of this time
 record Step (seconds begin time : ℕ) (ledger : Ledger) : Type 0 where
@@ -166,7 +166,7 @@ begin_most seconds most lines begin line (packet ∷ packets) few fits low all =
     subst (λ (l : Ledger). (noted_all l packets).begin ≤ most) (sym s.is)
     (begin_most seconds most s.lines s.begin' s.line packets s.few s.fits next all.1)
 
--- ---- the packets as spans see them
+-- ---- the packets as marks of spans
 
 -- each with the number of the line with which a span begins where one begins with it
 abbrev marks : ℕ → Ledger → List Packet → List Mark
@@ -210,7 +210,7 @@ marks_more seconds lines begin line some packet packets more is =
     ∙ ap (λ (l : Ledger). passed_spans seconds (began begin line) (marks seconds l packets))
     (counted_more seconds lines begin line packet.origin.time some more)
 
--- the lines that have messages dropped name the spans that pass
+-- the `forget` lines name the spans that pass
 forgets_are : (seconds lines begin line : ℕ) (packets : List Packet) → 0 < lines
     → forgets seconds (at seconds lines begin line) packets
     ≡ passed_spans seconds (began begin line) (marks seconds (at seconds lines begin line) packets)
@@ -248,7 +248,7 @@ all_times seconds P ledger [] all = tt
 all_times seconds P ledger (packet ∷ packets) all =
     (all.0, all_times seconds P (noted ledger packet) packets all.1)
 
--- lines go on from a line that came,
+-- later lines have no smaller number than a line that came,
 lines_go_on : (seconds own lines begin line time : ℕ) → own < 2 ^ 64 → own ≤ lines → 0 < lines
     → own ≤ (counted_by (has_passed seconds (at seconds lines begin line) time)
     (at seconds lines begin line) time).lines
@@ -260,7 +260,7 @@ lines_go_on seconds own lines begin line time fits before some =
           (sym (counted_more seconds lines begin line time some more.0)) (omega arith)
     ]
 
--- and each packet behind it has a greater number
+-- and each packet after it has a greater number
 all_beyond : (seconds own time lines begin line : ℕ) (packets : List Packet) → line ≤ lines
     → lines < 2 ^ 64 → 0 < lines → own < 2 ^ 64 - 1 → own ≤ lines
     → AllByRecursion (λ m. (own < m.number) ⊎ (m.time ≤ time))
@@ -312,15 +312,15 @@ forget_drops seconds before packet between next later last early long all few =
     ap (λ (l : Ledger). l.lines) s.is in
     let small : s.lines < 2 ^ 64 - 1 = omega arith in
     let here = at seconds s.lines s.begin' s.line in
-    let front = between ++ next ∷ [] in
-    let after = noted_all here front in
+    let prefix = between ++ next ∷ [] in
+    let after = noted_all here prefix in
     let beyond = all_beyond seconds s.lines packet.origin.time s.lines s.begin' s.line between s.few
     s.fits s.some small (omega arith) in
-    let here_front = marks_append seconds here between (next ∷ []) in
+    let here_prefix = marks_append seconds here between (next ∷ []) in
     let there = subst (λ (ms : List Mark). Drops s.lines
     (passed_spans seconds (began s.begin' s.line) ms))
-    (sym (marks_append seconds here front (later ++ last ∷ [])
-    ∙ ap (λ (ms : List Mark). ms ++ marks seconds after (later ++ last ∷ [])) here_front
+    (sym (marks_append seconds here prefix (later ++ last ∷ [])
+    ∙ ap (λ (ms : List Mark). ms ++ marks seconds after (later ++ last ∷ [])) here_prefix
     ∙ ap (λ (ms : List Mark). (marks seconds here between
     ++ marks seconds (noted_all here between) (next ∷ [])) ++ ms)
     (marks_append seconds after later (last ∷ []))))
@@ -330,8 +330,8 @@ forget_drops seconds before packet between next later last early long all few =
     (marks seconds after later)
     (began last.origin.time (capped ((noted_all after later).lines + 1))) begins long
     (omega (arith, small, beyond.1)) beyond.0
-    (subst (AllByRecursion (λ m. m.time + 1000000000 * seconds ≤ last.origin.time)) here_front
-    (all_times seconds (λ t. t + 1000000000 * seconds ≤ last.origin.time) here front all))) in
+    (subst (AllByRecursion (λ m. m.time + 1000000000 * seconds ≤ last.origin.time)) here_prefix
+    (all_times seconds (λ t. t + 1000000000 * seconds ≤ last.origin.time) here prefix all))) in
     subst (λ (l : Ledger). Drops l.lines (forgets seconds l
     ((between ++ next ∷ []) ++ (later ++ last ∷ [])))) (sym s.is)
     (subst (Drops s.lines) (sym (forgets_are seconds s.lines s.begin' s.line

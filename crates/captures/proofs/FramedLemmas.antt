@@ -11,16 +11,16 @@ use Rattle.std.specs.Int.{to_be_bytes, w16}
 use Rattle.std.specs.Prelude.{◌⊎◌, nat_lt, slice_index, if◌then◌else◌}
 use Rattle.hex.proofs.HexLemmas.{length-encode_with}
 use Rattle.hex.specs.Hex.{IsBytes, encode_lower, encode_with, lower_digits}
-use Rattle.runs.proofs.CallLemmas.{AllByRecursion-append}
+use Rattle.device_runs.proofs.CallLemmas.{AllByRecursion-append}
 use Rattle.captures.specs.Framed.{address_at, captured_limit, cooked_type, ethernet_header}
-use Rattle.captures.specs.Framed.{family_type, framed, framed_behind, framed_packet, head_len}
-use Rattle.captures.specs.Framed.{frame_by, reason_on, told_by, told_frame, told_of}
+use Rattle.captures.specs.Framed.{family_type, framed, framed_after, framed_packet, head_len}
+use Rattle.captures.specs.Framed.{frame_by, reason_on, reported_by, reported_frame, reported_of}
 use Rattle.captures.specs.Framed.{FrameParts, frame_bytes, frame_parts, own_frame, IsBack}
 use Rattle.captures.specs.Framed.{ip_type, made_header, no_address, null_family}
 use Rattle.captures.specs.declared.link.header.Header.{Header}
 use Rattle.captures.specs.Numbers.{half, word}
 use Rattle.captures.specs.declared.byte_order.ByteOrder.TheVariants.{Big}
-use Rattle.commands.specs.declared.limits.TheConstants.{FRAME_LIMIT}
+use Rattle.line_grammar.specs.declared.limits.TheConstants.{FRAME_LIMIT}
 use Rattle.captures.specs.declared.link.kind.Link.{Link}
 use Rattle.captures.specs.declared.link.kind.Link.TheVariants.{Ethernet, Ip, Null, Loop, Sll, Sll2}
 use Rattle.captures.specs.declared.link.kind.Link.TheVariants.{Other}
@@ -39,11 +39,11 @@ record IsMade (link : Link) (packet frame : List ℕ) : Type 0 where
   fits : head_len link ≤ length packet
   parts : frame ≡ ethernet_header source ether_type ++ drop (head_len link) packet
 
-behind_is : (link : Link) (packet source : List ℕ) (frame : FrameParts) (found : Option ℕ)
+after_is : (link : Link) (packet source : List ℕ) (frame : FrameParts) (found : Option ℕ)
     → length source ≡ 6 → (IsBytes packet → Bytes source) → head_len link ≤ length packet
-    → framed_behind source found (drop (head_len link) packet) ≡ Some frame
+    → framed_after source found (drop (head_len link) packet) ≡ Some frame
     → IsMade link packet (frame_bytes frame)
-behind_is link packet source frame (Some t) size bytes fits is =
+after_is link packet source frame (Some t) size bytes fits is =
     let same : record {
       header = Some (record { source = source; ether_type = t });
       bytes = drop (head_len link) packet;
@@ -56,12 +56,12 @@ behind_is link packet source frame (Some t) size bytes fits is =
       fits = fits;
       parts = ap frame_bytes (sym same);
     }
-behind_is link packet source frame None size bytes fits is = absurd (cc)
+after_is link packet source frame None size bytes fits is = absurd (cc)
 
 no_bytes : Bytes no_address
 no_bytes = (omega arith, (omega arith, (omega arith, (omega arith, (omega arith, (omega arith, tt))))))
 
--- six bytes at a place, or none
+-- six bytes at an offset, or none
 address_six : (six : Bool) (bytes : List ℕ) (p : ℕ)
     → length (if six
     then slice_index bytes p ∷ slice_index bytes (p + 1) ∷ slice_index bytes (p + 2)
@@ -90,30 +90,30 @@ is_made : (link : Link) (packet : List ℕ) (frame : FrameParts)
     → IsMade link packet (frame_bytes frame)
 is_made Ethernet packet frame is other = absurd (other refl)
 is_made Ip packet frame is other =
-    behind_is Ip packet no_address frame (ip_type packet) refl (λ all. no_bytes) (omega arith) is
+    after_is Ip packet no_address frame (ip_type packet) refl (λ all. no_bytes) (omega arith) is
 is_made Null packet frame is other =
     let n = not_short (nat_lt (length packet) 4) _ frame is in
     let long = ltb-false (length packet) 4 n.0 in
-    behind_is Null packet no_address frame (family_type (null_family packet)) refl
+    after_is Null packet no_address frame (family_type (null_family packet)) refl
     (λ all. no_bytes) (omega arith) n.1
 is_made Loop packet frame is other =
     let n = not_short (nat_lt (length packet) 4) _ frame is in
     let long = ltb-false (length packet) 4 n.0 in
-    behind_is Loop packet no_address frame (family_type (word Big packet 0)) refl
+    after_is Loop packet no_address frame (family_type (word Big packet 0)) refl
     (λ all. no_bytes) (omega arith) n.1
 is_made Other packet frame is other = absurd (let e : None ≡ Some frame = is in cc)
 is_made Sll packet frame is other =
     let n = not_short (nat_lt (length packet) 16) _ frame is in
     let long = ltb-false (length packet) 16 n.0 in
     let six = half Big packet 4 == 6 in
-    behind_is Sll packet (address_at (half Big packet 4) packet 6) frame
+    after_is Sll packet (address_at (half Big packet 4) packet 6) frame
     (cooked_type (half Big packet 2) (half Big packet 14)) (address_six six packet 6)
     (address_bytes six packet 6) (omega arith) n.1
 is_made Sll2 packet frame is other =
     let n = not_short (nat_lt (length packet) 20) _ frame is in
     let long = ltb-false (length packet) 20 n.0 in
     let six = slice_index packet 11 == 6 in
-    behind_is Sll2 packet (address_at (slice_index packet 11) packet 12) frame
+    after_is Sll2 packet (address_at (slice_index packet 11) packet 12) frame
     (cooked_type (half Big packet 8) (half Big packet 0)) (address_six six packet 12)
     (address_bytes six packet 12) (omega arith) n.1
 
@@ -184,36 +184,36 @@ by_frame : (link : Link) (packet frame : List ℕ) → framed link packet ≡ So
     → (frame ≡ packet) × ((link ≡ Ethernet) ⊎ (length packet ≡ 0)) ⊎ IsMade link packet frame
 by_frame link packet frame is = by_parts link packet frame (frame_parts link packet) refl is
 
-back_behind : (source rest : List ℕ) (n : ℕ) (found : Option ℕ) (frame : FrameParts)
-    → framed_behind source found (drop n rest) ≡ Some frame → IsBack rest frame.bytes
-back_behind source rest n (Some t) frame is =
+back_after : (source rest : List ℕ) (n : ℕ) (found : Option ℕ) (frame : FrameParts)
+    → framed_after source found (drop n rest) ≡ Some frame → IsBack rest frame.bytes
+back_after source rest n (Some t) frame is =
     let same : drop n rest ≡ frame.bytes = cc in
     subst (λ (b : List ℕ). IsBack rest b) same
-    (record { front = take n rest; parts = sym (take-append-drop n rest) })
-back_behind source rest n None frame is = absurd (cc)
+    (record { prefix = take n rest; parts = sym (take-append-drop n rest) })
+back_after source rest n None frame is = absurd (cc)
 
 back_own : (packet : List ℕ) (frame : FrameParts) → Some (own_frame packet) ≡ Some frame
     → IsBack packet frame.bytes
 back_own packet frame is =
     let same : packet ≡ frame.bytes = cc in
-    subst (λ (b : List ℕ). IsBack packet b) same (record { front = []; parts = refl })
+    subst (λ (b : List ℕ). IsBack packet b) same (record { prefix = []; parts = refl })
 
 back_packet : (link : Link) (packet : List ℕ) (frame : FrameParts)
     → framed_packet link packet ≡ Some frame → IsBack packet frame.bytes
 back_packet Ethernet packet frame is = back_own packet frame is
-back_packet Ip packet frame is = back_behind no_address packet 0 (ip_type packet) frame is
+back_packet Ip packet frame is = back_after no_address packet 0 (ip_type packet) frame is
 back_packet Null packet frame is =
-    back_behind no_address packet 4 (family_type (null_family packet)) frame
+    back_after no_address packet 4 (family_type (null_family packet)) frame
     (not_short (nat_lt (length packet) 4) _ frame is).1
 back_packet Loop packet frame is =
-    back_behind no_address packet 4 (family_type (word Big packet 0)) frame
+    back_after no_address packet 4 (family_type (word Big packet 0)) frame
     (not_short (nat_lt (length packet) 4) _ frame is).1
 back_packet Sll packet frame is =
-    back_behind (address_at (half Big packet 4) packet 6) packet 16
+    back_after (address_at (half Big packet 4) packet 6) packet 16
     (cooked_type (half Big packet 2) (half Big packet 14)) frame
     (not_short (nat_lt (length packet) 16) _ frame is).1
 back_packet Sll2 packet frame is =
-    back_behind (address_at (slice_index packet 11) packet 12) packet 20
+    back_after (address_at (slice_index packet 11) packet 12) packet 20
     (cooked_type (half Big packet 8) (half Big packet 0)) frame
     (not_short (nat_lt (length packet) 20) _ frame is).1
 back_packet Other packet frame is = absurd (let e : None ≡ Some frame = is in cc)
@@ -224,7 +224,7 @@ back_by : (link : Link) (packet : List ℕ) (frame : FrameParts) (none : Bool)
 back_by link packet frame true is = back_own packet frame is
 back_by link packet frame false is = back_packet link packet frame is
 
--- what stands behind a header that was made ends the packet
+-- the bytes after a header that was made are the end of the packet
 pub frame_back : (link : Link) (packet : List ℕ) (frame : FrameParts)
     → frame_parts link packet ≡ Some frame → IsBack packet frame.bytes
 frame_back link packet frame is = back_by link packet frame (length packet == 0) is
@@ -274,45 +274,45 @@ pub found_back : (link : Link) (packet : List ℕ) (found : Option FrameParts)
 found_back link packet (Some frame) is = frame_back link packet frame (sym is)
 found_back link packet None is = tt
 
--- ---- what is told of a packet
+-- ---- what is reported of a packet
 
-found_told : (reason : Reason) (found : Option (List ℕ)) (frame : List ℕ)
-    → told_by reason found ≡ Ok frame → found ≡ Some frame
-found_told reason (Some f) frame is = cc
-found_told reason None frame is = absurd (cc)
+found_reported : (reason : Reason) (found : Option (List ℕ)) (frame : List ℕ)
+    → reported_by reason found ≡ Ok frame → found ≡ Some frame
+found_reported reason (Some f) frame is = cc
+found_reported reason None frame is = absurd (cc)
 
-told_is : (link : Link) (long : Bool) (found : Option (List ℕ)) (frame : List ℕ)
-    → (if long then Err (reason_on link TooLong) else told_by (reason_on link NoFrame) found)
+reported_is : (link : Link) (long : Bool) (found : Option (List ℕ)) (frame : List ℕ)
+    → (if long then Err (reason_on link TooLong) else reported_by (reason_on link NoFrame) found)
     ≡ Ok frame → (long ≡ false) × (found ≡ Some frame)
-told_is link true found frame is = absurd (cc)
-told_is link false found frame is = (refl, found_told (reason_on link NoFrame) found frame is)
+reported_is link true found frame is = absurd (cc)
+reported_is link false found frame is = (refl, found_reported (reason_on link NoFrame) found frame is)
 
-by_told : (unfit : Unfit) (told : Result (List ℕ) Reason) (frame : List ℕ)
-    → frame_by unfit told ≡ Some frame → (told ≡ Ok frame) ⊎ (frame ≡ [])
-by_told unfit (Ok f) frame is = inl (cc)
-by_told Refuse (Err reason) frame is = absurd (cc)
-by_told Skip (Err reason) frame is = inr (cc)
+by_reported : (unfit : Unfit) (reported : Result (List ℕ) Reason) (frame : List ℕ)
+    → frame_by unfit reported ≡ Some frame → (reported ≡ Ok frame) ⊎ (frame ≡ [])
+by_reported unfit (Ok f) frame is = inl (cc)
+by_reported Refuse (Err reason) frame is = absurd (cc)
+by_reported Skip (Err reason) frame is = inr (cc)
 
-pub told_fits : (unfit : Unfit) (link : Link) (packet frame : List ℕ)
-    → told_frame unfit link packet ≡ Some frame → length frame ≤ FRAME_LIMIT
-told_fits unfit link packet frame is =
-    elim (by_told unfit (told_of link packet) frame is) [
-      | inl told ↦
+pub reported_fits : (unfit : Unfit) (link : Link) (packet frame : List ℕ)
+    → reported_frame unfit link packet ≡ Some frame → length frame ≤ FRAME_LIMIT
+reported_fits unfit link packet frame is =
+    elim (by_reported unfit (reported_of link packet) frame is) [
+      | inl reported ↦
           (let long = nat_lt (captured_limit link) (length packet) in
-          let found = told_is link long (framed link packet) frame told in
+          let found = reported_is link long (framed link packet) frame reported in
           framed_fits link packet frame (ltb-false (captured_limit link) (length packet) found.0)
           found.1)
       | inr none ↦ (let size = ap length none in omega arith)
     ]
 
-pub told_bytes : (unfit : Unfit) (link : Link) (packet frame : List ℕ) → Bytes packet
-    → told_frame unfit link packet ≡ Some frame → Bytes frame
-told_bytes unfit link packet frame bytes is =
-    elim (by_told unfit (told_of link packet) frame is) [
-      | inl told ↦
+pub reported_bytes : (unfit : Unfit) (link : Link) (packet frame : List ℕ) → Bytes packet
+    → reported_frame unfit link packet ≡ Some frame → Bytes frame
+reported_bytes unfit link packet frame bytes is =
+    elim (by_reported unfit (reported_of link packet) frame is) [
+      | inl reported ↦
           (let long = nat_lt (captured_limit link) (length packet) in
           framed_bytes link packet frame bytes
-          (told_is link long (framed link packet) frame told).1)
+          (reported_is link long (framed link packet) frame reported).1)
       | inr none ↦ subst Bytes (sym none) tt
     ]
 
@@ -341,18 +341,18 @@ pub header_len : (source : List ℕ) (ether_type : ℕ) → length source ≡ 6
 header_len source ether_type six =
     omega (arith, length-append source (to_be_bytes w16 ether_type))
 
--- the digits of a header stand in front of those of what follows it
-pub header_digits : (source : List ℕ) (ether_type : ℕ) (behind : List ℕ) → length source ≡ 6
-    → take 28 (encode_lower (ethernet_header source ether_type ++ behind))
+-- the digits of a header come before those of what follows it
+pub header_digits : (source : List ℕ) (ether_type : ℕ) (following : List ℕ) → length source ≡ 6
+    → take 28 (encode_lower (ethernet_header source ether_type ++ following))
     ≡ encode_lower (ethernet_header source ether_type)
-header_digits source ether_type behind six =
+header_digits source ether_type following six =
     let header = ethernet_header source ether_type in
     let few = header_len source ether_type six in
     let size : length (encode_lower header) ≡ 28 =
     omega (arith, length-encode_with lower_digits header, few) in
-    rw (encode_lower-append header behind)
-    (subst (λ n. take n (encode_lower header ++ encode_lower behind) ≡ encode_lower header) size
-    (take-append_seam (encode_lower header) (encode_lower behind)))
+    rw (encode_lower-append header following)
+    (subst (λ n. take n (encode_lower header ++ encode_lower following) ≡ encode_lower header) size
+    (take-append_seam (encode_lower header) (encode_lower following)))
 
 pub header_digits_len : (source : List ℕ) (ether_type : ℕ) (digits : List ℕ) → length source ≡ 6
     → digits ≡ encode_lower (ethernet_header source ether_type ++ 0 ∷ 0 ∷ [])

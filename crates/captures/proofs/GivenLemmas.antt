@@ -5,22 +5,22 @@ use Rattle.std.proofs.Common.{length-append, map, Option}
 use Rattle.std.proofs.Math.Seq.{take-append_seam}
 use Rattle.captures.specs.Dropped.{last_of}
 use Rattle.captures.specs.Framed.{IsBack}
-use Rattle.captures.specs.Fronts.{Gives, HasNone, IsFirst, IsFromEnd, taken_of}
+use Rattle.captures.specs.PacketSteps.{Gives, HasNone, IsFirst, IsFromEnd, taken_of}
 use Rattle.captures.specs.Readers.{packet_with}
 use Rattle.captures.specs.Units.{Passes, in_a_row}
 use Rattle.captures.specs.declared.capture_error.CaptureError.{CaptureError}
 use Rattle.captures.specs.declared.link.header.Header.{Header}
 use Rattle.captures.specs.declared.packet.Packet.{Packet}
 use Rattle.captures.specs.declared.translation.state.State.{State}
-use Rattle.captures.proofs.FrontLemmas.{passes_first}
+use Rattle.captures.proofs.FirstPacketLemmas.{passes_first}
 use Rattle.captures.proofs.SkipLemmas.{last_is}
 use Rattle.captures.proofs.UnitLemmas.{passes_none, passes_on, passes_start}
 
--- units without a packet in front of the first
-first_behind : (state mid after : State) (bytes rest rest' : List ℕ) (packet : Packet)
+-- units without a packet before the first packet
+first_after : (state mid after : State) (bytes rest rest' : List ℕ) (packet : Packet)
     → Passes state bytes [] mid rest → IsFirst mid rest after packet rest'
     → IsFirst state bytes after packet rest'
-first_behind state mid after bytes rest rest' packet p f = record {
+first_after state mid after bytes rest rest' packet p f = record {
   mid = f.mid;
   between = f.between;
   passes = passes_none state mid f.mid bytes rest f.between [] p f.passes;
@@ -35,13 +35,13 @@ pub gives_first : (state mid after : State) (bytes rest rest' : List ℕ) (packe
 gives_first state mid after bytes rest rest' [] packet g f = (
   after,
   rest',
-  first_behind state mid after bytes rest rest' packet g f,
+  first_after state mid after bytes rest rest' packet g f,
   passes_start after rest',
 )
 gives_first state mid after bytes rest rest' (p ∷ ps) packet g f =
     (g.0, g.1, g.2, gives_first g.0 mid after g.1 rest rest' ps packet g.3 f)
 
--- units without a packet behind the last
+-- units without a packet after the last packet
 pub gives_none : (state mid after : State) (bytes rest rest' : List ℕ) (packets : List Packet)
     → Gives state bytes packets mid rest → Passes mid rest [] after rest'
     → Gives state bytes packets after rest'
@@ -51,26 +51,26 @@ gives_none state mid after bytes rest rest' (p ∷ ps) g q =
     (g.0, g.1, g.2, gives_none g.0 mid after g.1 rest rest' ps g.3 q)
 
 -- more bytes
-passes_wide : (state after : State) (bytes rest piece : List ℕ) → Passes state bytes [] after rest
-    → Passes state (bytes ++ piece) [] after (rest ++ piece)
-passes_wide state after bytes rest piece p = record {
+passes_wide : (state after : State) (bytes rest chunk : List ℕ) → Passes state bytes [] after rest
+    → Passes state (bytes ++ chunk) [] after (rest ++ chunk)
+passes_wide state after bytes rest chunk p = record {
   units = p.units;
   row = p.row;
-  parts = ap (λ (l : List ℕ). l ++ piece) p.parts ∙ append_assoc (in_a_row p.units) rest piece;
+  parts = ap (λ (l : List ℕ). l ++ chunk) p.parts ∙ append_assoc (in_a_row p.units) rest chunk;
 }
 
-first_wide : (state after : State) (bytes rest piece : List ℕ) (packet : Packet)
+first_wide : (state after : State) (bytes rest chunk : List ℕ) (packet : Packet)
     → IsFirst state bytes after packet rest
-    → IsFirst state (bytes ++ piece) after packet (rest ++ piece)
-first_wide state after bytes rest piece packet f = record {
+    → IsFirst state (bytes ++ chunk) after packet (rest ++ chunk)
+first_wide state after bytes rest chunk packet f = record {
   mid = f.mid;
-  between = f.between ++ piece;
-  passes = passes_wide state f.mid bytes f.between piece f.passes;
+  between = f.between ++ chunk;
+  passes = passes_wide state f.mid bytes f.between chunk f.passes;
   has = record {
     has_unit = record {
       unit = f.has.has_unit.unit;
-      parts = ap (λ (l : List ℕ). l ++ piece) f.has.has_unit.parts
-          ∙ append_assoc f.has.has_unit.unit rest piece;
+      parts = ap (λ (l : List ℕ). l ++ chunk) f.has.has_unit.parts
+          ∙ append_assoc f.has.has_unit.unit rest chunk;
       is_unit = f.has.has_unit.is_unit;
     };
     is_on = f.has.is_on;
@@ -78,15 +78,15 @@ first_wide state after bytes rest piece packet f = record {
   some = f.some;
 }
 
-pub gives_wide : (state after : State) (bytes rest piece : List ℕ) (packets : List Packet)
+pub gives_wide : (state after : State) (bytes rest chunk : List ℕ) (packets : List Packet)
     → Gives state bytes packets after rest
-    → Gives state (bytes ++ piece) packets after (rest ++ piece)
-gives_wide state after bytes rest piece [] g = passes_wide state after bytes rest piece g
-gives_wide state after bytes rest piece (p ∷ ps) g = (
+    → Gives state (bytes ++ chunk) packets after (rest ++ chunk)
+gives_wide state after bytes rest chunk [] g = passes_wide state after bytes rest chunk g
+gives_wide state after bytes rest chunk (p ∷ ps) g = (
   g.0,
-  g.1 ++ piece,
-  first_wide state g.0 bytes g.1 piece p g.2,
-  gives_wide g.0 after g.1 rest piece ps g.3,
+  g.1 ++ chunk,
+  first_wide state g.0 bytes g.1 chunk p g.2,
+  gives_wide g.0 after g.1 rest chunk ps g.3,
 )
 
 -- what is taken of them
@@ -99,40 +99,40 @@ gives_passes state after bytes rest (p ∷ ps) g =
     (passes_first state state g.0 bytes bytes g.1 [] p (passes_start state bytes) g.2)
     (gives_passes g.0 after g.1 rest ps g.3)
 
--- ---- what follows is the back of the bytes
+-- ---- what follows is a suffix of the bytes
 
 pub passes_back : (state after : State) (bytes rest : List ℕ) → Passes state bytes [] after rest
     → IsBack bytes rest
-passes_back state after bytes rest p = record { front = in_a_row p.units; parts = p.parts }
+passes_back state after bytes rest p = record { prefix = in_a_row p.units; parts = p.parts }
 
 pub first_back : (state after : State) (bytes rest : List ℕ) (packet : Packet)
     → IsFirst state bytes after packet rest → IsBack bytes rest
 first_back state after bytes rest packet f = record {
-  front = in_a_row f.passes.units ++ f.has.has_unit.unit;
+  prefix = in_a_row f.passes.units ++ f.has.has_unit.unit;
   parts = f.passes.parts
       ∙ ap (λ (l : List ℕ). in_a_row f.passes.units ++ l) f.has.has_unit.parts
       ∙ sym (append_assoc (in_a_row f.passes.units) f.has.has_unit.unit rest);
 }
 
 pub back_is : (bytes rest : List ℕ) → IsBack bytes rest → rest ≡ last_of (length rest) bytes
-back_is bytes rest b = last_is bytes b.front rest (length rest) b.parts refl
+back_is bytes rest b = last_is bytes b.prefix rest (length rest) b.parts refl
 
--- the bytes from there on begin with the part
+-- the bytes from there on begin with these
 pub from_is : (bytes part : List ℕ) (from : ℕ) → IsFromEnd bytes from part
     → part ≡ take (length part) (last_of from bytes)
 from_is bytes part from e =
-    let tail = last_is bytes e.before (part ++ e.behind) from e.parts e.place in
-    sym (take-append_seam part e.behind) ∙ ap (λ (l : List ℕ). take (length part) l) tail
+    let tail = last_is bytes e.before (part ++ e.following) from e.parts e.position in
+    sym (take-append_seam part e.following) ∙ ap (λ (l : List ℕ). take (length part) l) tail
 
 pub from_fits : (bytes part : List ℕ) (from : ℕ) → IsFromEnd bytes from part
     → (length part ≤ from) × (from ≤ length bytes)
 from_fits bytes part from e =
-    let place = e.place in (
-      omega (arith, length-append part e.behind),
-      omega (arith, ap length e.parts, length-append e.before (part ++ e.behind)),
+    let position = e.position in (
+      omega (arith, length-append part e.following),
+      omega (arith, ap length e.parts, length-append e.before (part ++ e.following)),
     )
 
--- ---- what stands ahead
+-- ---- what a look ahead finds
 
 same_parts : (packet : Packet) (header : Option Header) (bytes : List ℕ)
     → packet.frame.header ≡ header → packet.frame.bytes ≡ bytes

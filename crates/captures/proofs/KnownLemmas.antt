@@ -2,18 +2,18 @@
 use Rattle.std.proofs.Common.{◌≡◌, subst, ℕ, List, Option, Result, IfSome}
 use Rattle.std.specs.Prelude.{OnOk}
 use Rattle.std.specs.Io.KnownBytes.{Appends, Consumes}
-use Rattle.runs.specs.Known.{Known, KnownCall, known_of}
-use Rattle.runs.specs.Calls.{bytes_read}
-use Rattle.runs.specs.declared.device.ReaderWriter.{ReaderWriter}
-use Rattle.runs.proofs.KnownLemmas.{Makes-map, goes_ok, known_read}
+use Rattle.device_runs.specs.Known.{Known, KnownCall, known_of}
+use Rattle.device_runs.specs.Calls.{bytes_read}
+use Rattle.device_runs.specs.declared.device.ReaderWriter.{ReaderWriter}
+use Rattle.device_runs.proofs.KnownLemmas.{Makes-map, goes_ok, known_read}
 use Rattle.captures.specs.declared.translation.run_error.RunError.{RunError}
 use Rattle.captures.specs.declared.translation.skipped.Skipped.{Skipped}
 use Rattle.captures.specs.declared.unfit.Unfit.{Unfit}
 use Rattle.captures.specs.Endings.{cause}
 use Rattle.captures.specs.Lines.{Packet, lines_of}
 use Rattle.captures.specs.Runs.{ArePassedOver, IsCapture, PassesOver, Runs, capture_to_lines}
-use Rattle.captures.specs.Spelling.{capture_of}
-use Rattle.commands.specs.TimedLines.{TimedFrame}
+use Rattle.captures.specs.Encoding.{capture_of}
+use Rattle.line_grammar.specs.TimedLines.{TimedFrame}
 use Rattle.captures.specs.Texts.{IsText, WritesCapture, lines_to_capture}
 use Rattle.captures.specs.declared.extra.Extra.{Extra}
 use Rattle.captures.specs.declared.time.time_unit.TimeUnit.{TimeUnit}

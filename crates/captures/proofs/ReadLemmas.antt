@@ -1,4 +1,4 @@
--- What a reader of packets comes to.
+-- The results of a reader of packets.
 use Rattle.std.proofs.Common.{◌≡◌, ◌≢◌, ◌∙◌, sym, ap, refl, subst, ℕ, ◌+◌, ◌-◌, ◌^◌, ◌≤◌, ◌<◌}
 use Rattle.std.proofs.Common.{arith, Bool, true, false, List, [], ◌∷◌, ◌++◌, length, map}
 use Rattle.std.proofs.Common.{length-append, length-drop, append_assoc, append-nil, inl, inr}
@@ -6,19 +6,19 @@ use Rattle.std.proofs.Common.{Option, Some, None, Result, Ok, Err}
 use Rattle.std.specs.Io.KnownBytes.{Consumes, IsAtEnd, Keeps}
 use Rattle.std.specs.Prelude.{min, nat_lt, if◌then◌else◌}
 use Rattle.captures.specs.Dropped.{DropsMore, IsDropped, last_of}
-use Rattle.captures.specs.Fronts.{Gives, HasNone, IsFirst, taken_of}
+use Rattle.captures.specs.PacketSteps.{Gives, HasNone, IsFirst, taken_of}
 use Rattle.captures.specs.Numbers.{capped}
-use Rattle.captures.specs.Places.{IsPlace, block_type}
-use Rattle.captures.specs.Readers.{FindsFront, HasRead, IsRefusedAt}
+use Rattle.captures.specs.Positions.{IsPosition, block_type}
+use Rattle.captures.specs.Readers.{FindsPacket, HasRead, IsRefusedAt}
 use Rattle.captures.specs.Runs.{IsCapture, fault_at_end}
-use Rattle.captures.specs.Units.{HasUnit, IsBegun, Passes, Refuses, in_a_row, skipped_in}
+use Rattle.captures.specs.Units.{HasUnit, IsIncomplete, Passes, Refuses, in_a_row, skipped_in}
 use Rattle.captures.specs.declared.capture_error.CaptureError.{CaptureError}
 use Rattle.captures.specs.declared.capture_error.CaptureError.TheVariants.{CutOff, NotCapture}
 use Rattle.captures.specs.declared.limits.TheConstants.{FIRST_UNIT_LEN}
 use Rattle.captures.specs.declared.origin.Origin.{Origin}
 use Rattle.captures.specs.declared.packet.Packet.{Packet}
 use Rattle.captures.specs.declared.pcapng.long_block.LongBlock.{LongBlock}
-use Rattle.captures.specs.declared.place.Place.{Place}
+use Rattle.captures.specs.declared.position.Position.{Position}
 use Rattle.captures.specs.declared.reading.packet_reader.PacketReader.{PacketReader}
 use Rattle.captures.specs.declared.translation.state.State.{State}
 use Rattle.captures.specs.declared.translation.state.State.TheVariants.{Start, Classic, Pcapng}
@@ -39,24 +39,24 @@ last_len bytes n few = omega (arith, length-drop (length bytes - n) bytes)
 module _ {R : Type 0} (unfit : Unfit) (old : PacketReader R) (read : List ℕ)
     (given : List Packet) (h : HasRead unfit old read given) where
   -- all that is left is held
-  all_held : old.begun ≡ None → h.dropped ++ old.window.held ≡ old.window.held
+  all_held : old.started ≡ None → h.dropped ++ old.window.held ≡ old.window.held
   all_held none =
       let is_dropped = subst (λ (b : Option LongBlock). IsDropped old.state b h.dropped) none
       h.is_dropped in
       ap (λ (l : List ℕ). l ++ old.window.held) is_dropped
 
-  pub gives_held : old.begun ≡ None → Gives (Start unfit) read given old.state old.window.held
+  pub gives_held : old.started ≡ None → Gives (Start unfit) read given old.state old.window.held
   gives_held none = subst (λ (l : List ℕ). Gives (Start unfit) read given old.state l)
       (all_held none) h.gives
 
-  held_passed : old.begun ≡ None → old.passed ≡ capped (length read - length old.window.held)
+  held_passed : old.started ≡ None → old.passed ≡ capped (length read - length old.window.held)
   held_passed none = h.passed
       ∙ ap (λ (l : List ℕ). capped (length read - length l)) (all_held none)
 
-  module _ (none : old.begun ≡ None) (after : State) (left passed : ℕ)
+  module _ (none : old.started ≡ None) (after : State) (left passed : ℕ)
       (fits : left ≤ length old.window.held)
       (passed_is : passed ≡ min (old.passed + (length old.window.held - left)) (2 ^ 64 - 1)) where
-    -- so many bytes were passed when so many are left
+    -- this many bytes were passed when this many are left
     pub left_passed : passed ≡ capped (length read - length (last_of left old.window.held))
     left_passed =
         let held = old.window.held in
@@ -71,15 +71,15 @@ module _ {R : Type 0} (unfit : Unfit) (old : PacketReader R) (read : List ℕ)
 
     -- a packet is found
     pub finds_packet : (new : PacketReader R) (packet : Packet) → new.state ≡ after
-        → new.begun ≡ None → new.passed ≡ passed
+        → new.started ≡ None → new.passed ≡ passed
         → new.window.held ≡ last_of left old.window.held
         → new.count ≡ min (old.count + 1) (2 ^ 64 - 1) → new.reads ≡ old.reads
         → new.ended ≡ old.ended
         → IsFirst old.state old.window.held after packet (last_of left old.window.held)
         → HasRead unfit new read (given ++ packet ∷ [])
-    finds_packet new packet state begun passed_new held count reads ended first = record {
+    finds_packet new packet state started passed_new held count reads ended first = record {
       dropped = [];
-      is_dropped = subst (λ (b : Option LongBlock). IsDropped new.state b []) (sym begun) refl;
+      is_dropped = subst (λ (b : Option LongBlock). IsDropped new.state b []) (sym started) refl;
       gives = rw (state, held) (gives_first (Start unfit) old.state after read old.window.held
           (last_of left old.window.held) given packet (gives_held none) first);
       count =
@@ -94,7 +94,7 @@ module _ {R : Type 0} (unfit : Unfit) (old : PacketReader R) (read : List ℕ)
 
     -- no packet is
     abbrev pub finds_none : (new : PacketReader R) (dropped : List ℕ) → new.state ≡ after
-        → IsDropped after new.begun dropped → new.passed ≡ passed
+        → IsDropped after new.started dropped → new.passed ≡ passed
         → dropped ++ new.window.held ≡ last_of left old.window.held
         → new.count ≡ old.count → new.reads ≡ old.reads → new.ended ≡ old.ended
         → (refusal : Option CaptureError)
@@ -103,7 +103,7 @@ module _ {R : Type 0} (unfit : Unfit) (old : PacketReader R) (read : List ℕ)
     finds_none new dropped state is_dropped passed_new held count reads ended refusal first =
         record {
           dropped = dropped;
-          is_dropped = subst (λ (s : State). IsDropped s new.begun dropped) (sym state) is_dropped;
+          is_dropped = subst (λ (s : State). IsDropped s new.started dropped) (sym state) is_dropped;
           gives = rw (state, held) (gives_none (Start unfit) old.state after read old.window.held
               (last_of left old.window.held) given (gives_held none) first.passes);
           count = count ∙ h.count;
@@ -138,46 +138,46 @@ consumes_kept a b c xs p k =
     subst (λ (l : List ℕ). Consumes a c l) (append-nil xs)
     (consumes_more a b c xs [] p (keeps_consumes b c k))
 
-pub consumes_end : (a b c : Option (List ℕ)) (xs piece : List ℕ) → Consumes a b xs
-    → Consumes b c piece → piece ≡ [] → Consumes a c xs
-consumes_end a b c xs piece p q none =
+pub consumes_end : (a b c : Option (List ℕ)) (xs chunk : List ℕ) → Consumes a b xs
+    → Consumes b c chunk → chunk ≡ [] → Consumes a c xs
+consumes_end a b c xs chunk p q none =
     subst (λ (l : List ℕ). Consumes a c l)
-    (ap (λ (l : List ℕ). xs ++ l) none ∙ append-nil xs) (consumes_more a b c xs piece p q)
+    (ap (λ (l : List ℕ). xs ++ l) none ∙ append-nil xs) (consumes_more a b c xs chunk p q)
 
-pub no_piece : (piece : List ℕ) → length piece ≡ 0 → piece ≡ []
-no_piece [] none = refl
-no_piece (b ∷ bytes) none = absurd (omega arith)
+pub no_chunk : (chunk : List ℕ) → length chunk ≡ 0 → chunk ≡ []
+no_chunk [] none = refl
+no_chunk (b ∷ bytes) none = absurd (omega arith)
 
--- ---- what a call comes to
+-- ---- the result of a call
 
 module _ {R : Type 0} (unfit : Unfit) (old new : PacketReader R) (read : List ℕ)
     (given : List Packet) (h : HasRead unfit old read given) (state : new.state ≡ old.state)
-    (begun : new.begun ≡ old.begun) (count : new.count ≡ old.count)
+    (started : new.started ≡ old.started) (count : new.count ≡ old.count)
     (passed : new.passed ≡ old.passed) where
-  dropped_same : IsDropped new.state new.begun h.dropped
-  dropped_same = rw (state, begun) h.is_dropped
+  dropped_same : IsDropped new.state new.started h.dropped
+  dropped_same = rw (state, started) h.is_dropped
 
-  -- a piece is read
-  pub reads_more : (piece : List ℕ) → new.window.held ≡ old.window.held ++ piece
-      → new.reads ≡ old.reads + 1 → new.ended ≡ old.ended → 0 < length piece
-      → HasRead unfit new (read ++ piece) given
-  reads_more piece held reads ended some =
+  -- a chunk is read
+  pub reads_more : (chunk : List ℕ) → new.window.held ≡ old.window.held ++ chunk
+      → new.reads ≡ old.reads + 1 → new.ended ≡ old.ended → 0 < length chunk
+      → HasRead unfit new (read ++ chunk) given
+  reads_more chunk held reads ended some =
       let rest = h.dropped ++ old.window.held in
-      let whole : h.dropped ++ new.window.held ≡ rest ++ piece =
-      ap (λ (l : List ℕ). h.dropped ++ l) held ∙ sym (append_assoc h.dropped old.window.held piece) in
+      let whole : h.dropped ++ new.window.held ≡ rest ++ chunk =
+      ap (λ (l : List ℕ). h.dropped ++ l) held ∙ sym (append_assoc h.dropped old.window.held chunk) in
       let few = h.reads in
       record {
         dropped = h.dropped;
         is_dropped = dropped_same;
         gives = rw (state, whole)
-            (gives_wide (Start unfit) old.state read rest piece given h.gives);
+            (gives_wide (Start unfit) old.state read rest chunk given h.gives);
         count = count ∙ h.count;
         passed = passed ∙ h.passed ∙ ap capped
             (let all : length read - length rest
-            ≡ length (read ++ piece) - length (h.dropped ++ new.window.held) =
-            omega (arith, ap length whole, length-append rest piece, length-append read piece) in
+            ≡ length (read ++ chunk) - length (h.dropped ++ new.window.held) =
+            omega (arith, ap length whole, length-append rest chunk, length-append read chunk) in
             all);
-        reads = omega (arith, length-append read piece);
+        reads = omega (arith, length-append read chunk);
         going = ended ∙ h.going;
       }
 
@@ -203,43 +203,43 @@ module _ {R : Type 0} (unfit : Unfit) (old new : PacketReader R) (read : List �
       }
 
 module _ {R : Type 0} (unfit : Unfit) (reader : PacketReader R) (read : List ℕ)
-    (given : List Packet) (h : HasRead unfit reader read given) (place : Place)
-    (packet : place.packet ≡ capped (reader.count + 1)) (offset : place.offset ≡ reader.passed)
-    (block : (dropped : List ℕ) → IsDropped reader.state reader.begun dropped
-    → place.block ≡ block_type reader.state (dropped ++ reader.window.held)) where
-  its_place : IsPlace reader.state (length given) read (h.dropped ++ reader.window.held) place
-  its_place = record {
+    (given : List Packet) (h : HasRead unfit reader read given) (position : Position)
+    (packet : position.packet ≡ capped (reader.count + 1)) (offset : position.offset ≡ reader.passed)
+    (block : (dropped : List ℕ) → IsDropped reader.state reader.started dropped
+    → position.block ≡ block_type reader.state (dropped ++ reader.window.held)) where
+  its_position : IsPosition reader.state (length given) read (h.dropped ++ reader.window.held) position
+  its_position = record {
     packet = packet ∙ ap (λ (n : ℕ). capped (n + 1)) h.count
         ∙ capped_more (2 ^ 64 - 1) (length given) 1;
     offset = offset ∙ h.passed;
     block = block h.dropped h.is_dropped;
   }
 
-  -- it can't go on
-  pub refused_front : (error : CaptureError) (left : Option (List ℕ))
+  -- the capture can't continue
+  pub refused_next : (error : CaptureError) (left : Option (List ℕ))
       → Refuses reader.state (h.dropped ++ reader.window.held) error
-      → IsRefusedAt unfit (skipped_in reader.state) error place left read given
-  refused_front error left refuses = record {
+      → IsRefusedAt unfit (skipped_in reader.state) error position left read given
+  refused_next error left refuses = record {
     state = reader.state;
     rest = h.dropped ++ reader.window.held;
     gives = h.gives;
-    is_place = its_place;
+    is_position = its_position;
     counts = refl;
     why = inl refuses;
   }
 
   -- or it ends there
   pub refused_end : (error : CaptureError) (left : Option (List ℕ)) → IsAtEnd left
-      → IsBegun reader.state (h.dropped ++ reader.window.held)
+      → IsIncomplete reader.state (h.dropped ++ reader.window.held)
       → fault_at_end reader.state (length (h.dropped ++ reader.window.held)) ≡ Err error
-      → IsRefusedAt unfit (skipped_in reader.state) error place left read given
-  refused_end error left ends begun fault = record {
+      → IsRefusedAt unfit (skipped_in reader.state) error position left read given
+  refused_end error left ends started fault = record {
     state = reader.state;
     rest = h.dropped ++ reader.window.held;
     gives = h.gives;
-    is_place = its_place;
+    is_position = its_position;
     counts = refl;
-    why = inr (ends, begun, fault);
+    why = inr (ends, started, fault);
   }
 
 abbrev start_fault : Bool → Result Unit CaptureError
@@ -271,7 +271,7 @@ ends_whole unfit state read rest given g ends =
       counts = refl;
     }
 
--- ---- a long block is begun
+-- ---- a long block is started
 
 module _ {R : Type 0} (unfit : Unfit) (old new : PacketReader R) (read : List ℕ)
     (given : List Packet) (h : HasRead unfit old read given) (left : ℕ)
@@ -279,19 +279,19 @@ module _ {R : Type 0} (unfit : Unfit) (old new : PacketReader R) (read : List �
     (count : new.count ≡ old.count) (reads : new.reads ≡ old.reads)
     (ended : new.ended ≡ old.ended) where
   -- more of it is dropped
-  module _ (begun : LongBlock) (begun_is : new.begun ≡ Some begun)
+  module _ (started : LongBlock) (started_is : new.started ≡ Some started)
       (passed : new.passed ≡ old.passed)
-      (d : DropsMore old.state h.dropped old.window.held begun left) where
-    pub same_left : h.dropped ++ old.window.held ≡ (h.dropped ++ d.front) ++ new.window.held
+      (d : DropsMore old.state h.dropped old.window.held started left) where
+    pub same_left : h.dropped ++ old.window.held ≡ (h.dropped ++ d.prefix) ++ new.window.held
     same_left =
         ap (λ (l : List ℕ). h.dropped ++ l)
-        (d.parts ∙ ap (λ (l : List ℕ). d.front ++ l) (sym held))
-        ∙ sym (append_assoc h.dropped d.front new.window.held)
+        (d.parts ∙ ap (λ (l : List ℕ). d.prefix ++ l) (sym held))
+        ∙ sym (append_assoc h.dropped d.prefix new.window.held)
 
     abbrev pub drops_more : HasRead unfit new read given
     drops_more = record {
-      dropped = h.dropped ++ d.front;
-      is_dropped = rw (state, begun_is) d.is_dropped;
+      dropped = h.dropped ++ d.prefix;
+      is_dropped = rw (state, started_is) d.is_dropped;
       gives = rw state (subst (λ (l : List ℕ). Gives (Start unfit) read given old.state l)
           same_left h.gives);
       count = count ∙ h.count;
@@ -301,31 +301,31 @@ module _ {R : Type 0} (unfit : Unfit) (old new : PacketReader R) (read : List �
       going = ended ∙ h.going;
     }
 
-    pub drops_begun : IsBegun old.state (h.dropped ++ old.window.held)
-        → FindsFront unfit new read given (Ok false)
-    drops_begun begins = (
+    pub drops_incomplete : IsIncomplete old.state (h.dropped ++ old.window.held)
+        → FindsPacket unfit new read given (Ok false)
+    drops_incomplete begins = (
       drops_more,
-      subst (λ (s : State). IsBegun s ((h.dropped ++ d.front) ++ new.window.held)) (sym state)
-          (subst (λ (l : List ℕ). IsBegun old.state l) same_left begins),
+      subst (λ (s : State). IsIncomplete s ((h.dropped ++ d.prefix) ++ new.window.held)) (sym state)
+          (subst (λ (l : List ℕ). IsIncomplete old.state l) same_left begins),
     )
 
     pub drops_refused : (error : CaptureError)
         → Refuses old.state (h.dropped ++ old.window.held) error
-        → FindsFront unfit new read given (Err error)
+        → FindsPacket unfit new read given (Err error)
     drops_refused error refuses = (
       drops_more,
-      subst (λ (s : State). Refuses s ((h.dropped ++ d.front) ++ new.window.held) error)
+      subst (λ (s : State). Refuses s ((h.dropped ++ d.prefix) ++ new.window.held) error)
           (sym state) (subst (λ (l : List ℕ). Refuses old.state l error) same_left refuses),
     )
 
   -- it is passed
-  pub drops_passed : (len : ℕ) (origin : Origin) → new.begun ≡ None
+  pub drops_passed : (len : ℕ) (origin : Origin) → new.started ≡ None
       → new.passed ≡ min (old.passed + len) (2 ^ 64 - 1)
       → HasUnit old.state (h.dropped ++ old.window.held) old.state origin []
       (last_of left old.window.held)
       → length h.dropped + length old.window.held ≡ len + left → left ≤ length old.window.held
       → HasRead unfit new read given
-  drops_passed len origin begun passed unit size fits =
+  drops_passed len origin started passed unit size fits =
       let rest = h.dropped ++ old.window.held in
       let last = last_of left old.window.held in
       let within = gives_len (Start unfit) old.state read rest given h.gives in
@@ -334,7 +334,7 @@ module _ {R : Type 0} (unfit : Unfit) (old new : PacketReader R) (read : List �
       let same : length read - length rest + len ≡ length read - length last = omega arith in
       record {
         dropped = [];
-        is_dropped = subst (λ (b : Option LongBlock). IsDropped new.state b []) (sym begun) refl;
+        is_dropped = subst (λ (b : Option LongBlock). IsDropped new.state b []) (sym started) refl;
         gives = rw (state, held) (gives_none (Start unfit) old.state old.state read rest last given
             h.gives (passes_unit old.state old.state old.state rest rest last [] origin []
             (passes_start old.state rest) unit));

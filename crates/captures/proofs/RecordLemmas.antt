@@ -1,4 +1,4 @@
--- The record of the frame that a line hands in.
+-- The record of the frame that a line gives.
 use Rattle.std.proofs.Common.{◌≡◌, ◌∙◌, sym, ap, refl, ℕ, ◌+◌, ◌/◌, ◌<◌, ◌≤◌, Bool, true, false}
 use Rattle.std.proofs.Common.{List, [], ◌∷◌, ◌++◌, length, take, drop, Some, None, Result, Ok, Err}
 use Rattle.std.proofs.Common.{append_assoc, arith, inl, inr}
@@ -10,14 +10,14 @@ use borrow.Rule.Slice.PartMut.{put_mid}
 use Rattle.hex.specs.Hex.{decode_of, decode_sized}
 use Rattle.hex.specs.declared.error.FromHexError.{FromHexError}
 use Rattle.hex.proofs.HexLemmas.{decode_of-ok, decode_sized-ok, decode_sized-twice}
-use Rattle.commands.specs.Commands.{frame_on}
-use Rattle.commands.specs.TimedLines.{frame_at}
-use Rattle.commands.specs.declared.limits.TheConstants.{FRAME_LIMIT}
-use Rattle.commands.specs.declared.timed_line.Time.{Time}
-use Rattle.captures.specs.Spelling.{parts_in, record_head, record_of}
+use Rattle.line_grammar.specs.Commands.{frame_on}
+use Rattle.line_grammar.specs.TimedLines.{frame_at}
+use Rattle.line_grammar.specs.declared.limits.TheConstants.{FRAME_LIMIT}
+use Rattle.line_grammar.specs.declared.timed_line.Time.{Time}
+use Rattle.captures.specs.Encoding.{parts_in, record_head, record_of}
 use Rattle.captures.specs.declared.time.time_unit.TimeUnit.{TimeUnit}
 
--- no frame has no bytes, or so many
+-- a frame of no bytes, or of too many, isn't given
 frame_none : (time : Time) (channel : ℕ) (frame : List ℕ)
     → (length frame ≡ 0) ⊎ (FRAME_LIMIT < length frame)
     → frame_at (Some time) (frame_on channel (Ok frame)) ≡ None
@@ -47,20 +47,20 @@ sized_is : (digits new : List ℕ) (n : ℕ) (r : Bool) (d : Result (List ℕ) F
     → decode_sized digits n ≡ d → MatchResult d (λ v. (r ≡ true) × (new ≡ v)) (λ e. r ≡ false)
     → r ≡ true
     → (decode_of digits ≡ Ok new) × (length new ≡ n)
-sized_is digits new n r (Ok v) is told yes' =
+sized_is digits new n r (Ok v) is reported yes' =
     let size = decode_sized-ok digits n v is in
     let whole : decode_of digits ≡ Ok new =
-    sym (decode_sized-twice digits n size) ∙ is ∙ ap Ok (sym told.1) in
+    sym (decode_sized-twice digits n size) ∙ is ∙ ap Ok (sym reported.1) in
     let twice = (decode_of-ok digits new whole).2 in
     (whole, omega arith)
-sized_is digits new n r (Err e) is told yes' =
-    absurd (let no' : true ≡ false = sym yes' ∙ told in cc)
+sized_is digits new n r (Err e) is reported yes' =
+    absurd (let no' : true ≡ false = sym yes' ∙ reported in cc)
 
 -- digits that are decoded
 pub decoded : (digits new : List ℕ) (n : ℕ) (r : Bool)
     → MatchResult (decode_sized digits n) (λ v. (r ≡ true) × (new ≡ v)) (λ e. r ≡ false) → r ≡ true
     → (decode_of digits ≡ Ok new) × (length new ≡ n)
-decoded digits new n r told yes' = sized_is digits new n r (decode_sized digits n) refl told yes'
+decoded digits new n r reported yes' = sized_is digits new n r (decode_sized digits n) refl reported yes'
 
 pub frame_is : (time : Time) (channel : ℕ) (frame : List ℕ) → 0 < length frame
     → length frame ≤ FRAME_LIMIT
@@ -70,24 +70,24 @@ frame_is time channel [] some short = absurd (omega arith)
 frame_is time channel (b ∷ frame) some short =
     rw (le-leb (length (b ∷ frame)) FRAME_LIMIT short) refl
 
--- what is put behind the first bytes
-put_front : (out new : List ℕ) (a n m : ℕ) → a ≤ length out → length new ≡ n → m ≡ n
+-- what is put after the first bytes
+put_prefix : (out new : List ℕ) (a n m : ℕ) → a ≤ length out → length new ≡ n → m ≡ n
     → take (a + n) (put_mid a m out new) ≡ take a out ++ new
-put_front out new a n m fits size same =
+put_prefix out new a n m fits size same =
     ap (λ k. take (k + n) (put_mid a m out new)) (sym (length-take-le a out fits))
     ∙ take-append-add (take a out) (new ++ drop m (drop a out)) n
     ∙ ap (λ l. take a out ++ l) (ap (λ k. take k (new ++ drop m (drop a out))) (sym size)
     ∙ take-append_seam new (drop m (drop a out)))
 
--- a record's head, and the frame behind it
+-- a record's head, and the frame after it
 pub record_put : (time_unit : TimeUnit) (out out' new head : List ℕ) (used start n m : ℕ) (time : Time)
     → start ≤ length out' → length new ≡ n → m ≡ n → take start out' ≡ take used out ++ head
     → head ≡ record_head time.seconds (parts_in time_unit time.nanoseconds) n
     → take (start + n) (put_mid start m out' new) ≡ take used out
     ++ record_of time_unit
     (record { seconds = time.seconds; nanoseconds = time.nanoseconds; frame = new })
-record_put time_unit out out' new head used start n m time fits size same front is =
-    put_front out' new start n m fits size same ∙ ap (λ l. l ++ new) front
+record_put time_unit out out' new head used start n m time fits size same prefix is =
+    put_prefix out' new start n m fits size same ∙ ap (λ l. l ++ new) prefix
     ∙ append_assoc (take used out) head new
     ∙ ap (λ l. take used out ++ (l ++ new))
     (is ∙ ap (record_head time.seconds (parts_in time_unit time.nanoseconds)) (sym size))

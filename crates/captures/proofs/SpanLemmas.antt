@@ -19,8 +19,8 @@ has_or_not seconds begin time = by (nat_le (begin + 1000000000 * seconds) time) 
     by false is = inr (is, leb-false (begin + 1000000000 * seconds) time is)
 
 module _ (seconds : ℕ) where
-  abbrev Tells : ℕ → Mark → Mark → List Mark → Bool → Type 0
-  Tells own span packet packets b = Drops own (cond b
+  abbrev Reports : ℕ → Mark → Mark → List Mark → Bool → Type 0
+  Reports own span packet packets b = Drops own (cond b
       (span.number ∷ passed_spans seconds packet packets) (passed_spans seconds span packets))
 
   -- no span passes that began later than a fragment came
@@ -32,7 +32,7 @@ module _ (seconds : ℕ) where
       elim (has_or_not seconds span.time packet.time) [
         | inl passed ↦ absurd (omega (arith, all.0, passed.1, later))
         | inr more ↦ never time own span packets later all.1
-            (subst (Tells own span packet packets) more.0 drops)
+            (subst (Reports own span packet packets) more.0 drops)
       ]
 
   -- and of the one that it came in what came before is dropped
@@ -43,26 +43,26 @@ module _ (seconds : ℕ) where
   keeps time own span [] first near all drops = drops
   keeps time own span (packet ∷ packets) first near all drops =
       elim (has_or_not seconds span.time packet.time) [
-        | inl passed ↦ elim (subst (Tells own span packet packets) passed.0 drops) [
+        | inl passed ↦ elim (subst (Reports own span packet packets) passed.0 drops) [
           | inl less ↦ absurd (omega (arith, less, first))
           | inr after ↦ never time own packet packets (omega (arith, near, passed.1)) all.1 after
         ]
         | inr more ↦ keeps time own span packets first near all.1
-            (subst (Tells own span packet packets) more.0 drops)
+            (subst (Reports own span packet packets) more.0 drops)
       ]
 
-  -- a span with a greater number drops the message once it passes,
+  -- a span with a greater number drops the reassembly once it passes,
   goes_by : (own : ℕ) (span : Mark) (packets : List Mark) (last : Mark) → own < span.number
       → span.time + 1000000000 * seconds ≤ last.time
       → Drops own (passed_spans seconds span (packets ++ last ∷ []))
   goes_by own span [] last ahead long = elim (has_or_not seconds span.time last.time) [
-    | inl passed ↦ subst (Tells own span last []) (sym passed.0) (inl ahead)
+    | inl passed ↦ subst (Reports own span last []) (sym passed.0) (inl ahead)
     | inr more ↦ absurd (omega (arith, long, more.1))
   ]
   goes_by own span (packet ∷ packets) last ahead long =
       elim (has_or_not seconds span.time packet.time) [
-        | inl passed ↦ subst (Tells own span packet (packets ++ last ∷ [])) (sym passed.0) (inl ahead)
-        | inr more ↦ subst (Tells own span packet (packets ++ last ∷ [])) (sym more.0)
+        | inl passed ↦ subst (Reports own span packet (packets ++ last ∷ [])) (sym passed.0) (inl ahead)
+        | inr more ↦ subst (Reports own span packet (packets ++ last ∷ [])) (sym more.0)
             (goes_by own span packets last ahead long)
       ]
 
@@ -74,20 +74,20 @@ module _ (seconds : ℕ) where
       → Drops own (passed_spans seconds span ((between ++ next ∷ []) ++ (later ++ last ∷ [])))
   goes time own span [] next later last low long ahead all after =
       elim (has_or_not seconds span.time next.time) [
-        | inl passed ↦ subst (Tells own span next (later ++ last ∷ [])) (sym passed.0)
+        | inl passed ↦ subst (Reports own span next (later ++ last ∷ [])) (sym passed.0)
             (inr (goes_by own next later last ahead after.0))
         | inr more ↦ absurd (omega (arith, low, long, more.1))
       ]
   goes time own span (packet ∷ between) next later last low long ahead all after =
       let rest = (between ++ next ∷ []) ++ (later ++ last ∷ []) in
       elim (has_or_not seconds span.time packet.time) [
-        | inl passed ↦ subst (Tells own span packet rest) (sym passed.0) (inr (elim all.0 [
+        | inl passed ↦ subst (Reports own span packet rest) (sym passed.0) (inr (elim all.0 [
           | inl greater ↦ subst (λ (ps : List Mark). Drops own (passed_spans seconds packet ps))
               (append_assoc (between ++ next ∷ []) later (last ∷ []))
               (goes_by own packet ((between ++ next ∷ []) ++ later) last greater after.0)
           | inr early ↦ goes time own packet between next later last early long ahead all.1 after.1
         ]))
-        | inr more ↦ subst (Tells own span packet rest) (sym more.0)
+        | inr more ↦ subst (Reports own span packet rest) (sym more.0)
             (goes time own span between next later last low long ahead all.1 after.1)
       ]
 

@@ -1,10 +1,10 @@
--- What is told of bytes is known by them: where no more units are taken, none follows.
+-- What is reported of bytes is determined by them: where no more units are taken, none follows.
 use Rattle.std.proofs.Common.{◌≡◌, ◌∙◌, sym, ap, ap₂, refl, subst, ℕ, ◌+◌, ◌-◌, ◌*◌, ◌%◌, ◌<◌, ◌≤◌}
 use Rattle.std.proofs.Common.{arith, List, [], ◌∷◌, ◌++◌, length, append_assoc, length-append, inl}
 use Rattle.std.proofs.Common.{inr, Option, Some, None}
 use Rattle.std.specs.Prelude.{IsTrue, slice_index}
 use Rattle.hex.specs.Hex.{IsBytes}
-use Rattle.captures.specs.Framed.{told_frame, link_for}
+use Rattle.captures.specs.Framed.{reported_frame, link_for}
 use Rattle.captures.specs.Lines.{Packet, blank, lines_of}
 use Rattle.captures.specs.Numbers.{word}
 use Rattle.captures.specs.Pcap.{is_magic, link_type}
@@ -32,10 +32,10 @@ use Rattle.captures.specs.declared.translation.skipped.Skipped.{Skipped}
 use Rattle.captures.specs.declared.translation.state.State.{State}
 use Rattle.captures.specs.declared.unfit.Unfit.{Unfit}
 use Rattle.captures.specs.declared.translation.state.State.TheVariants.{Start, Classic, Pcapng}
-use Rattle.captures.proofs.AloneLemmas.{becomes_as, front_same, rest_same}
-use Rattle.captures.proofs.AloneLemmas.{bytes_behind, order_alone}
+use Rattle.captures.proofs.AloneLemmas.{becomes_as, prefix_same, rest_same}
+use Rattle.captures.proofs.AloneLemmas.{bytes_after, order_alone}
 use Rattle.captures.proofs.AloneLemmas.{order_more, file_order, no_section_in, unit_alone}
-use Rattle.captures.proofs.BlockLemmas.{word_of, skipped_front}
+use Rattle.captures.proofs.BlockLemmas.{word_of, skipped_prefix}
 use Rattle.captures.specs.declared.extra.Extra.{Extra}
 use Rattle.captures.specs.declared.text.ledger.Ledger.{Ledger}
 use Rattle.captures.specs.declared.origin.Origin.{Origin}
@@ -101,7 +101,7 @@ refused_says section order block (Version major minor) refused after origin fram
 refused_says section order block BadBlock refused after origin frame reads =
     refused reads.content reads.says
 
--- ---- where a unit is the front of the bytes
+-- ---- where the bytes begin with a unit
 
 module _ (bytes u r : List ℕ) (all : IsBytes bytes) (parts : bytes ≡ u ++ r) (after : State)
     (origin : Origin) (frame : List ℕ) where
@@ -119,7 +119,7 @@ module _ (bytes u r : List ℕ) (all : IsBytes bytes) (parts : bytes ≡ u ++ r)
 
     its_length : (o : ByteOrder) → HasOrder section.order bytes o → word o bytes 4 ≡ length u
     its_length o has = let l = long in ap (λ (p : ByteOrder). word p bytes 4) (its_order o has)
-        ∙ word_of b.order bytes u r 4 parts (omega arith) ∙ b.block.front
+        ∙ word_of b.order bytes u r 4 parts (omega arith) ∙ b.block.prefix
 
     -- is whole,
     not_short : IsShortBlock section bytes → ⊥
@@ -133,15 +133,15 @@ module _ (bytes u r : List ℕ) (all : IsBytes bytes) (parts : bytes ≡ u ++ r)
     block_is : (o : ByteOrder) (block rest : List ℕ) → bytes ≡ block ++ rest
         → HasOrder section.order bytes o → word o bytes 4 ≡ length block → u ≡ block
     block_is o block rest parts' has size =
-        front_same bytes u r block rest parts parts' (sym (its_length o has) ∙ size)
+        prefix_same bytes u r block rest parts parts' (sym (its_length o has) ∙ size)
 
     not_refused : (error : CaptureError) → HasRefusedBlock section bytes error → ⊥
     not_refused error h =
         let size = h.is_block.size in
         let has = order_more section.order h.order bytes h.block h.rest h.parts size h.has_order in
-        let told = word_of h.order bytes h.block h.rest 4 h.parts (omega arith)
-        ∙ h.is_block.front in
-        let same = block_is h.order h.block h.rest h.parts has told in
+        let reported = word_of h.order bytes h.block h.rest 4 h.parts (omega arith)
+        ∙ h.is_block.prefix in
+        let same = block_is h.order h.block h.rest h.parts has reported in
         let refused = subst (λ (l : List ℕ). RefusesBlock section h.order l error)
         (sym same) h.refused in
         refused_says section b.order u error
@@ -174,13 +174,13 @@ module _ (bytes u r : List ℕ) (all : IsBytes bytes) (parts : bytes ≡ u ++ r)
     not_at (BlockTooLong len) refuses =
         let h = refuses.1 in
         let order = its_order h.order h.has_order in
-        let size : len ≡ length u = sym h.told ∙ its_length h.order h.has_order in
+        let size : len ≡ length u = sym h.reported ∙ its_length h.order h.has_order in
         let l = long in
         h.long (elim b.fits [
           | inl few ↦ inl (omega arith)
           | inr skipped ↦
               inr (subst (λ (o : ByteOrder). IsSkipped o bytes) (sym order)
-              (skipped_front b.order bytes u r parts (omega arith) skipped))
+              (skipped_prefix b.order bytes u r parts (omega arith) skipped))
         ])
     not_at (Version major minor) refuses = not_refused (Version major minor) refuses
     not_at BadBlock (size, inl none) =
@@ -201,14 +201,14 @@ module _ (bytes u r : List ℕ) (all : IsBytes bytes) (parts : bytes ≡ u ++ r)
     not_link_type number h =
         let size = o.header.size in
         let size' = h.is_header.size in
-        let same = front_same bytes u r h.header h.rest parts h.parts (size ∙ sym size') in
+        let same = prefix_same bytes u r h.header h.rest parts h.parts (size ∙ sym size') in
         let magic = subst (λ (n : ℕ). IsTrue (is_magic n))
         (sym (word_of o.order bytes u r 0 parts (omega arith))) o.header.magic in
         let magic' = subst (λ (n : ℕ). IsTrue (is_magic n))
         (sym (word_of h.order bytes h.header h.rest 0 h.parts (omega arith)))
         h.is_header.magic in
         let order = file_order o.order h.order bytes all magic magic' in
-        some_and_none _ o.link (ap (link_for unfit) (sym h.told
+        some_and_none _ o.link (ap (link_for unfit) (sym h.reported
         ∙ ap₂ (λ (p : ByteOrder) (l : List ℕ). link_type p l) (sym order) (sym same))
         ∙ o.known) h.other
 
@@ -279,15 +279,15 @@ module _ (bytes u r : List ℕ) (all : IsBytes bytes) (parts : bytes ≡ u ++ r)
         → word order head 8 ≡ length i.packet
     head_is head rest parts' size =
         let p = i.is_record in
-        let front = parts ∙ ap (λ l. l ++ r) p.parts ∙ append_assoc p.head i.packet r in
+        let prefix = parts ∙ ap (λ l. l ++ r) p.parts ∙ append_assoc p.head i.packet r in
         ap (λ (l : List ℕ). word order l 8)
-        (front_same bytes head rest p.head (i.packet ++ r) parts' front (size ∙ sym p.size))
+        (prefix_same bytes head rest p.head (i.packet ++ r) parts' prefix (size ∙ sym p.size))
         ∙ p.captured
 
     not_cut : IsShortRecord order link passing.unfit bytes → ⊥
     not_cut h =
         let p = i.is_record in
-        let told = head_is h.head h.body h.parts h.size in
+        let reported = head_is h.head h.body h.parts h.size in
         let short = h.short in
         let size = h.size in
         let size' = p.size in
@@ -298,8 +298,8 @@ module _ (bytes u r : List ℕ) (all : IsBytes bytes) (parts : bytes ≡ u ++ r)
 
     not_long : (captured : ℕ) → HasLongFrame order link passing.unfit bytes captured → ⊥
     not_long captured h =
-        let told = head_is h.head h.rest h.parts h.size in
-        let same = h.told in
+        let reported = head_is h.head h.rest h.parts h.size in
+        let same = h.reported in
         let above = h.long in
         let most = i.fits in
         absurd (omega arith)
@@ -311,17 +311,17 @@ module _ (bytes u r : List ℕ) (all : IsBytes bytes) (parts : bytes ≡ u ++ r)
         let p' = h.is_record in
         let parts' = h.parts ∙ ap (λ l. l ++ h.rest) p'.parts
         ∙ append_assoc p'.head h.packet h.rest in
-        let front = parts ∙ ap (λ l. l ++ r) p.parts ∙ append_assoc p.head i.packet r in
+        let prefix = parts ∙ ap (λ l. l ++ r) p.parts ∙ append_assoc p.head i.packet r in
         let size = p'.size ∙ sym p.size in
-        let told = head_is p'.head (h.packet ++ h.rest) parts' p'.size in
-        let behind = rest_same bytes p'.head (h.packet ++ h.rest) p.head
-        (i.packet ++ r) parts' front size in
+        let reported = head_is p'.head (h.packet ++ h.rest) parts' p'.size in
+        let following = rest_same bytes p'.head (h.packet ++ h.rest) p.head
+        (i.packet ++ r) parts' prefix size in
         let same : h.packet ≡ i.packet =
-        front_same (h.packet ++ h.rest) h.packet h.rest i.packet r refl behind
-        (sym p'.captured ∙ told) in
-        some_and_none _ frame (ap (told_frame passing.unfit link) same ∙ i.is_told) h.none
+        prefix_same (h.packet ++ h.rest) h.packet h.rest i.packet r refl following
+        (sym p'.captured ∙ reported) in
+        some_and_none _ frame (ap (reported_frame passing.unfit link) same ∙ i.is_reported) h.none
 
--- ---- so none is the front of what is left
+-- ---- so what is left begins with none
 
 left_no_unit : (state : State) (bytes u r : List ℕ) → IsBytes bytes → bytes ≡ u ++ r
     → (after : State) (origin : Origin) (frame : List ℕ) → IsUnit state u after origin frame
@@ -401,27 +401,27 @@ rows_alone state (u ∷ us) (v ∷ vs) ps qs after after' rest rest' refusal ref
     let one = unit_alone state bytes u (in_a_row us ++ rest) v
     (in_a_row vs ++ rest') bytes' refl parts row.0 row'.0 row.1 row'.1
     row.2 row'.2 row.4 row'.4 in
-    let behind = rest_same bytes u (in_a_row us ++ rest) v
+    let following = rest_same bytes u (in_a_row us ++ rest) v
     (in_a_row vs ++ rest') refl parts (ap length one.0) in
     let later' = subst (λ (s : State). Row s vs row'.3 after') (sym one.1) row'.5 in
     let later = rows_alone row.0 us vs row.3 row'.3 after after' rest rest' refusal refusal'
-    (bytes_behind u (in_a_row us ++ rest) bytes') behind row.5 later' left left' in
+    (bytes_after u (in_a_row us ++ rest) bytes') following row.5 later' left left' in
     (row.6 ∙ ap₂ (λ (a b : List Packet). a ++ b) one.2 later.0 ∙ sym row'.6, later.1)
 
-pub told_alone : (extra : Extra) (unfit : Unfit) (bytes rest rest' text text' : List ℕ) (count count' : ℕ)
+pub reported_alone : (extra : Extra) (unfit : Unfit) (bytes rest rest' text text' : List ℕ) (count count' : ℕ)
     (state state' : State) (refusal refusal' : Option CaptureError) (noted noted' : Ledger)
     → IsBytes bytes
     → Takes (blank extra) (Start unfit) bytes state rest count text refusal noted
     → Takes (blank extra) (Start unfit) bytes state' rest' count' text' refusal' noted'
     → text ≡ text'
-told_alone extra unfit bytes rest rest' text text' count count' state state' refusal refusal' noted
+reported_alone extra unfit bytes rest rest' text text' count count' state state' refusal refusal' noted
     noted' all t t' =
     let p = t.passes in
     let p' = t'.passes in
     let same = rows_alone (Start unfit) p.units p'.units t.packets t'.packets state state'
     rest rest' refusal refusal' (subst IsBytes p.parts all)
     (sym p.parts ∙ p'.parts) p.row p'.row t.left t'.left in
-    t.told ∙ ap (lines_of extra) same.0 ∙ sym t'.told
+    t.reported ∙ ap (lines_of extra) same.0 ∙ sym t'.reported
 
 nothing_left : (state : State) → IsLeft state [] None
 nothing_left (Start unfit) = inl (omega arith)

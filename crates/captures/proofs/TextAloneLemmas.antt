@@ -1,10 +1,10 @@
--- The frames that a text hands in are known by its bytes.
+-- The frames of a text of lines are determined by its bytes.
 use Rattle.std.proofs.Common.{◌≡◌, ◌∙◌, sym, ap, ap₂, refl, ℕ, false, true, arith, List, [], ◌∷◌}
 use Rattle.std.proofs.Common.{◌++◌, length, drop, append-nil, length-append}
 use Rattle.std.specs.Prelude.{slice_index, unwrap_or}
-use Rattle.commands.specs.TimedLines.{timed_frame_of}
-use Rattle.commands.specs.TimedLines.{TimedFrame}
-use Rattle.captures.specs.Texts.{is_newline, with_line_ends, HandIn, IsText}
+use Rattle.line_grammar.specs.TimedLines.{timed_frame_of}
+use Rattle.line_grammar.specs.TimedLines.{TimedFrame}
+use Rattle.captures.specs.Texts.{is_newline, with_line_ends, GiveFrames, IsText}
 use Rattle.lines.specs.Lines.{HasNoNewline}
 
 tail_same : (a b : ℕ) (xs ys : List ℕ) → a ∷ xs ≡ b ∷ ys → xs ≡ ys
@@ -16,7 +16,7 @@ head_same a b xs ys same = ap (λ (l : List ℕ). slice_index l 0) same
 no_end : (b : ℕ) → 10 ≡ b → is_newline b ≡ false → ⊥
 no_end b same none = let e : true ≡ false = ap is_newline same ∙ none in absurd (cc)
 
--- a line goes up to the first 0a
+-- a line ends at the first 0a
 line_same : (l m xs ys : List ℕ) → HasNoNewline l → HasNoNewline m
     → l ++ 10 ∷ xs ≡ m ++ 10 ∷ ys → (l ≡ m) × (xs ≡ ys)
 line_same [] [] xs ys p q same = (refl, tail_same 10 10 xs ys same)
@@ -30,7 +30,7 @@ line_same (a ∷ l) (b ∷ m) xs ys p q same =
       later.1,
     )
 
-lines_alone : (ls ms : List (List ℕ)) (fs gs : List TimedFrame) → HandIn ls fs → HandIn ms gs
+lines_alone : (ls ms : List (List ℕ)) (fs gs : List TimedFrame) → GiveFrames ls fs → GiveFrames ms gs
     → with_line_ends ls ≡ with_line_ends ms → fs ≡ gs
 lines_alone [] [] fs gs p q same = p ∙ sym q
 lines_alone [] (m ∷ ms) fs gs p q same = let sizes = ap length same in

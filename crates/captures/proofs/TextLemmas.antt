@@ -1,4 +1,4 @@
--- Lines at the front of a text.
+-- Lines at the start of a text.
 use Rattle.std.proofs.Common.{◌≡◌, ◌∙◌, sym, ap, refl, subst, ℕ, suc, ◌+◌, ◌-◌, ◌<◌, ◌≤◌, Bool}
 use Rattle.std.proofs.Common.{true, false, List, [], ◌∷◌, ◌++◌, length, take, drop, get_or, Some}
 use Rattle.std.proofs.Common.{None, append_assoc, append-nil, length-append, arith, inl, inr}
@@ -9,21 +9,21 @@ use Rattle.std.proofs.lemmas.Bool.{lt-ltb, le-ltb, cases_lt}
 use Rattle.std.proofs.lemmas.List.{take_rest, drop-drop}
 use Rattle.std.proofs.lemmas.List.Sums.{split_at_first, passes_at_first}
 use Rattle.std.proofs.lemmas.List.Concat.{flat_map-append}
-use Rattle.commands.specs.TimedLines.{timed_frame_of}
-use Rattle.commands.specs.declared.limits.TheConstants.{TIMED_LINE_LIMIT}
-use Rattle.captures.specs.Spelling.{record_of}
-use Rattle.commands.specs.TimedLines.{TimedFrame}
-use Rattle.captures.specs.Texts.{is_newline, with_line_ends, HandIn, Hands, ends_line}
+use Rattle.line_grammar.specs.TimedLines.{timed_frame_of}
+use Rattle.line_grammar.specs.declared.limits.TheConstants.{TIMED_LINE_LIMIT}
+use Rattle.captures.specs.Encoding.{record_of}
+use Rattle.line_grammar.specs.TimedLines.{TimedFrame}
+use Rattle.captures.specs.Texts.{is_newline, with_line_ends, GiveFrames, GivesFrames, ends_line}
 use Rattle.lines.specs.Lines.{HasNoNewline}
 use Rattle.captures.specs.Texts.{with_last_line_end}
 use Rattle.captures.specs.Texts.{IsLeftLine}
 use Rattle.captures.specs.declared.time.time_unit.TimeUnit.{TimeUnit}
 
--- what comes behind a begun line: what a read gave, or at the end the 0a that a begun line lacks
-abbrev pub coming : Bool → (begun piece : List ℕ) → List ℕ
-coming false begun piece = piece
-coming true [] piece = []
-coming true (byte ∷ begun) piece = 10 ∷ []
+-- what comes after an incomplete line: what a read gave, or at the end the 0a that the line lacks
+abbrev pub coming : Bool → (started chunk : List ℕ) → List ℕ
+coming false started chunk = chunk
+coming true [] chunk = []
+coming true (byte ∷ started) chunk = 10 ∷ []
 
 -- ---- the first 0a
 
@@ -70,7 +70,7 @@ found_at xs end some =
           absurd (cc))
     ]
 
--- bytes up to the first 0a, and those behind it
+-- bytes up to the first 0a, and those after it
 pub found_line : (xs : List ℕ) (end : ℕ) → position is_newline xs ≡ Some end
     → HasNoNewline (take end xs) × (xs ≡ take end xs ++ 10 ∷ drop (end + 1) xs)
 found_line xs end some =
@@ -96,38 +96,38 @@ with_line_ends-append [] ys = refl
 with_line_ends-append (x ∷ xs) ys = ap (λ l. x ++ 10 ∷ l) (with_line_ends-append xs ys)
     ∙ sym (append_assoc x (10 ∷ with_line_ends xs) (with_line_ends ys))
 
-HandIn-append : (xs ys : List (List ℕ)) (fs gs : List TimedFrame) → HandIn xs fs → HandIn ys gs
-    → HandIn (xs ++ ys) (fs ++ gs)
-HandIn-append [] ys fs gs p q = rw p q
-HandIn-append (x ∷ xs) ys fs gs p q =
-    (p.0, p.1 ++ gs, p.2, p.3, HandIn-append xs ys p.1 gs p.4 q, ap (λ l. l ++ gs) p.5)
+GiveFrames-append : (xs ys : List (List ℕ)) (fs gs : List TimedFrame) → GiveFrames xs fs → GiveFrames ys gs
+    → GiveFrames (xs ++ ys) (fs ++ gs)
+GiveFrames-append [] ys fs gs p q = rw p q
+GiveFrames-append (x ∷ xs) ys fs gs p q =
+    (p.0, p.1 ++ gs, p.2, p.3, GiveFrames-append xs ys p.1 gs p.4 q, ap (λ l. l ++ gs) p.5)
 
-pub hands_start : (bytes : List ℕ) → Hands bytes 0 [] bytes
-hands_start bytes = record { lines = []; each = refl; number = refl; parts = refl }
+pub gives_frames_start : (bytes : List ℕ) → GivesFrames bytes 0 [] bytes
+gives_frames_start bytes = record { lines = []; each = refl; number = refl; parts = refl }
 
 -- lines in the rest and what follows it
-pub hands_more : (bytes piece rest rest' : List ℕ) (m n : ℕ) (fs gs : List TimedFrame)
-    → Hands bytes m fs rest → Hands (rest ++ piece) n gs rest'
-    → Hands (bytes ++ piece) (m + n) (fs ++ gs) rest'
-hands_more bytes piece rest rest' m n fs gs p q = record {
+pub gives_frames_more : (bytes chunk rest rest' : List ℕ) (m n : ℕ) (fs gs : List TimedFrame)
+    → GivesFrames bytes m fs rest → GivesFrames (rest ++ chunk) n gs rest'
+    → GivesFrames (bytes ++ chunk) (m + n) (fs ++ gs) rest'
+gives_frames_more bytes chunk rest rest' m n fs gs p q = record {
   lines = p.lines ++ q.lines;
-  each = HandIn-append p.lines q.lines fs gs p.each q.each;
+  each = GiveFrames-append p.lines q.lines fs gs p.each q.each;
   number = let a = p.number in let b = q.number in length-append p.lines q.lines ∙ omega arith;
   parts =
-      ap (λ l. l ++ piece) p.parts ∙ append_assoc (with_line_ends p.lines) rest piece
+      ap (λ l. l ++ chunk) p.parts ∙ append_assoc (with_line_ends p.lines) rest chunk
       ∙ ap (λ l. with_line_ends p.lines ++ l) q.parts
       ∙ sym (append_assoc (with_line_ends p.lines) (with_line_ends q.lines) rest')
       ∙ ap (λ l. l ++ rest') (sym (with_line_ends-append p.lines q.lines));
 }
 
 -- one more line
-pub hands_line : (bytes rest line rest' : List ℕ) (n : ℕ) (fs : List TimedFrame)
-    (timed : TimedFrame) → Hands bytes n fs rest → rest ≡ line ++ 10 ∷ rest' → HasNoNewline line
+pub gives_frames_line : (bytes rest line rest' : List ℕ) (n : ℕ) (fs : List TimedFrame)
+    (timed : TimedFrame) → GivesFrames bytes n fs rest → rest ≡ line ++ 10 ∷ rest' → HasNoNewline line
     → timed_frame_of line ≡ Some timed
-    → Hands bytes (n + 1) (fs ++ timed ∷ []) rest'
-hands_line bytes rest line rest' n fs timed p parts whole is =
-    subst (λ l. Hands l (n + 1) (fs ++ timed ∷ []) rest') (append-nil bytes)
-    (hands_more bytes [] rest rest' n 1 fs (timed ∷ []) p (record {
+    → GivesFrames bytes (n + 1) (fs ++ timed ∷ []) rest'
+gives_frames_line bytes rest line rest' n fs timed p parts whole is =
+    subst (λ l. GivesFrames l (n + 1) (fs ++ timed ∷ []) rest') (append-nil bytes)
+    (gives_frames_more bytes [] rest rest' n 1 fs (timed ∷ []) p (record {
       lines = line ∷ [];
       each = (timed, [], whole, is, refl, refl);
       number = refl;
@@ -136,11 +136,11 @@ hands_line bytes rest line rest' n fs timed p parts whole is =
 
 -- ---- the end of a text
 
-ends_line-front : (xs : List ℕ) (b : ℕ) (bs : List ℕ)
+ends_line-prefix : (xs : List ℕ) (b : ℕ) (bs : List ℕ)
     → ends_line (xs ++ b ∷ bs) ≡ ends_line (b ∷ bs)
-ends_line-front [] b bs = refl
-ends_line-front (x ∷ []) b bs = refl
-ends_line-front (x ∷ y ∷ xs) b bs = ends_line-front (y ∷ xs) b bs
+ends_line-prefix [] b bs = refl
+ends_line-prefix (x ∷ []) b bs = refl
+ends_line-prefix (x ∷ y ∷ xs) b bs = ends_line-prefix (y ∷ xs) b bs
 
 ends_none : (b : ℕ) (bs : List ℕ) → HasNoNewline (b ∷ bs) → ends_line (b ∷ bs) ≡ false
 ends_none b [] none = none.0
@@ -152,11 +152,11 @@ ends_newline (x ∷ xs) ends = ends
 
 pub ends_ended : (lines : List (List ℕ)) → ends_line (with_line_ends lines) ≡ true
 ends_ended [] = refl
-ends_ended (line ∷ lines) = ends_line-front line 10 (with_line_ends lines)
+ends_ended (line ∷ lines) = ends_line-prefix line 10 (with_line_ends lines)
     ∙ ends_newline (with_line_ends lines) (ends_ended lines)
 
--- what ends a begun line
-pub closed_is : (bytes rest : List ℕ) (n : ℕ) (fs : List TimedFrame) → Hands bytes n fs rest
+-- what ends an incomplete line
+pub closed_is : (bytes rest : List ℕ) (n : ℕ) (fs : List TimedFrame) → GivesFrames bytes n fs rest
     → HasNoNewline rest → with_last_line_end bytes ≡ bytes ++ coming true rest []
 closed_is bytes [] n fs p none =
     let all : bytes ≡ with_line_ends p.lines = p.parts ∙ append-nil (with_line_ends p.lines) in
@@ -164,26 +164,26 @@ closed_is bytes [] n fs p none =
     rw ends (sym (append-nil bytes))
 closed_is bytes (b ∷ rest) n fs p none =
     let ends : ends_line bytes ≡ false = ap ends_line p.parts
-    ∙ ends_line-front (with_line_ends p.lines) b rest ∙ ends_none b rest none in
+    ∙ ends_line-prefix (with_line_ends p.lines) b rest ∙ ends_none b rest none in
     rw ends refl
 
 not_ended : (xs : List ℕ) (rest : List ℕ) → ends_line (xs ++ rest) ≡ true
     → HasNoNewline rest → rest ≡ []
 not_ended xs [] ends none = refl
 not_ended xs (b ∷ rest) ends none =
-    let e : true ≡ false = sym ends ∙ ends_line-front xs b rest ∙ ends_none b rest none in
+    let e : true ≡ false = sym ends ∙ ends_line-prefix xs b rest ∙ ends_none b rest none in
     absurd (cc)
 
-text_ends : (begun piece : List ℕ) → ends_line (begun ++ coming true begun piece) ≡ true
-text_ends [] piece = refl
-text_ends (b ∷ begun) piece = ends_line-front (b ∷ begun) 10 []
+text_ends : (started chunk : List ℕ) → ends_line (started ++ coming true started chunk) ≡ true
+text_ends [] chunk = refl
+text_ends (b ∷ started) chunk = ends_line-prefix (b ∷ started) 10 []
 
 -- nothing is left of a text that is ended
-pub ended_rest : (begun piece text rest : List ℕ) (n : ℕ) (fs : List TimedFrame)
-    → text ≡ begun ++ coming true begun piece → Hands text n fs rest → HasNoNewline rest → rest ≡ []
-ended_rest begun piece text rest n fs parts p none =
-    not_ended (with_line_ends p.lines) rest (ap ends_line (sym p.parts ∙ parts) ∙ text_ends begun
-    piece) none
+pub ended_rest : (started chunk text rest : List ℕ) (n : ℕ) (fs : List TimedFrame)
+    → text ≡ started ++ coming true started chunk → GivesFrames text n fs rest → HasNoNewline rest → rest ≡ []
+ended_rest started chunk text rest n fs parts p none =
+    not_ended (with_line_ends p.lines) rest (ap ends_line (sym p.parts ∙ parts) ∙ text_ends started
+    chunk) none
 
 -- ---- what is taken
 
@@ -207,16 +207,16 @@ pub records-append : (time_unit : TimeUnit) (fs gs : List TimedFrame)
     ≡ flat_map (record_of time_unit) fs ++ flat_map (record_of time_unit) gs
 records-append time_unit fs gs = flat_map-append (record_of time_unit) fs gs
 
--- so many lines are taken, and their records written
+-- this many lines are taken, and their records written
 pub record Taking (time_unit : TimeUnit) (bytes : List ℕ) (count : ℕ) (rest written : List ℕ) : Type 0 where
   pub frames : List TimedFrame
-  pub hands : Hands bytes count frames rest
-  pub spelled : written ≡ flat_map (record_of time_unit) frames
+  pub gives_frames : GivesFrames bytes count frames rest
+  pub encoded : written ≡ flat_map (record_of time_unit) frames
 
 pub taking_start : (time_unit : TimeUnit) (bytes written : List ℕ) → written ≡ []
     → Taking time_unit bytes 0 bytes written
 taking_start time_unit bytes written none =
-    record { frames = []; hands = hands_start bytes; spelled = none }
+    record { frames = []; gives_frames = gives_frames_start bytes; encoded = none }
 
 pub taking_line : (time_unit : TimeUnit) (bytes rest line rest' written written' : List ℕ) (n : ℕ) (timed : TimedFrame)
     → Taking time_unit bytes n rest written → rest ≡ line ++ 10 ∷ rest' → HasNoNewline line
@@ -224,8 +224,8 @@ pub taking_line : (time_unit : TimeUnit) (bytes rest line rest' written written'
     → written' ≡ written ++ record_of time_unit timed → Taking time_unit bytes (n + 1) rest' written'
 taking_line time_unit bytes rest line rest' written written' n timed t parts whole is more = record {
   frames = t.frames ++ timed ∷ [];
-  hands = hands_line bytes rest line rest' n t.frames timed t.hands parts whole is;
-  spelled = more ∙ ap (λ l. l ++ record_of time_unit timed) t.spelled
+  gives_frames = gives_frames_line bytes rest line rest' n t.frames timed t.gives_frames parts whole is;
+  encoded = more ∙ ap (λ l. l ++ record_of time_unit timed) t.encoded
       ∙ ap (λ l. flat_map (record_of time_unit) t.frames ++ l)
       (sym (append-nil (record_of time_unit timed)))
       ∙ sym (records-append time_unit t.frames (timed ∷ []));

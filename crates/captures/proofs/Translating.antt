@@ -1,34 +1,34 @@
--- A run that makes some bytes of others, call by call.
+-- A run that translates bytes to bytes, call by call.
 use Rattle.std.proofs.Common.{◌≡◌, sym, subst, ℕ, ◌+◌, ◌*◌, ◌<◌, ◌≤◌, arith, Bool, true, false}
 use Rattle.std.proofs.Common.{List, []}
 use Rattle.std.proofs.Common.{◌∷◌, ◌++◌, length, length-append, Option, Some, None, Result, Ok, Err}
-use Rattle.runs.specs.declared.fault.Fault.{Fault}
-use Rattle.runs.specs.declared.fault.Fault.TheVariants.{ReadFailed}
-use Rattle.runs.specs.Calls.{Call, Reads, Writes, bytes_given, bytes_read, bytes_written}
-use Rattle.runs.specs.Endings.{Done, Stopped, OutOfMemory, OutOfReads, Refused, ending_by}
-use Rattle.runs.specs.Runs.{Task, EachFollows, Follows, Goes}
-use Rattle.runs.specs.Writes.{Written, Stops}
+use Rattle.device_runs.specs.declared.fault.Fault.{Fault}
+use Rattle.device_runs.specs.declared.fault.Fault.TheVariants.{ReadFailed}
+use Rattle.device_runs.specs.Calls.{Call, Reads, Writes, bytes_given, bytes_read, bytes_written}
+use Rattle.device_runs.specs.Endings.{Done, Stopped, OutOfMemory, OutOfReads, Refused, ending_by}
+use Rattle.device_runs.specs.Runs.{Task, EachFollows, Follows, Goes}
+use Rattle.device_runs.specs.Writes.{Written, Stops}
 use Rattle.std.proofs.Common.{◌∙◌, append-nil, refl}
 use Rattle.std.proofs.lemmas.List.Concat.{flat_map-append}
-use Rattle.runs.proofs.CallLemmas.{Makes-append}
-use Rattle.runs.proofs.Going.{Going, going_start, going_piece, going_end, going_write, going_ends}
-use Rattle.runs.proofs.Going.{going_stops, going_unread, going_all, goes_nothing}
-use Rattle.captures.specs.declared.limits.TheConstants.{INPUT_ROOM}
+use Rattle.device_runs.proofs.CallLemmas.{Makes-append}
+use Rattle.device_runs.proofs.Going.{Going, going_start, going_chunk, going_end, going_write, going_ends}
+use Rattle.device_runs.proofs.Going.{going_stops, going_unread, going_all, goes_nothing}
+use Rattle.captures.specs.declared.limits.TheConstants.{INPUT_CAPACITY}
 use Rattle.captures.specs.declared.translation.refusal.Refusal.{Refusal}
 use Rattle.captures.specs.Translations.{Begins, RunEnds, Fills, IsDueBy, Translates, Finishes}
 use Rattle.captures.specs.Translations.{IsWhole}
 
 module _ (task : Task Refusal) {D : Type 0} (transition : D → Call → D → Type 0) (read written : List ℕ)
-    (told : Bool) (count : ℕ) (old mid : D) (g : Going task transition read written told count old mid)
-    (text : List ℕ) (full : task.full told read text) where
-  -- all that is to be written is known by what was read so far,
+    (reported : Bool) (count : ℕ) (old mid : D) (g : Going task transition read written reported count old mid)
+    (text : List ℕ) (full : task.full reported read text) where
+  -- all that is to be written is determined by what was read so far,
   fills_so_far : Fills task transition old mid
   fills_so_far = record {
     calls = g.calls;
     made = g.made;
-    told = told;
+    reported = reported;
     text = text;
-    full = subst (λ (l : List ℕ). task.full told l text) (sym g.gave) full;
+    full = subst (λ (l : List ℕ). task.full reported l text) (sym g.gave) full;
   }
 
   -- where a read fails then, too,
@@ -40,18 +40,18 @@ module _ (task : Task Refusal) {D : Type 0} (transition : D → Call → D → T
       record {
         calls = g.calls ++ last;
         made = Makes-append transition old mid new g.calls last g.made (new, call, refl);
-        told = told;
+        reported = reported;
         text = text;
-        full = subst (λ (l : List ℕ). task.full told l text) (sym gave) full;
+        full = subst (λ (l : List ℕ). task.full reported l text) (sym gave) full;
       }
 
   -- and where a write stops
   fills_stopped : (new : D) (bytes : List ℕ) (fault : Fault) → Stops transition fault mid bytes new
       → Fills task transition old new
   fills_stopped new bytes fault s =
-      let before = going_write task transition read written told count old mid s.mid g s.front
+      let before = going_write task transition read written reported count old mid s.mid g s.prefix
       s.before in
-      let last = Writes s.handed s.taken ∷ [] in
+      let last = Writes s.offered s.taken ∷ [] in
       let gave : bytes_read (before.calls ++ last) ≡ read =
       flat_map-append bytes_given before.calls last ∙ append-nil (bytes_read before.calls)
       ∙ before.gave in
@@ -59,9 +59,9 @@ module _ (task : Task Refusal) {D : Type 0} (transition : D → Call → D → T
         calls = before.calls ++ last;
         made = Makes-append transition old s.mid new before.calls last before.made
             (new, s.stop, refl);
-        told = told;
+        reported = reported;
         text = text;
-        full = subst (λ (l : List ℕ). task.full told l text) (sym gave) full;
+        full = subst (λ (l : List ℕ). task.full reported l text) (sym gave) full;
       }
 
 module _ (task : Task Refusal) {D : Type 0} (transition : D → Call → D → Type 0) where
@@ -72,12 +72,12 @@ module _ (task : Task Refusal) {D : Type 0} (transition : D → Call → D → T
       → Goes task transition limit old new (ending_by Refused result)
   result_ends limit read written count old new g few (Ok tt) whole =
       going_ends task transition limit read written true count old new g Done few
-      (g.faults, g.tells) whole
+      (g.faults, g.reports) whole
   result_ends limit read written count old new g few (Err reason) whole =
       going_ends task transition limit read written true count old new g (Refused reason) few
       g.faults whole
 
-  -- what so many reads gave is translated, and this is held
+  -- what this many reads gave is translated, and this is held
   pub record Translating (shown : List ℕ → List ℕ → List ℕ → Type 0) (count : ℕ) (old new : D)
       (held : List ℕ) : Type 0 where
     pub came : List ℕ
@@ -85,7 +85,7 @@ module _ (task : Task Refusal) {D : Type 0} (transition : D → Call → D → T
     pub going : Going task transition came text false count old new
     pub due : task.due came text
     pub shows : shown held came text
-    pub few : length came ≤ INPUT_ROOM * count
+    pub few : length came ≤ INPUT_CAPACITY * count
 
   -- and this is all that is to be written of it
   pub record Translated (shown : List ℕ → List ℕ → List ℕ → Type 0) (count : ℕ) (old new : D)
@@ -124,34 +124,34 @@ module _ (task : Task Refusal) {D : Type 0} (transition : D → Call → D → T
 
   module _ {shown : List ℕ → List ℕ → List ℕ → Type 0} {n : ℕ} {old mid : D}
       {held : List ℕ} (t : Translating shown n old mid held) {limit most : ℕ} (fits : n < limit)
-      (enough : INPUT_ROOM * limit ≤ most) where
-    module _ {later : D} {piece : List ℕ} (call : transition mid (Reads (Some piece)) later)
-        (size : length piece ≤ INPUT_ROOM) (room : task.room ≡ INPUT_ROOM)
-        (some : 0 < length piece) {shown' : List ℕ → List ℕ → List ℕ → Type 0}
-        {bytes held' text : List ℕ} (front : bytes ≡ held ++ piece) {refusal : Option Refusal}
-        (told : (held piece read written : List ℕ) → shown held read written
-        → bytes ≡ held ++ piece → length (read ++ piece) ≤ most
-        → Translates task shown' held' (read ++ piece) (written ++ text) refusal) where
-      asked : Going task transition (t.came ++ piece) t.text false (n + 1) old later
-      asked = going_piece task transition t.came t.text n old mid later t.going t.due piece call
-          (subst (λ r. length piece ≤ r) (sym room) size) some
+      (enough : INPUT_CAPACITY * limit ≤ most) where
+    module _ {later : D} {chunk : List ℕ} (call : transition mid (Reads (Some chunk)) later)
+        (size : length chunk ≤ INPUT_CAPACITY) (room : task.room ≡ INPUT_CAPACITY)
+        (some : 0 < length chunk) {shown' : List ℕ → List ℕ → List ℕ → Type 0}
+        {bytes held' text : List ℕ} (prefix : bytes ≡ held ++ chunk) {refusal : Option Refusal}
+        (reported : (held chunk read written : List ℕ) → shown held read written
+        → bytes ≡ held ++ chunk → length (read ++ chunk) ≤ most
+        → Translates task shown' held' (read ++ chunk) (written ++ text) refusal) where
+      requested : Going task transition (t.came ++ chunk) t.text false (n + 1) old later
+      requested = going_chunk task transition t.came t.text n old mid later t.going t.due chunk call
+          (subst (λ r. length chunk ≤ r) (sym room) size) some
 
-      translates : Translates task shown' held' (t.came ++ piece) (t.text ++ text) refusal
-      translates = let few = t.few in told held piece t.came t.text t.shows front
-          (omega (arith, length-append t.came piece))
+      translates : Translates task shown' held' (t.came ++ chunk) (t.text ++ text) refusal
+      translates = let few = t.few in reported held chunk t.came t.text t.shows prefix
+          (omega (arith, length-append t.came chunk))
 
-      -- a piece is read, and what is made of it is written,
+      -- a chunk is read, and what is made of it is written,
       pub translating_more : {new : D} → refusal ≡ None → Written transition later text new
           → Translated shown' (n + 1) old new held'
       translating_more {new} is written = let goes_on = rw is at translates in record {
         translating = record {
-          came = t.came ++ piece;
+          came = t.came ++ chunk;
           text = t.text ++ text;
-          going = going_write task transition (t.came ++ piece) t.text false
-              (n + 1) old later new asked text written;
+          going = going_write task transition (t.came ++ chunk) t.text false
+              (n + 1) old later new requested text written;
           due = goes_on.follows.0;
           shows = goes_on.follows.1;
-          few = let few = t.few in omega (arith, length-append t.came piece);
+          few = let few = t.few in omega (arith, length-append t.came chunk);
         };
         full = translates.full;
       }
@@ -160,9 +160,9 @@ module _ (task : Task Refusal) {D : Type 0} (transition : D → Call → D → T
       pub translating_stops : {new : D} (fault : Fault) → Stops transition fault later text new
           → RunEnds task transition limit old new (Stopped fault)
       translating_stops {new} fault stops = record {
-        goes = going_stops task transition limit (t.came ++ piece) t.text false
-            (n + 1) old later new asked (omega arith) text fault translates.full stops;
-        fills = fills_stopped task transition (t.came ++ piece) t.text false (n + 1) old later asked
+        goes = going_stops task transition limit (t.came ++ chunk) t.text false
+            (n + 1) old later new requested (omega arith) text fault translates.full stops;
+        fills = fills_stopped task transition (t.came ++ chunk) t.text false (n + 1) old later requested
             (t.text ++ text) translates.full new text fault stops;
       }
 
@@ -171,12 +171,12 @@ module _ (task : Task Refusal) {D : Type 0} (transition : D → Call → D → T
           → Written transition later text new → RunEnds task transition limit old new (Refused reason)
       translating_refused {new} reason is written =
           let refused = rw is at translates in
-          let done = going_write task transition (t.came ++ piece) t.text false
-          (n + 1) old later new asked text written in
+          let done = going_write task transition (t.came ++ chunk) t.text false
+          (n + 1) old later new requested text written in
           record {
-            goes = going_ends task transition limit (t.came ++ piece) (t.text ++ text) false
+            goes = going_ends task transition limit (t.came ++ chunk) (t.text ++ text) false
                 (n + 1) old new done (Refused reason) (omega arith) done.faults refused.follows;
-            fills = fills_so_far task transition (t.came ++ piece) (t.text ++ text) false (n + 1)
+            fills = fills_so_far task transition (t.came ++ chunk) (t.text ++ text) false (n + 1)
                 old new done (t.text ++ text) translates.full;
           }
 
@@ -188,17 +188,17 @@ module _ (task : Task Refusal) {D : Type 0} (transition : D → Call → D → T
       fills = fills_unread task transition t.came t.text false n old mid t.going t.text full new call;
     }
 
-    -- the end is told
-    module _ {later : D} {piece : List ℕ} (none : piece ≡ [])
-        (call : transition mid (Reads (Some piece)) later) {held' text : List ℕ}
+    -- the end is reported
+    module _ {later : D} {chunk : List ℕ} (none : chunk ≡ [])
+        (call : transition mid (Reads (Some chunk)) later) {held' text : List ℕ}
         (same : held' ≡ held) {result : Result Unit Refusal}
-        (told : (read written : List ℕ) → shown held' read written → length read ≤ most
+        (reported : (read written : List ℕ) → shown held' read written → length read ≤ most
         → Finishes task read (written ++ text) result) where
       ended : Going task transition t.came t.text true (n + 1) old later
-      ended = going_end task transition t.came t.text n old mid later t.going t.due piece none call
+      ended = going_end task transition t.came t.text n old mid later t.going t.due chunk none call
 
       finishes : Finishes task t.came (t.text ++ text) result
-      finishes = let few = t.few in told t.came t.text
+      finishes = let few = t.few in reported t.came t.text
           (subst (λ (l : List ℕ). shown l t.came t.text) (sym same) t.shows) (omega arith)
 
       pub finish_stops : {new : D} (fault : Fault) → Stops transition fault later text new
@@ -255,15 +255,15 @@ module _ {task task' : Task Refusal} (same : IsDueBy task task') where
       (follows_by before call each.0, each_by (before ++ call ∷ []) calls each.1)
 
   going_by : {D : Type 0} (transition : D → Call → D → Type 0) (read written : List ℕ)
-      (told : Bool) (count : ℕ) (old new : D)
-      → Going task transition read written told count old new
-      → Going task' transition read written told count old new
-  going_by transition read written told count old new g = record {
+      (reported : Bool) (count : ℕ) (old new : D)
+      → Going task transition read written reported count old new
+      → Going task' transition read written reported count old new
+  going_by transition read written reported count old new g = record {
     calls = g.calls;
     made = g.made;
     each = each_by [] g.calls g.each;
     faults = g.faults;
-    tells = g.tells;
+    reports = g.reports;
     reads = g.reads;
     gave = g.gave;
     took = g.took;
@@ -287,7 +287,7 @@ pub translates_nothing : (task : Task Refusal) {D : Type 0} (transition : D → 
     (shown : List ℕ → List ℕ → List ℕ → Type 0) (limit : ℕ) (old : D) (header : List ℕ)
     → Begins task shown header → RunEnds task transition limit old old OutOfMemory
 translates_nothing task transition shown limit old header begins = record {
-  goes = goes_nothing task transition limit old begins.starved;
+  goes = goes_nothing task transition limit old begins.out_of_memory;
   fills = fills_so_far task transition [] [] false 0 old old (going_start task transition old) header
       begins.full;
 }

@@ -1,9 +1,9 @@
--- A capture that is told whole where packets that can't be told are refused is told the same where
--- they are passed over.
+-- A capture that is reported whole where packets that can't be reported are refused is reported the
+-- same where they are passed over.
 use Rattle.std.proofs.Common.{◌≡◌, ◌≢◌, ◌∙◌, sym, ap, subst, refl, ℕ, ◌≤◌, arith, Bool, true, false}
 use Rattle.std.proofs.Common.{List, [], ◌∷◌, length, inl, inr, Option, Some, None, Result, Ok, Err}
 use Rattle.std.specs.Prelude.{nat_lt, if◌then◌else◌, unwrap_or}
-use Rattle.captures.specs.Framed.{captured_limit, frame_by, link_for, link_of, told_frame, told_of}
+use Rattle.captures.specs.Framed.{captured_limit, frame_by, link_for, link_of, reported_frame, reported_of}
 use Rattle.captures.specs.Lines.{Packet}
 use Rattle.captures.specs.Pcap.{link_type}
 use Rattle.captures.specs.Pcapng.{Content, Says, Becomes, IsTimedPacket}
@@ -28,7 +28,7 @@ use Rattle.captures.specs.declared.translation.state.State.TheVariants.{Start, C
 use Rattle.captures.specs.declared.unfit.Unfit.{Unfit}
 use Rattle.captures.specs.declared.unfit.Unfit.TheVariants.{Refuse, Skip}
 
--- ---- the same state, where this becomes of packets that can't be told
+-- ---- the same state, with this treatment of packets that can't be reported
 
 abbrev passing_by : Unfit → Passing → Passing
 passing_by unfit passing = record passing { unfit = unfit }
@@ -44,14 +44,14 @@ state_by unfit (Pcapng section) = Pcapng (section_by unfit section)
 
 -- ---- a packet
 
-by_result : (frame : List ℕ) (told : Result (List ℕ) Reason) → frame_by Refuse told ≡ Some frame
-    → told ≡ Ok frame
+by_result : (frame : List ℕ) (reported : Result (List ℕ) Reason) → frame_by Refuse reported ≡ Some frame
+    → reported ≡ Ok frame
 by_result frame (Ok f) is = ap (λ (o : Option (List ℕ)). Ok (unwrap_or o [])) is
 by_result frame (Err reason) is = absurd (cc)
 
-told_ok : (link : Link) (packet frame : List ℕ) → told_frame Refuse link packet ≡ Some frame
-    → told_of link packet ≡ Ok frame
-told_ok link packet frame is = by_result frame (told_of link packet) is
+reported_ok : (link : Link) (packet frame : List ℕ) → reported_frame Refuse link packet ≡ Some frame
+    → reported_of link packet ≡ Ok frame
+reported_ok link packet frame is = by_result frame (reported_of link packet) is
 
 limit_more : (link : Link) → captured_limit link ≤ SKIPPED_LIMIT
 limit_more Ethernet = omega arith
@@ -140,16 +140,16 @@ becomes_kept section order (Describes number snap_len clock) next origin frame b
   b.2 ∙ sym (ap (section_by Refuse) b.2),
 )
 becomes_kept section order (Holds origin' link packet) next origin frame b =
-    let told = told_ok link packet frame b.2 in
+    let reported = reported_ok link packet frame b.2 in
     let same : next ≡ section_by Refuse section = b.0
     ∙ ap (λ (r : Result (List ℕ) Reason).
-    record section { passing = counted_by (passing_by Refuse section.passing) r }) told in
+    record section { passing = counted_by (passing_by Refuse section.passing) r }) reported in
     let counts = ap (λ (r : Result (List ℕ) Reason).
-    record section { passing = counted_by (passing_by Skip section.passing) r }) told in (
+    record section { passing = counted_by (passing_by Skip section.passing) r }) reported in (
       (
         ap (section_by Skip) same ∙ sym counts,
         b.1,
-        ap (frame_by Skip) told,
+        ap (frame_by Skip) reported,
         fits_more link (length packet) b.3,
       ),
       same ∙ sym (ap (section_by Refuse) same),
@@ -204,18 +204,18 @@ unit_kept (Start u) unit after origin frame (inr i) =
     (inr (i.0, kept.0), kept.1)
 unit_kept (Classic order time_unit link passing) unit after origin frame i =
     let r = i.0 in
-    let told = told_ok link r.packet frame r.is_told in
+    let reported = reported_ok link r.packet frame r.is_reported in
     let same : after ≡ Classic order time_unit link (passing_by Refuse passing) = r.next
     ∙ ap (λ (t : Result (List ℕ) Reason).
-    Classic order time_unit link (counted_by (passing_by Refuse passing) t)) told in
+    Classic order time_unit link (counted_by (passing_by Refuse passing) t)) reported in
     let counts = ap (λ (t : Result (List ℕ) Reason).
-    Classic order time_unit link (counted_by (passing_by Skip passing) t)) told in (
+    Classic order time_unit link (counted_by (passing_by Skip passing) t)) reported in (
       (
         record {
           packet = r.packet;
           is_record = r.is_record;
           fits = fits_more link (length r.packet) r.fits;
-          is_told = ap (frame_by Skip) told;
+          is_reported = ap (frame_by Skip) reported;
           next = ap (state_by Skip) same ∙ sym counts;
         },
         i.1,
@@ -237,9 +237,9 @@ row_kept (Pcapng section) [] packets after row =
     ((row.0, ap (state_by Skip) row.1), row.1 ∙ sym (ap (state_by Refuse) row.1))
 row_kept state (unit ∷ units) packets after row =
     let kept = unit_kept state unit row.0 row.1 row.2 row.4 in
-    let behind = row_kept row.0 units row.3 after
+    let following = row_kept row.0 units row.3 after
     (subst (λ (s : State). Row s units row.3 after) kept.1 row.5) in
-    ((state_by Skip row.0, row.1, row.2, row.3, kept.0, behind.0, row.6), behind.1)
+    ((state_by Skip row.0, row.1, row.2, row.3, kept.0, following.0, row.6), following.1)
 
 known_kept : (state : State) → state ≢ Start Refuse → state ≡ state_by Refuse state
     → state_by Skip state ≢ Start Skip
@@ -252,9 +252,9 @@ counts_kept (Start u) = refl
 counts_kept (Classic order time_unit link passing) = refl
 counts_kept (Pcapng section) = refl
 
-pub told_whole_by_both : (bytes : List ℕ) (packets : List Packet) (skipped : Skipped)
+pub reported_whole_by_both : (bytes : List ℕ) (packets : List Packet) (skipped : Skipped)
     → IsCapture Refuse bytes packets skipped → IsCapture Skip bytes packets skipped
-told_whole_by_both bytes packets skipped capture =
+reported_whole_by_both bytes packets skipped capture =
     let p = capture.passes in
     let kept = row_kept (Start Refuse) p.units packets capture.state p.row in
     record {

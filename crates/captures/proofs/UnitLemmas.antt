@@ -4,7 +4,7 @@ use Rattle.std.proofs.Common.{◌<◌, arith}
 use Rattle.std.proofs.Common.{List, [], ◌∷◌, ◌++◌, length, take, append_assoc, append-nil, inl, inr}
 use Rattle.std.proofs.Common.{length-append, eqb-true, Option, None}
 use Rattle.std.proofs.Math.Seq.{take-append_seam}
-use Rattle.captures.specs.Lines.{Packet, packets_of, told, noted, lines_from, noted_all}
+use Rattle.captures.specs.Lines.{Packet, packets_of, reported, noted, lines_from, noted_all}
 use Rattle.captures.specs.Units.{IsUnit, Row, in_a_row, Passes, HasUnit, IsNoCapture, Takes}
 use Rattle.captures.specs.declared.capture_error.CaptureError.{CaptureError}
 use Rattle.captures.specs.declared.translation.state.State.{State}
@@ -14,10 +14,10 @@ use Rattle.captures.specs.declared.limits.TheConstants.{FIRST_UNIT_LEN}
 use Rattle.captures.specs.declared.origin.Origin.{Origin}
 use Rattle.captures.specs.declared.text.ledger.Ledger.{Ledger}
 
--- bytes with so many in front have that front
-pub front_is : (bytes header rest front : List ℕ) (n : ℕ) → bytes ≡ header ++ rest
-    → front ≡ take n bytes → length header ≡ n → front ≡ header
-front_is bytes header rest front n parts is size =
+-- the first n bytes are the header, where it has n bytes
+pub prefix_is : (bytes header rest prefix : List ℕ) (n : ℕ) → bytes ≡ header ++ rest
+    → prefix ≡ take n bytes → length header ≡ n → prefix ≡ header
+prefix_is bytes header rest prefix n parts is size =
     is ∙ ap (λ l. take n l) parts ∙ ap (λ m. take m (header ++ rest)) (sym size)
     ∙ take-append_seam header rest
 
@@ -25,8 +25,8 @@ pub lines_from-append : (ledger : Ledger) (ps qs : List Packet)
     → lines_from ledger (ps ++ qs) ≡ lines_from ledger ps ++ lines_from (noted_all ledger ps) qs
 lines_from-append ledger [] qs = refl
 lines_from-append ledger (p ∷ ps) qs =
-    ap (λ l. told ledger p ++ l) (lines_from-append (noted ledger p) ps qs)
-    ∙ sym (append_assoc (told ledger p) (lines_from (noted ledger p) ps)
+    ap (λ l. reported ledger p ++ l) (lines_from-append (noted ledger p) ps qs)
+    ∙ sym (append_assoc (reported ledger p) (lines_from (noted ledger p) ps)
     (lines_from (noted_all (noted ledger p) ps) qs))
 
 pub noted_all-append : (ledger : Ledger) (ps qs : List Packet)
@@ -81,14 +81,14 @@ passes_unit state mid after bytes rest rest' packets origin frame p h = record {
 }
 
 -- more units, in the rest and what follows it
-pub passes_more : (state mid after : State) (bytes piece rest rest' : List ℕ) (ps qs : List Packet)
-    → Passes state bytes ps mid rest → Passes mid (rest ++ piece) qs after rest'
-    → Passes state (bytes ++ piece) (ps ++ qs) after rest'
-passes_more state mid after bytes piece rest rest' ps qs p q = record {
+pub passes_more : (state mid after : State) (bytes chunk rest rest' : List ℕ) (ps qs : List Packet)
+    → Passes state bytes ps mid rest → Passes mid (rest ++ chunk) qs after rest'
+    → Passes state (bytes ++ chunk) (ps ++ qs) after rest'
+passes_more state mid after bytes chunk rest rest' ps qs p q = record {
   units = p.units ++ q.units;
   row = Row-append state mid after p.units q.units ps qs p.row q.row;
   parts =
-      ap (λ l. l ++ piece) p.parts ∙ append_assoc (in_a_row p.units) rest piece
+      ap (λ l. l ++ chunk) p.parts ∙ append_assoc (in_a_row p.units) rest chunk
       ∙ ap (λ l. in_a_row p.units ++ l) q.parts
       ∙ sym (append_assoc (in_a_row p.units) (in_a_row q.units) rest')
       ∙ ap (λ l. l ++ rest') (sym (in_a_row-append p.units q.units));
@@ -110,8 +110,8 @@ passes_none state mid after bytes rest rest' ps p q =
     subst (λ (l : List Packet). Passes state bytes l after rest') (append-nil ps)
     (passes_on state mid after bytes rest rest' ps [] p q)
 
--- units are passed, and their packets are told
-pub record Told (ledger : Ledger) (state : State) (bytes : List ℕ) (after : State) (rest : List ℕ)
+-- units are passed, and their packets are reported
+pub record Reported (ledger : Ledger) (state : State) (bytes : List ℕ) (after : State) (rest : List ℕ)
     (count : ℕ) (text : List ℕ) (noted : Ledger) : Type 0 where
   pub packets : List Packet
   pub number : length packets ≡ count
@@ -119,9 +119,9 @@ pub record Told (ledger : Ledger) (state : State) (bytes : List ℕ) (after : St
   pub lines : text ≡ lines_from ledger packets
   pub come : noted ≡ noted_all ledger packets
 
-pub told_start : (ledger : Ledger) (state : State) (bytes text : List ℕ) → text ≡ []
-    → Told ledger state bytes state bytes 0 text ledger
-told_start ledger state bytes text none = record {
+pub reported_start : (ledger : Ledger) (state : State) (bytes text : List ℕ) → text ≡ []
+    → Reported ledger state bytes state bytes 0 text ledger
+reported_start ledger state bytes text none = record {
   packets = [];
   number = refl;
   passes = passes_start state bytes;
@@ -172,8 +172,8 @@ passes_to_start u unfit bytes rest packets p =
     (p.parts ∙ ap (λ (us : List (List ℕ)). in_a_row us ++ rest) none.0, none.1)
 
 -- fewer bytes than a header has begin with none
-pub no_capture_begun : (bytes : List ℕ) → length bytes < FIRST_UNIT_LEN → IsNoCapture bytes
-no_capture_begun bytes begun = (
+pub no_capture_by_length : (bytes : List ℕ) → length bytes < FIRST_UNIT_LEN → IsNoCapture bytes
+no_capture_by_length bytes started = (
   λ order header rest parts is_header.
       let size = ap length parts in
       let both = length-append header rest in
@@ -184,18 +184,18 @@ no_capture_begun bytes begun = (
 
 -- the units of what was left and of what came then
 pub takes_more : (ledger come noted : Ledger) (state mid after : State)
-    (bytes piece rest rest' text text' : List ℕ) (count count' : ℕ) (refusal : Option CaptureError)
+    (bytes chunk rest rest' text text' : List ℕ) (count count' : ℕ) (refusal : Option CaptureError)
     → Takes ledger state bytes mid rest count text None come
-    → Takes come mid (rest ++ piece) after rest' count' text' refusal noted
-    → Takes ledger state (bytes ++ piece) after rest' (count + count') (text ++ text') refusal noted
-takes_more ledger come noted state mid after bytes piece rest rest' text text' count count' refusal
+    → Takes come mid (rest ++ chunk) after rest' count' text' refusal noted
+    → Takes ledger state (bytes ++ chunk) after rest' (count + count') (text ++ text') refusal noted
+takes_more ledger come noted state mid after bytes chunk rest rest' text text' count count' refusal
     p q = record {
       packets = p.packets ++ q.packets;
       number = length-append p.packets q.packets ∙ ap₂ (λ (m n : ℕ). m + n) p.number q.number;
-      passes = passes_more state mid after bytes piece rest rest' p.packets q.packets p.passes
+      passes = passes_more state mid after bytes chunk rest rest' p.packets q.packets p.passes
           q.passes;
-      told = ap (λ l. l ++ text') p.told ∙ ap (λ l. lines_from ledger p.packets ++ l)
-          (q.told ∙ ap (λ l. lines_from l q.packets) p.come)
+      reported = ap (λ l. l ++ text') p.reported ∙ ap (λ l. lines_from ledger p.packets ++ l)
+          (q.reported ∙ ap (λ l. lines_from l q.packets) p.come)
           ∙ sym (lines_from-append ledger p.packets q.packets);
       left = q.left;
       come = q.come ∙ ap (λ l. noted_all l q.packets) p.come

@@ -10,7 +10,7 @@ use Rattle.std.specs.List.{copy_within}
 use Rattle.std.specs.Prelude.{IfOk, OnErr}
 use borrow.Rule.Slice.PartMut.{put_mid}
 use Rattle.captures.specs.Dropped.{last_of}
-use Rattle.captures.proofs.BufferLemmas.{moved_front, read_front, read_nothing}
+use Rattle.captures.proofs.BufferLemmas.{moved_to_start, read_prefix, read_nothing}
 
 pub held_len : (input : List ℕ) (start end : ℕ) → start ≤ end → end ≤ length input
     → length (take (end - start) (drop start input)) ≡ end - start
@@ -51,7 +51,7 @@ marked_last input start end from len ordered fits few short =
     sym (take-take len from (drop (end - from) input) short)
     ∙ ap (λ (l : List ℕ). take len l) (tail_is input start end from ordered fits few)
 
--- ---- a read behind what is held, which is moved to the front
+-- ---- a read after what is held, which is moved to the start
 
 moved_held : (input moved : List ℕ) (start end : ℕ) → start ≤ end → end ≤ length input
     → moved ≡ copy_within input start end 0
@@ -62,7 +62,7 @@ moved_held input moved start end ordered fits is =
     let whole : start + (end - start) ≡ end = omega arith in
     let at : end - length held ≡ start = omega arith in
     ap (λ (k : ℕ). take k moved) (sym size)
-    ∙ moved_front input moved (take start input) held end fits
+    ∙ moved_to_start input moved (take start input) held end fits
     (ap (λ (k : ℕ). take k input) (sym whole) ∙ take-add start (end - start) input)
     (is ∙ ap (λ (k : ℕ). copy_within input k end 0) (sym at))
 
@@ -72,13 +72,13 @@ module _ (input moved buf : List ℕ) (start end : ℕ) (ordered : start ≤ end
     (size : length buf ≡ length moved - (end - start)) where
   pub filled : {E : Type 0} (r : Result ℕ E) (a b : Option (List ℕ)) → end - start < length input
       → ReadsAtMost r buf → ReadConsumes a b r buf
-      → IfOk r (λ given. (piece : List ℕ)
+      → IfOk r (λ given. (chunk : List ℕ)
       × (take (end - start + given) (put_mid (end - start) (length moved - (end - start)) moved buf)
-      ≡ take (end - start) (drop start input) ++ piece)
-      × (length piece ≡ given) × Consumes a b piece × (given ≡ 0 → IsAtEnd b))
+      ≡ take (end - start) (drop start input) ++ chunk)
+      × (length chunk ≡ given) × Consumes a b chunk × (given ≡ 0 → IsAtEnd b))
   filled (Ok given) a b room bound reads = (
     take given buf,
-    read_front moved buf (end - start) (length moved - (end - start)) given (omega arith) bound.0
+    read_prefix moved buf (end - start) (length moved - (end - start)) given (omega arith) bound.0
         ∙ ap (λ (l : List ℕ). l ++ take given buf)
         (moved_held input moved start end ordered fits is),
     length-take-le given buf bound.0,

@@ -4,15 +4,15 @@ use Rattle.std.proofs.Common.{true, false, List, [], ◌∷◌, ◌++◌, length
 use Rattle.std.proofs.Common.{Ok, Err, append_assoc, append-nil}
 use Rattle.std.specs.Io.Iter.{u64_saturate}
 use Rattle.std.specs.List.{flat_map}
-use Rattle.captures.specs.declared.limits.TheConstants.{INPUT_ROOM}
-use Rattle.runs.specs.declared.limits.TheConstants.{READ_COUNT_LIMIT}
+use Rattle.captures.specs.declared.limits.TheConstants.{INPUT_CAPACITY}
+use Rattle.device_runs.specs.declared.limits.TheConstants.{READ_COUNT_LIMIT}
 use Rattle.captures.specs.declared.translation.refusal.Refusal.TheVariants.{InLine}
-use Rattle.captures.specs.Spelling.{file_header, record_of, capture_of}
-use Rattle.commands.specs.TimedLines.{TimedFrame}
-use Rattle.captures.specs.Texts.{Hands, IsBegunLine, TakesLines, with_last_line_end, with_line_ends}
+use Rattle.captures.specs.Encoding.{file_header, record_of, capture_of}
+use Rattle.line_grammar.specs.TimedLines.{TimedFrame}
+use Rattle.captures.specs.Texts.{GivesFrames, IsIncompleteLine, TakesLines, with_last_line_end, with_line_ends}
 use Rattle.captures.specs.Texts.{lines_to_capture}
 use Rattle.captures.specs.Translations.{Begins, Translates, Finishes}
-use Rattle.captures.proofs.TextLemmas.{hands_start, hands_more, closed_is, coming, ended_rest}
+use Rattle.captures.proofs.TextLemmas.{gives_frames_start, gives_frames_more, closed_is, coming, ended_rest}
 use Rattle.captures.proofs.TextLemmas.{records-append}
 use Rattle.captures.specs.declared.time.time_unit.TimeUnit.{TimeUnit}
 
@@ -24,103 +24,103 @@ ended_count (line ∷ lines) =
     omega arith
 
 -- a line has a byte at least
-hands_count : (bytes rest : List ℕ) (n : ℕ) (fs : List TimedFrame)
-    → Hands bytes n fs rest → n ≤ length bytes
-hands_count bytes rest n fs p =
+gives_frames_count : (bytes rest : List ℕ) (n : ℕ) (fs : List TimedFrame)
+    → GivesFrames bytes n fs rest → n ≤ length bytes
+gives_frames_count bytes rest n fs p =
     let few = ended_count p.lines in
     let number = p.number in
     let size = ap length p.parts in
     let both = length-append (with_line_ends p.lines) rest in
     omega arith
 
--- the frames of so many lines are written, and a line is begun
+-- the frames of this many lines are written, and an incomplete line is held
 abbrev pub Writes : TimeUnit → ℕ → (held read written : List ℕ) → Type 0
-Writes time_unit count held read written = (frames : List TimedFrame) × Hands read count frames held
-    × IsBegunLine held × (written ≡ capture_of time_unit frames)
+Writes time_unit count held read written = (frames : List TimedFrame) × GivesFrames read count frames held
+    × IsIncompleteLine held × (written ≡ capture_of time_unit frames)
 
 pub writes_start : (time_unit : TimeUnit)
     → Begins (lines_to_capture time_unit) (Writes time_unit 0) (file_header time_unit)
 writes_start time_unit = record {
   room = refl;
-  starved = (refl, refl);
-  full = (0, [], [], hands_start [], sym (append-nil (file_header time_unit)));
-  due = (0, [], [], hands_start [], (tt, omega arith), sym (append-nil (file_header time_unit)));
-  shows = ([], hands_start [], (tt, omega arith), sym (append-nil (file_header time_unit)));
+  out_of_memory = (refl, refl);
+  full = (0, [], [], gives_frames_start [], sym (append-nil (file_header time_unit)));
+  due = (0, [], [], gives_frames_start [], (tt, omega arith), sym (append-nil (file_header time_unit)));
+  shows = ([], gives_frames_start [], (tt, omega arith), sym (append-nil (file_header time_unit)));
 }
 
 module _ (time_unit : TimeUnit) (count n : ℕ) (held more bytes rest read written text : List ℕ) (bad : Bool)
     (writes : Writes time_unit count held read written) (parts : bytes ≡ held ++ more)
     (t : TakesLines time_unit bytes n rest text bad) where
-  lines : Hands (read ++ more) (count + n) (writes.0 ++ t.frames) rest
-  lines = hands_more read more held rest count n writes.0 t.frames writes.1
-      (subst (λ l. Hands l n t.frames rest) parts t.hands)
+  lines : GivesFrames (read ++ more) (count + n) (writes.0 ++ t.frames) rest
+  lines = gives_frames_more read more held rest count n writes.0 t.frames writes.1
+      (subst (λ l. GivesFrames l n t.frames rest) parts t.gives_frames)
 
   whole : written ++ text ≡ capture_of time_unit (writes.0 ++ t.frames)
   whole =
-      ap (λ l. l ++ text) writes.3 ∙ ap (λ l. capture_of time_unit writes.0 ++ l) t.spelled
+      ap (λ l. l ++ text) writes.3 ∙ ap (λ l. capture_of time_unit writes.0 ++ l) t.encoded
       ∙ append_assoc (file_header time_unit) (flat_map (record_of time_unit) writes.0)
       (flat_map (record_of time_unit) t.frames)
       ∙ ap (λ l. file_header time_unit ++ l) (sym (records-append time_unit writes.0 t.frames))
 
 -- the lines are counted
 counted : (count n count' : ℕ) (read : List ℕ) → count + n ≤ length read
-    → length read ≤ INPUT_ROOM * READ_COUNT_LIMIT
+    → length read ≤ INPUT_CAPACITY * READ_COUNT_LIMIT
     → count' ≡ u64_saturate (count + n) → count' ≡ count + n
 counted count n count' read few fits is = omega arith
 
-module _ (time_unit : TimeUnit) (count n count' : ℕ) (held piece bytes rest read written text : List ℕ)
-    (writes : Writes time_unit count held read written) (parts : bytes ≡ held ++ piece)
-    (fits : length (read ++ piece) ≤ INPUT_ROOM * READ_COUNT_LIMIT)
+module _ (time_unit : TimeUnit) (count n count' : ℕ) (held chunk bytes rest read written text : List ℕ)
+    (writes : Writes time_unit count held read written) (parts : bytes ≡ held ++ chunk)
+    (fits : length (read ++ chunk) ≤ INPUT_CAPACITY * READ_COUNT_LIMIT)
     (is : count' ≡ u64_saturate (count + n)) where
-  -- a piece is read,
+  -- a chunk is read,
   pub writes_more : TakesLines time_unit bytes n rest text false
-      → Translates (lines_to_capture time_unit) (Writes time_unit count') rest (read ++ piece) (written ++ text) None
+      → Translates (lines_to_capture time_unit) (Writes time_unit count') rest (read ++ chunk) (written ++ text) None
   writes_more t =
       let frames = writes.0 ++ t.frames in
-      let hands = lines time_unit count n held piece bytes rest read written text false writes parts t in
-      let same = counted count n count' (read ++ piece)
-      (hands_count (read ++ piece) rest (count + n) frames hands) fits is in
-      let all = whole time_unit count n held piece bytes rest read written text false writes parts t in
+      let gives_frames = lines time_unit count n held chunk bytes rest read written text false writes parts t in
+      let same = counted count n count' (read ++ chunk)
+      (gives_frames_count (read ++ chunk) rest (count + n) frames gives_frames) fits is in
+      let all = whole time_unit count n held chunk bytes rest read written text false writes parts t in
       record {
-        full = (count + n, frames, rest, hands, all);
+        full = (count + n, frames, rest, gives_frames, all);
         follows = (
-          (count + n, frames, rest, hands, t.left, all),
+          (count + n, frames, rest, gives_frames, t.left, all),
           (
             frames,
-            subst (λ k. Hands (read ++ piece) k frames rest)
-                (sym same) hands,
+            subst (λ k. GivesFrames (read ++ chunk) k frames rest)
+                (sym same) gives_frames,
             t.left,
             all,
           ),
         );
       }
 
-  -- in which a line hands no frame in
+  -- in which a line gives no frame
   pub writes_bad : (shown : List ℕ → List ℕ → List ℕ → Type 0) (number : ℕ)
       → number ≡ u64_saturate (count' + 1) → TakesLines time_unit bytes n rest text true
-      → Translates (lines_to_capture time_unit) shown rest (read ++ piece) (written ++ text) (Some (InLine
+      → Translates (lines_to_capture time_unit) shown rest (read ++ chunk) (written ++ text) (Some (InLine
       number))
   writes_bad shown number next t =
       let frames = writes.0 ++ t.frames in
-      let hands = lines time_unit count n held piece bytes rest read written text true writes parts t in
-      let few = hands_count (read ++ piece) rest (count + n) frames hands in
-      let same = counted count n count' (read ++ piece) few fits is in
-      let all = whole time_unit count n held piece bytes rest read written text true writes parts t in
+      let gives_frames = lines time_unit count n held chunk bytes rest read written text true writes parts t in
+      let few = gives_frames_count (read ++ chunk) rest (count + n) frames gives_frames in
+      let same = counted count n count' (read ++ chunk) few fits is in
+      let all = whole time_unit count n held chunk bytes rest read written text true writes parts t in
       record {
-        full = (count + n, frames, rest, hands, all);
-        follows = (count + n, frames, rest, hands, t.left, omega arith, all);
+        full = (count + n, frames, rest, gives_frames, all);
+        follows = (count + n, frames, rest, gives_frames, t.left, omega arith, all);
       }
 
--- the end is told, and no line is begun,
+-- the end is reported, and no line is incomplete,
 pub writes_nothing_more : (time_unit : TimeUnit) (count : ℕ) (read written : List ℕ) → Writes time_unit count [] read written
     → Finishes (lines_to_capture time_unit) read written (Ok tt)
 writes_nothing_more time_unit count read written writes =
     let same : with_last_line_end read ≡ read = closed_is read [] count writes.0 writes.1 tt
     ∙ append-nil read in
-    let hands = subst (λ l. Hands l count writes.0 []) (sym same) writes.1 in
+    let gives_frames = subst (λ l. GivesFrames l count writes.0 []) (sym same) writes.1 in
     record {
-      full = (count, writes.0, [], hands, writes.3);
-      whole = (writes.0, (count, hands), writes.3);
+      full = (count, writes.0, [], gives_frames, writes.3);
+      whole = (writes.0, (count, gives_frames), writes.3);
     }
 
 -- or one is, which is ended
@@ -139,36 +139,36 @@ module _ (time_unit : TimeUnit) (count n count' : ℕ) (held bytes rest read wri
       → Finishes (lines_to_capture time_unit) read (written ++ text) (Ok tt)
   writes_last t =
       let frames = writes.0 ++ t.frames in
-      let hands = subst (λ l. Hands l (count + n) frames rest) (sym all_known)
+      let gives_frames = subst (λ l. GivesFrames l (count + n) frames rest) (sym all_known)
       (lines time_unit count n held (10 ∷ []) bytes rest read written text false writes parts t) in
       let all = whole time_unit count n held (10 ∷ []) bytes rest read written text false writes parts t in
       let none = ended_rest held [] bytes rest n t.frames
-      (parts ∙ ap (λ l. held ++ l) (sym (ends_some held some))) t.hands t.left.0 in
+      (parts ∙ ap (λ l. held ++ l) (sym (ends_some held some))) t.gives_frames t.left.0 in
       record {
-        full = (count + n, frames, rest, hands, all);
+        full = (count + n, frames, rest, gives_frames, all);
         whole = (
           frames,
           (
             count + n,
-            subst (λ r. Hands (with_last_line_end read) (count + n) frames
-                r) none hands,
+            subst (λ r. GivesFrames (with_last_line_end read) (count + n) frames
+                r) none gives_frames,
           ),
           all,
         );
       }
 
-  pub writes_last_bad : length read ≤ INPUT_ROOM * READ_COUNT_LIMIT
+  pub writes_last_bad : length read ≤ INPUT_CAPACITY * READ_COUNT_LIMIT
       → count' ≡ u64_saturate (count + n) → (number : ℕ) → number ≡ u64_saturate (count' + 1)
       → TakesLines time_unit bytes n rest text true
       → Finishes (lines_to_capture time_unit) read (written ++ text) (Err (InLine number))
   writes_last_bad fits is number next t =
       let frames = writes.0 ++ t.frames in
       let known = lines time_unit count n held (10 ∷ []) bytes rest read written text true writes parts t in
-      let few = hands_count (read ++ 10 ∷ []) rest (count + n) frames known in
+      let few = gives_frames_count (read ++ 10 ∷ []) rest (count + n) frames known in
       let size = length-append read (10 ∷ []) in
-      let hands = subst (λ l. Hands l (count + n) frames rest) (sym all_known) known in
+      let gives_frames = subst (λ l. GivesFrames l (count + n) frames rest) (sym all_known) known in
       let all = whole time_unit count n held (10 ∷ []) bytes rest read written text true writes parts t in
       record {
-        full = (count + n, frames, rest, hands, all);
-        whole = (count + n, frames, rest, hands, t.left, omega arith, all);
+        full = (count + n, frames, rest, gives_frames, all);
+        whole = (count + n, frames, rest, gives_frames, t.left, omega arith, all);
       }

@@ -6,13 +6,13 @@ use Rattle.hex.specs.Hex.{IsBytes}
 use Rattle.captures.specs.Lines.{Packet, lines_of}
 use Rattle.captures.specs.Runs.{IsCapture}
 use Rattle.captures.specs.Skipping.{none_skipped}
-use Rattle.captures.specs.Spelling.{capture_of}
-use Rattle.commands.specs.TimedLines.{TimedFrame}
+use Rattle.captures.specs.Encoding.{capture_of}
+use Rattle.line_grammar.specs.TimedLines.{TimedFrame}
 use Rattle.captures.specs.Texts.{IsText}
 use Rattle.captures.specs.Times.{nanoseconds_in}
 use Rattle.captures.specs.declared.extra.Extra.TheVariants.{Nothing, Times}
 use Rattle.captures.specs.declared.limits.TheConstants.{TIME_LIMIT}
-use Rattle.commands.specs.declared.limits.TheConstants.{FRAME_LIMIT}
+use Rattle.line_grammar.specs.declared.limits.TheConstants.{FRAME_LIMIT}
 use Rattle.captures.specs.declared.time.time_unit.TimeUnit.{TimeUnit}
 use Rattle.captures.specs.declared.translation.skipped.Skipped.{Skipped}
 use Rattle.captures.specs.declared.unfit.Unfit.{Unfit}
@@ -37,8 +37,7 @@ on_one_channel time packet =
 abbrev pub without_time : Packet → Packet
 without_time packet = on_one_channel 0 packet
 
--- the lines of some packets are taken as their frames, and the capture of these has the same
--- packets
+-- the frames of some packets' lines are written as a capture, which has the same packets
 abbrev pub LinesComeBack : Type 0
 LinesComeBack =
     (packets : List Packet) → AllByRecursion HasLine packets
@@ -54,7 +53,7 @@ at_its_time packet = record {
   frame = packet.frame;
 }
 
--- at its time, in whole parts of a second
+-- at its time, in whole units of the capture
 abbrev pub with_time : TimeUnit → Packet → Packet
 with_time time_unit packet = on_one_channel
     (nanoseconds_in time_unit * (packet.origin.time / nanoseconds_in time_unit)) packet

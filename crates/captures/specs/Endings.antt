@@ -1,7 +1,7 @@
 -- How a run ends, by its result.
 use Rattle.std.specs.Prelude.{Result}
-use Rattle.runs.specs.declared.fault.Fault.TheVariants.{ReadFailed, WriteFailed, NothingTaken}
-use Rattle.runs.specs.Endings.{Ending, Stopped, OutOfMemory, OutOfReads, Refused, ending_by}
+use Rattle.device_runs.specs.declared.fault.Fault.TheVariants.{ReadFailed, WriteFailed, NothingTaken}
+use Rattle.device_runs.specs.Endings.{Ending, Stopped, OutOfMemory, OutOfReads, Refused, ending_by}
 use Rattle.captures.specs.declared.reading.read_error.ReadError.{ReadError}
 use Rattle.captures.specs.declared.reading.read_error.ReadError.TheVariants as read
 use Rattle.captures.specs.declared.translation.refusal.Refusal.{Refusal}
@@ -18,13 +18,13 @@ cause Write = Stopped WriteFailed
 cause WriteZero = Stopped NothingTaken
 cause Memory = OutOfMemory
 cause TooManyReads = OutOfReads
-cause (Capture error place) = Refused (InCapture error place)
+cause (Capture error position) = Refused (InCapture error position)
 cause (BadLine number) = Refused (InLine number)
 
 -- why a reader gives no further packet
 abbrev pub read_cause : ReadError → Ending Refusal
 read_cause read.Read = Stopped ReadFailed
-read_cause (read.Capture error place) = Refused (InCapture error place)
+read_cause (read.Capture error position) = Refused (InCapture error position)
 read_cause read.TooManyReads = OutOfReads
 
 abbrev pub ending_of : Result Unit RunError → Ending Refusal

@@ -1,4 +1,4 @@
--- Captures by hand, of which laws say what is in them.
+-- Example captures, byte by byte, and the packets in them.
 use Rattle.std.specs.Prelude.{ℕ, List, [], ◌∷◌, replicate, slice_set}
 use Rattle.captures.specs.Lines.{Packet}
 use Rattle.captures.specs.Skipping.{passing_from}
@@ -27,13 +27,13 @@ packet_record =
     0x65 ∷ 0x53 ∷ 0xf1 ∷ 0 ∷ 0x0e ∷ 0xe6 ∷ 0xb2 ∷ 0x80 ∷ 0 ∷ 0 ∷ 0 ∷ 0x15 ∷ 0 ∷ 0 ∷ 5 ∷ 0xdc
     ∷ 8 ∷ 0 ∷ 0 ∷ 0 ∷ 0 ∷ 0 ∷ 0 ∷ 3 ∷ 0 ∷ 1 ∷ 4 ∷ 6 ∷ 2 ∷ 0 ∷ 0 ∷ 0 ∷ 0 ∷ 1 ∷ 0 ∷ 0 ∷ 0x45 ∷ []
 
--- what a capture is known to be behind that header
+-- the state of a capture after that header
 abbrev pub opened_file : State
 opened_file = Classic Big Nanoseconds Sll2 (passing_from Refuse)
 
 -- ---- a pcapng file (draft-ietf-opsawg-pcapng)
 
--- low byte first, version 1.0, a length that isn't told
+-- low byte first, version 1.0, a section length that isn't stated
 abbrev pub section_block : List ℕ
 section_block =
     0x0a ∷ 0x0d ∷ 0x0d ∷ 0x0a ∷ 0x1c ∷ 0 ∷ 0 ∷ 0 ∷ 0x4d ∷ 0x3c ∷ 0x2b ∷ 0x1a ∷ 1 ∷ 0 ∷ 0 ∷ 0
@@ -44,7 +44,7 @@ abbrev pub interface_block : List ℕ
 interface_block =
     1 ∷ 0 ∷ 0 ∷ 0 ∷ 0x14 ∷ 0 ∷ 0 ∷ 0 ∷ 0x14 ∷ 1 ∷ 0 ∷ 0 ∷ 0x16 ∷ 0 ∷ 0 ∷ 0 ∷ 0x14 ∷ 0 ∷ 0 ∷ 0 ∷ []
 
--- what is known of the section behind both
+-- what is known of the section after both
 abbrev pub described_section : Section
 described_section = record {
   order = Little;
@@ -56,7 +56,7 @@ described_section = record {
   passing = passing_from Refuse;
 }
 
--- the same packet as above, of 21 bytes, filled up to whole words
+-- the same packet as above, of 21 bytes, padded to whole words
 abbrev pub simple_block : List ℕ
 simple_block =
     3 ∷ 0 ∷ 0 ∷ 0 ∷ 0x28 ∷ 0 ∷ 0 ∷ 0 ∷ 0x15 ∷ 0 ∷ 0 ∷ 0 ∷ 8 ∷ 0 ∷ 0 ∷ 0 ∷ 0 ∷ 0 ∷ 0 ∷ 3 ∷ 0 ∷ 1
@@ -75,7 +75,7 @@ enhanced_block =
     ∷ 0x18 ∷ 0x15 ∷ 0 ∷ 0 ∷ 0 ∷ 0xdc ∷ 5 ∷ 0 ∷ 0 ∷ 8 ∷ 0 ∷ 0 ∷ 0 ∷ 0 ∷ 0 ∷ 0 ∷ 3 ∷ 0 ∷ 1 ∷ 4
     ∷ 6 ∷ 2 ∷ 0 ∷ 0 ∷ 0 ∷ 0 ∷ 1 ∷ 0 ∷ 0 ∷ 0x45 ∷ 0 ∷ 0 ∷ 0 ∷ 0x38 ∷ 0 ∷ 0 ∷ 0 ∷ []
 
--- the same as a packet of the older kind, behind five that were dropped
+-- the same as a packet of the older kind, after five that were dropped
 abbrev pub obsolete_block : List ℕ
 obsolete_block =
     2 ∷ 0 ∷ 0 ∷ 0 ∷ 0x38 ∷ 0 ∷ 0 ∷ 0 ∷ 0 ∷ 0 ∷ 5 ∷ 0 ∷ 0x24 ∷ 0x0a ∷ 6 ∷ 0 ∷ 0x90 ∷ 0x10 ∷ 0x22

@@ -1,5 +1,5 @@
--- Which messages the lines drop that have some dropped: a message whose last fragment came on a line
--- is dropped by a line with a greater number.
+-- Which reassemblies the `forget` lines drop: a reassembly whose last fragment came on a line is
+-- dropped by a `forget` line with a greater number.
 use Rattle.std.specs.Prelude.{ℕ, ◌+◌, ◌-◌, ◌*◌, ◌^◌, ◌<◌, ◌≤◌, ◌⊎◌, Bool, true, false, List, [], ◌∷◌}
 use Rattle.std.specs.Prelude.{◌++◌}
 use Rattle.std.specs.List.{AllByRecursion}
@@ -12,18 +12,18 @@ abbrev pub with_forget : Bool → ℕ → List ℕ → List ℕ
 with_forget true number numbers = number ∷ numbers
 with_forget false number numbers = numbers
 
--- the numbers that the lines name that have messages dropped, among the lines of these packets
+-- the numbers in the `forget` lines, among the lines of these packets
 abbrev pub forgets : ℕ → Ledger → List Packet → List ℕ
 forgets seconds ledger [] = []
 forgets seconds ledger (packet ∷ packets) =
     with_forget (has_passed seconds ledger packet.origin.time) ledger.line
     (forgets seconds (noted ledger packet) packets)
 
--- so far the lines have come with a packet, whose own line is the last one then
+-- the ledger after the lines of these packets and of one more, whose own line is the last one then
 abbrev pub come_to : ℕ → List Packet → Packet → Ledger
 come_to seconds before packet = noted (noted_all (blank (Forget seconds)) before) packet
 
--- while all packets behind one come less than so many seconds after it, no line drops its message
+-- while all packets after one come less than this many seconds later, no line drops its reassembly
 abbrev pub ForgetKeeps : Type 0
 ForgetKeeps =
     (seconds : ℕ) (before : List Packet) (packet : Packet) (later : List Packet) → 0 < seconds
@@ -31,8 +31,8 @@ ForgetKeeps =
     → Drops (come_to seconds before packet).lines
     (forgets seconds (come_to seconds before packet) later) → ⊥
 
--- where no packet before it is later, its message is dropped at the latest with a packet that comes
--- so many seconds after each up to one that comes so many seconds after it
+-- where no packet before it is later, its reassembly is dropped at the latest with a packet that
+-- comes this many seconds after each up to one that comes this many seconds after it
 abbrev pub ForgetDrops : Type 0
 ForgetDrops =
     (seconds : ℕ) (before : List Packet) (packet : Packet) (between : List Packet) (next : Packet)

@@ -8,7 +8,7 @@ use Rattle.std.specs.Int.{to_be_bytes, w16}
 use Rattle.captures.specs.Numbers.{half, word}
 use Rattle.captures.specs.declared.byte_order.ByteOrder.TheVariants.{Big, Little}
 use Rattle.captures.specs.declared.limits.TheConstants.{SKIPPED_LIMIT}
-use Rattle.commands.specs.declared.limits.TheConstants.{FRAME_LIMIT}
+use Rattle.line_grammar.specs.declared.limits.TheConstants.{FRAME_LIMIT}
 use Rattle.captures.specs.declared.link.header.Header.{Header}
 use Rattle.captures.specs.declared.link.kind.Link.{Link}
 use Rattle.captures.specs.declared.link.kind.Link.TheVariants.{Ethernet, Ip, Null, Loop, Sll, Sll2}
@@ -32,8 +32,8 @@ link_of number =
     else if number == 276 then Some Sll2
     else None
 
--- the bytes of a packet's own header, in place of which an Ethernet II header of 14 bytes stands in
--- its frame
+-- how many bytes a packet's own header has, which an Ethernet II header of 14 bytes replaces in its
+-- frame
 abbrev pub head_len : Link → ℕ
 head_len Ethernet = 14
 head_len Ip = 0
@@ -84,7 +84,7 @@ cooked_type hardware protocol =
 abbrev pub no_address : List ℕ
 no_address = 0 ∷ 0 ∷ 0 ∷ 0 ∷ 0 ∷ 0 ∷ []
 
--- the address at a place of so many bytes, if these are six
+-- the address at an offset, if it has six bytes
 abbrev pub address_at : (len : ℕ) → List ℕ → ℕ → List ℕ
 address_at len bytes p =
     if len == 6
@@ -101,7 +101,7 @@ abbrev pub made_header : Option Header → List ℕ
 made_header None = []
 made_header (Some header) = ethernet_header header.source header.ether_type
 
--- a frame in its two parts: the header that was made, if one was, and the bytes behind it
+-- a frame in its two parts: the header that was made, if one was, and the bytes after it
 pub record FrameParts : Type 0 where
   pub header : Option Header
   pub bytes : List ℕ
@@ -112,17 +112,17 @@ frame_bytes frame = made_header frame.header ++ frame.bytes
 
 -- bytes end with these
 pub record IsBack (bytes back : List ℕ) : Type 0 where
-  pub front : List ℕ
-  pub parts : bytes ≡ front ++ back
+  pub prefix : List ℕ
+  pub parts : bytes ≡ prefix ++ back
 
 -- no header is made before these bytes
 abbrev pub own_frame : List ℕ → FrameParts
 own_frame bytes = record { header = None; bytes = bytes }
 
 -- such a header before these bytes, if there is an ether type
-abbrev pub framed_behind : List ℕ → Option ℕ → List ℕ → Option FrameParts
-framed_behind source None rest = None
-framed_behind source (Some ether_type) rest = Some (record {
+abbrev pub framed_after : List ℕ → Option ℕ → List ℕ → Option FrameParts
+framed_after source None rest = None
+framed_after source (Some ether_type) rest = Some (record {
   header = Some (record { source = source; ether_type = ether_type });
   bytes = rest;
 })
@@ -130,26 +130,26 @@ framed_behind source (Some ether_type) rest = Some (record {
 -- a packet of some bytes
 abbrev pub framed_packet : Link → List ℕ → Option FrameParts
 framed_packet Ethernet packet = Some (own_frame packet)
-framed_packet Ip packet = framed_behind no_address (ip_type packet) packet
+framed_packet Ip packet = framed_after no_address (ip_type packet) packet
 framed_packet Null packet =
     if nat_lt (length packet) 4 then None
-    else framed_behind no_address (family_type (null_family packet)) (drop 4 packet)
+    else framed_after no_address (family_type (null_family packet)) (drop 4 packet)
 framed_packet Loop packet =
     if nat_lt (length packet) 4 then None
-    else framed_behind no_address (family_type (word Big packet 0)) (drop 4 packet)
+    else framed_after no_address (family_type (word Big packet 0)) (drop 4 packet)
 framed_packet Sll packet =
     if nat_lt (length packet) 16 then None
-    else framed_behind (address_at (half Big packet 4) packet 6)
+    else framed_after (address_at (half Big packet 4) packet 6)
     (cooked_type (half Big packet 2) (half Big packet 14)) (drop 16 packet)
 framed_packet Sll2 packet =
     if nat_lt (length packet) 20 then None
-    else framed_behind (address_at (slice_index packet 11) packet 12)
+    else framed_after (address_at (slice_index packet 11) packet 12)
     (cooked_type (half Big packet 8) (half Big packet 0)) (drop 20 packet)
 framed_packet Other packet = None
 
 -- the Ethernet II frame of a packet, if it has one: its own where it was captured as one, else the
--- destination is zeros, and so is the source, where its link tells no sender's address of six
--- bytes. Of a packet without captured bytes nothing is told
+-- destination is zeros, and so is the source, where its link gives no sender's address of six
+-- bytes. Of a packet without captured bytes nothing is reported
 abbrev pub frame_parts : Link → List ℕ → Option FrameParts
 frame_parts link packet =
     if length packet == 0 then Some (own_frame packet) else framed_packet link packet
@@ -157,7 +157,7 @@ frame_parts link packet =
 abbrev pub framed : Link → List ℕ → Option (List ℕ)
 framed link packet = option_map frame_bytes (frame_parts link packet)
 
--- why a packet on such a link can't be told, where this is the reason on a link that is read
+-- why a packet on such a link can't be reported, where this is the reason on a link that is read
 abbrev pub reason_on : Link → Reason → Reason
 reason_on Ethernet reason = reason
 reason_on Ip reason = reason
@@ -168,17 +168,17 @@ reason_on Sll2 reason = reason
 reason_on Other reason = OtherLink
 
 -- a frame, or why there is none
-abbrev pub told_by : Reason → Option (List ℕ) → Result (List ℕ) Reason
-told_by reason None = Err reason
-told_by reason (Some frame) = Ok frame
+abbrev pub reported_by : Reason → Option (List ℕ) → Result (List ℕ) Reason
+reported_by reason None = Err reason
+reported_by reason (Some frame) = Ok frame
 
--- what is told of a packet: its frame, or why it has none that a line can hold
-abbrev pub told_of : Link → List ℕ → Result (List ℕ) Reason
-told_of link packet =
+-- what is reported of a packet: its frame, or why it has none that a line can hold
+abbrev pub reported_of : Link → List ℕ → Result (List ℕ) Reason
+reported_of link packet =
     if nat_lt (captured_limit link) (length packet) then Err (reason_on link TooLong)
-    else told_by (reason_on link NoFrame) (framed link packet)
+    else reported_by (reason_on link NoFrame) (framed link packet)
 
--- ---- packets that can't be told: they are refused, or passed over
+-- ---- packets that can't be reported: they are refused, or passed over
 
 abbrev pub unfit_by : Bool → Unfit
 unfit_by skips = if skips then Skip else Refuse
@@ -188,12 +188,12 @@ abbrev pub link_for : Unfit → ℕ → Option Link
 link_for Refuse number = link_of number
 link_for Skip number = Some (unwrap_or (link_of number) Other)
 
--- the captured bytes at most of a packet that is told or passed over
+-- the captured bytes at most of a packet that is reported or passed over
 abbrev pub taken_limit : Unfit → Link → ℕ
 taken_limit Refuse link = captured_limit link
 taken_limit Skip link = SKIPPED_LIMIT
 
--- of a packet that is passed over no bytes are told
+-- of a packet that is passed over no bytes are reported
 abbrev pub unfit_frame : Unfit → Option (List ℕ)
 unfit_frame Refuse = None
 unfit_frame Skip = Some []
@@ -202,6 +202,6 @@ abbrev pub frame_by : Unfit → Result (List ℕ) Reason → Option (List ℕ)
 frame_by unfit (Ok frame) = Some frame
 frame_by unfit (Err reason) = unfit_frame unfit
 
--- the bytes that are told of a packet, if it isn't refused
-abbrev pub told_frame : Unfit → Link → List ℕ → Option (List ℕ)
-told_frame unfit link packet = frame_by unfit (told_of link packet)
+-- the bytes that are reported of a packet, if it isn't refused
+abbrev pub reported_frame : Unfit → Link → List ℕ → Option (List ℕ)
+reported_frame unfit link packet = frame_by unfit (reported_of link packet)

@@ -1,7 +1,7 @@
 -- The packets of a capture, and the lines that are written of them.
 use Rattle.std.specs.Prelude.{ℕ, ◌+◌, ◌==◌, ◌&&◌, nat_lt, Bool}
 use Rattle.std.specs.Prelude.{if◌then◌else◌, List, [], ◌∷◌, ◌++◌}
-use Rattle.commands.specs.Written.{written_forget, written_frame, written_timed_frame}
+use Rattle.line_grammar.specs.Written.{written_forget, written_frame, written_timed_frame}
 use Rattle.captures.specs.Numbers.{capped}
 use Rattle.captures.specs.Spans.{have_passed}
 use Rattle.captures.specs.declared.extra.Extra.{Extra}
@@ -20,7 +20,7 @@ abbrev pub packets_of : Origin → List ℕ → List Packet
 packets_of origin [] = []
 packets_of origin (byte ∷ bytes) = record { origin = origin; frame = byte ∷ bytes } ∷ []
 
--- the line that hands a packet's frame in
+-- the line that gives a packet's frame
 abbrev pub line_of : Packet → List ℕ
 line_of packet = written_frame packet.origin.channel packet.frame ++ 10 ∷ []
 
@@ -29,7 +29,8 @@ abbrev pub timed_line_of : Packet → List ℕ
 timed_line_of packet =
     written_timed_frame packet.origin.channel packet.frame packet.origin.time ++ 10 ∷ []
 
--- the line that has all messages dropped of which no fragment came on this line or after it
+-- the line that has all reassemblies dropped of which no fragment came on the line with this number
+-- or later
 abbrev pub forget_line : ℕ → List ℕ
 forget_line number = written_forget number ++ 10 ∷ []
 
@@ -47,14 +48,14 @@ abbrev pub forget_text : Bool → Ledger → List ℕ
 forget_text passed ledger = if passed then forget_line ledger.line else []
 
 -- the lines of a packet
-abbrev pub told_as : Extra → Ledger → Packet → List ℕ
-told_as Nothing ledger packet = line_of packet
-told_as Times ledger packet = timed_line_of packet
-told_as (Forget seconds) ledger packet =
+abbrev pub reported_as : Extra → Ledger → Packet → List ℕ
+reported_as Nothing ledger packet = line_of packet
+reported_as Times ledger packet = timed_line_of packet
+reported_as (Forget seconds) ledger packet =
     forget_text (has_passed seconds ledger packet.origin.time) ledger ++ line_of packet
 
-abbrev pub told : Ledger → Packet → List ℕ
-told ledger packet = told_as ledger.extra ledger packet
+abbrev pub reported : Ledger → Packet → List ℕ
+reported ledger packet = reported_as ledger.extra ledger packet
 
 -- a span begins with the first packet of all, and with each at which the one before has passed:
 -- there with the line that drops what came before that one
@@ -81,7 +82,7 @@ noted ledger packet = noted_as ledger.extra ledger packet
 -- the lines of some packets, in their order, after the lines of others
 abbrev pub lines_from : Ledger → List Packet → List ℕ
 lines_from ledger [] = []
-lines_from ledger (packet ∷ packets) = told ledger packet
+lines_from ledger (packet ∷ packets) = reported ledger packet
     ++ lines_from (noted ledger packet) packets
 
 -- after the lines of some packets

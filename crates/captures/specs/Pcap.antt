@@ -15,7 +15,7 @@ pub record IsFileHeader (order : ByteOrder) (header : List ℕ) : Type 0 where
   pub major : half order header 4 ≡ 2
   pub minor : half order header 6 ≡ 4
 
--- the lower 16 bits of the last number; above them a file may tell the length of frame check
+-- the lower 16 bits of the last number; above them a file may state the length of frame check
 -- sequences
 abbrev pub link_type : ByteOrder → List ℕ → ℕ
 link_type order header = word order header 20 % 65536

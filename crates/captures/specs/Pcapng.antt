@@ -1,11 +1,11 @@
 -- Pcapng files (draft-ietf-opsawg-pcapng): blocks in a row. Each begins with its kind and its
 -- length, ends with its length, and has whole words of 4 bytes. Numbers are in the byte order of
--- the section, which its header tells.
+-- the section, which its header states.
 use Rattle.std.specs.Prelude.{◌≡◌, ◌≢◌, ◌⊎◌, ℕ, ◌+◌, ◌-◌, ◌%◌, ◌^◌, ◌<◌, ◌≤◌, ◌==◌, ◌&&◌, ◌||◌, min}
 use Rattle.std.specs.Prelude.{Bool, true, false}
 use Rattle.std.specs.Prelude.{if◌then◌else◌, nat_lt, List, [], length, take, drop, slice_index_or}
 use Rattle.std.specs.Prelude.{slice_set, Option, Some, None}
-use Rattle.captures.specs.Framed.{link_for, taken_limit, told_frame}
+use Rattle.captures.specs.Framed.{link_for, taken_limit, reported_frame}
 use Rattle.captures.specs.Numbers.{half, word}
 use Rattle.captures.specs.Skipping.{counted}
 use Rattle.captures.specs.Times.{clock_of, clock_time, usual_clock}
@@ -44,8 +44,8 @@ enhanced_packet = 6
 abbrev pub byte_order_magic : ℕ
 byte_order_magic = 0x1a2b3c4d
 
--- the byte order of the block at the front of the bytes, in a section of this order: a section
--- header tells its own
+-- the byte order of the block at the start of the bytes, in a section of this order: a section
+-- header states its own
 abbrev pub HasOrder : ByteOrder → List ℕ → ByteOrder → Type 0
 HasOrder order bytes order' =
     ((word Big bytes 0 ≢ section_header) × (order' ≡ order))
@@ -55,16 +55,16 @@ HasOrder order bytes order' =
 pub record IsBlock (order : ByteOrder) (block : List ℕ) : Type 0 where
   pub size : 12 ≤ length block
   pub words : length block % 4 ≡ 0
-  pub front : word order block 4 ≡ length block
+  pub prefix : word order block 4 ≡ length block
   pub back : word order block (length block - 4) ≡ length block
 
 -- a section of this version is read: of 1.0, and of 1.2, which some programs write for the same
 abbrev pub is_read_version : (major : ℕ) → (minor : ℕ) → Bool
 is_read_version major minor = (major == 1) && ((minor == 0) || (minor == 2))
 
--- what a block says in a section: a section begins, its first interface having this number, or one of
--- a version that isn't read; an interface is described, with its link type, snap length and clock; a packet was captured on an
--- interface of such a link; or nothing that is read here
+-- what a block says in a section: a section begins, its first interface having this number, or one
+-- of a version that isn't read; an interface is described, with its link type, snap length and
+-- clock; a packet was captured on an interface of such a link; or nothing that is read here
 pub data Content : Type 0 where
   Opens : ℕ → Content
   OpensOther : (major : ℕ) → (minor : ℕ) → Content
@@ -77,7 +77,7 @@ pub data Content : Type 0 where
 abbrev pub captured_len : ℕ → ℕ → ℕ
 captured_len snap_len original = if snap_len == 0 then original else min snap_len original
 
--- the link of an interface that is described: Ethernet behind the first ones
+-- the link of an interface that is described: Ethernet after the first ones
 abbrev pub link_at : Section → ℕ → Link
 link_at section interface = slice_index_or section.links interface Ethernet
 
@@ -86,7 +86,7 @@ abbrev pub with_link : Section → Option Link → Option (List Link)
 with_link section None = None
 with_link section (Some link) = Some (slice_set section.links section.interfaces link)
 
--- an interface behind the first ones
+-- an interface after the first ones
 abbrev pub later_links : Section → (link_type : ℕ) → Option (List Link)
 later_links section link_type = if link_type == ETHERNET then Some section.links else None
 
@@ -97,7 +97,7 @@ links_with section link_type =
     then with_link section (link_for section.passing.unfit link_type)
     else later_links section link_type
 
--- the clocks of the first interfaces, and of those behind them that of the last one described
+-- the clocks of the first interfaces, and of those after them that of the last one described
 abbrev pub clock_at : Section → ℕ → Clock
 clock_at section interface = slice_index_or section.clocks (min interface 32) usual_clock
 
@@ -105,7 +105,7 @@ clock_at section interface = slice_index_or section.clocks (min interface 32) us
 abbrev pub clocks_with : Section → Clock → List Clock
 clocks_with section clock = slice_set section.clocks (min section.interfaces 32) clock
 
--- a packet of this interface of the section, in a block of one of the two kinds that tell its time
+-- a packet of this interface of the section, in a block of one of the two kinds that have its time
 pub record IsTimedPacket (interface : ℕ) (section : Section) (order : ByteOrder) (block : List ℕ)
     (origin : Origin) (link : Link) (packet : List ℕ) : Type 0 where
   pub size : 32 + length packet ≤ length block
@@ -128,7 +128,7 @@ abbrev pub IsObsoletePacket : Section → ByteOrder → List ℕ → Origin → 
 IsObsoletePacket section order block origin link packet = (word order block 0 ≡ obsolete_packet)
     × IsTimedPacket (half order block 8) section order block origin link packet
 
--- it tells no time
+-- it has no time
 pub record IsSimplePacket (section : Section) (order : ByteOrder) (block : List ℕ) (origin : Origin)
     (link : Link) (packet : List ℕ) : Type 0 where
   pub kind : word order block 0 ≡ simple_packet
@@ -158,7 +158,7 @@ abbrev pub IsSkipped : ByteOrder → List ℕ → Type 0
 IsSkipped order block = (word Big block 0 ≢ section_header) × IsOther order block
 
 -- a run takes a block of this length: one that is skipped may have any, and those that are read
--- have so many bytes at most
+-- have `BLOCK_LIMIT` bytes at most
 abbrev pub IsTaken : ByteOrder → List ℕ → ℕ → Type 0
 IsTaken order block len = (len ≤ BLOCK_LIMIT) ⊎ IsSkipped order block
 
@@ -183,8 +183,8 @@ Says section order block (Holds origin link packet) =
     ⊎ IsSimplePacket section order block origin link packet)
 Says section order block Nothing = IsOther order block
 
--- the section, and the bytes that are told, after a block that says this: versions and links are
--- read, and the packet is taken
+-- the section, and the bytes that are reported, after a block that says this: versions and links
+-- are read, and the packet is taken
 abbrev pub Becomes : Section → ByteOrder → Content → Section → Origin → List ℕ → Type 0
 Becomes section order (Opens first) after origin frame =
     (after ≡ record {
@@ -209,7 +209,7 @@ Becomes section order (Describes link_type snap_len clock) after origin frame =
     × (frame ≡ [])
 Becomes section order (Holds origin' link packet) after origin frame =
     (after ≡ record section { passing = counted section.passing link packet })
-    × (origin ≡ origin') × (told_frame section.passing.unfit link packet ≡ Some frame)
+    × (origin ≡ origin') × (reported_frame section.passing.unfit link packet ≡ Some frame)
     × (length packet ≤ taken_limit section.passing.unfit link)
 Becomes section order Nothing after origin frame = (after ≡ section) × (frame ≡ [])
 
@@ -233,7 +233,7 @@ RefusesBlock section order block NoFrame =
     (origin : Origin) × (link : Link) × (packet : List ℕ)
     × Says section order block (Holds origin link packet)
     × (length packet ≤ taken_limit section.passing.unfit link)
-    × (told_frame section.passing.unfit link packet ≡ None)
+    × (reported_frame section.passing.unfit link packet ≡ None)
 RefusesBlock section order block CutOff = ⊥
 RefusesBlock section order block (BlockTooLong len) = ⊥
 RefusesBlock section order block (Version major minor) =

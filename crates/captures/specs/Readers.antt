@@ -4,15 +4,15 @@ use Rattle.std.specs.Prelude.{length, map, take, Option, Some, None, Result, Ok,
 use Rattle.std.specs.Io.KnownBytes.{IsAtEnd}
 use Rattle.std.specs.Option.{option_map}
 use Rattle.captures.specs.Dropped.{IsDropped, last_of}
-use Rattle.captures.specs.Fronts.{Gives, HasNone, IsFirst, taken_of}
+use Rattle.captures.specs.PacketSteps.{Gives, HasNone, IsFirst, taken_of}
 use Rattle.captures.specs.Numbers.{capped}
-use Rattle.captures.specs.Places.{IsPlace, block_type}
+use Rattle.captures.specs.Positions.{IsPosition, block_type}
 use Rattle.captures.specs.Runs.{IsCapture, fault_at_end}
-use Rattle.captures.specs.Units.{IsBegun, Refuses, skipped_in}
+use Rattle.captures.specs.Units.{IsIncomplete, Refuses, skipped_in}
 use Rattle.captures.specs.declared.capture_error.CaptureError.{CaptureError}
-use Rattle.runs.specs.declared.limits.TheConstants.{READ_COUNT_LIMIT}
+use Rattle.device_runs.specs.declared.limits.TheConstants.{READ_COUNT_LIMIT}
 use Rattle.captures.specs.declared.packet.Packet.{Packet}
-use Rattle.captures.specs.declared.place.Place.{Place}
+use Rattle.captures.specs.declared.position.Position.{Position}
 use Rattle.captures.specs.declared.reading.ahead.Ahead.{Ahead}
 use Rattle.captures.specs.declared.reading.ahead.Found.{Found}
 use Rattle.captures.specs.declared.reading.packet_reader.PacketReader.{PacketReader}
@@ -46,7 +46,7 @@ IsAhead state bytes after ahead = (ahead.left ≤ length bytes)
 abbrev pub source_of : {R : Type 0} → PacketReader R → R
 source_of reader = reader.reader
 
--- the packet that it stands at
+-- its current packet
 abbrev pub packet_at : {R : Type 0} → PacketReader R → Option Packet
 packet_at reader =
     option_map (λ (found : Found). packet_with found reader.window.marked) reader.found
@@ -69,21 +69,21 @@ again (Err error) = Err error
 pub record HasRead {R : Type 0} (unfit : Unfit) (reader : PacketReader R) (read : List ℕ)
     (given : List Packet) : Type 0 where
   pub dropped : List ℕ
-  pub is_dropped : IsDropped reader.state reader.begun dropped
+  pub is_dropped : IsDropped reader.state reader.started dropped
   pub gives : Gives (Start unfit) read given reader.state (dropped ++ reader.window.held)
   pub count : reader.count ≡ capped (length given)
   pub passed : reader.passed ≡ capped (length read - length (dropped ++ reader.window.held))
   pub reads : reader.reads ≤ length read
   pub going : reader.ended ≡ None
 
--- what is found at the front of what it holds: the next packet, none yet, or why none can follow
-abbrev pub FindsFront : {R : Type 0} → Unfit → PacketReader R → (read : List ℕ)
+-- what is found at the start of what it holds: the next packet, none yet, or why none can follow
+abbrev pub FindsPacket : {R : Type 0} → Unfit → PacketReader R → (read : List ℕ)
     → (given : List Packet) → Result Bool CaptureError → Type 0
-FindsFront unfit new read given (Ok true) = (packet : Packet) × (packet_at new ≡ Some packet)
+FindsPacket unfit new read given (Ok true) = (packet : Packet) × (packet_at new ≡ Some packet)
     × HasRead unfit new read (given ++ packet ∷ [])
-FindsFront unfit new read given (Ok false) = (h : HasRead unfit new read given)
-    × IsBegun new.state (h.dropped ++ new.window.held)
-FindsFront unfit new read given (Err error) = (h : HasRead unfit new read given)
+FindsPacket unfit new read given (Ok false) = (h : HasRead unfit new read given)
+    × IsIncomplete new.state (h.dropped ++ new.window.held)
+FindsPacket unfit new read given (Err error) = (h : HasRead unfit new read given)
     × Refuses new.state (h.dropped ++ new.window.held) error
 
 -- nothing is read between
@@ -92,34 +92,34 @@ pub record IsBeside {R : Type 0} (old new : PacketReader R) : Type 0 where
   pub reads : new.reads ≡ old.reads
   pub ended : new.ended ≡ old.ended
 
--- all whole packets of these bytes were given, and so many passed over
+-- all whole packets of these bytes were given, and this many passed over
 pub record AreGiven (unfit : Unfit) (skipped : Skipped) (read : List ℕ) (given : List Packet)
     : Type 0 where
   pub state : State
   pub rest : List ℕ
   pub gives : Gives (Start unfit) read given state rest
-  pub begun : IsBegun state rest
+  pub started : IsIncomplete state rest
   pub counts : skipped_in state ≡ skipped
 
--- behind these packets a capture can't go on, or ends within one, at this place
-pub record IsRefusedAt (unfit : Unfit) (skipped : Skipped) (error : CaptureError) (place : Place)
+-- after these packets a capture can't continue, or ends within one, at this position
+pub record IsRefusedAt (unfit : Unfit) (skipped : Skipped) (error : CaptureError) (position : Position)
     (left : Option (List ℕ)) (read : List ℕ) (given : List Packet) : Type 0 where
   pub state : State
   pub rest : List ℕ
   pub gives : Gives (Start unfit) read given state rest
-  pub is_place : IsPlace state (length given) read rest place
+  pub is_position : IsPosition state (length given) read rest position
   pub counts : skipped_in state ≡ skipped
-  pub why : Refuses state rest error ⊎ (IsAtEnd left × IsBegun state rest
+  pub why : Refuses state rest error ⊎ (IsAtEnd left × IsIncomplete state rest
       × (fault_at_end state (length rest) ≡ Err error))
 
--- it is refused for this, at the place where it stands
+-- it is refused for this, at its position
 abbrev pub IsRefusedWith : {R : Type 0} → (old new : PacketReader R) → CaptureError
     → Result Bool ReadError → Type 0
-IsRefusedWith old new error result = (place : Place) × (result ≡ Err (Capture error place))
-    × (new ≡ record old { ended = Some (Err (Capture error place)) })
-    × (place.packet ≡ capped (old.count + 1)) × (place.offset ≡ old.passed)
-    × ((dropped : List ℕ) → IsDropped old.state old.begun dropped
-    → place.block ≡ block_type old.state (dropped ++ old.window.held))
+IsRefusedWith old new error result = (position : Position) × (result ≡ Err (Capture error position))
+    × (new ≡ record old { ended = Some (Err (Capture error position)) })
+    × (position.packet ≡ capped (old.count + 1)) × (position.offset ≡ old.passed)
+    × ((dropped : List ℕ) → IsDropped old.state old.started dropped
+    → position.block ≡ block_type old.state (dropped ++ old.window.held))
 
 -- the end of the input makes this of it
 abbrev pub EndsBy : {R : Type 0} → (old new : PacketReader R) → Result Unit CaptureError
@@ -127,9 +127,9 @@ abbrev pub EndsBy : {R : Type 0} → (old new : PacketReader R) → Result Unit 
 EndsBy old new (Ok done) result = (result ≡ Ok false) × (new ≡ record old { ended = Some (Ok tt) })
 EndsBy old new (Err error) result = IsRefusedWith old new error result
 
--- what a call that goes on comes to, where these bytes were read by then and these packets given
--- before: the next packet, the end of a capture that holds no other, or why none follows. `left` are
--- the bytes that reads still give
+-- the result of a call that advances, where these bytes were read by then and these packets given
+-- before: the next packet, the end of a capture that holds no other, or why none follows. `left`
+-- are the bytes that reads still give
 abbrev pub ComesTo : {R : Type 0} → Unfit → PacketReader R → (left : Option (List ℕ))
     → (read : List ℕ) → (given : List Packet) → Result Bool ReadError → Type 0
 ComesTo unfit new left read given (Ok true) = (packet : Packet) × (packet_at new ≡ Some packet)
@@ -140,14 +140,14 @@ ComesTo unfit new left read given (Err Read) = (ending_of new ≡ Some (Err Read
     × AreGiven unfit (skipped_by new) read given
 ComesTo unfit new left read given (Err TooManyReads) = (ending_of new ≡ Some (Err TooManyReads))
     × AreGiven unfit (skipped_by new) read given × (READ_COUNT_LIMIT ≤ length read)
-ComesTo unfit new left read given (Err (Capture error place)) =
-    (ending_of new ≡ Some (Err (Capture error place)))
-    × IsRefusedAt unfit (skipped_by new) error place left read given
+ComesTo unfit new left read given (Err (Capture error position)) =
+    (ending_of new ≡ Some (Err (Capture error position)))
+    × IsRefusedAt unfit (skipped_by new) error position left read given
 
--- what a call that reads nothing comes to: the next packet, none in what is held, or why none
+-- the result of a call that reads nothing: the next packet, none in what is held, or why none
 -- follows
 abbrev pub HeldTo : {R : Type 0} → Unfit → PacketReader R → (left : Option (List ℕ))
     → (read : List ℕ) → (given : List Packet) → Result Bool ReadError → Type 0
 HeldTo unfit new left read given (Ok true) = ComesTo unfit new left read given (Ok true)
-HeldTo unfit new left read given (Ok false) = FindsFront unfit new read given (Ok false)
+HeldTo unfit new left read given (Ok false) = FindsPacket unfit new read given (Ok false)
 HeldTo unfit new left read given (Err error) = ComesTo unfit new left read given (Err error)

@@ -1,6 +1,6 @@
 -- Packets that are passed over, counted by the reason.
 use Rattle.std.specs.Prelude.{ℕ, ◌+◌, List, Result, Ok, Err}
-use Rattle.captures.specs.Framed.{told_of}
+use Rattle.captures.specs.Framed.{reported_of}
 use Rattle.captures.specs.Numbers.{capped}
 use Rattle.captures.specs.declared.link.kind.Link.{Link}
 use Rattle.captures.specs.declared.translation.skipped.Passing.{Passing}
@@ -29,6 +29,6 @@ counted_by passing (Ok frame) = passing
 counted_by passing (Err reason) =
     record passing { skipped = with_reason passing.skipped reason }
 
--- after a packet that is told or passed over
+-- after a packet that is reported or passed over
 abbrev pub counted : Passing → Link → List ℕ → Passing
-counted passing link packet = counted_by passing (told_of link packet)
+counted passing link packet = counted_by passing (reported_of link packet)

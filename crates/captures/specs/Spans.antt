@@ -1,4 +1,4 @@
--- Spans of packet time, of so many seconds at least.
+-- Spans of packet time, each of at least this many seconds.
 use Rattle.std.specs.Prelude.{ℕ, ◌+◌, ◌*◌, ◌<◌, ◌≤◌, ◌⊎◌, nat_le, Bool, if◌then◌else◌, Option, Some}
 use Rattle.std.specs.Prelude.{None, List, [], ◌∷◌, ◌++◌}
 use Rattle.std.specs.List.{AllByRecursion}
@@ -21,8 +21,8 @@ begin_with seconds (Some begin) time =
 
 -- ---- which spans pass, and what they drop
 
--- when a packet comes, and the number by which what came before it is told from what came after:
--- that of its line, or its time once more
+-- when a packet comes, and the number that separates what came before it from what came after: that
+-- of its line, or its time once more
 pub record Mark : Type 0 where
   pub time : ℕ
   pub number : ℕ
@@ -35,22 +35,22 @@ passed_spans seconds span (packet ∷ packets) = if have_passed seconds span.tim
     then span.number ∷ passed_spans seconds packet packets
     else passed_spans seconds span packets
 
--- one of them drops a message whose last fragment has this number
+-- one of them drops a reassembly whose last fragment has this number
 abbrev pub Drops : ℕ → List ℕ → Type 0
 Drops own [] = ⊥
 Drops own (number ∷ numbers) = (own < number) ⊎ Drops own numbers
 
 -- a fragment comes in a span that began no later by number and has not passed with it: while all
--- packets after it come less than so many seconds later, no span drops its message
+-- packets after it come less than this many seconds later, no span drops its reassembly
 abbrev pub SpansKeep : Type 0
 SpansKeep = (seconds time own : ℕ) (span : Mark) (later : List Mark)
     → span.number ≤ own → time < span.time + 1000000000 * seconds
     → AllByRecursion (λ p. p.time < time + 1000000000 * seconds) later
     → Drops own (passed_spans seconds span later) → ⊥
 
--- a fragment comes no earlier than its span began: its message is dropped at the latest with a packet
--- that comes so many seconds after each up to one that comes so many seconds after it. Those packets
--- have greater numbers than the fragment, or come no later
+-- a fragment comes no earlier than its span began: its reassembly is dropped at the latest with a
+-- packet that comes this many seconds after each up to one that comes this many seconds after it.
+-- Those packets have greater numbers than the fragment, or come no later
 abbrev pub SpansDrop : Type 0
 SpansDrop = (seconds time own : ℕ) (span : Mark) (between : List Mark) (next : Mark)
     (later : List Mark) (last : Mark)

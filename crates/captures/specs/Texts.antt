@@ -1,20 +1,20 @@
--- A text of lines that hand frames in. Byte 0a ends a line, and is no part of it.
+-- A text of lines that give frames. Byte 0a ends a line, and isn't part of it.
 use Rattle.std.specs.Prelude.{◌≡◌, ◌⊎◌, ℕ, ◌+◌, ◌<◌, ◌≤◌, ◌==◌, Bool, true, false, if◌then◌else◌}
 use Rattle.std.specs.Prelude.{List, [], ◌∷◌, ◌++◌, length, Some, None, Result}
 use Rattle.std.specs.List.{flat_map}
 use Rattle.lines.specs.Lines.{HasNoNewline}
-use Rattle.runs.specs.Calls.{Call}
-use Rattle.runs.specs.Runs.{Task, Goes}
-use Rattle.captures.specs.declared.limits.TheConstants.{INPUT_ROOM}
-use Rattle.commands.specs.declared.limits.TheConstants.{TIMED_LINE_LIMIT}
+use Rattle.device_runs.specs.Calls.{Call}
+use Rattle.device_runs.specs.Runs.{Task, Goes}
+use Rattle.captures.specs.declared.limits.TheConstants.{INPUT_CAPACITY}
+use Rattle.line_grammar.specs.declared.limits.TheConstants.{TIMED_LINE_LIMIT}
 use Rattle.captures.specs.declared.translation.run_error.RunError.{RunError}
 use Rattle.captures.specs.Endings.{ending_of}
 use Rattle.captures.specs.declared.translation.refusal.Refusal.{Refusal}
 use Rattle.captures.specs.declared.translation.refusal.Refusal.TheVariants.{InCapture, InLine}
-use Rattle.commands.specs.TimedLines.{timed_frame_of}
+use Rattle.line_grammar.specs.TimedLines.{timed_frame_of}
 use Rattle.captures.specs.declared.time.time_unit.TimeUnit.{TimeUnit}
-use Rattle.captures.specs.Spelling.{record_of, capture_of}
-use Rattle.commands.specs.TimedLines.{TimedFrame}
+use Rattle.captures.specs.Encoding.{record_of, capture_of}
+use Rattle.line_grammar.specs.TimedLines.{TimedFrame}
 
 abbrev pub is_newline : ℕ → Bool
 is_newline byte = byte == 10
@@ -24,26 +24,26 @@ abbrev pub with_line_ends : List (List ℕ) → List ℕ
 with_line_ends [] = []
 with_line_ends (line ∷ lines) = line ++ 10 ∷ with_line_ends lines
 
--- lines that hand these frames in, one each
-abbrev pub HandIn : List (List ℕ) → List TimedFrame → Type 0
-HandIn [] frames = frames ≡ []
-HandIn (line ∷ lines) frames =
+-- lines that give these frames, one each
+abbrev pub GiveFrames : List (List ℕ) → List TimedFrame → Type 0
+GiveFrames [] frames = frames ≡ []
+GiveFrames (line ∷ lines) frames =
     (timed : TimedFrame) × (later : List TimedFrame) × HasNoNewline line
-    × (timed_frame_of line ≡ Some timed) × HandIn lines later × (frames ≡ timed ∷ later)
+    × (timed_frame_of line ≡ Some timed) × GiveFrames lines later × (frames ≡ timed ∷ later)
 
--- bytes begin with so many lines, which hand these frames in, and a rest follows them
-pub record Hands (bytes : List ℕ) (count : ℕ) (frames : List TimedFrame)
+-- bytes begin with this many lines, which give these frames, and a rest follows them
+pub record GivesFrames (bytes : List ℕ) (count : ℕ) (frames : List TimedFrame)
     (rest : List ℕ) : Type 0 where
   pub lines : List (List ℕ)
-  pub each : HandIn lines frames
+  pub each : GiveFrames lines frames
   pub number : length lines ≡ count
   pub parts : bytes ≡ with_line_ends lines ++ rest
 
 -- bytes that may become a line
-abbrev pub IsBegunLine : List ℕ → Type 0
-IsBegunLine bytes = HasNoNewline bytes × (length bytes ≤ TIMED_LINE_LIMIT)
+abbrev pub IsIncompleteLine : List ℕ → Type 0
+IsIncompleteLine bytes = HasNoNewline bytes × (length bytes ≤ TIMED_LINE_LIMIT)
 
--- the bytes begin with a line that hands no frame in
+-- the bytes begin with a line that gives no frame
 pub record HasBadLine (bytes : List ℕ) : Type 0 where
   pub line : List ℕ
   pub rest : List ℕ
@@ -51,21 +51,21 @@ pub record HasBadLine (bytes : List ℕ) : Type 0 where
   pub whole : HasNoNewline line
   pub none : timed_frame_of line ≡ None
 
--- no line that hands a frame in can be the first, whatever comes after these bytes
+-- no line that gives a frame can be the first, whatever comes after these bytes
 abbrev pub BeginsBadLine : List ℕ → Type 0
 BeginsBadLine bytes = HasBadLine bytes ⊎ (HasNoNewline bytes × (TIMED_LINE_LIMIT < length bytes))
 
--- after all lines that hand frames in: a line is begun, or hands no frame in
+-- after all lines that give frames: a line is incomplete, or gives no frame
 abbrev pub IsLeftLine : Bool → List ℕ → Type 0
 IsLeftLine true rest = BeginsBadLine rest
-IsLeftLine false rest = IsBegunLine rest
+IsLeftLine false rest = IsIncompleteLine rest
 
 -- all lines up to a bad one are taken, and this is what is written of their frames
 pub record TakesLines (time_unit : TimeUnit) (bytes : List ℕ) (count : ℕ) (rest written : List ℕ)
     (bad : Bool) : Type 0 where
   pub frames : List TimedFrame
-  pub hands : Hands bytes count frames rest
-  pub spelled : written ≡ flat_map (record_of time_unit) frames
+  pub gives_frames : GivesFrames bytes count frames rest
+  pub encoded : written ≡ flat_map (record_of time_unit) frames
   pub left : IsLeftLine bad rest
 
 abbrev pub ends_line : List ℕ → Bool
@@ -82,42 +82,43 @@ abbrev pub known_text : Bool → List ℕ → List ℕ
 known_text true bytes = with_last_line_end bytes
 known_text false bytes = bytes
 
--- the bytes are a text whose lines hand these frames in, one each
+-- the bytes are a text whose lines give these frames, one each
 abbrev pub IsText : List ℕ → List TimedFrame → Type 0
-IsText bytes frames = (count : ℕ) × Hands (with_last_line_end bytes) count frames []
+IsText bytes frames = (count : ℕ) × GivesFrames (with_last_line_end bytes) count frames []
 
--- all frames of the whole lines in bytes are written, after the file header, and a line is begun
+-- all frames of the whole lines in bytes are written, after the file header, and an incomplete line
+-- is left
 abbrev pub AreWritten : TimeUnit → List ℕ → List ℕ → Type 0
 AreWritten time_unit bytes written =
-    (count : ℕ) × (frames : List TimedFrame) × (rest : List ℕ) × Hands bytes count frames rest
-    × IsBegunLine rest × (written ≡ capture_of time_unit frames)
+    (count : ℕ) × (frames : List TimedFrame) × (rest : List ℕ) × GivesFrames bytes count frames rest
+    × IsIncompleteLine rest × (written ≡ capture_of time_unit frames)
 
--- the frames of all lines before the one with this number are written, and that one hands none in
+-- the frames of all lines before the one with this number are written, and that one gives none
 abbrev pub AreWrittenBefore : TimeUnit → ℕ → List ℕ → List ℕ → Type 0
 AreWrittenBefore time_unit number bytes written =
-    (count : ℕ) × (frames : List TimedFrame) × (rest : List ℕ) × Hands bytes count frames rest
+    (count : ℕ) × (frames : List TimedFrame) × (rest : List ℕ) × GivesFrames bytes count frames rest
     × BeginsBadLine rest × (number ≡ count + 1) × (written ≡ capture_of time_unit frames)
 
 -- what is written where the text is refused
 abbrev pub IsRefusedText : TimeUnit → Refusal → Bool → List ℕ → List ℕ → Type 0
-IsRefusedText time_unit (InCapture error place) told read written = ⊥
-IsRefusedText time_unit (InLine number) told read written =
-    AreWrittenBefore time_unit number (known_text told read) written
+IsRefusedText time_unit (InCapture error position) reported read written = ⊥
+IsRefusedText time_unit (InLine number) reported read written =
+    AreWrittenBefore time_unit number (known_text reported read) written
 
--- the capture of the frames that lines hand in, those of all whole lines before the next read
+-- the capture of the frames that lines give, those of all whole lines before the next read
 abbrev pub lines_to_capture : TimeUnit → Task Refusal
 lines_to_capture time_unit = record {
-  room = INPUT_ROOM;
+  room = INPUT_CAPACITY;
   due = AreWritten time_unit;
-  full = λ told read text. (count : ℕ) × (frames : List TimedFrame) × (rest : List ℕ)
-      × Hands (known_text told read) count frames rest × (text ≡ capture_of time_unit frames);
+  full = λ reported read text. (count : ℕ) × (frames : List TimedFrame) × (rest : List ℕ)
+      × GivesFrames (known_text reported read) count frames rest × (text ≡ capture_of time_unit frames);
   whole = λ read written. (frames : List TimedFrame) × IsText read frames
       × (written ≡ capture_of time_unit frames);
-  starved = λ told read written. (read ≡ []) × (written ≡ []);
+  out_of_memory = λ reported read written. (read ≡ []) × (written ≡ []);
   refused = IsRefusedText time_unit;
 }
 
--- a run of at most so many reads from lines to a capture took a device from old to new, and ended
+-- a run of at most this many reads from lines to a capture took a device from old to new, and ended
 -- by this result
 abbrev pub WritesCapture : TimeUnit → {D : Type 0} → (D → Call → D → Type 0) → ℕ → D → D
     → Result Unit RunError → Type 0

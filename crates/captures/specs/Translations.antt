@@ -1,17 +1,17 @@
--- What a run makes of its input, piece by piece. Some bytes are held after these were read and
+-- What a run makes of its input, chunk by chunk. Some bytes are held after these were read and
 -- these written: the relation of the three is the caller's.
 use Rattle.std.specs.Prelude.{◌≡◌, ℕ, Bool, true, false, List, [], Option, Some, None, Result, Ok, Err}
-use Rattle.runs.specs.Calls.{Call, Makes, bytes_read}
-use Rattle.runs.specs.Endings.{Ending}
-use Rattle.runs.specs.Runs.{Goes, Task}
-use Rattle.captures.specs.declared.limits.TheConstants.{INPUT_ROOM}
+use Rattle.device_runs.specs.Calls.{Call, Makes, bytes_read}
+use Rattle.device_runs.specs.Endings.{Ending}
+use Rattle.device_runs.specs.Runs.{Goes, Task}
+use Rattle.captures.specs.declared.limits.TheConstants.{INPUT_CAPACITY}
 use Rattle.captures.specs.declared.translation.refusal.Refusal.{Refusal}
 
 -- a header is written before anything is read
 pub record Begins (task : Task Refusal) (shown : List ℕ → List ℕ → List ℕ → Type 0)
     (header : List ℕ) : Type 0 where
-  pub room : task.room ≡ INPUT_ROOM
-  pub starved : task.starved false [] []
+  pub room : task.room ≡ INPUT_CAPACITY
+  pub out_of_memory : task.out_of_memory false [] []
   pub full : task.full false [] header
   pub due : task.due [] header
   pub shows : shown [] [] header
@@ -34,7 +34,7 @@ pub record Translates (task : Task Refusal) (shown : List ℕ → List ℕ → L
   pub full : task.full false read written
   pub follows : Follows task shown held read written refusal
 
--- where the end is told, the input is whole, or it is refused
+-- where the end is reported, the input is whole, or it is refused
 abbrev pub IsWhole : Task Refusal → List ℕ → List ℕ → Result Unit Refusal → Type 0
 IsWhole task read written (Ok done) = task.whole read written
 IsWhole task read written (Err reason) = task.refused reason true read written
@@ -50,9 +50,9 @@ pub record Fills (task : Task Refusal) {D : Type 0} (transition : D → Call →
     (old new : D) : Type 0 where
   pub calls : List Call
   pub made : Makes transition old calls new
-  pub told : Bool
+  pub reported : Bool
   pub text : List ℕ
-  pub full : task.full told (bytes_read calls) text
+  pub full : task.full reported (bytes_read calls) text
 
 -- a run that ends so, whose task knows what was read, however it ends
 pub record RunEnds (task : Task Refusal) {D : Type 0} (transition : D → Call → D → Type 0)

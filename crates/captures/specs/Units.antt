@@ -2,7 +2,7 @@
 use Rattle.std.specs.Prelude.{◌≡◌, ◌≢◌, ◌⊎◌, ℕ, ◌-◌, ◌%◌, ◌<◌, ◌≤◌, List, [], ◌∷◌, ◌++◌, length}
 use Rattle.std.specs.Prelude.{Option, Some, None, replicate}
 use Rattle.captures.specs.Framed.{FrameParts, frame_bytes, frame_parts, link_for, taken_limit}
-use Rattle.captures.specs.Framed.{told_frame}
+use Rattle.captures.specs.Framed.{reported_frame}
 use Rattle.captures.specs.declared.unfit.Unfit.{Unfit}
 use Rattle.captures.specs.Numbers.{word}
 use Rattle.captures.specs.Lines.{Packet, packets_of, lines_from, noted_all}
@@ -40,7 +40,8 @@ pub record OpensFile (unfit : Unfit) (unit : List ℕ) (after : State) : Type 0 
   pub known : link_for unfit (link_type order unit) ≡ Some link
   pub next : after ≡ Classic order (unit_of (word order unit 0)) link (passing_from unfit)
 
--- before the first block of a pcapng file no interface is described, and any byte order serves
+-- before the first block of a pcapng file no interface is described, and the byte order has no
+-- effect
 abbrev pub no_section : Unfit → Section
 no_section unfit =
     record {
@@ -53,8 +54,7 @@ no_section unfit =
       passing = passing_from unfit;
     }
 
--- a block of a section, whole and of a length that is taken, after which the section has come to
--- this
+-- a block of a section, whole and of a length that is taken, after which this is the section
 pub record IsBlockUnit (section : Section) (unit : List ℕ) (after : State) (origin : Origin)
     (frame : List ℕ) : Type 0 where
   pub order : ByteOrder
@@ -65,22 +65,22 @@ pub record IsBlockUnit (section : Section) (unit : List ℕ) (after : State) (or
   pub reads : Reads section order unit next origin frame
   pub becomes : after ≡ Pcapng next
 
--- a classic capture has one interface. The time is the front of a record
+-- a classic capture has one interface. The time is at the start of a record
 abbrev pub record_origin : ByteOrder → TimeUnit → List ℕ → Origin
 record_origin order time_unit unit =
     record { channel = 0; time = record_time time_unit (word order unit 0) (word order unit 4) }
 
--- a packet record of such a link, of a packet that is told or passed over
+-- a packet record of such a link, of a packet that is reported or passed over
 pub record IsRecordUnit (order : ByteOrder) (time_unit : TimeUnit) (link : Link) (passing : Passing)
     (unit : List ℕ) (after : State) (frame : List ℕ) : Type 0 where
   pub packet : List ℕ
   pub is_record : IsPacketRecord order unit packet
   pub fits : length packet ≤ taken_limit passing.unfit link
-  pub is_told : told_frame passing.unfit link packet ≡ Some frame
+  pub is_reported : reported_frame passing.unfit link packet ≡ Some frame
   pub next : after ≡ Classic order time_unit link (counted passing link packet)
 
--- bytes that are one unit of a capture, where it has come to this state: the state after it,
--- and the frame of the packet in it, which is empty where none is told
+-- bytes that are one unit of a capture, where this is its state: the state after it, and the frame
+-- of the packet in it, which is empty where none is reported
 abbrev pub IsUnit : State → List ℕ → State → Origin → List ℕ → Type 0
 IsUnit (Start unfit) unit after origin frame =
     (OpensFile unfit unit after × (frame ≡ []))
@@ -96,7 +96,7 @@ skipped_in (Start unfit) = none_skipped
 skipped_in (Classic order time_unit link passing) = passing.skipped
 skipped_in (Pcapng section) = section.passing.skipped
 
--- units in a row, and all packets that are told of them
+-- units in a row, and all packets that are reported of them
 abbrev pub Row : State → List (List ℕ) → List Packet → State → Type 0
 Row state [] packets after = (packets ≡ []) × (after ≡ state)
 Row state (unit ∷ units) packets after =
@@ -116,7 +116,7 @@ pub record Passes (state : State) (bytes : List ℕ) (packets : List Packet) (af
   pub row : Row state units packets after
   pub parts : bytes ≡ in_a_row units ++ rest
 
--- the head of a packet record that is taken, with fewer bytes after it than it tells
+-- the head of a packet record that is taken, with fewer bytes after it than it states
 pub record IsShortRecord (order : ByteOrder) (link : Link) (unfit : Unfit)
     (bytes : List ℕ) : Type 0 where
   pub head : List ℕ
@@ -126,7 +126,7 @@ pub record IsShortRecord (order : ByteOrder) (link : Link) (unfit : Unfit)
   pub short : length body < word order head 8
   pub fits : word order head 8 ≤ taken_limit unfit link
 
--- the front of a block of a length that is taken, with fewer bytes than it tells
+-- the start of a block of a length that is taken, with fewer bytes than it states
 pub record IsShortBlock (section : Section) (bytes : List ℕ) : Type 0 where
   pub order : ByteOrder
   pub has_order : HasOrder section.order bytes order
@@ -145,19 +145,19 @@ pub record HasOtherBack (order : ByteOrder) (bytes : List ℕ) : Type 0 where
   pub other : word order block (length block - 4) ≢ length block
 
 -- bytes that may become a unit and are too few for one
-abbrev pub IsBegun : State → List ℕ → Type 0
-IsBegun (Start unfit) bytes = (length bytes < FIRST_UNIT_LEN)
+abbrev pub IsIncomplete : State → List ℕ → Type 0
+IsIncomplete (Start unfit) bytes = (length bytes < FIRST_UNIT_LEN)
     ⊎ ((word Big bytes 0 ≡ section_header) × IsShortBlock (no_section unfit) bytes)
-IsBegun (Classic order time_unit link passing) bytes =
+IsIncomplete (Classic order time_unit link passing) bytes =
     (length bytes < 16) ⊎ IsShortRecord order link passing.unfit bytes
-IsBegun (Pcapng section) bytes = (length bytes < 12) ⊎ IsShortBlock section bytes
+IsIncomplete (Pcapng section) bytes = (length bytes < 12) ⊎ IsShortBlock section bytes
 
 -- the bytes begin with the kind and the byte order magic of a section header
 abbrev pub BeginsSection : List ℕ → Type 0
 BeginsSection bytes = (word Big bytes 0 ≡ section_header)
     × ((order : ByteOrder) × (word order bytes 8 ≡ byte_order_magic))
 
--- no front of the bytes is a file header, and they don't begin a section
+-- no prefix of the bytes is a file header, and they don't begin a section
 abbrev pub IsNoCapture : List ℕ → Type 0
 IsNoCapture bytes =
     ((order : ByteOrder) (header rest : List ℕ) → bytes ≡ header ++ rest
@@ -183,12 +183,12 @@ pub record HasRefusedBlock (section : Section) (bytes : List ℕ)
   pub is_block : IsBlock order block
   pub refused : RefusesBlock section order block error
 
--- the bytes begin with a block of so many bytes, whole words and more than a run takes of such a
+-- the bytes begin with a block of this many bytes, whole words and more than a run takes of such a
 -- block
 pub record HasLongBlock (section : Section) (bytes : List ℕ) (len : ℕ) : Type 0 where
   pub order : ByteOrder
   pub has_order : HasOrder section.order bytes order
-  pub told : word order bytes 4 ≡ len
+  pub reported : word order bytes 4 ≡ len
   pub words : len % 4 ≡ 0
   pub long : IsTaken order bytes len → ⊥
 
@@ -215,17 +215,17 @@ pub record HasLinkType (unfit : Unfit) (bytes : List ℕ) (number : ℕ) : Type 
   pub rest : List ℕ
   pub parts : bytes ≡ header ++ rest
   pub is_header : IsFileHeader order header
-  pub told : link_type order header ≡ number
+  pub reported : link_type order header ≡ number
   pub other : link_for unfit number ≡ None
 
--- the bytes begin with the head of a packet record that tells more bytes than are taken
+-- the bytes begin with the head of a packet record that states more bytes than are taken
 pub record HasLongFrame (order : ByteOrder) (link : Link) (unfit : Unfit) (bytes : List ℕ)
     (captured : ℕ) : Type 0 where
   pub head : List ℕ
   pub rest : List ℕ
   pub parts : bytes ≡ head ++ rest
   pub size : length head ≡ 16
-  pub told : word order head 8 ≡ captured
+  pub reported : word order head 8 ≡ captured
   pub long : taken_limit unfit link < captured
 
 -- the bytes begin with a packet record that could be taken, of a packet that has no frame
@@ -237,7 +237,7 @@ pub record HasNoFrame (order : ByteOrder) (link : Link) (unfit : Unfit)
   pub parts : bytes ≡ unit ++ rest
   pub is_record : IsPacketRecord order unit packet
   pub fits : length packet ≤ taken_limit unfit link
-  pub none : told_frame unfit link packet ≡ None
+  pub none : reported_frame unfit link packet ≡ None
 
 -- why no unit is the first, where there are as many bytes as a file header has
 abbrev pub RefusesFirst : Unfit → List ℕ → CaptureError → Type 0
@@ -269,7 +269,7 @@ Refuses (Classic order time_unit link passing) bytes (Version major minor) = ⊥
 Refuses (Classic order time_unit link passing) bytes BadBlock = ⊥
 Refuses (Pcapng section) bytes error = RefusesAt section bytes error
 
--- a unit with this packet is the front of the bytes
+-- the bytes begin with a unit that holds this packet
 pub record HasUnit (state : State) (bytes : List ℕ) (after : State) (origin : Origin)
     (frame rest : List ℕ) : Type 0 where
   pub unit : List ℕ
@@ -302,33 +302,33 @@ IsOn (Classic order time_unit link' passing) unit link frame = (link' ≡ link)
     × IsRecordOn order link unit frame
 IsOn (Pcapng section) unit link frame = IsBlockOn section unit link frame
 
--- a unit is the front of the bytes, and the packet that is told of it, if one is, was captured on
+-- the bytes begin with a unit, and the packet that is reported of it, if one is, was captured on
 -- such a link
 pub record HasPacket (state : State) (bytes : List ℕ) (after : State) (origin : Origin)
     (link : Link) (frame : FrameParts) (rest : List ℕ) : Type 0 where
   pub has_unit : HasUnit state bytes after origin (frame_bytes frame) rest
   pub is_on : 0 < length (frame_bytes frame) → IsOn state has_unit.unit link frame
 
--- these are the bytes behind so many
+-- these bytes are at this offset
 pub record StandsAt (bytes : List ℕ) (at : ℕ) (part : List ℕ) : Type 0 where
   pub before : List ℕ
-  pub behind : List ℕ
-  pub parts : bytes ≡ before ++ (part ++ behind)
-  pub place : length before ≡ at
+  pub following : List ℕ
+  pub parts : bytes ≡ before ++ (part ++ following)
+  pub position : length before ≡ at
 
--- after all whole units of the bytes: more bytes are wanted, or this is refused
+-- after all whole units of the bytes: bytes are missing, or this is refused
 abbrev pub IsLeft : State → List ℕ → Option CaptureError → Type 0
-IsLeft state rest None = IsBegun state rest
+IsLeft state rest None = IsIncomplete state rest
 IsLeft state rest (Some error) = Refuses state rest error
 
--- all whole units of the bytes are taken, so many packets of them are told, and their lines are
--- this text. The lines have come to `ledger` before them, and to `noted` then
+-- all whole units of the bytes are taken, this many packets of them are reported, and their lines
+-- are this text. `ledger` is the ledger of lines before them, and `noted` after them
 pub record Takes (ledger : Ledger) (state : State) (bytes : List ℕ) (after : State)
     (rest : List ℕ) (count : ℕ) (text : List ℕ) (refusal : Option CaptureError) (noted : Ledger)
     : Type 0 where
   pub packets : List Packet
   pub number : length packets ≡ count
   pub passes : Passes state bytes packets after rest
-  pub told : text ≡ lines_from ledger packets
+  pub reported : text ≡ lines_from ledger packets
   pub left : IsLeft after rest refusal
   pub come : noted ≡ noted_all ledger packets

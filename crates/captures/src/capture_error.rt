@@ -1,17 +1,17 @@
-//! Why some bytes are no capture whose packets can be told as lines.
+//! Why some bytes are no capture whose packets can be reported.
 use thiserror::Error;
 
-/// Why some bytes are no capture whose packets can be told as lines.
+/// Why some bytes are no capture whose packets can be reported.
 #[derive(Clone, Copy, Debug, PartialEq, Eq, Error)]
 pub enum CaptureError {
     /// The bytes don't begin with the header of a capture, or end before it is whole.
     #[error("no capture file")]
     NotCapture,
     /// The packets have this link type, which isn't read. Of a section of a pcapng file, interfaces
-    /// behind the 32nd may have that of Ethernet alone, 1.
+    /// after the 32nd may have that of Ethernet alone, 1.
     #[error("link type {0} is not read")]
     LinkType(u16),
-    /// So many bytes of a packet were captured, whose Ethernet frame would have more than
+    /// This many bytes of a packet were captured, whose Ethernet frame would have more than
     /// [`FRAME_LIMIT`](crate::FRAME_LIMIT).
     #[error("a packet of {0} bytes is too long for a line")]
     FrameTooLong(u32),
@@ -23,7 +23,7 @@ pub enum CaptureError {
     #[error("the capture ends within a packet")]
     CutOff,
     /// A block of a pcapng file that is read, as a section header, an interface description or a
-    /// packet, has so many bytes, which is more than [`BLOCK_LIMIT`](crate::BLOCK_LIMIT).
+    /// packet, has this many bytes, which is more than [`BLOCK_LIMIT`](crate::BLOCK_LIMIT).
     #[error("a block of {0} bytes is too long")]
     BlockTooLong(u32),
     /// A section of a pcapng file has this major and minor version. Those that are read are 1.0, and

@@ -28,8 +28,8 @@ ghost use Rattle.captures.specs.declared.translation.state.State.TheVariants.{St
 ghost use Rattle.captures.specs.declared.translation.skipped.Skipped.{Skipped};
 ghost use Rattle.captures.specs.declared.unfit.Unfit.{Unfit};
 ghost use Rattle.captures.specs.declared.unfit.Unfit.TheVariants.{Refuse, Skip};
-ghost use Rattle.captures.specs.Spelling.{IsWritable, capture_of, packets_in};
-ghost use Rattle.commands.specs.TimedLines.{TimedFrame};
+ghost use Rattle.captures.specs.Encoding.{IsWritable, capture_of, packets_in};
+ghost use Rattle.line_grammar.specs.TimedLines.{TimedFrame};
 ghost use Rattle.captures.specs.declared.extra.Extra.{Extra};
 ghost use Rattle.captures.specs.declared.extra.Extra.TheVariants.{Forget};
 ghost use Rattle.captures.specs.declared.text.ledger.Ledger.{Ledger};
@@ -37,14 +37,14 @@ ghost use Rattle.captures.specs.declared.time.time_unit.TimeUnit.{TimeUnit};
 
 pub mod spans;
 
-use crate::limits::{BLOCK_LIMIT, FIRST_UNIT_LEN, INPUT_ROOM, SKIPPED_LIMIT, TIME_LIMIT};
+use crate::limits::{BLOCK_LIMIT, FIRST_UNIT_LEN, INPUT_CAPACITY, SKIPPED_LIMIT, TIME_LIMIT};
 use crate::pcapng::section::ETHERNET;
 use crate::{
-    CaptureError, Extra, FRAME_LIMIT, Header, Link, Place, ReadError, RunError, Skipped, TimeUnit,
-    Unfit,
+    CaptureError, Extra, FRAME_LIMIT, Header, Link, Position, ReadError, RunError, Skipped,
+    TimeUnit, Unfit,
 };
+use device_runs::Fault;
 use ep_base::laws::traits::Value;
-use runs::Fault;
 
 /// What is written is read again, as the same frames in the same order, at their times.
 pub fn written_frames_are_read()
@@ -54,7 +54,7 @@ pub fn written_frames_are_read()
         none_skipped }
 {}
 
-/// The packets of a capture are known by its bytes, and so is how many are passed over.
+/// The packets of a capture are determined by its bytes, and so is how many are passed over.
 pub fn capture_is_alone()
     ensures { (unfit : Unfit) (bytes : List ℕ) (packets packets' : List Packet)
         (skipped skipped' : Skipped) → IsBytes bytes
@@ -62,24 +62,24 @@ pub fn capture_is_alone()
         → (packets ≡ packets') × (skipped ≡ skipped') }
 {}
 
-/// How many packets of some bytes are passed over is known by the bytes, whether more are wanted behind
-/// them or they are refused.
+/// How many packets of some bytes are passed over is determined by the bytes, whether more must
+/// follow them or they are refused.
 pub fn passed_over_is_alone()
     ensures { (unfit : Unfit) (bytes : List ℕ) (skipped skipped' : Skipped) → IsBytes bytes
         → ArePassedOver unfit skipped bytes → ArePassedOver unfit skipped' bytes
         → skipped ≡ skipped' }
 {}
 
-/// A capture that is told whole where packets that can't be told are refused is told the same where
-/// they are passed over.
-pub fn told_whole_by_both()
+/// A capture that is reported whole where packets that can't be reported are refused is reported
+/// the same where they are passed over.
+pub fn reported_whole_by_both()
     ensures { (bytes : List ℕ) (packets : List Packet) (skipped : Skipped)
         → IsCapture Refuse bytes packets skipped → IsCapture Skip bytes packets skipped }
 {}
 
-/// What is told of any bytes, whether more are wanted behind them or they are refused, is known by
-/// them.
-pub fn told_is_alone()
+/// What is reported of any bytes, whether more must follow them or they are refused, is determined
+/// by them.
+pub fn reported_is_alone()
     ensures { (extra : Extra) (unfit : Unfit) (bytes rest rest' text text' : List ℕ)
         (count count' : ℕ) (state state' : State) (refusal refusal' : Option CaptureError)
         (noted noted' : Ledger) → IsBytes bytes
@@ -88,21 +88,21 @@ pub fn told_is_alone()
         → text ≡ text' }
 {}
 
-/// The frames that a text of lines hands in are known by its bytes.
+/// The frames of a text of lines are determined by its bytes.
 pub fn text_is_alone()
     ensures { (bytes : List ℕ) (frames frames' : List TimedFrame) → IsText bytes frames
         → IsText bytes frames' → frames ≡ frames' }
 {}
 
-/// While all packets behind a packet come less than so many seconds after it, by their times, no
-/// line has its message dropped.
+/// While all packets after a packet come less than this many seconds later, by their times, no line
+/// has its reassembly dropped.
 pub fn forget_keeps()
     ensures { ForgetKeeps }
 {}
 
-/// Where no packet before it is later, its message is dropped in time: let a packet come so many
-/// seconds after it, and then one that comes so many seconds after each up to that one. A line with
-/// a greater number than its own stands before that packet's line, or earlier.
+/// Where no packet before it is later, its reassembly is dropped in time: let a packet come this
+/// many seconds after it, and then one that comes this many seconds after each up to that one. A
+/// line with a greater number than its own comes before that packet's line, or earlier.
 pub fn forget_drops()
     ensures { ForgetDrops }
 {}
@@ -115,8 +115,8 @@ pub fn worked_spans()
         ∷ packet 90 ∷ packet 121 ∷ []) ≡ 1 ∷ 3 ∷ [] }
 {}
 
-/// Each packet of a capture has a byte at least, no more than a line can hold, and a channel of 32
-/// bits.
+/// Each packet of a capture has at least one byte, no more than a line can hold, and a channel of
+/// 32 bits.
 pub fn captured_packets_have_lines()
     ensures { CapturedPacketsHaveLines }
 {}
@@ -148,8 +148,8 @@ pub fn worked_line()
     }) ≡ codes "frame 7 0aff\n" }
 {}
 
-/// A block of the kind of a section header opens a section with 28 bytes at least and version 1.0 or
-/// 1.2, and any other version is refused by its numbers.
+/// A block of the kind of a section header begins a section with 28 bytes at least and version 1.0
+/// or 1.2, and any other version is refused by its numbers.
 pub fn section_header_lengths()
     ensures short { (section : Section) (order : ByteOrder) (block : List ℕ) (content : Content)
         → word order block 0 ≡ 0x0a0d0d0a → length block < 28
@@ -173,7 +173,7 @@ pub fn interface_description_lengths()
         × ((number : ℕ) → RefusesBlock section order block (LinkType number) → ⊥) }
 {}
 
-/// A packet block with fewer bytes than it tells is not well made, however many it tells: an
+/// A packet block with fewer bytes than it states is not well made, however many it states: an
 /// enhanced (6) or obsolete packet (2) has 32 more.
 pub fn packet_lengths()
     ensures { (section : Section) (order : ByteOrder) (block : List ℕ)
@@ -193,10 +193,10 @@ pub fn block_lengths_in_words()
 {}
 
 /// A copy of an error is the error and takes no memory. Equal are the errors that are the same,
-/// with what they tell.
+/// with the values in them.
 pub fn types_are_plain_data()
     ensures capture_error { IsPlainData ⟦<CaptureError as Value>⟧ }
-    ensures place { IsPlainData ⟦<Place as Value>⟧ }
+    ensures position { IsPlainData ⟦<Position as Value>⟧ }
     ensures run_error { IsPlainData ⟦<RunError as Value>⟧ }
     ensures unfit { IsPlainData ⟦<Unfit as Value>⟧ }
     ensures extra { IsPlainData ⟦<Extra as Value>⟧ }
@@ -213,7 +213,7 @@ pub fn constants()
     ensures skipped { SKIPPED_LIMIT ≡ 262_128 }
     ensures block { BLOCK_LIMIT ≡ 262_144 }
     ensures first { FIRST_UNIT_LEN ≡ 24 }
-    ensures input { INPUT_ROOM ≡ 262_144 }
+    ensures input { INPUT_CAPACITY ≡ 262_144 }
     ensures time { TIME_LIMIT ≡ 4_294_967_295_999_999_999 }
     ensures ethernet { ETHERNET ≡ 1 }
 {}

@@ -1,5 +1,5 @@
-//! Capture files in and out: the packets of a capture, from its bytes or a reader, or as lines for
-//! `netlines`, and a capture of such lines.
+//! Capture files, read and written: the packets of a capture, from its bytes or a reader; a capture
+//! as lines for `netlines`; and a capture of the frames of such lines.
 #![tactic(auto)]
 
 mod byte_order;
@@ -12,7 +12,7 @@ mod origin;
 mod packet;
 mod pcap;
 mod pcapng;
-mod place;
+mod position;
 mod reading;
 mod spans;
 mod text;
@@ -21,19 +21,19 @@ mod translation;
 mod unfit;
 
 pub use capture_error::CaptureError;
-pub use commands::FRAME_LIMIT;
+pub use device_runs::{READ_COUNT_LIMIT, device};
 pub use extra::Extra;
 pub use limits::{BLOCK_LIMIT, SKIPPED_LIMIT};
+pub use line_grammar::FRAME_LIMIT;
 pub use link::frame::Frame;
 pub use link::header::Header;
 pub use link::kind::Link;
 pub use packet::Packet;
 pub use pcap::writer::Writer;
-pub use place::Place;
+pub use position::Position;
 pub use reading::packet_reader::PacketReader;
 pub use reading::packets::Packets;
 pub use reading::read_error::ReadError;
-pub use runs::{READ_COUNT_LIMIT, device};
 pub use spans::Spans;
 pub use time::time_unit::TimeUnit;
 pub use translation::run_captures::{run, run_over};

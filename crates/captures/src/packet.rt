@@ -1,6 +1,6 @@
 //! A packet of a capture.
 ghost use Rattle.std.specs.Prelude.{◌≡◌};
-ghost use Rattle.captures.specs.Fronts.{origin_of};
+ghost use Rattle.captures.specs.PacketSteps.{origin_of};
 
 use crate::link::frame::Frame;
 use crate::link::kind::Link;
@@ -13,7 +13,7 @@ pub struct Packet<'a> {
     /// 0.
     pub interface: u32,
     /// When it was captured, in nanoseconds since the year 1970 began. A simple packet block of a
-    /// pcapng file tells no time, and has 0.
+    /// pcapng file has no time: then it is 0.
     pub time: u64,
     /// The kind of link that it was captured on.
     pub link: Link,

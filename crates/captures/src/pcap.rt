@@ -1,4 +1,4 @@
-//! Classic captures: what stands at the front of their bytes, and captures written.
+//! Classic captures: the unit at the start of their bytes, and captures written.
 
 pub(crate) mod unit;
 pub(crate) mod writer;

@@ -4,8 +4,8 @@ ghost use Rattle.captures.specs.Spans.{begin_with, have_passed, passed_with};
 
 const NANOSECONDS: u64 = 1_000_000_000;
 
-/// Spans of packet time, one after the other, by whose ends messages are dropped that got no fragment
-/// in one of them. Times are in nanoseconds.
+/// Spans of packet time, one after the other. At the end of each, reassemblies may be dropped that
+/// got no fragment in it. Times are in nanoseconds.
 #[derive(Clone, Copy, Debug, PartialEq, Eq)]
 pub struct Spans {
     // When the one began that is running.
@@ -20,9 +20,9 @@ impl Spans {
         Spans { begin: None }
     }
 
-    /// Goes on to a packet of this time. A span begins with the first packet, and with each that comes
-    /// so many seconds or more after the one before it began: then that one has passed, and when it
-    /// began is told.
+    /// Advances to a packet of this time. A span begins with the first packet, and with each that
+    /// comes this many seconds or more after the one before it began: then that one has passed, and
+    /// when it began is returned.
     ///
     /// With 0 seconds a span has passed with each packet but the first that doesn't come before the
     /// span began. Where times run backwards none passes until they have come as far again.
@@ -43,7 +43,7 @@ impl Spans {
     }
 }
 
-/// Whether so many seconds have passed since a span began.
+/// Whether this many seconds have passed since a span began.
 #[inline(always)]
 pub(crate) fn have_passed(seconds: u32, begin: u64, time: u64) -> bool
     ensures { result ≡ have_passed seconds begin time }

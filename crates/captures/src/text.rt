@@ -1,4 +1,4 @@
-//! Lines that hand frames in: of packets, and as the packet records of a capture.
+//! Lines that give frames: of packets, and as the packet records of a capture.
 
 pub(crate) mod ledger;
 pub(crate) mod line;

@@ -1,4 +1,4 @@
-//! Runs from captures to lines and back: what is taken of the input, piece by piece, and how a run
+//! Runs from captures to lines and back: what is taken of the input, chunk by chunk, and how a run
 //! ends.
 
 pub(crate) mod end;

@@ -1,9 +1,9 @@
-//! What becomes of packets that can't be told.
+//! What happens to packets that can't be reported.
 ghost use Rattle.std.specs.Prelude.{◌≡◌};
 ghost use Rattle.captures.specs.Framed.{unfit_by};
 
-/// What becomes of a packet that can't be told: its link isn't read, it has no Ethernet frame, or
-/// its frame is too long for a line.
+/// What happens to a packet that can't be reported: its link isn't read, it has no Ethernet frame,
+/// or its frame is too long for a line.
 #[derive(Clone, Copy, Debug, PartialEq, Eq)]
 pub enum Unfit {
     /// The run ends there.

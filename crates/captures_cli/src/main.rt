@@ -3,10 +3,10 @@
 #![tactic(auto)]
 
 use anyhow::Context;
-use capture_commands::{Mode, PROGRAM, asked_for, exit_code, make};
-use capture_inputs::{Input, tell_skipped};
+use capture_programs::captures_arguments::command;
+use capture_programs::{Input, report_skipped};
 use captures::Skipped;
-use command_lines::captures::command;
+use captures_program::{Mode, PROGRAM, exit_code, make, requested_by};
 use std::env;
 use std::fs::File;
 use std::io::Read;
@@ -24,8 +24,8 @@ fn main(rt: HostRuntime) -> anyhow::Result<ExitCode> {
             return Ok(ExitCode::from(error.exit_code() as u8));
         }
     };
-    match asked_for(&matches) {
-        Some(asked) => make_of_file(&rt, asked.mode, asked.name),
+    match requested_by(&matches) {
+        Some(requested) => make_of_file(&rt, requested.mode, requested.name),
         None => Ok(ExitCode::SUCCESS),
     }
 }
@@ -44,6 +44,6 @@ fn make_of<R: Read + Drop>(rt: &HostRuntime, mode: Mode, mut input: Input<R>) ->
     let seen = input.look();
     let mut skipped = Skipped::NONE;
     let made = make(rt.alloc(), mode, &mut input, &mut rt.stdout(), &mut skipped);
-    tell_skipped(rt, PROGRAM, skipped);
+    report_skipped(rt, PROGRAM, skipped);
     exit_code(rt, made, seen)
 }

@@ -1,9 +1,9 @@
-//! Pcapng files. The first was written by scapy 2.5.0, the second by hand from the format's
-//! description.
+//! Pcapng files. The first was written by scapy 2.5.0, the second is laid out byte by byte after
+//! the format's description.
 ghost use Rattle.std.specs.Prelude.{◌+◌, ◌≤◌, length};
 
 use crate::checks::joined;
-use crate::packet_lines::{LINES, refused, tells};
+use crate::packet_lines::{LINES, refused, reports};
 use captures::CaptureError;
 
 const SCAPY: &[u8; 208] = b"\
@@ -48,12 +48,12 @@ pub(super) const TWO_SECTIONS_LINES: &[u8; 64] = b"frame 1 0102030405\n\
 
 #[test]
 fn file_of_scapy(rt: HostRuntime) {
-    tells(rt, SCAPY, Ok(()), LINES);
+    reports(rt, SCAPY, Ok(()), LINES);
 }
 
 const SECTION: u32 = 0x0a0d_0d0a;
 
-// Where a front of the two sections ends: the packet, the block's offset and its type.
+// Where a prefix of the two sections ends: the packet, the block's offset and its type.
 fn block_at(n: usize) -> (u64, usize, u32) {
     match n {
         0..=27 => (1, 0, SECTION),
@@ -71,7 +71,7 @@ fn block_at(n: usize) -> (u64, usize, u32) {
     }
 }
 
-// The lines that a front of the two sections gives.
+// The lines that a prefix of the two sections gives.
 fn lines_before(n: usize) -> &'static [u8] {
     match n {
         0..=131 => b"",
@@ -83,10 +83,10 @@ fn lines_before(n: usize) -> &'static [u8] {
 }
 
 #[test]
-fn each_front_of_two_sections(rt: HostRuntime) {
+fn each_prefix_of_two_sections(rt: HostRuntime) {
     for n in 0..=320 {
         let (packet, offset, kind) = block_at(n);
-        // Four bytes of a block tell its type.
+        // Four bytes of a block give its type.
         let block = if n.saturating_sub(offset) < 4 {
             None
         } else {
@@ -97,11 +97,11 @@ fn each_front_of_two_sections(rt: HostRuntime) {
             28 | 48 | 68 | 88 | 132 | 152 | 192 | 212 | 232 | 252 | 288 | 320 => Ok(()),
             _ => refused(CaptureError::CutOff, packet, offset as u64, block),
         };
-        tells(rt, &TWO_SECTIONS[..n], wanted, lines_before(n));
+        reports(rt, &TWO_SECTIONS[..n], wanted, lines_before(n));
     }
 }
 
-// The two sections with other bytes at a place.
+// The two sections with other bytes at an offset.
 fn with_bytes(at: usize, bytes: &[u8]) -> [u8; 320]
     requires { at + length bytes.now ≤ 320 }
 {
@@ -183,7 +183,7 @@ fn each_refusal(rt: HostRuntime) {
         (108, b"\x0d", bad, none, (1, 88, Some(6))),
         // a second section without byte order magic
         (160, b"\x1b", bad, two, (3, 152, Some(SECTION))),
-        // a simple packet of 4 bytes, and other blocks in place of the interfaces before it
+        // a simple packet of 4 bytes, and other blocks instead of the interfaces before it
         (
             192,
             b"\x00\x00\x00\x05\x00\x00\x00\x14\x00\x01\x00\x00\x00\x00\x00\x04\
@@ -198,7 +198,7 @@ fn each_refusal(rt: HostRuntime) {
         (260, b"\x00\x00\x00\x02", bad, three, (4, 252, Some(6))),
     ] {
         let wanted = refused(error, packet, offset, block);
-        tells(rt, &with_bytes(at, bytes), wanted, lines);
+        reports(rt, &with_bytes(at, bytes), wanted, lines);
     }
 }
 
@@ -217,7 +217,7 @@ fn simple_packets_under_a_snap_length(rt: HostRuntime) {
         ],
     );
     let lines = b"frame 0 010203\nframe 0 01020304\nframe 0 01020304\n";
-    tells(rt, file.as_slice(), Ok(()), lines);
+    reports(rt, file.as_slice(), Ok(()), lines);
 }
 
 #[test]
@@ -239,6 +239,6 @@ fn fields_that_are_ignored(rt: HostRuntime) {
         (121, b"\xff\xff\xff"),
         (147, b"\xff"),
     ] {
-        tells(rt, &with_bytes(at, bytes), Ok(()), TWO_SECTIONS_LINES);
+        reports(rt, &with_bytes(at, bytes), Ok(()), TWO_SECTIONS_LINES);
     }
 }

@@ -2,7 +2,7 @@
 ghost use Rattle.std.specs.Prelude.{◌+◌, ◌≤◌, length};
 
 use crate::checks::joined;
-use crate::packet_lines::{LINES, refused, tells};
+use crate::packet_lines::{LINES, refused, reports};
 use captures::CaptureError;
 
 pub(super) const LITTLE_MICROSECONDS: &[u8; 148] = b"\
@@ -57,13 +57,13 @@ fn each_byte_order_and_time_unit(rt: HostRuntime) {
         LITTLE_NANOSECONDS,
         BIG_NANOSECONDS,
     ] {
-        tells(rt, file, Ok(()), LINES);
+        reports(rt, file, Ok(()), LINES);
     }
 }
 
 // The file header has 24 bytes, the packet records 16 + 50 and 16 + 42; the lines 109 and 93.
 #[test]
-fn each_front(rt: HostRuntime) {
+fn each_prefix(rt: HostRuntime) {
     for n in 0..=148 {
         let (wanted, lines) = match n {
             0..=23 => (
@@ -76,11 +76,11 @@ fn each_front(rt: HostRuntime) {
             91..=147 => (refused(CaptureError::CutOff, 2, 90, None), &LINES[..109]),
             _ => (Ok(()), LINES.as_slice()),
         };
-        tells(rt, &BIG_MICROSECONDS[..n], wanted, lines);
+        reports(rt, &BIG_MICROSECONDS[..n], wanted, lines);
     }
 }
 
-// The file with other bytes at a place.
+// The file with other bytes at an offset.
 fn with_bytes(at: usize, bytes: &[u8]) -> [u8; 148]
     requires { at + length bytes.now ≤ 148 }
 {
@@ -115,7 +115,7 @@ fn each_refusal(rt: HostRuntime) {
         (98, b"\x00\x01\x86\x97", CaptureError::CutOff, first, 2, 90),
     ] {
         let wanted = refused(error, packet, offset, None);
-        tells(rt, &with_bytes(at, bytes), wanted, lines);
+        reports(rt, &with_bytes(at, bytes), wanted, lines);
     }
 }
 
@@ -124,7 +124,7 @@ fn fields_that_are_ignored(rt: HostRuntime) {
     for (at, bytes) in [
         // The two reserved numbers of the file header.
         (8, b"\xff\xff\xff\xff\xff\xff\xff\xff".as_slice()),
-        // The upper half of its last number, which may tell of frame check sequences.
+        // The upper half of its last number, which may give the length of frame check sequences.
         (20, b"\x24\x00"),
         // The time of the first packet.
         (24, b"\xff\xff\xff\xff\xff\xff\xff\xff"),
@@ -132,14 +132,14 @@ fn fields_that_are_ignored(rt: HostRuntime) {
         (36, b"\x00\x00\x05\xdc"),
         (36, b"\x00\x00\x00\x01"),
     ] {
-        tells(rt, &with_bytes(at, bytes), Ok(()), LINES);
+        reports(rt, &with_bytes(at, bytes), Ok(()), LINES);
     }
 }
 
-// A packet of which no byte was captured stands between the header and nothing else.
+// A packet of which no byte was captured follows the header, and nothing else does.
 #[test]
 fn packet_of_no_bytes(rt: HostRuntime) {
     let record = b"\0\0\0\0\0\0\0\0\0\0\0\0\x3c\0\0\0";
     let file = joined(rt, &[&LITTLE_MICROSECONDS[..24], record]);
-    tells(rt, file.as_slice(), Ok(()), b"");
+    reports(rt, file.as_slice(), Ok(()), b"");
 }

@@ -1,6 +1,6 @@
-//! Lines that have messages dropped, worked by hand.
+//! Lines that have reassemblies dropped, at literal values.
 use crate::checks::{append, equal, equal_bytes, joined};
-use crate::packet_lines::tells_all;
+use crate::packet_lines::reports_all;
 use captures::{Extra, Skipped, Spans, Unfit, run};
 use fault_devices::FaultReader;
 use std::process::Abort;
@@ -79,7 +79,7 @@ fn spans_that_pass(rt: HostRuntime) {
         ),
     ] {
         let file = capture_at(rt, times);
-        tells_all(
+        reports_all(
             rt,
             Extra::Forget(seconds),
             file.as_slice(),
@@ -123,7 +123,7 @@ fn spans_that_have_passed(rt: HostRuntime) {
     }
 }
 
-// Spans go on over reads, and over what has no line: no byte was captured, or it is passed over.
+// Spans last over reads, and over what has no line: no byte was captured, or it is passed over.
 #[test]
 fn spans_over_reads(rt: HostRuntime) {
     // At 100 seconds IPv4, at 110 nothing, at 120 no version of IP, at 130 and 135 IPv4.

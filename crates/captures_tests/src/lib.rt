@@ -1,13 +1,15 @@
-//! Tests of `captures`, `capture_inputs`, `capture_commands` and `command_lines` over their public
-//! calls. They stand in a crate of their own, so that they are proved beside these and not with
-//! each of their functions once more. Functions that they share have no contracts: tests alone call
-//! them, and are run.
+//! Tests of `captures`, `capture_programs` and `captures_program` over their public calls. They are
+//! in a crate of their own, so that they are proved beside these and not with each of their
+//! functions once more. Functions that they share have no contracts: tests alone call them, and are
+//! run.
 #![tactic(auto)]
 
 #[cfg(test)]
 mod blocks;
 #[cfg(test)]
 mod checks;
+#[cfg(test)]
+mod chunks;
 #[cfg(test)]
 mod classic;
 #[cfg(test)]
@@ -20,8 +22,6 @@ mod links;
 mod long_blocks;
 #[cfg(test)]
 mod packet_lines;
-#[cfg(test)]
-mod pieces;
 #[cfg(test)]
 mod programs;
 #[cfg(test)]

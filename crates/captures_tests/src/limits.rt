@@ -1,18 +1,18 @@
 //! Blocks of least and greatest lengths, in a section with one Ethernet interface that cuts
 //! nothing.
 use crate::checks::{append, joined, repeated};
-use crate::packet_lines::{refused, tells, tells_bytes};
+use crate::packet_lines::{refused, reports, reports_bytes};
 use captures::CaptureError;
 use std::process::Abort;
 
-const FRONT: &[u8; 48] = b"\
+const PREFIX: &[u8; 48] = b"\
     \x0a\x0d\x0d\x0a\x1c\x00\x00\x00\x4d\x3c\x2b\x1a\x01\x00\x00\x00\xff\xff\xff\xff\
     \xff\xff\xff\xff\x1c\x00\x00\x00\x01\x00\x00\x00\x14\x00\x00\x00\x01\x00\x00\x00\
     \x00\x00\x00\x00\x14\x00\x00\x00";
 
-// The front and a block of this kind and length, 0 but for these words behind its two lengths.
+// The start and a block of this kind and length, 0 but for these words after its two lengths.
 fn with_block(rt: impl Abort + AllocGlobal + Copy, kind: u32, len: u32, words: &[u32]) -> Vec<u8> {
-    let mut file = joined(rt, &[FRONT, &kind.to_le_bytes(), &len.to_le_bytes()]);
+    let mut file = joined(rt, &[PREFIX, &kind.to_le_bytes(), &len.to_le_bytes()]);
     let mut left = (len as usize).saturating_sub(12);
     for word in words {
         if left >= 4 {
@@ -48,8 +48,8 @@ fn each_length(rt: HostRuntime) {
         (3, 20, [5, 0].as_slice(), bad, 0),
         (6, 36, [0, 0, 0, 4, 4, 0].as_slice(), Ok(()), 17),
         (6, 36, [0, 0, 0, 5, 5, 0].as_slice(), bad, 0),
-        // The interface of an obsolete packet is in the lower half, and any number of dropped
-        // packets may stand in the upper.
+        // The interface of an obsolete packet is in the lower half, and the upper may hold any
+        // number of dropped packets.
         (
             2,
             36,
@@ -93,22 +93,22 @@ fn each_length(rt: HostRuntime) {
         (5, 262_149, [].as_slice(), bad, 0),
     ] {
         let file = with_block(rt, kind, len, words);
-        // The block stands behind the 48 bytes of the front.
+        // The block follows the 48 bytes of the start.
         let wanted = match wanted {
             Ok(()) => Ok(()),
             Err(error) => refused(error, 1, 48, Some(kind)),
         };
-        tells_bytes(rt, file.as_slice(), wanted, line_len);
+        reports_bytes(rt, file.as_slice(), wanted, line_len);
     }
 }
 
 // Fewer bytes than a file header has are no capture, whatever their lengths are.
 #[test]
-fn front_of_a_bad_section(rt: HostRuntime) {
-    let mut file = *FRONT;
+fn prefix_of_a_bad_section(rt: HostRuntime) {
+    let mut file = *PREFIX;
     file[4] = 7;
     for (len, error) in [(20, CaptureError::NotCapture), (24, CaptureError::BadBlock)] {
         let wanted = refused(error, 1, 0, Some(0x0a0d_0d0a));
-        tells(rt, &file[..len], wanted, b"");
+        reports(rt, &file[..len], wanted, b"");
     }
 }

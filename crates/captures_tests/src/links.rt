@@ -1,7 +1,7 @@
 //! Packets of other links than Ethernet, laid out as tcpdump.org/linktypes.html says.
 //! Calls have no contracts: tests alone make them, and are run.
 use crate::checks::{append, joined, repeated};
-use crate::packet_lines::{refused, tells, tells_bytes};
+use crate::packet_lines::{refused, reports, reports_bytes};
 use captures::CaptureError;
 use std::process::Abort;
 
@@ -129,17 +129,17 @@ fn frame_of_each_link(rt: HostRuntime) {
             None => (refused(CaptureError::NoFrame, 1, 24, None), ""),
         };
         let file = capture(rt, *link_type, *packet);
-        tells(rt, file.as_slice(), wanted, line.as_bytes());
+        reports(rt, file.as_slice(), wanted, line.as_bytes());
     }
 }
 
 // A packet of this length that begins so, and else is 0.
-fn filled(rt: impl Abort + AllocGlobal + Copy, front: &[u8], len: usize) -> Vec<u8> {
-    let zeros = repeated(rt, b"\0", len.saturating_sub(front.len()));
-    joined(rt, &[front, zeros.as_slice()])
+fn filled(rt: impl Abort + AllocGlobal + Copy, prefix: &[u8], len: usize) -> Vec<u8> {
+    let zeros = repeated(rt, b"\0", len.saturating_sub(prefix.len()));
+    joined(rt, &[prefix, zeros.as_slice()])
 }
 
-// As many bytes as a line holds, behind a header of 14 in place of none, of 4, 16 and 20.
+// As many bytes as a line holds, after a header of 14 instead of none, of 4, 16 and 20.
 #[test]
 fn longest_packets(rt: HostRuntime) {
     let ip = b"\x45".as_slice();
@@ -148,7 +148,7 @@ fn longest_packets(rt: HostRuntime) {
     let cooked = b"\0\x04\0\x01\0\x06\x02\0\0\0\0\x01\0\0\x08\0".as_slice();
     let cooked_2 = b"\x08\0\0\0\0\0\0\x02\0\x01\x04\x06\x02\0\0\0\0\x01\0\0".as_slice();
     let too_long = |count| refused(CaptureError::FrameTooLong(count), 1, 24, None);
-    for (link_type, front, len, wanted, line_len) in [
+    for (link_type, prefix, len, wanted, line_len) in [
         (101, ip, 99_977, Ok(()), 199_991),
         (101, ip, 99_978, too_long(99_978), 0),
         (0, null, 99_981, Ok(()), 199_991),
@@ -160,9 +160,9 @@ fn longest_packets(rt: HostRuntime) {
         (113, cooked, 99_993, Ok(()), 199_991),
         (113, cooked, 99_994, too_long(99_994), 0),
     ] {
-        let packet = filled(rt, front, len);
+        let packet = filled(rt, prefix, len);
         let file = capture(rt, link_type, packet.as_slice());
-        tells_bytes(rt, file.as_slice(), wanted, line_len);
+        reports_bytes(rt, file.as_slice(), wanted, line_len);
     }
 }
 
@@ -209,7 +209,7 @@ fn links_of_a_section(rt: HostRuntime) {
         frame 0 000000000000000000000000080045\n\
         frame 1 000000000000000000000000080045\n\
         frame 0 00000000000000000000000086dd60\n";
-    tells(rt, file.as_slice(), Ok(()), lines);
+    reports(rt, file.as_slice(), Ok(()), lines);
 }
 
 // An interface of LINUX_SLL2 (276), as `dumpcap -i any` describes it.
@@ -226,16 +226,16 @@ fn cooked_interface_of_a_section(rt: HostRuntime) {
         ],
     );
     let line = b"frame 0 000000000000020000000001080045\n";
-    tells(rt, file.as_slice(), Ok(()), line);
+    reports(rt, file.as_slice(), Ok(()), line);
 }
 
 // The 32nd interface of a section may have any link that is read, the 33rd has to be Ethernet.
 #[test]
 fn link_of_the_33rd_interface(rt: HostRuntime) {
     let link_error = |number| refused(CaptureError::LinkType(number), 1, 668, Some(1));
-    let told = b"frame 32 45\nframe 31 000000000000000000000000080045\n".as_slice();
+    let actual = b"frame 32 45\nframe 31 000000000000000000000000080045\n".as_slice();
     for (last, next, wanted, lines) in [
-        (101, 1, Ok(()), told),
+        (101, 1, Ok(()), actual),
         (101, 101, link_error(101), b""),
         (101, 9, link_error(9), b""),
     ] {
@@ -246,6 +246,6 @@ fn link_of_the_33rd_interface(rt: HostRuntime) {
         append(rt, &mut file, &[&interface_of(last), &interface_of(next)]);
         // A packet of the 33rd, and one of the 32nd.
         append(rt, &mut file, &[&packet_of(32), &packet_of(31)]);
-        tells(rt, file.as_slice(), wanted, lines);
+        reports(rt, file.as_slice(), wanted, lines);
     }
 }

@@ -1,14 +1,14 @@
 //! Blocks that are skipped and longer than what a run holds, in a section with one Ethernet
-//! interface. The files are made by hand from the format's description.
+//! interface. The files are laid out byte by byte after the format's description.
 //! Calls have no contracts: tests alone make them, and are run.
 use crate::checks::{append, joined, repeated};
-use crate::packet_lines::{refused, tells_read};
+use crate::packet_lines::{refused, reports_read};
 use captures::CaptureError;
 use fault_devices::FaultReader;
 use std::process::Abort;
 
 // A section header, and an interface of link type 1 that cuts nothing.
-const FRONT: &[u8; 48] = b"\
+const PREFIX: &[u8; 48] = b"\
     \x0a\x0d\x0d\x0a\x1c\x00\x00\x00\x4d\x3c\x2b\x1a\x01\x00\x00\x00\xff\xff\xff\xff\
     \xff\xff\xff\xff\x1c\x00\x00\x00\x01\x00\x00\x00\x14\x00\x00\x00\x01\x00\x00\x00\
     \x00\x00\x00\x00\x14\x00\x00\x00";
@@ -20,11 +20,11 @@ const PACKET: &[u8; 20] = b"\
 // The kind of a custom block.
 pub(super) const CUSTOM: u32 = 0x0bad;
 
-// What stands within a block of this length: what could be taken for its end too.
+// The content of a block of this length: words that could be taken for its end too.
 fn words_within(rt: impl Abort + AllocGlobal + Copy, len: u32) -> Vec<u8> {
     let mut words = Vec::new(rt.alloc());
-    for place in 0..len.saturating_sub(12) / 4 {
-        let word = if place % 3 == 0 { len } else { place };
+    for position in 0..len.saturating_sub(12) / 4 {
+        let word = if position % 3 == 0 { len } else { position };
         append(rt, &mut words, &[&word.to_le_bytes()]);
     }
     words
@@ -40,7 +40,7 @@ pub(super) fn with_long_block(
     joined(
         rt,
         &[
-            FRONT,
+            PREFIX,
             PACKET,
             &kind.to_le_bytes(),
             &len.to_le_bytes(),
@@ -60,13 +60,13 @@ fn long_blocks_are_skipped(rt: HostRuntime) {
         let file = with_long_block(rt, CUSTOM, len, len);
         for size in [1, 3, 4_096, 262_144] {
             let mut reader = FaultReader::new(file.as_slice(), size);
-            tells_read(rt, &mut reader, Ok(()), lines);
+            reports_read(rt, &mut reader, Ok(()), lines);
         }
     }
 }
 
 // The kinds that are read are refused, and so are lengths of no whole words and ends with another
-// length. The packet in front of each is told.
+// length. The packet before each is reported.
 #[test]
 fn long_blocks_that_are_refused(rt: HostRuntime) {
     let too_long = CaptureError::BlockTooLong(262_148);
@@ -82,7 +82,7 @@ fn long_blocks_that_are_refused(rt: HostRuntime) {
         let wanted = refused(error, 2, 68, Some(kind));
         for size in [3, 262_144] {
             let mut reader = FaultReader::new(file.as_slice(), size);
-            tells_read(rt, &mut reader, wanted, b"frame 0 abcd\n");
+            reports_read(rt, &mut reader, wanted, b"frame 0 abcd\n");
         }
     }
 }
@@ -93,7 +93,7 @@ fn long_block_cut_off(rt: HostRuntime) {
     let file = with_long_block(rt, CUSTOM, 600_000, 600_000);
     let cut = refused(CaptureError::CutOff, 2, 68, Some(CUSTOM));
     for (len, wanted) in [
-        // One byte tells no type.
+        // One byte gives no type.
         (69, refused(CaptureError::CutOff, 2, 68, None)),
         (80, cut),
         (262_144, cut),
@@ -106,7 +106,7 @@ fn long_block_cut_off(rt: HostRuntime) {
         assert!(rt; len <= file.len());
         for size in [3, 262_144] {
             let mut reader = FaultReader::new(&file.as_slice()[..len], size);
-            tells_read(rt, &mut reader, wanted, b"frame 0 abcd\n");
+            reports_read(rt, &mut reader, wanted, b"frame 0 abcd\n");
         }
     }
 }
@@ -143,6 +143,6 @@ fn long_blocks_of_both_byte_orders(rt: HostRuntime) {
     let lines = b"frame 0 abcd\nframe 0 abcd\nframe 0 abcd\nframe 1 ef\n";
     for size in [7, 100_000, 262_144] {
         let mut reader = FaultReader::new(file.as_slice(), size);
-        tells_read(rt, &mut reader, Ok(()), lines);
+        reports_read(rt, &mut reader, Ok(()), lines);
     }
 }

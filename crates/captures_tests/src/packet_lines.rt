@@ -1,7 +1,7 @@
 //! The lines that the captures of these tests hold, and what a run gives.
 //! Calls have no contracts: tests alone make them, and are run.
 use crate::checks::equal;
-use captures::{CaptureError, Extra, Place, RunError, Skipped, Unfit, run};
+use captures::{CaptureError, Extra, Position, RunError, Skipped, Unfit, run};
 use std::alloc::Global;
 use std::io::{Read, Write};
 use std::process::Abort;
@@ -11,7 +11,7 @@ pub const LINES: &[u8; 202] =
     b"frame 0 02000000000202000000000108004500002400010000401166c60a0000010a000002000100020010dbb40102030405060708\n\
     frame 0 ffffffffffff020000000001080600010800060400010200000000010a0000010000000000000a000002\n";
 
-// A refusal at a place.
+// A refusal at a position.
 pub fn refused(
     error: CaptureError,
     packet: u64,
@@ -20,7 +20,7 @@ pub fn refused(
 ) -> Result<(), RunError> {
     Err(RunError::Capture(
         error,
-        Place {
+        Position {
             packet,
             offset,
             block,
@@ -28,7 +28,7 @@ pub fn refused(
     ))
 }
 
-// A run that ends where a packet can't be told.
+// A run that ends where a packet can't be reported.
 pub fn lines_to<R: Read, W: Write>(
     alloc: Global,
     reader: &mut R,
@@ -45,7 +45,7 @@ pub fn lines_to<R: Read, W: Write>(
     )
 }
 
-/// The lines of a run that tells this beside frames and ends so.
+/// The lines of a run whose lines hold this beside frames and that ends so.
 pub fn lines_of<R: Read>(
     rt: impl Abort + AllocGlobal + Copy,
     extra: Extra,
@@ -67,53 +67,58 @@ pub fn lines_of<R: Read>(
 }
 
 /// A run over what is read ends so, and these are its lines.
-pub fn tells_read<R: Read>(
+pub fn reports_read<R: Read>(
     rt: impl Abort + AllocGlobal + Copy,
     reader: &mut R,
     wanted: Result<(), RunError>,
     lines: &[u8],
 ) {
-    let told = lines_of(rt, Extra::Nothing, reader, wanted);
-    equal(rt, told.as_slice(), lines);
+    let actual = lines_of(rt, Extra::Nothing, reader, wanted);
+    equal(rt, actual.as_slice(), lines);
 }
 
 /// The same of a capture.
-pub fn tells(
+pub fn reports(
     rt: impl Abort + AllocGlobal + Copy,
     capture: &[u8],
     wanted: Result<(), RunError>,
     lines: &[u8],
 ) {
-    tells_read(rt, &mut &*capture, wanted, lines);
+    reports_read(rt, &mut &*capture, wanted, lines);
 }
 
-/// The same where only the number of the lines' bytes is told.
-pub fn tells_bytes(
+/// The same where only the number of the lines' bytes is compared.
+pub fn reports_bytes(
     rt: impl Abort + AllocGlobal + Copy,
     capture: &[u8],
     wanted: Result<(), RunError>,
     count: usize,
 ) {
-    let told = lines_of(rt, Extra::Nothing, &mut &*capture, wanted);
-    equal(rt, told.len(), count);
+    let actual = lines_of(rt, Extra::Nothing, &mut &*capture, wanted);
+    equal(rt, actual.len(), count);
 }
 
-/// A run that tells this beside frames tells the whole capture by these lines.
-pub fn tells_all(rt: impl Abort + AllocGlobal + Copy, extra: Extra, capture: &[u8], lines: &[u8]) {
-    let told = lines_of(rt, extra, &mut &*capture, Ok(()));
-    equal(rt, told.as_slice(), lines);
+/// A run whose lines hold this beside frames reports the whole capture by these lines.
+pub fn reports_all(
+    rt: impl Abort + AllocGlobal + Copy,
+    extra: Extra,
+    capture: &[u8],
+    lines: &[u8],
+) {
+    let actual = lines_of(rt, extra, &mut &*capture, Ok(()));
+    equal(rt, actual.as_slice(), lines);
 }
 
-/// A run that passes over packets that can't be told ends so, after these lines, and has passed
-/// over so many. It doesn't add to what stood there.
-pub fn tells_skipping(
+/// A run that passes over packets that can't be reported ends so, after these lines, and has passed
+/// over this many. It doesn't add to what was there.
+pub fn reports_skipping(
     rt: impl Abort + AllocGlobal + Copy,
     capture: &[u8],
     wanted: Result<(), RunError>,
     lines: &[u8],
     passed: Skipped,
 ) {
-    let mut told = Vec::new(rt.alloc());
+    let mut actual = Vec::new(rt.alloc());
     let mut skipped = Skipped {
         of_other_links: 7,
         too_long: 8,
@@ -124,10 +129,10 @@ pub fn tells_skipping(
         Extra::Nothing,
         Unfit::Skip,
         &mut &*capture,
-        &mut told,
+        &mut actual,
         &mut skipped,
     );
     equal(rt, result, wanted);
-    equal(rt, told.as_slice(), lines);
+    equal(rt, actual.as_slice(), lines);
     equal(rt, skipped, passed);
 }

@@ -1,10 +1,10 @@
-//! What is made of an input, the flush, the status and what is told of an error.
+//! What is made of an input, the flush, the status and what is reported of an error.
 use crate::checks::{equal, equal_bytes, holds, joined, repeated};
 use crate::packet_lines::refused;
-use capture_commands::{Mode, PROGRAM, asked_for, exit_code, make, note};
-use capture_inputs::{Input, Look, Told, look_at, tell_skipped};
-use captures::{CaptureError, Extra, Place, RunError, Skipped, TimeUnit, Unfit};
-use command_lines::captures::command;
+use capture_programs::captures_arguments::command;
+use capture_programs::{Input, Look, ReportedError, look_at, report_skipped};
+use captures::{CaptureError, Extra, Position, RunError, Skipped, TimeUnit, Unfit};
+use captures_program::{Mode, PROGRAM, exit_code, make, note, requested_by};
 use fault_devices::{Fault, FaultReader, UnflushableWriter};
 use std::alloc::Global;
 use std::io::{ErrorKind, Read};
@@ -45,14 +45,14 @@ fn lines_are_made_a_capture_and_lines_again(rt: HostRuntime) -> Result<(), Fail>
     Ok(())
 }
 
-// What words ask for, of standard input, if they ask for anything.
+// What words request, of standard input, if they request anything.
 fn mode_of(alloc: Global, words: &[&str]) -> Result<Option<Mode>, Fail> {
     let matches = match command(alloc)?.try_get_matches_from(words) {
         Ok(matches) => matches,
         Err(_) => return Ok(None),
     };
-    match asked_for(&matches) {
-        Some(asked) if asked.name == "-" => Ok(Some(asked.mode)),
+    match requested_by(&matches) {
+        Some(requested) if requested.name == "-" => Ok(Some(requested.mode)),
         _ => Ok(None),
     }
 }
@@ -62,7 +62,7 @@ const LINES: &[u8; 238] =
     b"frame 0 02000000000202000000000108004500002400010000401166c60a0000010a000002000100020010dbb40102030405060708 1700000000 250000\n\
     frame 0 ffffffffffff020000000001080600010800060400010200000000010a0000010000000000000a000002 1700000001 250000\n";
 
-// That file, but for its snap length, 65,535, in place of which stands 262,144.
+// That file, with a snap length of 262,144 instead of 65,535.
 const CAPTURE: &[u8; 148] = b"\
     \xd4\xc3\xb2\xa1\x02\x00\x04\x00\x00\x00\x00\x00\x00\x00\x00\x00\x00\x00\x04\x00\
     \x01\x00\x00\x00\x00\xf1\x53\x65\x90\xd0\x03\x00\x32\x00\x00\x00\x32\x00\x00\x00\
@@ -85,7 +85,7 @@ fn the_word_capture_makes_a_capture(rt: HostRuntime) -> Result<(), Fail> {
     Ok(())
 }
 
-// The same header, of PPP in place of Ethernet.
+// The same header, of PPP instead of Ethernet.
 const PPP_HEADER: &[u8; 24] = b"\
     \xd4\xc3\xb2\xa1\x02\x00\x04\x00\x00\x00\x00\x00\x00\x00\x00\x00\x00\x00\x04\x00\x09\x00\x00\x00";
 
@@ -140,9 +140,9 @@ fn words_of_options(rt: HostRuntime) -> Result<(), Fail> {
 
 #[test]
 #[should_panic(expected = "captures_cli: passed over: 1 of other links, 2 too long")]
-fn packets_that_are_passed_over_are_told(rt: HostRuntime) {
-    tell_skipped(&rt, PROGRAM, Skipped::NONE);
-    tell_skipped(
+fn packets_that_are_passed_over_are_reported(rt: HostRuntime) {
+    report_skipped(&rt, PROGRAM, Skipped::NONE);
+    report_skipped(
         &rt,
         PROGRAM,
         Skipped {
@@ -151,7 +151,7 @@ fn packets_that_are_passed_over_are_told(rt: HostRuntime) {
             without_frame: 3,
         },
     );
-    panic!(rt; "told");
+    panic!(rt; "reported");
 }
 
 #[test]
@@ -172,35 +172,35 @@ fn a_flush_that_fails_is_a_failed_write(rt: HostRuntime) {
     }
 }
 
-// What is told of an error.
+// What is reported of an error.
 fn message(alloc: Global, error: RunError, look: Look) -> Result<String, Fail> {
-    let told = Told {
+    let actual = ReportedError {
         error,
         note: note(error, look),
     };
-    Ok(format!(in alloc; "{told}")?)
+    Ok(format!(in alloc; "{actual}")?)
 }
 
-// Where a capture is refused: in its third packet, or in a block that tells it.
-const THIRD: Place = Place {
+// Where a capture is refused: in its third packet, or in a block of a known type.
+const THIRD: Position = Position {
     packet: 3,
     offset: 112,
     block: None,
 };
 
-const ENHANCED: Place = Place {
+const ENHANCED: Position = Position {
     packet: 3,
     offset: 112,
     block: Some(6),
 };
 
-const SECTION: Place = Place {
+const SECTION: Position = Position {
     packet: 3,
     offset: 112,
     block: Some(0x0a0d_0d0a),
 };
 
-// Each error with what is told of it, and the status.
+// Each error with what is reported of it, and the status.
 const ERRORS: &[(RunError, &str, u8)] = &[
     (RunError::Read, "the input cannot be read", 4),
     (RunError::Write, "the output cannot be written", 4),
@@ -253,8 +253,8 @@ const ERRORS: &[(RunError, &str, u8)] = &[
 #[test]
 fn errors_have_messages_and_a_status(rt: HostRuntime) -> Result<(), Fail> {
     for (error, text, status) in ERRORS.iter() {
-        let told = message(rt.alloc(), *error, Look::Other)?;
-        equal(rt, told.as_str(), *text);
+        let actual = message(rt.alloc(), *error, Look::Other)?;
+        equal(rt, actual.as_str(), *text);
         let code = exit_code(&rt, Err(*error), Look::Other);
         equal(rt, code, ExitCode::from(*status));
     }
@@ -307,20 +307,20 @@ const BLOCK_TYPES: &[(u32, &str)] = &[
 #[test]
 fn names_of_block_types(rt: HostRuntime) -> Result<(), Fail> {
     for (kind, name) in BLOCK_TYPES.iter() {
-        let place = Place {
+        let position = Position {
             packet: 3,
             offset: 112,
             block: Some(*kind),
         };
-        let told = format!(in rt.alloc(); "{place}")?;
+        let actual = format!(in rt.alloc(); "{position}")?;
         let wanted = format!(in rt.alloc(); "packet 3, byte 112, block type {kind:#x}{name}")?;
-        equal(rt, told.as_str(), wanted.as_str());
+        equal(rt, actual.as_str(), wanted.as_str());
     }
     Ok(())
 }
 
 // The first bytes that gzip 1.12, zstd 1.5, xz 5.4 and bzip2 1.0.8 write, and of other inputs.
-const FRONTS: &[(&[u8], Look, &str)] = &[
+const FIRST_BYTES: &[(&[u8], Look, &str)] = &[
     (b"", Look::Empty, "no capture file: the input is empty"),
     (
         b"\x1f\x8b\x08\x00\x00\x00\x00\x00\x00\x03",
@@ -354,10 +354,10 @@ const FRONTS: &[(&[u8], Look, &str)] = &[
 #[test]
 fn what_inputs_look_like(rt: HostRuntime) -> Result<(), Fail> {
     let error = RunError::Capture(CaptureError::NotCapture, THIRD);
-    for (front, seen, text) in FRONTS.iter() {
-        equal(rt, look_at(*front), *seen);
-        let told = message(rt.alloc(), error, *seen)?;
-        equal(rt, told.as_str(), *text);
+    for (prefix, seen, text) in FIRST_BYTES.iter() {
+        equal(rt, look_at(*prefix), *seen);
+        let actual = message(rt.alloc(), error, *seen)?;
+        equal(rt, actual.as_str(), *text);
     }
     Ok(())
 }
@@ -377,8 +377,8 @@ fn looked<R: Read + Drop>(
 
 #[test]
 fn what_first_reads_look_like(rt: HostRuntime) {
-    for (front, seen, _) in FRONTS.iter() {
-        looked(rt, *front, *seen);
+    for (prefix, seen, _) in FIRST_BYTES.iter() {
+        looked(rt, *prefix, *seen);
     }
     // 64 bytes are looked at.
     let text = repeated(rt, b"a", 64);
@@ -419,9 +419,9 @@ fn a_look_that_fails_ends_the_run(rt: HostRuntime) {
     }
 }
 
-// So does the end that it tells, as a terminal does before which nothing was typed.
+// So does the end that it reports, as a terminal does before which nothing was typed.
 #[test]
-fn a_look_that_tells_the_end_ends_the_run(rt: HostRuntime) {
+fn a_look_that_reports_the_end_ends_the_run(rt: HostRuntime) {
     for (mode, written) in MODES {
         let mut reader = FaultReader::failing(HEADER, 64, 0, Fault::MovesNone);
         let mut lines = Vec::new(rt.alloc());
@@ -441,7 +441,7 @@ fn a_look_that_tells_the_end_ends_the_run(rt: HostRuntime) {
     }
 }
 
-// What a look has read is given once, and the reads of a run go on behind it.
+// What a look has read is given once, and the reads of a run continue after it.
 #[test]
 fn a_look_takes_nothing(rt: HostRuntime) {
     let file = joined(rt, &[HEADER.as_slice(), PACKET.as_slice()]);
@@ -455,7 +455,7 @@ fn a_look_takes_nothing(rt: HostRuntime) {
         equal(rt, made, Ok(()));
     }
     equal_bytes(rt, lines.as_slice(), b"frame 0 0aff\n");
-    // Six reads of 42 bytes, and one that tells the end.
+    // Six reads of 42 bytes, and one that reports the end.
     equal(rt, reader.calls, 7);
 }
 
@@ -482,15 +482,15 @@ const NO_LINES: &[(RunError, Look, &str)] = &[
 #[test]
 fn captures_are_no_lines(rt: HostRuntime) -> Result<(), Fail> {
     for (error, look, text) in NO_LINES.iter() {
-        let told = message(rt.alloc(), *error, *look)?;
-        equal(rt, told.as_str(), *text);
+        let actual = message(rt.alloc(), *error, *look)?;
+        equal(rt, actual.as_str(), *text);
     }
     Ok(())
 }
 
 #[test]
 #[should_panic(expected = "captures_cli: line 2 hands in no frame")]
-fn errors_are_told(rt: HostRuntime) {
+fn errors_are_reported(rt: HostRuntime) {
     let _ = exit_code(&rt, Err(RunError::BadLine(2)), Look::Other);
-    panic!(rt; "told");
+    panic!(rt; "reported");
 }

@@ -6,7 +6,7 @@ use crate::classic::{BIG_MICROSECONDS, BIG_NANOSECONDS, LITTLE_MICROSECONDS, LIT
 use crate::links::capture;
 use crate::long_blocks::{CUSTOM, with_long_block};
 use captures::{
-    CaptureError, Header, Link, Packet, PacketReader, Packets, Place, ReadError, Skipped, Unfit,
+    CaptureError, Header, Link, Packet, PacketReader, Packets, Position, ReadError, Skipped, Unfit,
 };
 use fault_devices::{Fault, FaultReader};
 use std::io::{ErrorKind, Read};
@@ -46,8 +46,8 @@ fn ends<R: Read + Drop>(rt: impl Abort + Copy, reader: &mut PacketReader<R>) {
 
 // The interface, the time and the bytes of a packet.
 fn is_of(rt: impl Abort + Copy, packet: &Packet<'_>, wanted: &(u32, u64, &[u8])) {
-    let told = (packet.interface, packet.time, packet.frame.bytes());
-    equal(rt, told, *wanted);
+    let actual = (packet.interface, packet.time, packet.frame.bytes());
+    equal(rt, actual, *wanted);
 }
 
 #[test]
@@ -105,7 +105,7 @@ const COOKED: Header = Header {
     ether_type: 0x0800,
 };
 
-// A header stands in place of the link's own.
+// A header replaces the link's own.
 #[test]
 fn made_headers(rt: HostRuntime) {
     for (link_type, link, packet, header) in [
@@ -137,7 +137,7 @@ const FAILS: Fault = Fault::Fails(ErrorKind::Other);
 fn ends_within_a_packet(rt: HostRuntime) {
     let cut = ReadError::Capture(
         CaptureError::CutOff,
-        Place {
+        Position {
             packet: 2,
             offset: 90,
             block: None,
@@ -205,12 +205,12 @@ fn held_packets_that_are_refused(rt: HostRuntime) {
     let mut reader = reader_of(rt, Unfit::Refuse, file.as_slice());
     equal(rt, reader.advance(), Ok(true));
     holds(rt, reader.packet().is_some());
-    let place = Place {
+    let position = Position {
         packet: 2,
         offset: 90,
         block: None,
     };
-    let wanted = ReadError::Capture(CaptureError::FrameTooLong(99_992), place);
+    let wanted = ReadError::Capture(CaptureError::FrameTooLong(99_992), position);
     equal(rt, reader.advance_held(), Err(wanted));
     holds(rt, reader.packet().is_none());
     equal(rt, reader.advance_held(), Ok(false));

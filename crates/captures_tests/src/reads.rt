@@ -1,7 +1,7 @@
 //! Runs of which one read fails or gives nothing, before and after the last byte of each header and
 //! packet, and runs of few reads. Each other read gives a byte.
 use crate::checks::equal;
-use crate::packet_lines::{refused, tells_read};
+use crate::packet_lines::{refused, reports_read};
 use crate::text::capture_of;
 use captures::device::ReaderWriter;
 use captures::{
@@ -26,7 +26,7 @@ const INTERRUPTED: Fault = Fault::Fails(ErrorKind::Interrupted);
 
 const FAILS: Fault = Fault::Fails(ErrorKind::Other);
 
-// The lines that a front of the capture gives.
+// The lines that a prefix of the capture gives.
 fn lines_of(n: usize) -> &'static [u8] {
     match n {
         0..=40 => b"",
@@ -35,7 +35,7 @@ fn lines_of(n: usize) -> &'static [u8] {
     }
 }
 
-// What a run answers to a front of the capture.
+// How a run of a prefix of the capture ends.
 fn end_of_capture(n: usize) -> Result<(), RunError> {
     match n {
         0..=23 => refused(CaptureError::NotCapture, 1, 0, None),
@@ -54,14 +54,14 @@ fn each_read_of_a_run(rt: HostRuntime) {
                 _ => Err(RunError::Read),
             };
             let mut reader = FaultReader::failing(CAPTURE, 1, before, fault);
-            tells_read(rt, &mut reader, wanted, lines_of(before));
+            reports_read(rt, &mut reader, wanted, lines_of(before));
             equal(rt, reader.calls, before.saturating_add(1));
         }
     }
 }
 
-// The front of the capture that a front of the lines gives, where more may come.
-fn front_of(n: usize) -> &'static [u8] {
+// The prefix of the capture that a prefix of the lines gives, where more may come.
+fn prefix_of(n: usize) -> &'static [u8] {
     match n {
         0..=14 => &CAPTURE[..24],
         15..=31 => &CAPTURE[..41],
@@ -77,7 +77,7 @@ fn each_read_of_lines(rt: HostRuntime) {
             let wanted = Err(RunError::Read);
             let capture = capture_of(rt, TimeUnit::Microseconds, &mut reader, wanted);
             equal(rt, reader.calls, before.saturating_add(1));
-            equal(rt, capture.as_slice(), front_of(before));
+            equal(rt, capture.as_slice(), prefix_of(before));
         }
     }
 }
@@ -100,7 +100,7 @@ fn run_of(
     )
 }
 
-// What a run answers that may make so many reads, where it needs this many, and how many it makes.
+// How a run ends that may make this many reads, where it needs that many, and how many it makes.
 fn end_of_reads(reads: u8, needed: u8) -> (Result<(), RunError>, usize) {
     if reads < needed {
         (Err(RunError::TooManyReads), usize::from(reads))
@@ -138,6 +138,6 @@ fn runs_of_few_reads_of_lines(rt: HostRuntime) {
         let mut capture = Vec::new(rt.alloc());
         let result = run_of_lines(rt.alloc(), &mut reader, &mut capture, reads);
         equal(rt, (result, reader.calls), end_of_reads(reads, 33));
-        equal(rt, capture.as_slice(), front_of(usize::from(reads)));
+        equal(rt, capture.as_slice(), prefix_of(usize::from(reads)));
     }
 }

@@ -1,10 +1,10 @@
-//! Runs that pass over packets that can't be told. The files are made by hand from the formats'
-//! descriptions.
+//! Runs that pass over packets that can't be reported. The files are laid out byte by byte after
+//! the formats' descriptions.
 use crate::blocks::TWO_SECTIONS;
 use crate::checks::{equal, equal_bytes, joined, repeated};
 use crate::classic::{BIG_NANOSECONDS, LITTLE_MICROSECONDS};
 use crate::links::{SECTION, capture, interface_of, packet_of};
-use crate::packet_lines::{lines_of, refused, tells, tells_skipping};
+use crate::packet_lines::{lines_of, refused, reports, reports_skipping};
 use captures::{CaptureError, Extra, RunError, Skipped, Unfit, run};
 use fault_devices::{Fault, FaultReader, FaultWriter};
 use std::io::ErrorKind;
@@ -13,14 +13,14 @@ use std::process::Abort;
 // The record of a packet of one byte, 45.
 const RECORD: &[u8; 17] = b"\0\0\0\0\0\0\0\0\0\0\0\x01\0\0\0\x01\x45";
 
-// A classic capture of a packet of so many bytes, which are 0, and of RECORD.
+// A classic capture of a packet of `len` bytes, which are 0, and of RECORD.
 fn two_packets(rt: impl Abort + AllocGlobal + Copy, link_type: u8, len: usize) -> Vec<u8> {
     let packet = repeated(rt, b"\0", len);
     let file = capture(rt, link_type, packet.as_slice());
     joined(rt, &[file.as_slice(), RECORD])
 }
 
-// How many packets of each kind are passed over, and what is told of the others.
+// How many packets of each kind are passed over, and what is reported of the others.
 #[test]
 fn packets_of_each_kind(rt: HostRuntime) {
     let none = Skipped::NONE;
@@ -30,12 +30,12 @@ fn packets_of_each_kind(rt: HostRuntime) {
     };
     let ip = "frame 0 000000000000000000000000080045\n";
     for (link_type, len, skipped, lines) in [
-        // An Ethernet frame is told, and is too long for a line with 99,992 bytes. 262,128 are the
-        // most that are passed over.
+        // An Ethernet frame is reported, and is too long for a line with 99,992 bytes. 262,128 are
+        // the most that are passed over.
         (1, 3, none, "frame 0 000000\nframe 0 45\n"),
         (1, 99_992, long, "frame 0 45\n"),
         (1, 262_128, long, "frame 0 45\n"),
-        // The first four bits are no version of IP. Too long is told before that.
+        // The first four bits are no version of IP. Too long is reported before that.
         (
             101,
             3,
@@ -46,7 +46,7 @@ fn packets_of_each_kind(rt: HostRuntime) {
             ip,
         ),
         (101, 99_978, long, ip),
-        // Of PPP no packet is told, however long it is; of no byte nothing is told anyway.
+        // Of PPP no packet is reported, however long it is; of no byte nothing is reported anyway.
         (
             9,
             3,
@@ -76,25 +76,26 @@ fn packets_of_each_kind(rt: HostRuntime) {
         ),
     ] {
         let file = two_packets(rt, link_type, len);
-        tells_skipping(rt, file.as_slice(), Ok(()), lines.as_bytes(), skipped);
+        reports_skipping(rt, file.as_slice(), Ok(()), lines.as_bytes(), skipped);
     }
 }
 
-// Captures of which every packet is told are told the same, whatever would become of another.
+// Captures of which every packet is reported are reported the same, whatever would happen to
+// another.
 #[test]
-fn captures_that_are_told_whole(rt: HostRuntime) {
+fn captures_that_are_reported_whole(rt: HostRuntime) {
     for file in [
         LITTLE_MICROSECONDS.as_slice(),
         BIG_NANOSECONDS,
         TWO_SECTIONS,
     ] {
         let lines = lines_of(rt, Extra::Nothing, &mut &*file, Ok(()));
-        tells_skipping(rt, file, Ok(()), lines.as_slice(), Skipped::NONE);
+        reports_skipping(rt, file, Ok(()), lines.as_slice(), Skipped::NONE);
     }
 }
 
 // What still ends a run: a packet above that, and an end within one. What was passed over before is
-// counted, but not in the place.
+// counted, but not in the position.
 #[test]
 fn refusals_after_packets_are_passed_over(rt: HostRuntime) {
     let packet = capture(rt, 101, b"\0");
@@ -110,12 +111,12 @@ fn refusals_after_packets_are_passed_over(rt: HostRuntime) {
     ] {
         assert!(rt; len <= file.len());
         let wanted = refused(error, 1, 41, None);
-        tells_skipping(rt, &file.as_slice()[..len], wanted, b"", one);
+        reports_skipping(rt, &file.as_slice()[..len], wanted, b"", one);
     }
 }
 
 // Interfaces of PPP, Ethernet and raw IP, and packets of one byte, 45: those of PPP are passed
-// over, and a second section goes on with the counts.
+// over, and a second section continues the counts.
 #[test]
 fn interfaces_of_two_sections(rt: HostRuntime) {
     let section = joined(
@@ -138,10 +139,10 @@ fn interfaces_of_two_sections(rt: HostRuntime) {
         of_other_links: 4,
         ..Skipped::NONE
     };
-    tells_skipping(rt, file.as_slice(), Ok(()), lines, passed);
+    reports_skipping(rt, file.as_slice(), Ok(()), lines, passed);
     // Without that, the run ends at the first description.
     let wanted = refused(CaptureError::LinkType(9), 1, 28, Some(1));
-    tells(rt, file.as_slice(), wanted, b"");
+    reports(rt, file.as_slice(), wanted, b"");
 }
 
 // The least and the greatest packets that are passed over for their length in blocks: an enhanced
@@ -168,10 +169,10 @@ fn long_packets_of_blocks(rt: HostRuntime) {
         too_long: 2,
         ..Skipped::NONE
     };
-    tells_skipping(rt, file.as_slice(), Ok(()), b"frame 0 45\n", passed);
+    reports_skipping(rt, file.as_slice(), Ok(()), b"frame 0 45\n", passed);
 }
 
-// A run that passes over packets ends so, and has passed over so many.
+// A run that passes over packets ends so, and has passed over this many.
 fn skips(
     rt: impl Abort + AllocGlobal + Copy,
     reader: &mut FaultReader<'_>,
@@ -196,8 +197,8 @@ fn skips(
     equal(rt, skipped, passed);
 }
 
-// A capture of raw IP: the packets of bytes 24 to 41 and 58 to 75 have no frame, the one between has
-// a line. A run tells how many were passed over by then where its read or its write fails.
+// A capture of raw IP: the packets of bytes 24 to 41 and 58 to 75 have no frame, the one between
+// has a line. A run reports how many were passed over by then where its read or its write fails.
 #[test]
 fn faults_after_packets_are_passed_over(rt: HostRuntime) {
     let packet = b"\0\0\0\0\0\0\0\0\0\0\0\x01\0\0\0\x01\x55".as_slice();
@@ -222,9 +223,9 @@ fn faults_after_packets_are_passed_over(rt: HostRuntime) {
         (failure, RunError::Write),
         (Fault::MovesNone, RunError::WriteZero),
     ] {
-        // Byte by byte the line is written before the last packet is read, and else behind it.
-        for (piece, passed) in [(1, 1), (75, 2)] {
-            let mut reader = FaultReader::new(file.as_slice(), piece);
+        // Byte by byte the line is written before the last packet is read, and else after it.
+        for (chunk, passed) in [(1, 1), (75, 2)] {
+            let mut reader = FaultReader::new(file.as_slice(), chunk);
             let mut writer = FaultWriter::failing(rt.alloc(), 50, 0, fault);
             skips(rt, &mut reader, &mut writer, Err(error), count(passed));
         }
@@ -238,7 +239,7 @@ const OF_PPP: &[u8; 41] = b"\
 
 // To be run without memory, too: then nothing is read and nothing was passed over.
 #[test]
-fn a_run_wants_memory(rt: HostRuntime) {
+fn a_run_runs_out_of_memory(rt: HostRuntime) {
     let mut lines = Vec::new(rt.alloc());
     let mut skipped = Skipped {
         of_other_links: 7,

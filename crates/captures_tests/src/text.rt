@@ -1,7 +1,7 @@
 //! Captures that are written of lines.
 //! Calls have no contracts: tests alone make them, and are run.
 use crate::checks::{equal, joined, repeated};
-use crate::packet_lines::{LINES, tells};
+use crate::packet_lines::{LINES, reports};
 use captures::{RunError, TimeUnit, write_capture};
 use fault_devices::{Fault, FaultReader};
 use std::io::{ErrorKind, Read};
@@ -43,7 +43,7 @@ fn lines_come_back(rt: HostRuntime) {
     let record = b"\0\0\0\0\0\0\0\0\x32\0\0\0\x32\0\0\0".as_slice();
     equal(rt, capture.get(..24), Some(HEADER.as_slice()));
     equal(rt, capture.get(24..40), Some(record));
-    tells(rt, capture, Ok(()), LINES);
+    reports(rt, capture, Ok(()), LINES);
 }
 
 const BAD: Result<(), RunError> = Err(RunError::BadLine(1));
@@ -107,12 +107,12 @@ fn each_line(rt: HostRuntime) {
     }
 }
 
-// The lines end at 17 and 28. What is left of a line at the end is one too, where it hands a frame
-// in: behind each pair of digits, or a whole time.
+// The lines end at 17 and 28. What is left of a line at the end is one too, where it gives a frame:
+// after each pair of digits, or a whole time.
 const TWO_LINES: &[u8; 28] = b"frame 7 0aff 5 6\nframe 0 01\n";
 
-// The result for a front of the two lines, and what follows the file header.
-fn front_of_two(n: usize) -> (Result<(), RunError>, &'static [u8]) {
+// The result for a prefix of the two lines, and what follows the file header.
+fn prefix_of_two(n: usize) -> (Result<(), RunError>, &'static [u8]) {
     match n {
         0 => (Ok(()), b""),
         10 => (Ok(()), b"\0\0\0\0\0\0\0\0\x01\0\0\0\x01\0\0\0\x0a"),
@@ -132,9 +132,9 @@ fn front_of_two(n: usize) -> (Result<(), RunError>, &'static [u8]) {
 }
 
 #[test]
-fn each_front_of_a_text(rt: HostRuntime) {
+fn each_prefix_of_a_text(rt: HostRuntime) {
     for n in 0..=28 {
-        let (wanted, packets) = front_of_two(n);
+        let (wanted, packets) = prefix_of_two(n);
         let text = &TWO_LINES[..n];
         writes(rt, &mut &*text, wanted, packets);
         writes(rt, &mut FaultReader::new(text, 1), wanted, packets);
@@ -163,7 +163,7 @@ fn longest_frame(rt: HostRuntime) {
     }
 }
 
-// The longest line that hands a frame in has 200,032 bytes. After one more nothing is read.
+// The longest line that gives a frame has 200,032 bytes. After one more nothing is read.
 #[test]
 fn line_without_end(rt: HostRuntime) {
     for (len, wanted) in [(200_032, RunError::Read), (200_033, RunError::BadLine(1))] {

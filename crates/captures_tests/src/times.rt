@@ -1,9 +1,9 @@
-//! The times of packets, in lines and in captures that are written of them. The files are made by
-//! hand from the formats' descriptions.
+//! The times of packets, in lines and in captures that are written of them. The files are laid out
+//! byte by byte after the formats' descriptions.
 //! Calls have no contracts: tests alone make them, and are run.
 use crate::checks::{append, equal, joined};
 use crate::classic::{BIG_MICROSECONDS, BIG_NANOSECONDS, LITTLE_MICROSECONDS, LITTLE_NANOSECONDS};
-use crate::packet_lines::tells_all;
+use crate::packet_lines::reports_all;
 use crate::text::capture_of;
 use captures::{Extra, RunError, TimeUnit};
 use std::process::Abort;
@@ -21,15 +21,16 @@ fn times_of_scapy(rt: HostRuntime) {
         LITTLE_NANOSECONDS,
         BIG_NANOSECONDS,
     ] {
-        tells_all(rt, Extra::Times, file, TIMED_LINES);
+        reports_all(rt, Extra::Times, file, TIMED_LINES);
     }
     for time_unit in [TimeUnit::Microseconds, TimeUnit::Nanoseconds] {
         let file = capture_of(rt, time_unit, &mut TIMED_LINES.as_slice(), Ok(()));
-        tells_all(rt, Extra::Times, file.as_slice(), TIMED_LINES);
+        reports_all(rt, Extra::Times, file.as_slice(), TIMED_LINES);
     }
 }
 
-// Parts of a second may be more than one, and no time is later than the last one of 32 bits.
+// The fraction of a second may be more than one second, and no time is later than the last one of
+// 32 bits.
 #[test]
 fn times_of_classic_captures(rt: HostRuntime) {
     let micro = b"\xa1\xb2\xc3\xd4".as_slice();
@@ -64,7 +65,7 @@ fn times_of_classic_captures(rt: HostRuntime) {
                 b"\0\0\0\x01\0\0\0\x01\x01",
             ],
         );
-        tells_all(rt, Extra::Times, file.as_slice(), line.as_bytes());
+        reports_all(rt, Extra::Times, file.as_slice(), line.as_bytes());
     }
 }
 
@@ -86,7 +87,7 @@ fn describe(rt: impl Abort + Copy, file: &mut Vec<u8>, options: &[u8]) {
     );
 }
 
-// An enhanced packet of one byte, at this count of its clock's parts.
+// An enhanced packet of one byte, at this count of its clock's units.
 fn add_packet(rt: impl Abort + Copy, file: &mut Vec<u8>, interface: u8, count: u64) {
     append(
         rt,
@@ -100,9 +101,9 @@ fn add_packet(rt: impl Abort + Copy, file: &mut Vec<u8>, interface: u8, count: u
     );
 }
 
-// The options of an interface, a count of its clock's parts, and the line.
+// The options of an interface, a count of its clock's units, and the line.
 const CLOCKS: &[(&[u8], u64, &str)] = &[
-    // Microseconds, where no option tells another unit.
+    // Microseconds, where no option states another unit.
     (b"", 1_700_000_000_250_000, "frame 0 01 1700000000 250000\n"),
     // Powers of ten: a second, a nanosecond, a picosecond, and what no count reaches.
     (b"\x09\0\x01\0\x00\0\0\0", 5, "frame 0 01 5 0\n"),
@@ -176,7 +177,7 @@ const CLOCKS: &[(&[u8], u64, &str)] = &[
         "frame 0 01 4294967295 999999 999\n",
     ),
     (b"\x0e\0\x08\0\0\0\0\0\0\0\0\x80", 1, "frame 0 01 0 0\n"),
-    // Behind a comment; behind the end of the options; of another length; cut off.
+    // After a comment; after the end of the options; of another length; cut off.
     (
         b"\x01\0\x05\0hello\0\0\0\x09\0\x01\0\x00\0\0\0\0\0\0\0",
         5,
@@ -193,7 +194,7 @@ fn clocks_of_interfaces(rt: HostRuntime) {
         let mut file = joined(rt, &[SECTION]);
         describe(rt, &mut file, *options);
         add_packet(rt, &mut file, 0, *count);
-        tells_all(rt, Extra::Times, file.as_slice(), line.as_bytes());
+        reports_all(rt, Extra::Times, file.as_slice(), line.as_bytes());
     }
 }
 
@@ -219,12 +220,12 @@ fn times_of_other_blocks(rt: HostRuntime) {
         ],
     );
     let lines = b"frame 0 02 1 0\nframe 0 03 0 0\nframe 1 04 7 0\n";
-    tells_all(rt, Extra::Times, file.as_slice(), lines);
+    reports_all(rt, Extra::Times, file.as_slice(), lines);
 }
 
-// The first 32 interfaces have clocks of their own. Behind them all have that of the last one.
+// The first 32 interfaces have clocks of their own. After them all have that of the last one.
 #[test]
-fn clocks_behind_the_32nd(rt: HostRuntime) {
+fn clocks_after_the_32nd(rt: HostRuntime) {
     let mut file = joined(rt, &[SECTION]);
     for _ in 0..31 {
         describe(rt, &mut file, b"");
@@ -239,7 +240,7 @@ fn clocks_behind_the_32nd(rt: HostRuntime) {
     add_packet(rt, &mut file, 0, 1);
     let lines = b"frame 31 01 0 1000\nframe 32 01 1 0\nframe 32 01 0 1\n\
         frame 31 01 0 1000\nframe 0 01 0 1\n";
-    tells_all(rt, Extra::Times, file.as_slice(), lines);
+    reports_all(rt, Extra::Times, file.as_slice(), lines);
 }
 
 const BAD: Result<(), RunError> = Err(RunError::BadLine(1));

@@ -1,7 +1,7 @@
 //! Captures that are written.
 use crate::checks::equal;
 use crate::classic::LITTLE_MICROSECONDS;
-use crate::packet_lines::{LINES, tells};
+use crate::packet_lines::{LINES, reports};
 use captures::Writer;
 use captures::device::ReaderWriter;
 use std::io;
@@ -28,5 +28,5 @@ fn packets_are_those_of_scapy(rt: HostRuntime) {
     equal(rt, file.len(), 148);
     equal(rt, file.get(..16), wanted.get(..16));
     equal(rt, file.get(20..), wanted.get(20..));
-    tells(rt, file, Ok(()), LINES);
+    reports(rt, file, Ok(()), LINES);
 }

@@ -104,7 +104,7 @@ pub short_values : (ds block vs : List ℕ) → length ds ≤ 32 → block ≡ f
     → AllPass is_hex_digit ds → AreDigitValues vs
 short_values ds block vs short e reads all i h =
     passes (get_or block i 0) (get_or vs i 0) (reads i h) (elim (cases_lt i (length ds)) [
-      | inl front ↦ ap is_hex_digit (filled_at ds block i e front) ∙ all i 0 front
+      | inl prefix ↦ ap is_hex_digit (filled_at ds block i e prefix) ∙ all i 0 prefix
       | inr back ↦
           let rest : List ℕ = replicate (32 - length ds) 48 in
           ap is_hex_digit (ap (λ l. get_or l i 0) e

@@ -8,7 +8,7 @@ use Rattle.hex.specs.declared.error.FromHexError.{FromHexError}
 use Rattle.hex.proofs.HexLemmas.{decode_of-even, decode_of-ok, decode_sized-twice}
 use Rattle.hex.proofs.Pairs.{cons_byte, decode_pairs-ok_pair}
 
--- the place of digits matters to errors alone
+-- the index of digits matters to errors alone
 pair_moved : (a b i j v : ℕ) (high low : Option ℕ)
     → (digit_or_error a i high >>= (λ h. digit_or_error b (i + 1) low >>= (λ l. Ok (h * 16 + l))))
     ≡ Ok v
@@ -82,22 +82,22 @@ texts_are_joined a b x y first second =
     decode_of-even (a ++ b) (omega (arith, length-append a b, m, n))
     ∙ joined 0 a b x y (sym (decode_of-even a m) ∙ first) (sym (decode_of-even b n) ∙ second)
 
--- ---- digits that are put behind others
+-- ---- digits that are put after others
 
-placed : (d : Result (List ℕ) FromHexError) (result : Bool) (bytes front all : List ℕ)
-    → all ≡ front ++ bytes
+after_prefix : (d : Result (List ℕ) FromHexError) (result : Bool) (bytes prefix all : List ℕ)
+    → all ≡ prefix ++ bytes
     → MatchResult d (λ value. (result ≡ true) × (bytes ≡ value)) (λ e. result ≡ false)
-    → MatchResult d (λ value. (result ≡ true) × (all ≡ front ++ value)) (λ e. result ≡ false)
-placed (Ok value) result bytes front all is told =
-    (told.0, is ∙ ap (λ l. front ++ l) told.1)
-placed (Err e) result bytes front all is told = told
+    → MatchResult d (λ value. (result ≡ true) × (all ≡ prefix ++ value)) (λ e. result ≡ false)
+after_prefix (Ok value) result bytes prefix all is outcome =
+    (outcome.0, is ∙ ap (λ l. prefix ++ l) outcome.1)
+after_prefix (Err e) result bytes prefix all is outcome = outcome
 
-pub placed_behind : (digits : List ℕ) (n : ℕ) (result : Bool) (bytes front all : List ℕ)
-    → length digits ≡ 2 * n → all ≡ front ++ bytes
+pub decoded_after_prefix : (digits : List ℕ) (n : ℕ) (result : Bool) (bytes prefix all : List ℕ)
+    → length digits ≡ 2 * n → all ≡ prefix ++ bytes
     → MatchResult (decode_sized digits n) (λ value. (result ≡ true) × (bytes ≡ value))
     (λ e. result ≡ false)
-    → MatchResult (decode_of digits) (λ value. (result ≡ true) × (all ≡ front ++ value))
+    → MatchResult (decode_of digits) (λ value. (result ≡ true) × (all ≡ prefix ++ value))
     (λ e. result ≡ false)
-placed_behind digits n result bytes front all twice is told =
-    placed (decode_of digits) result bytes front all is
-    (rw (decode_sized-twice digits n twice) at told)
+decoded_after_prefix digits n result bytes prefix all twice is outcome =
+    after_prefix (decode_of digits) result bytes prefix all is
+    (rw (decode_sized-twice digits n twice) at outcome)

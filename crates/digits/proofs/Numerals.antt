@@ -29,14 +29,14 @@ IsAscii-digits (digit ∷ digits) all (suc i) =
 pub digits_are_text : {X E : Type 0} (digits : List ℕ) (P : X → Type 0) (Q : E → Type 0)
     (r : Result X E) → list_all is_ascii_digit digits ≡ true
     → MatchResult r P (λ e. ¬ (IsUtf8 digits) × Q e) → result_ok r ≡ None → ⊥
-digits_are_text digits P Q (Ok s) all told none = cc
-digits_are_text digits P Q (Err e) all told none =
-    told.0 (IsUtf8-from_ascii digits (IsAscii-digits digits all))
+digits_are_text digits P Q (Ok s) all outcome none = cc
+digits_are_text digits P Q (Err e) all outcome none =
+    outcome.0 (IsUtf8-from_ascii digits (IsAscii-digits digits all))
 
 pub text_is : {E : Type 0} (digits : List ℕ) (Q : E → Type 0)
     (r : Result (Bor (List ℕ)) E) (s : Bor (List ℕ))
     → MatchResult r (λ t. (t.now ≡ digits) × IsUtf8 digits) Q
     → result_ok r ≡ Some s → s.now ≡ digits
-text_is digits Q (Ok t) s told is =
-    (let e : t ≡ s = cc in ap (λ (b : Bor (List ℕ)). b.now) (sym e) ∙ told.0)
-text_is digits Q (Err e) s told is = cc
+text_is digits Q (Ok t) s outcome is =
+    (let e : t ≡ s = cc in ap (λ (b : Bor (List ℕ)). b.now) (sym e) ∙ outcome.0)
+text_is digits Q (Err e) s outcome is = cc

@@ -227,32 +227,32 @@ low_ok v e =
     SwzOk-from_below w8 16 1 16 0 (zip2 bit_and v (replicate 16 15)) refl
     (omega (arith, length-zip2 bit_and v (replicate 16 15) e)) (low_small v)
 
--- the first list's elements, each with one of the second behind it
-abbrev places : List ℕ
-places = 0 ∷ 16 ∷ 1 ∷ 17 ∷ 2 ∷ 18 ∷ 3 ∷ 19 ∷ 4 ∷ 20 ∷ 5 ∷ 21 ∷ 6 ∷ 22 ∷ 7 ∷ 23 ∷ 8 ∷ 24 ∷ 9 ∷ 25 ∷
+-- the first list's elements, each with one of the second after it
+abbrev indices : List ℕ
+indices = 0 ∷ 16 ∷ 1 ∷ 17 ∷ 2 ∷ 18 ∷ 3 ∷ 19 ∷ 4 ∷ 20 ∷ 5 ∷ 21 ∷ 6 ∷ 22 ∷ 7 ∷ 23 ∷ 8 ∷ 24 ∷ 9 ∷ 25 ∷
     10 ∷ 26 ∷ 11 ∷ 27 ∷ 12 ∷ 28 ∷ 13 ∷ 29 ∷ 14 ∷ 30 ∷ 15 ∷ 31 ∷ []
 
-are_places : (k : ℕ) → k < 16 → (get_or places (2 * k) 0 ≡ k)
-    × (get_or places (2 * k + 1) 0 ≡ 16 + k)
-are_places k h =
+are_indices : (k : ℕ) → k < 16 → (get_or indices (2 * k) 0 ≡ k)
+    × (get_or indices (2 * k + 1) 0 ≡ 16 + k)
+are_indices k h =
     let p = and_parts _ _
-    (agree_below_at (λ i. eqb (get_or places (2 * i) 0) i
-    && eqb (get_or places (2 * i + 1) 0) (16 + i)) (λ _. true) 16 k refl h) in
+    (agree_below_at (λ i. eqb (get_or indices (2 * i) 0) i
+    && eqb (get_or indices (2 * i + 1) 0) (16 + i)) (λ _. true) 16 k refl h) in
     (eqb-true _ _ p.0, eqb-true _ _ p.1)
 
 first_at : (xs ys : List ℕ) (k : ℕ) → length xs ≡ 16 → k < 16
-    → get_or (pick_l 0 (xs ++ ys) places) (2 * k) 0 ≡ get_or xs k 0
+    → get_or (pick_l 0 (xs ++ ys) indices) (2 * k) 0 ≡ get_or xs k 0
 first_at xs ys k e h =
-    get_or-map (λ i. get_or (xs ++ ys) i 0) places (2 * k) 0 0 (omega arith)
-    ∙ ap (λ i. get_or (xs ++ ys) i 0) (are_places k h).0
+    get_or-map (λ i. get_or (xs ++ ys) i 0) indices (2 * k) 0 0 (omega arith)
+    ∙ ap (λ i. get_or (xs ++ ys) i 0) (are_indices k h).0
     ∙ get_or_append_left xs ys 0 k (omega arith)
 
 second_at : (xs ys : List ℕ) (k : ℕ) → length xs ≡ 16 → k < 16
-    → get_or (pick_l 0 (xs ++ ys) places) (2 * k + 1) 0 ≡ get_or ys k 0
+    → get_or (pick_l 0 (xs ++ ys) indices) (2 * k + 1) 0 ≡ get_or ys k 0
 second_at xs ys k e h =
     let j : 16 + k - 16 ≡ k = omega arith in
-    get_or-map (λ i. get_or (xs ++ ys) i 0) places (2 * k + 1) 0 0 (omega arith)
-    ∙ ap (λ i. get_or (xs ++ ys) i 0) (are_places k h).1
+    get_or-map (λ i. get_or (xs ++ ys) i 0) indices (2 * k + 1) 0 0 (omega arith)
+    ∙ ap (λ i. get_or (xs ++ ys) i 0) (are_indices k h).1
     ∙ get_or-append_right xs ys 16 (16 + k) 0 e (omega arith)
     ∙ ap (λ i. get_or ys i 0) j
 
@@ -264,13 +264,13 @@ table_at t js k e small h =
     get_or-swz_l_below w8 16 t 0 js k (omega arith)
     (Each1-get_or (λ j. j < 16) js k 0 (omega arith) small) ∙ ap (λ i. get_or t i 0) at
 
-places_at : (f : ℕ → ℕ → ℕ) (v : List ℕ) (y k : ℕ) → length v ≡ 16 → k < 16
+zipped_at : (f : ℕ → ℕ → ℕ) (v : List ℕ) (y k : ℕ) → length v ≡ 16 → k < 16
     → get_or (zip2 f v (replicate 16 y)) k 0 ≡ f (get_or v k 0) y
-places_at f v y k e h = rw (zip2_splat f v 16 y e) (get_or-map (λ x. f x y) v k 0 0 (omega arith))
+zipped_at f v y k e h = rw (zip2_splat f v 16 y e) (get_or-map (λ x. f x y) v k 0 0 (omega arith))
 
 abbrev digits_by : List ℕ → List ℕ → List ℕ
 digits_by t v = pick_l 0 (swz_l w8 16 t 0 (zip2 down v (replicate 16 4))
-    ++ swz_l w8 16 t 0 (zip2 bit_and v (replicate 16 15))) places
+    ++ swz_l w8 16 t 0 (zip2 bit_and v (replicate 16 15))) indices
 
 pub high_digit : (t v : List ℕ) (k : ℕ) → length v ≡ 16 → Each1 (Fits w8) v → k < 16
     → get_or (digits_by t v) (2 * k) 0 ≡ get_or t (get_or v k 0 / 16) 0
@@ -279,7 +279,7 @@ high_digit t v k e fits h =
     let long : length js ≡ 16 = length-zip2 down v (replicate 16 4) e ∙ e in
     first_at (swz_l w8 16 t 0 js) _ k (length-swz_l w8 16 t 0 js ∙ long) h
     ∙ table_at t js k long (high_small v e fits) h
-    ∙ ap (λ i. get_or t i 0) (places_at down v 4 k e h)
+    ∙ ap (λ i. get_or t i 0) (zipped_at down v 4 k e h)
 
 pub low_digit : (t v : List ℕ) (k : ℕ) → length v ≡ 16 → Each1 (Fits w8) v → k < 16
     → get_or (digits_by t v) (2 * k + 1) 0 ≡ get_or t (get_or v k 0 % 16) 0
@@ -290,4 +290,4 @@ low_digit t v k e fits h =
     second_at (swz_l w8 16 t 0 hs) (swz_l w8 16 t 0 js) k
     (length-swz_l w8 16 t 0 hs ∙ length-zip2 down v (replicate 16 4) e ∙ e) h
     ∙ table_at t js k long (low_small v) h
-    ∙ ap (λ i. get_or t i 0) (places_at bit_and v 15 k e h ∙ and_mask (get_or v k 0) 4)
+    ∙ ap (λ i. get_or t i 0) (zipped_at bit_and v 15 k e h ∙ and_mask (get_or v k 0) 4)

@@ -14,7 +14,7 @@ use std::simd::prelude::*;
 /// The errors are those of [`hex::decode_to_slice`], and come in this order: `OddLength`, then
 /// `InvalidStringLength` where `bytes` is not half as long as the digits, then
 /// `InvalidHexCharacter` for the first byte that is no digit, with its index, and what `bytes` then
-/// holds is open. A refused text is read twice: [`decode`] answers sooner, and names no error.
+/// holds is not specified. A refused text is read twice; [`decode`] is faster, and names no error.
 pub fn decode_to_slice(digits: &[u8], bytes: &mut [u8]) -> Result<(), FromHexError>
     ensures value { MatchResult (decode_sized digits.now (length bytes.old))
         (λ value. (result ≡ Ok tt) × (bytes.new ≡ value))
@@ -29,8 +29,8 @@ pub fn decode_to_slice(digits: &[u8], bytes: &mut [u8]) -> Result<(), FromHexErr
 }
 
 /// Puts the bytes of an even run of digits, of either case and of any length, into `bytes`, and
-/// tells whether it could: whether there are twice as many digits as bytes, and no other byte among
-/// them.
+/// returns whether it could: whether there are twice as many digits as bytes, and no other byte
+/// among them.
 ///
 /// Where the lengths don't fit, `bytes` stays as it was. Where a byte is no digit, what `bytes`
 /// then holds is not specified.
@@ -49,9 +49,9 @@ pub fn decode(digits: &[u8], bytes: &mut [u8]) -> bool
     decode_blocks(digits, bytes)
 }
 
-/// Puts the bytes of an even run of digits into `room`, behind its first `at` bytes, and tells
-/// whether it could: whether there is no other byte among them. Where there is one, what then stands
-/// behind these first bytes is not specified.
+/// Puts the bytes of an even run of digits into `room`, after its first `at` bytes, and returns
+/// whether it could: whether there is no other byte among them. Where there is one, what `room` then
+/// holds after these first bytes is not specified.
 pub fn decode_at(digits: &[u8], room: &mut [u8], at: usize) -> bool
     requires even { length digits.now % 2 ≡ 0 }
     requires fits { at + length digits.now / 2 ≤ length room.old }
@@ -91,7 +91,7 @@ fn decode_short(digits: &[u8], bytes: &mut [u8]) -> bool
     ensures refused { result ≡ false → ¬ (AllPass is_hex_digit digits.now) }
 {
     let values = values_of(block_of(digits));
-    let front = bytes_of(values).to_array();
-    bytes.copy_from_slice(&front[..bytes.len()]);
+    let prefix = bytes_of(values).to_array();
+    bytes.copy_from_slice(&prefix[..bytes.len()]);
     are_digit_values(values)
 }

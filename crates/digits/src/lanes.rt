@@ -53,7 +53,7 @@ pub(crate) fn bytes_of(values: u8x32) -> u8x16
     ((words * u16x16::splat(4097)) >> u16x16::splat(8)).cast::<u8>()
 }
 
-/// A block that begins with some digits, and goes on with `0`.
+/// A block that begins with some digits, and is filled up with `0`.
 #[inline(always)]
 pub(crate) fn block_of(digits: &[u8]) -> u8x32
     requires { length digits.now ≤ 32 }

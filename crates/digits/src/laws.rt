@@ -5,13 +5,13 @@ ghost use Rattle.hex.specs.Hex.{IsBytes, decode_of, decode_sized, encode_lower};
 ghost use Rattle.hex.specs.declared.error.FromHexError.TheVariants.{InvalidHexCharacter, OddLength};
 ghost use Rattle.hex.specs.declared.error.FromHexError.TheVariants.{InvalidStringLength};
 
-/// The digits of some bytes stand for those bytes.
+/// The digits of some bytes are decoded to those bytes.
 pub fn digits_read_back()
     ensures { (bytes : List ℕ) → IsBytes bytes
         → decode_sized (encode_lower bytes) (length bytes) ≡ Ok bytes }
 {}
 
-/// Texts of digits in a row stand for their bytes in a row.
+/// Digits that are joined are decoded to their bytes joined.
 pub fn texts_are_joined()
     ensures { (a b x y : List ℕ) → decode_of a ≡ Ok x → decode_of b ≡ Ok y
         → decode_of (a ++ b) ≡ Ok (x ++ y) }

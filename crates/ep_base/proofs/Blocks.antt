@@ -1,4 +1,4 @@
--- A sum that goes over the blocks of a text, and then over what is left.
+-- A sum over the blocks of a text, and then over what is left.
 use Rattle.std.proofs.Common.{◌≡◌, ℕ, ◌+◌, ◌*◌, ◌/◌, ◌%◌, ◌<◌, ◌≤◌, List, [], ◌∷◌, length, take}
 use Rattle.std.proofs.Common.{◌==◌, true, eqb-true, drop, get_or, sym, ap, ap₂, ◌∙◌, refl, arith}
 use Rattle.std.specs.Simd.{first_chunks}
@@ -21,17 +21,17 @@ block_more start sum next blocks i h so step =
     step ∙ ap (λ s. fold (s + total (get_or blocks i []))) so
     ∙ fold_add _ (total (get_or blocks i [])) ∙ ap fold e
 
--- all blocks, before what is left behind them
+-- all blocks, and then what is left after them
 pub blocks_before : (n start sum : ℕ) (xs : List ℕ) (blocks : List (List ℕ)) (rest : List ℕ)
     → 0 < n → n % 2 ≡ 0
     → blocks ≡ first_chunks n (length xs / n) xs
     → rest ≡ drop (length xs / n * n) xs
     → sum ≡ fold (start + sum_by total blocks)
     → fold (sum + total rest) ≡ fold (start + total xs)
-blocks_before n start sum xs blocks rest pos even front back so =
+blocks_before n start sum xs blocks rest pos even prefix back so =
     let cut = total-first_chunks n (length xs / n) xs even (omega arith) in
     let e : start + sum_by total blocks + total rest ≡ start + total xs =
-    omega (arith, ap (sum_by total) front, cut, ap total back) in
+    omega (arith, ap (sum_by total) prefix, cut, ap total back) in
     ap (λ s. fold (s + total rest)) so ∙ fold_add _ (total rest) ∙ ap fold e
 
 -- the same after a loop over them
@@ -41,8 +41,8 @@ pub blocks_all : (n start sum : ℕ) (xs : List ℕ) (blocks : List (List ℕ)) 
     → rest ≡ drop (length xs / n * n) xs → length blocks ≤ i
     → sum ≡ fold (start + sum_by total (take i blocks))
     → fold (sum + total rest) ≡ fold (start + total xs)
-blocks_all n start sum xs blocks rest i pos even front back done so =
-    blocks_before n start sum xs blocks rest pos even front back
+blocks_all n start sum xs blocks rest i pos even prefix back done so =
+    blocks_before n start sum xs blocks rest pos even prefix back
     (so ∙ ap (λ all. fold (start + sum_by total all)) (take_all i blocks done))
 
 -- ---- blocks whose words are added in lanes, low byte first
@@ -59,18 +59,18 @@ accumulator_sum_blocks (block ∷ blocks) =
     ∙ ap fold (sym (sum_by-cons total block blocks))
 
 -- the first k blocks of those that are left are added at once
-pub part_more : (goal sum part next : ℕ) (left more : List (List ℕ)) (k : ℕ)
+pub blocks_more : (goal sum part next : ℕ) (left more : List (List ℕ)) (k : ℕ)
     → fold (sum + sum_by total left) ≡ goal
     → part ≡ sum_by total_low (take k left) → more ≡ drop k left
     → next ≡ fold (sum + accumulator_sum part) → fold (next + sum_by total more) ≡ goal
-part_more goal sum part next left more k so is rest step =
-    let front : ℕ = sum_by total (take k left) in
-    let e : sum + front + sum_by total more ≡ sum + sum_by total left =
+blocks_more goal sum part next left more k so is rest step =
+    let prefix : ℕ = sum_by total (take k left) in
+    let e : sum + prefix + sum_by total more ≡ sum + sum_by total left =
     omega (arith, ap (sum_by total) rest, sum_by-take-drop total left k) in
-    let added : next ≡ fold (sum + front) =
+    let added : next ≡ fold (sum + prefix) =
     step ∙ ap (λ n. fold (sum + n)) (ap accumulator_sum is ∙ accumulator_sum_blocks (take k left))
-    ∙ fold_add_right sum front in
-    ap (λ n. fold (n + sum_by total more)) added ∙ fold_add (sum + front) (sum_by total more)
+    ∙ fold_add_right sum prefix in
+    ap (λ n. fold (n + sum_by total more)) added ∙ fold_add (sum + prefix) (sum_by total more)
     ∙ ap fold e ∙ so
 
 -- no block is left
@@ -79,7 +79,7 @@ pub none_left : (goal sum : ℕ) (left : List (List ℕ)) → (length left == 0)
 none_left goal sum [] none so = sym (fold_plus_none (256 * sum) 0 refl) ∙ so
 none_left goal sum (block ∷ left) none so = absurd (omega (arith, eqb-true _ _ none))
 
--- ---- what is left behind blocks of two bytes
+-- ---- what is left after blocks of two bytes
 
 pub total_one : (t : List ℕ) → length t ≡ 1 → total (get_or t 0 0 ∷ 0 ∷ []) ≡ total t
 unfolding total

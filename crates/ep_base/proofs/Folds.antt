@@ -28,7 +28,7 @@ unfolding fold
 fold_id zero h = refl
 fold_id (suc n) h = omega arith
 
--- 65535 is nothing to a positive total
+-- multiples of 65535 don't change the fold of a positive total
 pub fold_step : (n k : ℕ) → 0 < n → fold (n + 65535 * k) ≡ fold n
 unfolding fold
 fold_step zero k h = absurd (omega arith)
@@ -46,7 +46,7 @@ pub zero_or_pos : (n : ℕ) → (n ≡ 0) ⊎ (0 < n)
 zero_or_pos zero = inl refl
 zero_or_pos (suc n) = inr (omega arith)
 
--- a sum may be to_word on the way
+-- a sum may be folded before more is added
 pub fold_add : (m n : ℕ) → fold (fold m + n) ≡ fold (m + n)
 fold_add m n = elim (zero_or_pos m) [
   | inl z ↦ (rw z (rw fold_zero refl))

@@ -9,14 +9,14 @@ use Rattle.std.specs.Simd.Lanes.{sum_l, Each1, Each2, zip2}
 use lib.Lanes.{number_l, digits_l}
 use Rattle.ep_base.specs.Sum.{total_low}
 
--- the first word of a number that bytes spell, low byte first, and the number behind it
+-- the first word of a number that bytes encode, low byte first, and the number after it
 low_word : (a b n : ℕ) → a < 256 → b < 256 → (a + 256 * (b + 256 * n)) % 65536 ≡ a + 256 * b
 low_word a b n p q = omega arith
 
 high_words : (a b n : ℕ) → a < 256 → b < 256 → (a + 256 * (b + 256 * n)) / 65536 ≡ n
 high_words a b n p q = omega arith
 
--- the words of the number that a block's bytes spell add up to the block's sum
+-- the words of the number that a block's bytes encode add up to the block's sum
 sum_l-words : (k : ℕ) (block : List ℕ) → length block ≡ 2 * k → Each1 (λ b. b < 256) block
     → sum_l (digits_l 65536 k (number_l 256 block)) ≡ total_low block
 unfolding total_low

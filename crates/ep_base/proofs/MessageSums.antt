@@ -22,7 +22,7 @@ unfolding fold
 with_complement zero = (omega arith, omega arith)
 with_complement (suc n) = (omega arith, omega arith)
 
--- the same with ffff in the place of 0
+-- the same with ffff instead of 0
 with_no_zero : (rest c : ℕ) → 0 < rest + c → (rest + c) % 65535 ≡ 0
     → (0 < rest + no_zero c) × ((rest + no_zero c) % 65535 ≡ 0)
 with_no_zero rest zero positive divides = (omega arith, omega arith)
@@ -67,8 +67,8 @@ checksum_sums before after even =
 pub no_zero_sums : NoZeroSumsToAllOnes
 no_zero_sums before after even =
     let rest : ℕ = total (with_word before 0 after) in
-    let begun = with_complement rest in
-    let sums = with_no_zero rest (65535 - fold rest) begun.0 begun.1 in
+    let started = with_complement rest in
+    let sums = with_no_zero rest (65535 - fold rest) started.0 started.1 in
     let c : ℕ = no_zero (65535 - fold rest) in
     let is = total-with_word before after c even
     (no_zero_small (65535 - fold rest) (omega arith)) in

@@ -1,4 +1,4 @@
--- Numbers against the bytes that spell them, high byte first.
+-- Numbers against the bytes that encode them, high byte first.
 use Rattle.std.proofs.Common.{◌≡◌, ℕ, ◌+◌, ◌*◌, ◌/◌, ◌%◌, ◌^◌, ◌<◌, arith}
 
 pub high_of : (a b : ℕ) → a < 256 → b < 256 → (256 * a + b) / 256 % 256 ≡ a

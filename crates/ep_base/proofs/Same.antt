@@ -1,11 +1,11 @@
--- What a derived test of equality finds equal is the same: part by part.
+-- What a derived test of equality finds equal is the same, field by field.
 use Rattle.std.proofs.Common.{◌≡◌, Bool, true, ◌&&◌, Some, None, refl, ap, rules}
 use Rattle.std.proofs.lemmas.Bool.{and_parts, and_from}
 use Rattle.std.specs.Bool.{Decides}
 use Rattle.std.specs.Option.{option_eq}
 use Rattle.ep_base.specs.Traits.{EqualIsSame}
 
--- Values of one part, and of two: how parts make the whole, and what the whole tells of them.
+-- Values of one part, and of two: what makes a value of its parts, and the parts of a value.
 
 pub one_part : {P Q : Type 0} {test : Bool} → Decides test P → (P → Q) → (Q → P) → Decides test Q
 one_part part make parts = (λ is. make (part.0 is), λ whole. part.1 (parts whole))
@@ -26,7 +26,7 @@ options_same same (Some x) (Some y) = one_part (same x y) (ap Some) (λ e. cc)
 -- Records: a `field` for each but the last, the `last_field`, and how paths between the fields make
 -- one between the records.
 
--- the test of some fields; with it goes how the records are made
+-- the test of some fields, and how the records are made of equal fields
 abbrev pub TestsFields : {T : Type 0} → Bool → T → T → Type 0 → Type 0
 TestsFields test a b Make = (test ≡ true → Make → a ≡ b) × (a ≡ b → test ≡ true)
 

@@ -10,7 +10,7 @@ use Rattle.ep_base.specs.Sum.{fold, total, total_low, accumulator_sum, whole_wor
 use Rattle.ep_base.proofs.Folds.{fold_add, fold_add_right, fold_around_16, fold_around_32}
 use Rattle.ep_base.proofs.Folds.{fold_step, zero_or_pos}
 
--- a front of even length ends at a word's end
+-- a prefix of even length consists of whole words
 pub total-append : (xs ys : List ℕ) → length xs % 2 ≡ 0 → total (xs ++ ys) ≡ total xs + total ys
 unfolding total
 total-append [] ys e = omega arith
@@ -64,7 +64,7 @@ accumulator_sum_8 (a ∷ b ∷ c ∷ d ∷ e ∷ f ∷ g ∷ h ∷ []) long =
     ∙ fold_four (a + e) (b + f) (c + g) (d + h) ∙ ap fold words
 accumulator_sum_8 t long = absurd (omega arith)
 
--- a word that spells a text is added
+-- a word that encodes a text is added
 pub word_more : (sum word next : ℕ) (text : List ℕ) → next ≡ fold (sum + word)
     → word ≡ fold (total text) → next ≡ fold (sum + total text)
 word_more sum word next text step is = step ∙ ap (λ w. fold (sum + w)) is
@@ -104,13 +104,13 @@ total-first_chunks n zero xs e le =
     omega (arith, ap total all)
 total-first_chunks n (suc k) xs e le =
     let cut : total (take n xs ++ drop n xs) ≡ total xs = ap total (take-append-drop n xs) in
-    let front : length (take n xs) % 2 ≡ 0 =
+    let prefix : length (take n xs) % 2 ≡ 0 =
     ap (λ k. k % 2) (length-take-le n xs (omega arith)) ∙ e in
-    let here = total-append (take n xs) (drop n xs) front in
+    let here = total-append (take n xs) (drop n xs) prefix in
     let more = total-first_chunks n k (drop n xs) e (omega (arith, length-drop n xs)) in
-    let place : n + k * n ≡ suc k * n = omega arith in
+    let position : n + k * n ≡ suc k * n = omega arith in
     let rest : drop (k * n) (drop n xs) ≡ drop (suc k * n) xs =
-    drop-drop (k * n) n xs ∙ ap (λ i. drop i xs) place in
+    drop-drop (k * n) n xs ∙ ap (λ i. drop i xs) position in
     omega (
       arith,
       cut,
@@ -121,7 +121,7 @@ total-first_chunks n (suc k) xs e le =
           (first_chunks n k (drop n xs)),
     )
 
--- ---- a text built up piece by piece
+-- ---- a text built up chunk by chunk
 
 -- zeros at the end add nothing
 total_zeros : (k : ℕ) → total (replicate k 0) ≡ 0
@@ -137,20 +137,20 @@ total-zeros_after (a ∷ []) zero = refl
 total-zeros_after (a ∷ []) (suc k) = omega (arith, total_zeros k)
 total-zeros_after (a ∷ b ∷ t) k = ap (λ n. 256 * a + b + n) (total-zeros_after t k)
 
-pub total-whole_words : (piece : List ℕ) → total (whole_words piece) ≡ total piece
-total-whole_words piece = total-zeros_after piece (length piece % 2)
+pub total-whole_words : (chunk : List ℕ) → total (whole_words chunk) ≡ total chunk
+total-whole_words chunk = total-zeros_after chunk (length chunk % 2)
 
--- one piece more, behind a text of even length
-pub text_more : (sum next : ℕ) (text piece : List ℕ) → next ≡ fold (sum + total piece)
+-- one chunk more, after a text of even length
+pub text_more : (sum next : ℕ) (text chunk : List ℕ) → next ≡ fold (sum + total chunk)
     → length text % 2 ≡ 0 → sum ≡ fold (total text)
-    → next ≡ fold (total (text ++ piece))
-text_more sum next text piece step even so =
-    step ∙ ap (λ s. fold (s + total piece)) so ∙ fold_add (total text) (total piece)
-    ∙ ap fold (sym (total-append text piece even))
+    → next ≡ fold (total (text ++ chunk))
+text_more sum next text chunk step even so =
+    step ∙ ap (λ s. fold (s + total chunk)) so ∙ fold_add (total text) (total chunk)
+    ∙ ap fold (sym (total-append text chunk even))
 
-pub whole_words_more : (sum next : ℕ) (text piece : List ℕ) → next ≡ fold (sum + total piece)
+pub whole_words_more : (sum next : ℕ) (text chunk : List ℕ) → next ≡ fold (sum + total chunk)
     → length text % 2 ≡ 0 → sum ≡ fold (total text)
-    → next ≡ fold (total (text ++ whole_words piece))
-whole_words_more sum next text piece step even so =
-    text_more sum next text (whole_words piece)
-    (step ∙ ap (λ n. fold (sum + n)) (sym (total-whole_words piece))) even so
+    → next ≡ fold (total (text ++ whole_words chunk))
+whole_words_more sum next text chunk step even so =
+    text_more sum next text (whole_words chunk)
+    (step ∙ ap (λ n. fold (sum + n)) (sym (total-whole_words chunk))) even so

@@ -7,12 +7,12 @@ use Rattle.ep_base.specs.declared.len_source.LenSource.TheVariants.{Ipv6HeaderPa
 use Rattle.ep_base.specs.declared.len_source.LenSource.TheVariants.{UdpHeaderLen, TcpHeaderLen}
 use Rattle.ep_base.specs.declared.len_source.LenSource.TheVariants.{ArpAddrLengths}
 
--- the place of a source among them: the slice, then the fields by layer, as they are declared
-abbrev pub source_place : LenSource → ℕ
-source_place Slice = 0
-source_place MacsecShortLength = 1
-source_place Ipv4HeaderTotalLen = 2
-source_place Ipv6HeaderPayloadLen = 3
-source_place UdpHeaderLen = 4
-source_place TcpHeaderLen = 5
-source_place ArpAddrLengths = 6
+-- the index of a source among them: the slice, then the fields by layer, as they are declared
+abbrev pub source_index : LenSource → ℕ
+source_index Slice = 0
+source_index MacsecShortLength = 1
+source_index Ipv4HeaderTotalLen = 2
+source_index Ipv6HeaderPayloadLen = 3
+source_index UdpHeaderLen = 4
+source_index TcpHeaderLen = 5
+source_index ArpAddrLengths = 6

@@ -1,6 +1,6 @@
 pub mod Bounded
 pub mod Bytes
-pub mod Fronts
+pub mod Prefixes
 pub mod IpDscpKnown
 pub mod IpEcn
 pub mod IpNumber

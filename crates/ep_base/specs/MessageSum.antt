@@ -13,13 +13,13 @@ pub record SumsWords (sum : ℕ) (text : List ℕ) : Type 0 where
 abbrev pub with_word : (before : List ℕ) → (word : ℕ) → (after : List ℕ) → List ℕ
 with_word before word after = before ++ (to_be_bytes w16 word ++ after)
 
--- a text sums to all ones where one of its words is the complement of the sum of the text with 0 in
--- that place
+-- a text sums to all ones where one of its words is the complement of the sum of the text with 0
+-- instead of that word
 abbrev pub ChecksumSumsToAllOnes : Type 0
 ChecksumSumsToAllOnes = (before after : List ℕ) → length before % 2 ≡ 0
     → IsTrue (all_ones (with_word before (checksum (with_word before 0 after)) after))
 
--- so it does with ffff in the place of a checksum that is 0
+-- so it does with ffff instead of a checksum that is 0
 abbrev pub NoZeroSumsToAllOnes : Type 0
 NoZeroSumsToAllOnes = (before after : List ℕ) → length before % 2 ≡ 0
     → IsTrue (all_ones (with_word before (no_zero (checksum (with_word before 0 after))) after))

@@ -1,4 +1,4 @@
--- Refusals in their order: of several that could be told, the first is.
+-- Refusals in their order: of several that apply, the first is returned.
 use Rattle.std.specs.Prelude.{Bool, List, [], ◌∷◌, Option, None, Some, Result, Ok, Err}
 use Rattle.std.specs.Prelude.{if◌then◌else◌}
 

@@ -30,38 +30,38 @@ all_ones text = not (total text == 0) && (total text % 65535 == 0)
 abbrev pub checksum : List ℕ → ℕ
 checksum text = 65535 - fold (total text)
 
--- a piece as whole words: a zero byte is behind it where its length is odd
+-- a chunk as whole words: a zero byte follows it where its length is odd
 abbrev pub whole_words : List ℕ → List ℕ
-whole_words piece = piece ++ replicate (length piece % 2) 0
+whole_words chunk = chunk ++ replicate (length chunk % 2) 0
 
--- from the sum of any text of whole words to that of the text with this piece behind it
+-- from the sum of any text of whole words to that of the text with this chunk after it
 abbrev pub AddsText : ℕ → List ℕ → ℕ → Type 0
-AddsText sum piece next = (text : List ℕ) → length text % 2 ≡ 0 → sum ≡ fold (total text)
-    → next ≡ fold (total (text ++ piece))
+AddsText sum chunk next = (text : List ℕ) → length text % 2 ≡ 0 → sum ≡ fold (total text)
+    → next ≡ fold (total (text ++ chunk))
 
 -- a checksum where 0 says that there is none (RFC 768)
 abbrev pub no_zero : ℕ → ℕ
 no_zero zero = 65535
 no_zero (suc n) = suc n
 
--- the sum of words that an accumulator stands for, to which they were added low byte first
+-- the sum, high byte first, of the words that were added to an accumulator low byte first
 abbrev pub accumulator_sum : ℕ → ℕ
 accumulator_sum n = fold (256 * n)
 
--- pieces of a text that is cut at the ends of words: all but the last have an even length
+-- chunks of a text that is cut at the ends of words: all but the last have an even length
 abbrev pub IsCutAtWords : List (List ℕ) → Type 0
 IsCutAtWords [] = Unit {0}
-IsCutAtWords (piece ∷ []) = Unit {0}
-IsCutAtWords (piece ∷ next ∷ rest) = (length piece % 2 ≡ 0) × IsCutAtWords (next ∷ rest)
+IsCutAtWords (chunk ∷ []) = Unit {0}
+IsCutAtWords (chunk ∷ next ∷ rest) = (length chunk % 2 ≡ 0) × IsCutAtWords (next ∷ rest)
 
--- wherever a text is cut at the ends of words, and in whatever order its pieces are added, the fold
+-- wherever a text is cut at the ends of words, and in whatever order its chunks are added, the fold
 -- is that of the text
-abbrev pub FoldOfPieces : Type 0
-FoldOfPieces = (text : List ℕ) (pieces order : List (List ℕ)) → concat pieces ≡ text
-    → IsCutAtWords pieces → IsPermutation pieces order
+abbrev pub FoldOfChunks : Type 0
+FoldOfChunks = (text : List ℕ) (chunks order : List (List ℕ)) → concat chunks ≡ text
+    → IsCutAtWords chunks → IsPermutation chunks order
     → fold (total (flat_map whole_words order)) ≡ fold (total text)
 
 -- a text that sums to all ones doesn't with another value of one of its bytes
 abbrev pub OneChangedByte : Type 0
-OneChangedByte = (front rest : List ℕ) (old new : ℕ) → old < 256 → new < 256 → old ≢ new
-    → IsTrue (all_ones (front ++ old ∷ rest)) → all_ones (front ++ new ∷ rest) ≡ false
+OneChangedByte = (prefix rest : List ℕ) (old new : ℕ) → old < 256 → new < 256 → old ≢ new
+    → IsTrue (all_ones (prefix ++ old ∷ rest)) → all_ones (prefix ++ new ∷ rest) ≡ false

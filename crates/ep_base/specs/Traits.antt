@@ -34,15 +34,15 @@ OrderIsOf number cmp = (a b : _) → cmp a b ≡ nat_cmp (number a) (number b)
 abbrev pub HashIsOf : {T : Type 0} → (T → List (List ℕ)) → (T → List (List ℕ)) → Type 0
 HashIsOf feed hash_input = (value : _) → hash_input value ≡ feed value
 
--- a hasher is fed which variant it is, by its place among them
-abbrev pub HashIsOfPlace : {T : Type 0} → (T → ℕ) → (T → List (List ℕ)) → Type 0
-HashIsOfPlace place hash_input = HashIsOf (λ variant. fed.isize (pos (place variant))) hash_input
+-- a hasher is fed which variant it is, by its index among them
+abbrev pub HashIsOfIndex : {T : Type 0} → (T → ℕ) → (T → List (List ℕ)) → Type 0
+HashIsOfIndex position hash_input = HashIsOf (λ variant. fed.isize (pos (position variant))) hash_input
 
--- a variant feeds it its place, and then what the value that it holds does
+-- a variant feeds it its index, and then what the value that it holds does
 abbrev pub VariantFeeds : {T U : Type 0} → (T → List (List ℕ)) → ℕ → (U → T)
     → (U → List (List ℕ)) → Type 0
-VariantFeeds hash_input place variant feed =
-    (held : _) → hash_input (variant held) ≡ fed.isize (pos place) ++ feed held
+VariantFeeds hash_input position variant feed =
+    (held : _) → hash_input (variant held) ≡ fed.isize (pos position) ++ feed held
 
 -- the default is this value
 abbrev pub DefaultIs : {T : Type 0} → T → (T → Type 0) → Type 0

@@ -17,12 +17,12 @@ pub use message::message_sum;
 use std::marker::Model;
 
 /// A ones-complement sum of 16-bit words. It reads words low byte first, so that a checksum field
-/// of a header is its answer with the two bytes swapped.
+/// of a header is its result with the two bytes swapped.
 ///
 /// In a contract it is the fold of the words added so far, high byte first: 0 where all are zero,
 /// else a number of 1 to 65535 with their residue by 65535. Two sums are equal where these are.
 ///
-/// Begun with [`Sum16BitWords::new`], pieces of even length (the last aside) may be added one by
+/// Started with [`Sum16BitWords::new`], chunks of even length (the last aside) may be added one by
 /// one: the sum is that of the joined text.
 #[derive(Clone, Debug, Drop)]
 pub struct Sum16BitWords {
@@ -114,7 +114,7 @@ impl Sum16BitWords {
         u64_16bit_word::ones_complement(self.sum)
     }
 
-    /// The same with ffff in the place of 0, for UDP (RFC 768), where 0 says that there is no
+    /// The same with ffff instead of 0, for UDP (RFC 768), where 0 says that there is no
     /// checksum.
     #[must_use]
     pub fn to_ones_complement_with_no_zero(&self) -> u16
@@ -155,15 +155,15 @@ impl Default for Sum16BitWords {
     }
 }
 
-/// The complement of the sum of all pieces, each with a zero byte after it where its length is odd:
-/// what [`Sum16BitWords::ones_complement`] answers where they are added one by one.
-pub fn sum_pieces(pieces: &[&[u8]]) -> u16
+/// The complement of the sum of all chunks, each with a zero byte after it where its length is odd:
+/// what [`Sum16BitWords::ones_complement`] returns where they are added one by one.
+pub fn sum_pieces(chunks: &[&[u8]]) -> u16
     ensures { result ≡ swap_bytes w16
-        (checksum (flat_map (λ piece. whole_words piece.now) pieces.now)) }
+        (checksum (flat_map (λ chunk. whole_words chunk.now) chunks.now)) }
 {
     let mut sum = Sum16BitWords::new();
-    for piece in pieces {
-        sum = sum.add_slice(piece);
+    for chunk in chunks {
+        sum = sum.add_slice(chunk);
     }
     sum.ones_complement()
 }

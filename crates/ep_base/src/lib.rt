@@ -1,4 +1,5 @@
-//! What every layer of a packet shares: bounded numbers, errors and the Internet checksum.
+//! What every layer of a packet shares: bounded numbers, protocol numbers, ether types, errors and
+//! the Internet checksum.
 #![tactic(auto)]
 
 pub mod checksum;

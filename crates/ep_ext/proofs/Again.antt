@@ -1,14 +1,14 @@
--- What is read from the bytes of an authentication header is spelled by them, reserved bytes aside.
+-- What is read from the bytes of an authentication header is encoded by them, reserved bytes aside.
 use Rattle.std.proofs.Common.{◌≡◌, ℕ, ◌+◌, ◌/◌, List, length, drop, get_or, arith, refl}
 use Rattle.std.proofs.lemmas.List.{length-drop}
 use Rattle.ep_base.specs.Bytes.{IsBytes}
 use Rattle.ep_base.proofs.Cells.{drop-cells, take-drop-cells}
 use Rattle.ep_base.proofs.Numbers.{digits_of}
-use Rattle.ep_ext.specs.Auth.{IsAuth, auth_of, auth_spelling, auth_cleared}
+use Rattle.ep_ext.specs.Auth.{IsAuth, auth_of, auth_encoding, auth_cleared}
 
-pub auth_spelled : (bytes : List ℕ) → IsAuth bytes → IsBytes bytes
-    → auth_spelling (auth_of bytes) ≡ auth_cleared bytes
-auth_spelled bytes header fits =
+pub auth_encoded : (bytes : List ℕ) → IsAuth bytes → IsBytes bytes
+    → auth_encoding (auth_of bytes) ≡ auth_cleared bytes
+auth_encoded bytes header fits =
     let words : length (drop 12 bytes) / 4 + 1 ≡ get_or bytes 1 0 =
     omega (arith, length-drop 12 bytes, header.least, header.whole) in
     let spi = digits_of (get_or bytes 4 0) (get_or bytes 5 0) (get_or bytes 6 0) (get_or bytes 7 0)

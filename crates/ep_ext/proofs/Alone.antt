@@ -1,10 +1,10 @@
--- The header at the front of some bytes is one alone.
+-- Bytes start with at most one header.
 use Rattle.std.proofs.Common.{◌≡◌, ℕ, List, ◌++◌, sym, ap, ◌∙◌}
 use Rattle.ep_ext.specs.Raw.{IsRawExt, raw_of, raw_at}
 use Rattle.ep_ext.specs.Fragment.{IsFragment, fragment_of, fragment_at}
 use Rattle.ep_ext.specs.Auth.{IsAuth, auth_of, auth_at}
-use Rattle.ep_base.proofs.Fronts.{ok_same}
-use Rattle.ep_ext.proofs.Fronts.{raw_again, fragment_again, auth_again, same_rest}
+use Rattle.ep_base.proofs.Prefixes.{ok_same}
+use Rattle.ep_ext.proofs.Prefixes.{raw_again, fragment_again, auth_again, same_rest}
 
 pub raw_alone : (bytes a r b s : List ℕ) → IsRawExt a → bytes ≡ a ++ r → IsRawExt b
     → bytes ≡ b ++ s → a ≡ b

@@ -3,17 +3,17 @@ use Rattle.std.proofs.Common.{◌≡◌, ℕ, Bool, true, false, cond, not, eqb,
 use Rattle.std.proofs.Common.{None, Result, Ok, Err, Bor, IsOkAnd, refl, sym, ap, ◌∙◌}
 use Rattle.std.proofs.lemmas.Bool.{eqb-true}
 use Rattle.ep_base.specs.declared.net.ip_number.IpNumber.{IpNumber}
-use Rattle.ep_ext.specs.Auth.{IsAuth, auth_of, auth_spelling}
-use Rattle.ep_ext.specs.Ipv4Exts.{Ipv4Chain, NamesBehind, auth_number, ipv4_exts_of}
-use Rattle.ep_ext.specs.Ipv4Exts.{ipv4_exts_spelling, number_behind}
+use Rattle.ep_ext.specs.Auth.{IsAuth, auth_of, auth_encoding}
+use Rattle.ep_ext.specs.Ipv4Exts.{Ipv4Chain, NamesAfter, auth_number, ipv4_exts_of}
+use Rattle.ep_ext.specs.Ipv4Exts.{ipv4_exts_encoding, number_after}
 use Rattle.ep_ext.specs.ReadsIpv4Exts.{IsOfAuth}
 use Rattle.ep_base.specs.declared.err.slice_error.SliceError.{SliceError}
 use Rattle.ep_ext.specs.declared.err.ip_auth.header_error.HeaderError.{HeaderError}
 use Rattle.ep_ext.specs.declared.err.ipv4_exts.exts_walk_error.ExtsWalkError.{ExtsWalkError}
 use Rattle.ep_ext.specs.declared.net.ip_auth_header.IpAuthHeader.{IpAuthHeader}
 use Rattle.ep_ext.specs.declared.net.ipv4_extensions.Ipv4Extensions.{Ipv4Extensions}
-use Rattle.ep_ext.specs.declared.net.ipv6_ext_place.Ipv6ExtPlace.TheVariants.{Authentication}
-use Rattle.ep_ext.proofs.Fronts.{same_front, same_rest}
+use Rattle.ep_ext.specs.declared.net.ipv6_ext_slot.Ipv6ExtSlot.TheVariants.{Authentication}
+use Rattle.ep_ext.proofs.Prefixes.{same_prefix, same_rest}
 use Rattle.std.proofs.lemmas.Option.{none-some}
 
 abbrev pub Read : ℕ → List ℕ → IpAuthHeader → List ℕ → Type 0
@@ -24,7 +24,7 @@ pub read_found : (first : ℕ) (bytes rest : List ℕ) (value : IpAuthHeader) �
     → Read first bytes value rest →
     (header : Option (List ℕ)) × Ipv4Chain first bytes header rest
     × ◌≡◌ {A = Ipv4Extensions} (record { auth = Some value }) (ipv4_exts_of header)
-    × (value.next_header.0 ≡ number_behind first header)
+    × (value.next_header.0 ≡ number_after first header)
 read_found first bytes rest value is read = (
   Some read.0,
   record { named = (is, read.1); cut = read.2 },
@@ -34,18 +34,18 @@ read_found first bytes rest value is read = (
 
 pub read_only : (first : ℕ) (bytes rest : List ℕ) (value : IpAuthHeader) → first ≡ 51
     → Read first bytes value rest →
-    (header : Option (List ℕ)) (behind : List ℕ) → Ipv4Chain first bytes header behind →
+    (header : Option (List ℕ)) (following : List ℕ) → Ipv4Chain first bytes header following →
     ◌≡◌ {A = Ipv4Extensions} (record { auth = Some value }) (ipv4_exts_of header)
-    × (value.next_header.0 ≡ number_behind first header) × (rest ≡ behind)
-read_only first bytes rest value is read None behind chain = absurd (chain.named is)
-read_only first bytes rest value is read (Some header) behind chain =
+    × (value.next_header.0 ≡ number_after first header) × (rest ≡ following)
+read_only first bytes rest value is read None following chain = absurd (chain.named is)
+read_only first bytes rest value is read (Some header) following chain =
     let same : read.0 ≡ header =
-    same_front Authentication read.0 header rest behind read.1 chain.named.1
+    same_prefix Authentication read.0 header rest following read.1 chain.named.1
     (sym read.2 ∙ chain.cut) in
     let value_is : value ≡ auth_of header = read.3 ∙ ap auth_of same in (
       ap (λ (h : IpAuthHeader). record { auth = Some h }) value_is,
       ap (λ (h : IpAuthHeader). h.next_header.0) value_is,
-      same_rest read.0 header rest behind same (sym read.2 ∙ chain.cut),
+      same_rest read.0 header rest following same (sym read.2 ∙ chain.cut),
     )
 
 abbrev Answer : Type 0
@@ -55,7 +55,7 @@ abbrev Only : ℕ → List ℕ → Result Answer (SliceError HeaderError) → Ty
 Only first bytes answer = (header : Option (List ℕ)) (rest : List ℕ)
     → Ipv4Chain first bytes header rest →
     IsOkAnd answer (λ r. (r.0 ≡ ipv4_exts_of header)
-    × (r.1.0 ≡ number_behind first header) × (r.2.now ≡ rest))
+    × (r.1.0 ≡ number_after first header) × (r.2.now ≡ rest))
 
 given : (answer : Result Answer (SliceError HeaderError)) (v w : Ipv4Extensions) (m n : ℕ)
     (rest : List ℕ) → v ≡ w → m ≡ n →
@@ -72,10 +72,10 @@ named_by false e is = absurd (none-some e (sym is))
 by_header : (auth : Option IpAuthHeader) (first : ℕ) (bytes : List ℕ)
     (answer : Result Answer (SliceError HeaderError)) → Only first bytes answer →
     ((header : IpAuthHeader) → auth ≡ Some header
-    → IsAuth (auth_spelling header) × (auth_of (auth_spelling header) ≡ header)) →
-    (number : IpNumber) (rest : List ℕ) → NamesBehind (record { auth = auth }) first (Ok number)
+    → IsAuth (auth_encoding header) × (auth_of (auth_encoding header) ≡ header)) →
+    (number : IpNumber) (rest : List ℕ) → NamesAfter (record { auth = auth }) first (Ok number)
     → (auth ≡ None → first ≡ auth_number → ⊥) →
-    bytes ≡ ipv4_exts_spelling (record { auth = auth }) ++ rest →
+    bytes ≡ ipv4_exts_encoding (record { auth = auth }) ++ rest →
     IsOkAnd answer (λ r. (r.0 ≡ record { auth = auth }) × (r.1.0 ≡ number.0) × (r.2.now ≡ rest))
 by_header None first bytes answer only whole number rest named unnamed cut =
     given answer _ _ _ _ rest refl (sym named.0)
@@ -86,15 +86,15 @@ by_header (Some header) first bytes answer only whole number rest named unnamed 
     (named_by (eqb first auth_number) _ named.1) in
     given answer _ _ _ _ rest (ap (λ (x : IpAuthHeader). record { auth = Some x }) h.1)
     (sym named.0)
-    (only (Some (auth_spelling header)) rest (record { named = (is, h.0); cut = cut }))
+    (only (Some (auth_encoding header)) rest (record { named = (is, h.0); cut = cut }))
 
 pub ipv4_reads_back : (value : Ipv4Extensions) (first : ℕ) (bytes : List ℕ)
     (answer : Result Answer (SliceError HeaderError)) → Only first bytes answer →
     ((header : IpAuthHeader) → value.auth ≡ Some header
-    → IsAuth (auth_spelling header) × (auth_of (auth_spelling header) ≡ header)) →
-    (number : IpNumber) (rest : List ℕ) → NamesBehind value first (Ok number)
+    → IsAuth (auth_encoding header) × (auth_of (auth_encoding header) ≡ header)) →
+    (number : IpNumber) (rest : List ℕ) → NamesAfter value first (Ok number)
     → (value.auth ≡ None → first ≡ auth_number → ⊥) →
-    bytes ≡ ipv4_exts_spelling value ++ rest
+    bytes ≡ ipv4_exts_encoding value ++ rest
     → IsOkAnd answer (λ r. (r.0 ≡ value) × (r.1.0 ≡ number.0) × (r.2.now ≡ rest))
 ipv4_reads_back value first bytes answer only whole number rest named unnamed cut =
     by_header value.auth first bytes answer only whole number rest named unnamed cut

@@ -7,11 +7,11 @@ use Rattle.std.specs.Prelude.{IfOk, IfErr, MatchResult}
 use Rattle.std.specs.Io.KnownBytes.{Consumes}
 use Rattle.ep_base.specs.declared.net.ip_number.IpNumber.{IpNumber}
 use Rattle.ep_ext.specs.Auth.{auth_at}
-use Rattle.ep_ext.specs.Chain.{Row, IsEnd, Chain, front_of, of_auth}
-use Rattle.ep_ext.specs.Place.{place_of}
+use Rattle.ep_ext.specs.Chain.{Row, IsEnd, Chain, prefix_of, of_auth}
+use Rattle.ep_ext.specs.Slot.{slot_of}
 use Rattle.ep_ext.specs.Reads.{HasContentFault}
 use Rattle.ep_ext.specs.ReadsExts.{IsWholeRow, IsExtsIo, ReadsRow, RefusesRow}
-use Rattle.ep_ext.specs.Value.{Piece, places, bytes_of, value_of}
+use Rattle.ep_ext.specs.Value.{Piece, slots, bytes_of, value_of}
 use Rattle.ep_ext.specs.declared.err.ip_auth.header_error.HeaderError.{HeaderError as AuthFault}
 use Rattle.ep_base.specs.declared.err.slice_error.SliceError.TheVariants as slice_error
 use Rattle.ep_ext.specs.declared.err.ipv6_exts.header_error.HeaderError.TheVariants.{HopByHopNotAtStart}
@@ -19,19 +19,19 @@ use Rattle.ep_ext.specs.declared.err.ipv6_exts.header_error.HeaderError.TheVaria
 use Rattle.ep_ext.specs.declared.err.ipv6_exts.header_read_error.HeaderReadError.{HeaderReadError}
 use Rattle.ep_ext.specs.declared.err.ipv6_exts.header_read_error.HeaderReadError.TheVariants.{Io}
 use Rattle.ep_ext.specs.declared.err.ipv6_exts.header_read_error.HeaderReadError.TheVariants.{Content}
-use Rattle.ep_ext.specs.declared.net.ipv6_ext_place.Ipv6ExtPlace.TheVariants.{Authentication}
+use Rattle.ep_ext.specs.declared.net.ipv6_ext_slot.Ipv6ExtSlot.TheVariants.{Authentication}
 use Rattle.ep_ext.specs.declared.net.ipv6_extensions.Ipv6Extensions.{Ipv6Extensions}
 use Rattle.ep_ext.proofs.Reading.{consumed_some, not_zero, second}
 use Rattle.std.proofs.lemmas.Option.{none-some}
 use Rattle.ep_ext.proofs.Rows.{chain_alone, end_closed, end_fault}
 
 whole_chain : (first : ℕ) (pieces : List Piece) (last : ℕ) (rest : List ℕ)
-    → IsWholeRow first pieces last → Chain place_of first (bytes_of pieces ++ rest) pieces last rest
+    → IsWholeRow first pieces last → Chain slot_of first (bytes_of pieces ++ rest) pieces last rest
 whole_chain first pieces last rest whole =
     record {
       row = whole.row;
       cut = refl;
-      ended = end_closed place_of (places pieces) last rest whole.closed;
+      ended = end_closed slot_of (slots pieces) last rest whole.closed;
     }
 
 pub read_same : (first : ℕ) (old new : Option (List ℕ)) (answer : Ipv6Extensions × IpNumber)
@@ -41,59 +41,59 @@ pub read_same : (first : ℕ) (old new : Option (List ℕ)) (answer : Ipv6Extens
     (answer.0 ≡ value_of pieces) × (answer.1.0 ≡ last) × (new ≡ Some rest)
 read_same first old new answer reads pieces last rest whole known =
     let given = consumed_some old new (bytes_of pieces ++ rest) (bytes_of reads.0) known reads.2 in
-    let chain : Chain place_of first (bytes_of pieces ++ rest) reads.0 answer.1.0 given.0 =
+    let chain : Chain slot_of first (bytes_of pieces ++ rest) reads.0 answer.1.0 given.0 =
     record {
       row = reads.1.row;
       cut = given.1;
-      ended = end_closed place_of (places reads.0) answer.1.0 given.0 reads.1.closed;
+      ended = end_closed slot_of (slots reads.0) answer.1.0 given.0 reads.1.closed;
     } in
-    let same = chain_alone place_of first (bytes_of pieces ++ rest) reads.0 pieces answer.1.0 last
+    let same = chain_alone slot_of first (bytes_of pieces ++ rest) reads.0 pieces answer.1.0 last
     given.0 rest chain (whole_chain first pieces last rest whole) in
     (reads.3 ∙ ap value_of same.0, same.1, given.2 ∙ ap Some same.2)
 
 -- the fault of 12 bytes is that of all
-fault_by : (front behind : List ℕ) (e : AuthFault) (b : ℕ) → HasContentFault front e
-    → get_or front 1 0 ≡ b → auth_at (front ++ behind) ≡ Err (slice_error.Content e)
-fault_by front behind e zero fault is =
-    let len = length-append front behind in
+fault_by : (prefix following : List ℕ) (e : AuthFault) (b : ℕ) → HasContentFault prefix e
+    → get_or prefix 1 0 ≡ b → auth_at (prefix ++ following) ≡ Err (slice_error.Content e)
+fault_by prefix following e zero fault is =
+    let len = length-append prefix following in
     rw (
-      second front behind (omega (arith, fault.whole)),
-      le-ltb (length (front ++ behind)) 12 (omega (arith, fault.whole)),
-      eq-eqb (get_or front 1 0) 0 is,
+      second prefix following (omega (arith, fault.whole)),
+      le-ltb (length (prefix ++ following)) 12 (omega (arith, fault.whole)),
+      eq-eqb (get_or prefix 1 0) 0 is,
     )
-    (sym (rw (le-ltb (length front) 12 (omega (arith, fault.whole)), eq-eqb (get_or front 1 0) 0 is)
+    (sym (rw (le-ltb (length prefix) 12 (omega (arith, fault.whole)), eq-eqb (get_or prefix 1 0) 0 is)
     refl) ∙ fault.fault)
-fault_by front behind e (suc b) fault is = absurd (not_zero front e b fault.fault fault.whole is)
+fault_by prefix following e (suc b) fault is = absurd (not_zero prefix e b fault.fault fault.whole is)
 
 module _ (first : ℕ) (pieces : List Piece) (last : ℕ) (rest : List ℕ)
     (whole : IsWholeRow first pieces last) where
-  -- the headers behind which another was not read are all of them
+  -- the headers after which no other was read are all of them
   pub alone : (old between : Option (List ℕ)) (ps : List Piece) (number : ℕ)
-      → old ≡ Some (bytes_of pieces ++ rest) → Row place_of [] first ps number
+      → old ≡ Some (bytes_of pieces ++ rest) → Row slot_of [] first ps number
       → Consumes old between (bytes_of ps) →
-      ((behind : List ℕ) → between ≡ Some behind → IsEnd place_of (places ps) number behind)
+      ((following : List ℕ) → between ≡ Some following → IsEnd slot_of (slots ps) number following)
       → (ps ≡ pieces) × (number ≡ last)
   alone old between ps number known row consumed ended =
       let given = consumed_some old between (bytes_of pieces ++ rest)
       (bytes_of ps) known consumed in
-      let chain : Chain place_of first (bytes_of pieces ++ rest) ps number given.0 =
+      let chain : Chain slot_of first (bytes_of pieces ++ rest) ps number given.0 =
       record { row = row; cut = given.1; ended = ended given.0 given.2 } in
-      let same = chain_alone place_of first
+      let same = chain_alone slot_of first
       (bytes_of pieces ++ rest) ps pieces number last given.0 rest chain
       (whole_chain first pieces last rest whole) in
       (same.0, same.1)
 
-  pub auth_end : (old between new : Option (List ℕ)) (ps : List Piece) (number : ℕ) (front : List ℕ)
-      (e : AuthFault) → place_of (places ps) number ≡ Some Authentication
-      → HasContentFault front e →
-      Consumes between new front → (behind : List ℕ) → between ≡ Some behind
-      → IsEnd place_of (places ps) number behind
-  auth_end old between new ps number front e free fault consumed behind is =
-      let given = consumed_some between new behind front is consumed in
-      end_fault place_of (places ps) number behind Authentication
+  pub auth_end : (old between new : Option (List ℕ)) (ps : List Piece) (number : ℕ) (prefix : List ℕ)
+      (e : AuthFault) → slot_of (slots ps) number ≡ Some Authentication
+      → HasContentFault prefix e →
+      Consumes between new prefix → (following : List ℕ) → between ≡ Some following
+      → IsEnd slot_of (slots ps) number following
+  auth_end old between new ps number prefix e free fault consumed following is =
+      let given = consumed_some between new following prefix is consumed in
+      end_fault slot_of (slots ps) number following Authentication
       (slice_error.Content (IpAuth e)) free
-      (ap (front_of Authentication) given.1
-      ∙ ap of_auth (fault_by front given.0 e (get_or front 1 0) fault refl))
+      (ap (prefix_of Authentication) given.1
+      ∙ ap of_auth (fault_by prefix given.0 e (get_or prefix 1 0) fault refl))
 
   pub read_refused : (old new : Option (List ℕ)) (e : HeaderReadError) → RefusesRow first old e new
       → old ≡ Some (bytes_of pieces ++ rest) → IsExtsIo e
@@ -101,14 +101,14 @@ module _ (first : ℕ) (pieces : List Piece) (last : ℕ) (rest : List ℕ)
   read_refused old new (Content HopByHopNotAtStart) refused known =
       let at = refused.6 in
       let same = alone old refused.2 refused.0 refused.1 known refused.3 refused.5
-      (λ behind is. end_closed place_of (places refused.0) refused.1 behind at.0) in
+      (λ following is. end_closed slot_of (slots refused.0) refused.1 following at.0) in
       absurd (whole.number (sym same.1 ∙ at.1))
   read_refused old new (Content (IpAuth e)) refused known =
       let at = refused.6 in
       let same = alone old refused.2 refused.0 refused.1 known refused.3 refused.5
       (auth_end old refused.2 new refused.0 refused.1 at.1.0 e at.0 at.1.1 at.1.2) in
-      let there : place_of (places refused.0) refused.1 ≡ place_of (places pieces) last =
-      λ i. place_of (places (same.0 i)) (same.1 i) in
+      let there : slot_of (slots refused.0) refused.1 ≡ slot_of (slots pieces) last =
+      λ i. slot_of (slots (same.0 i)) (same.1 i) in
       absurd (none-some Authentication (sym whole.closed ∙ sym there ∙ at.0))
 
   pub read_all : (old new : Option (List ℕ))

@@ -1,4 +1,4 @@
--- Headers that are read in two parts.
+-- Headers that are read by two calls.
 use Rattle.std.proofs.Common.{◌≡◌, ℕ, ◌+◌, ◌-◌, ◌*◌, ◌≤◌, List, ◌++◌, length, Bool, true, false}
 use Rattle.std.proofs.Common.{cond, ltb, suc, get_or, take, drop, Ok, Err, Option, Some, None, inl}
 use Rattle.std.proofs.Common.{inr, arith, refl, sym, ap, ◌∙◌, length-append, length-drop}
@@ -26,53 +26,64 @@ use Rattle.ep_ext.specs.declared.err.io.limited_read_error.LimitedReadError.{Lim
 use Rattle.ep_ext.specs.declared.err.io.limited_read_error.LimitedReadError.TheVariants as limited
 use Rattle.ep_ext.proofs.Alone.{raw_read, fragment_read, auth_read}
 
--- what stands in a buffer whose front was written, and then the part behind it
-pub joined : (least size : ℕ) (front tail before : List ℕ) → length front ≡ least
+-- the contents of a buffer into which first the prefix was written, and then the bytes after it
+pub joined : (least size : ℕ) (prefix tail before : List ℕ) → length prefix ≡ least
     → length tail ≡ size - least → least ≤ size →
-    take size (put_mid least (size - least) (front ++ drop least before) tail) ≡ front ++ tail
-joined least size front tail before whole rest enough =
-    let len = length-append front (drop least before) in
-    take-put_mid least (size - least) (front ++ drop least before) tail size
+    take size (put_mid least (size - least) (prefix ++ drop least before) tail) ≡ prefix ++ tail
+joined least size prefix tail before whole rest enough =
+    let len = length-append prefix (drop least before) in
+    take-put_mid least (size - least) (prefix ++ drop least before) tail size
     (omega arith) (omega arith)
-    ∙ ap (λ (xs : List ℕ). xs ++ tail) (take_at front (drop least before) least whole)
+    ∙ ap (λ (xs : List ℕ). xs ++ tail) (take_at prefix (drop least before) least whole)
 
--- how many bytes are asked for behind the front
-pub asked : (least size : ℕ) (front before : List ℕ) → length front ≡ least
+-- how many bytes are requested after the prefix
+pub requested : (least size : ℕ) (prefix before : List ℕ) → length prefix ≡ least
     → size ≤ length before → least ≤ size →
-    length (take (size - least) (drop least (front ++ drop least before))) ≡ size - least
-asked least size front before whole fits enough =
-    let behind : drop least (front ++ drop least before) ≡ drop least before =
-    drop_at front (drop least before) least whole in
+    length (take (size - least) (drop least (prefix ++ drop least before))) ≡ size - least
+requested least size prefix before whole fits enough =
+    let following : drop least (prefix ++ drop least before) ≡ drop least before =
+    drop_at prefix (drop least before) least whole in
     let room = length-drop least before in
-    rw behind (length-take-le (size - least) (drop least before) (omega arith))
+    rw following (length-take-le (size - least) (drop least before) (omega arith))
 
-pub second : (front tail : List ℕ) → 2 ≤ length front
-    → get_or (front ++ tail) 1 0 ≡ get_or front 1 0
-second front tail enough = get_or_append_left front tail 0 1 (omega arith)
+pub second : (prefix tail : List ℕ) → 2 ≤ length prefix
+    → get_or (prefix ++ tail) 1 0 ≡ get_or prefix 1 0
+second prefix tail enough = get_or_append_left prefix tail 0 1 (omega arith)
 
-pub raw_joined : (front tail : List ℕ) → length front ≡ 8 → length tail ≡ raw_len front - 8
-    → IsRawExt (front ++ tail)
-raw_joined front tail whole rest =
-    let len = length-append front tail in
-    record { least = omega arith; whole = rw (second front tail (omega arith)) (omega arith) }
+pub raw_joined : (prefix tail : List ℕ) → length prefix ≡ 8 → length tail ≡ raw_len prefix - 8
+    → IsRawExt (prefix ++ tail)
+raw_joined prefix tail whole rest =
+    let len = length-append prefix tail in
+    record { least = omega arith; whole = rw (second prefix tail (omega arith)) (omega arith) }
 
-pub auth_joined : (front tail : List ℕ) → length front ≡ 12 → 12 ≤ auth_len front
-    → length tail ≡ auth_len front - 12 → IsAuth (front ++ tail)
-auth_joined front tail whole enough rest =
-    let len = length-append front tail in
-    record { least = omega arith; whole = rw (second front tail (omega arith)) (omega arith) }
+auth_joined : (prefix tail : List ℕ) → length prefix ≡ 12 → 12 ≤ auth_len prefix
+    → length tail ≡ auth_len prefix - 12 → IsAuth (prefix ++ tail)
+auth_joined prefix tail whole enough rest =
+    let len = length-append prefix tail in
+    record { least = omega arith; whole = rw (second prefix tail (omega arith)) (omega arith) }
 
-pub raw_len_again : (front behind : List ℕ) (size : ℕ) → length front ≡ 8
-    → size ≡ raw_len (front ++ behind) → size ≡ raw_len front
-raw_len_again front behind size whole is =
-    is ∙ ap (λ n. (n + 1) * 8) (second front behind (omega arith))
+pub raw_len_again : (prefix following : List ℕ) (size : ℕ) → length prefix ≡ 8
+    → size ≡ raw_len (prefix ++ following) → size ≡ raw_len prefix
+raw_len_again prefix following size whole is =
+    is ∙ ap (λ n. (n + 1) * 8) (second prefix following (omega arith))
 
-pub auth_len_again : (front behind : List ℕ) (size : ℕ) → length front ≡ 12
-    → size ≡ auth_len (front ++ behind) → size ≡ auth_len front
-auth_len_again front behind size whole is =
-    is ∙ ap (λ n. (n + 2) * 4) (second front behind (omega arith))
+pub auth_len_again : (prefix following : List ℕ) (size : ℕ) → length prefix ≡ 12
+    → size ≡ auth_len (prefix ++ following) → size ≡ auth_len prefix
+auth_len_again prefix following size whole is =
+    is ∙ ap (λ n. (n + 2) * 4) (second prefix following (omega arith))
 
--- what is read in two parts is read
+-- the header that two calls put into a buffer
+pub auth_written : (prefix tail before : List ℕ) (size : ℕ) → length prefix ≡ 12
+    → size ≡ auth_len (prefix ++ drop 12 before) → 12 ≤ size → length tail ≡ size - 12 →
+    (take size (put_mid 12 (size - 12) (prefix ++ drop 12 before) tail) ≡ prefix ++ tail)
+    × IsAuth (prefix ++ tail)
+auth_written prefix tail before size whole is enough rest =
+    let len = auth_len_again prefix (drop 12 before) size whole is in (
+      joined 12 size prefix tail before whole rest enough,
+      auth_joined prefix tail whole (omega arith) (rest ∙ ap (λ n. n - 12) len),
+    )
+
+-- what is read by two calls is read
 pub takes_both : {T : Type 0} (remaining : T → Option (List ℕ)) (a b c : Limited T) (xs ys : List ℕ)
     → Takes remaining a xs b → Takes remaining b ys c → Takes remaining a (xs ++ ys) c
 takes_both {T = T} remaining a b c xs ys first more =
@@ -90,7 +101,7 @@ takes_both {T = T} remaining a b c xs ys first more =
           ∙ ap {A = ℕ} {B = Limited T} (λ n. record a { reader = c.reader; read_len = n }) count;
     }
 
--- known bytes begin with what a reader gave
+-- known bytes start with what a reader gave
 pub consumed_some : (known new : Option (List ℕ)) (all header : List ℕ) → known ≡ Some all
     → Consumes known new header → (rest : List ℕ) × (all ≡ header ++ rest) × (new ≡ Some rest)
 consumed_some known new all header is consumed = given new (rw is at consumed)
@@ -126,36 +137,36 @@ auth_next known new header rest read is_header is is_read consumed =
     let same = auth_read (header ++ rest) read given.0 header rest is_read given.1 is_header refl in
     (same.0, given.2 ∙ ap Some same.1)
 
--- both begin alike
-same_second : (header rest front behind : List ℕ) → header ++ rest ≡ front ++ behind
-    → 2 ≤ length header → 2 ≤ length front → get_or front 1 0 ≡ get_or header 1 0
-same_second header rest front behind same enough fits =
-    sym (second front behind fits) ∙ ap (λ (xs : List ℕ). get_or xs 1 0) (sym same)
+-- both have the same second byte
+same_second : (header rest prefix following : List ℕ) → header ++ rest ≡ prefix ++ following
+    → 2 ≤ length header → 2 ≤ length prefix → get_or prefix 1 0 ≡ get_or header 1 0
+same_second header rest prefix following same enough fits =
+    sym (second prefix following fits) ∙ ap (λ (xs : List ℕ). get_or xs 1 0) (sym same)
     ∙ second header rest enough
 
 -- 12 bytes of a length byte that is not 0 have no fault
-pub not_zero : (front : List ℕ) (e : HeaderError) (b : ℕ)
-    → auth_at front ≡ Err (slice_error.Content e) → length front ≡ 12 → get_or front 1 0 ≡ suc b → ⊥
-not_zero front e b fault whole is =
-    auth_front (ltb (length front) (auth_len front)) (take (auth_len front) front) e
-    (length front) (auth_len front)
-    (sym (rw (le-ltb (length front) 12 (omega arith), ne_eqb (get_or front 1 0) 0 (omega arith))
+pub not_zero : (prefix : List ℕ) (e : HeaderError) (b : ℕ)
+    → auth_at prefix ≡ Err (slice_error.Content e) → length prefix ≡ 12 → get_or prefix 1 0 ≡ suc b → ⊥
+not_zero prefix e b fault whole is =
+    auth_prefix (ltb (length prefix) (auth_len prefix)) (take (auth_len prefix) prefix) e
+    (length prefix) (auth_len prefix)
+    (sym (rw (le-ltb (length prefix) 12 (omega arith), ne_eqb (get_or prefix 1 0) 0 (omega arith))
     refl) ∙ fault)
   where
-    auth_front : (b : Bool) (h : List ℕ) (e : HeaderError) (l m : ℕ)
+    auth_prefix : (b : Bool) (h : List ℕ) (e : HeaderError) (l m : ℕ)
         → cond b (Err (slice_error.Len (too_few_bytes IpAuthHeader m l))) (Ok h)
         ≡ Err (slice_error.Content e) → ⊥
-    auth_front true h e l m x = cc
-    auth_front false h e l m x = cc
+    auth_prefix true h e l m x = cc
+    auth_prefix false h e l m x = cc
 
-no_fault : (known new : Option (List ℕ)) (front header rest : List ℕ) (e : HeaderError)
-    → IsAuth header → known ≡ Some (header ++ rest) → HasContentFault front e
-    → Consumes known new front → ⊥
-no_fault known new front header rest e is_header is fault consumed =
-    let given = consumed_some known new (header ++ rest) front is consumed in
-    let same = same_second header rest front given.0 given.1 (omega (arith, is_header.least))
+no_fault : (known new : Option (List ℕ)) (prefix header rest : List ℕ) (e : HeaderError)
+    → IsAuth header → known ≡ Some (header ++ rest) → HasContentFault prefix e
+    → Consumes known new prefix → ⊥
+no_fault known new prefix header rest e is_header is fault consumed =
+    let given = consumed_some known new (header ++ rest) prefix is consumed in
+    let same = same_second header rest prefix given.0 given.1 (omega (arith, is_header.least))
     (omega (arith, fault.whole)) in
-    not_zero front e (get_or header 1 0 - 1) fault.fault fault.whole
+    not_zero prefix e (get_or header 1 0 - 1) fault.fault fault.whole
     (omega (arith, same, is_header.least, is_header.whole))
 
 pub auth_refused : (known new : Option (List ℕ)) (e : HeaderReadError) (header rest : List ℕ)
@@ -168,8 +179,8 @@ module _ {T : Type 0} (remaining : T → Option (List ℕ)) where
   -- a header that is next and within the limit is refused only where a read failed
   refused_next : (least : ℕ) (size : List ℕ → ℕ) (start new : Limited T) (e : LimitedReadError)
       (header rest : List ℕ) →
-      ((front : List ℕ) → length front ≡ least → get_or front 1 0 ≡ get_or header 1 0
-      → size front ≡ length header) → 2 ≤ least → least ≤ length header →
+      ((prefix : List ℕ) → length prefix ≡ least → get_or prefix 1 0 ≡ get_or header 1 0
+      → size prefix ≡ length header) → 2 ≤ least → least ≤ length header →
       start.read_len ≡ 0 → length header ≤ start.max_len
       → remaining start.reader ≡ Some (header ++ rest)
       → RefusesHeader remaining least size start e new → IsIo e
@@ -196,7 +207,7 @@ module _ {T : Type 0} (remaining : T → Option (List ℕ)) where
       → RefusesHeader remaining 8 raw_len start e new → IsIo e
   raw_refused start new e header rest is_header begins fits known refused =
       refused_next 8 raw_len start new e header rest
-      (λ front whole same. ap (λ n. (n + 1) * 8) same ∙ sym is_header.whole)
+      (λ prefix whole same. ap (λ n. (n + 1) * 8) same ∙ sym is_header.whole)
       (omega arith) is_header.least begins fits known refused
 
   auth_read_error_io : (e : LimitedReadError) → IsIo e → IsAuthLimitedIo (auth_error e)
@@ -216,7 +227,7 @@ module _ {T : Type 0} (remaining : T → Option (List ℕ)) where
       → RefusesHeader remaining 12 auth_len start e new → IsIo e
   auth_long start new e header rest is_header begins fits known refused =
       refused_next 12 auth_len start new e header rest
-      (λ front whole same. ap (λ n. (n + 2) * 4) same ∙ sym is_header.whole)
+      (λ prefix whole same. ap (λ n. (n + 2) * 4) same ∙ sym is_header.whole)
       (omega arith) is_header.least begins fits known refused
 
   pub auth_refused_within : (start new : Limited T) (e : HeaderLimitedReadError)

@@ -7,15 +7,15 @@ use Rattle.std.proofs.lemmas.Bool.{eqb-true}
 use Rattle.ep_base.specs.declared.err.len_error.LenError.{LenError}
 use Rattle.ep_base.specs.declared.net.ip_number.IpNumber.{IpNumber}
 use Rattle.ep_ip.specs.Skip.{IsWhole, Skips, Walk, Gives, is_skipped, outcome, skip}
-use Rattle.ep_ext.specs.Place.{Order, KeepsNumbers, number_of, is_passed, once, in_front, place_of}
+use Rattle.ep_ext.specs.Slot.{Order, KeepsNumbers, number_of, is_passed, once, at_start, slot_of}
 use Rattle.ep_ext.specs.Value.{Piece, bytes_of}
 use Rattle.ep_ext.specs.Chain.{IsPiece, Row, Chain}
-use Rattle.ep_ext.specs.declared.net.ipv6_ext_place.Ipv6ExtPlace.{Ipv6ExtPlace}
-use Rattle.ep_ext.specs.declared.net.ipv6_ext_place.Ipv6ExtPlace.TheVariants.{HopByHop, Destination}
-use Rattle.ep_ext.specs.declared.net.ipv6_ext_place.Ipv6ExtPlace.TheVariants.{Routing, Fragment}
-use Rattle.ep_ext.specs.declared.net.ipv6_ext_place.Ipv6ExtPlace.TheVariants.{Authentication}
-use Rattle.ep_ext.specs.declared.net.ipv6_ext_place.Ipv6ExtPlace.TheVariants.{FinalDestination}
-use Rattle.ep_base.proofs.Fronts.{ok_same, ok_err}
+use Rattle.ep_ext.specs.declared.net.ipv6_ext_slot.Ipv6ExtSlot.{Ipv6ExtSlot}
+use Rattle.ep_ext.specs.declared.net.ipv6_ext_slot.Ipv6ExtSlot.TheVariants.{HopByHop, Destination}
+use Rattle.ep_ext.specs.declared.net.ipv6_ext_slot.Ipv6ExtSlot.TheVariants.{Routing, Fragment}
+use Rattle.ep_ext.specs.declared.net.ipv6_ext_slot.Ipv6ExtSlot.TheVariants.{Authentication}
+use Rattle.ep_ext.specs.declared.net.ipv6_ext_slot.Ipv6ExtSlot.TheVariants.{FinalDestination}
+use Rattle.ep_base.proofs.Prefixes.{ok_same, ok_err}
 use Rattle.std.proofs.lemmas.Option.{none-some, same_Some}
 use Rattle.ep_ext.proofs.Values.{one_of, once_open}
 
@@ -27,7 +27,7 @@ concat_headers : (pieces : List Piece) → concat (headers_of pieces) ≡ bytes_
 concat_headers [] = refl
 concat_headers (piece ∷ pieces) = ap (λ (xs : List ℕ). piece.1 ++ xs) (concat_headers pieces)
 
-skipped : (place : Ipv6ExtPlace) → IsTrue (is_skipped (number_of place))
+skipped : (slot : Ipv6ExtSlot) → IsTrue (is_skipped (number_of slot))
 skipped HopByHop = refl
 skipped Destination = refl
 skipped Routing = refl
@@ -35,18 +35,18 @@ skipped Fragment = refl
 skipped Authentication = refl
 skipped FinalDestination = refl
 
-whole : (place : Ipv6ExtPlace) (header : List ℕ) → IsPiece place header
-    → IsWhole (number_of place) header
-whole HopByHop header piece = record { begun = omega (arith, piece.least); whole = piece.whole }
-whole Destination header piece = record { begun = omega (arith, piece.least); whole = piece.whole }
-whole Routing header piece = record { begun = omega (arith, piece.least); whole = piece.whole }
-whole Fragment header piece = record { begun = omega (arith, piece.whole); whole = piece.whole }
+whole : (slot : Ipv6ExtSlot) (header : List ℕ) → IsPiece slot header
+    → IsWhole (number_of slot) header
+whole HopByHop header piece = record { started = omega (arith, piece.least); whole = piece.whole }
+whole Destination header piece = record { started = omega (arith, piece.least); whole = piece.whole }
+whole Routing header piece = record { started = omega (arith, piece.least); whole = piece.whole }
+whole Fragment header piece = record { started = omega (arith, piece.whole); whole = piece.whole }
 whole Authentication header piece =
-    record { begun = omega (arith, piece.least); whole = piece.whole }
+    record { started = omega (arith, piece.least); whole = piece.whole }
 whole FinalDestination header piece =
-    record { begun = omega (arith, piece.least); whole = piece.whole }
+    record { started = omega (arith, piece.least); whole = piece.whole }
 
-row_skips : (order : Order) (passed : List Ipv6ExtPlace) (number : ℕ) (pieces : List Piece)
+row_skips : (order : Order) (passed : List Ipv6ExtSlot) (number : ℕ) (pieces : List Piece)
     (last : ℕ) → KeepsNumbers order →
     Row order passed number pieces last → Skips number (headers_of pieces) last
 row_skips order passed number [] last keeps row = row
@@ -65,20 +65,20 @@ pub chain_skips : (order : Order) (first : ℕ) (bytes : List ℕ) (pieces : Lis
     → skip number bytes ≡ outcome (length (concat headers)) last rest) → KeepsNumbers order
     → Chain order first bytes pieces last rest → is_skipped last ≡ false →
     skip first bytes ≡ Ok (last, rest)
-chain_skips order first bytes pieces last rest follows keeps chain behind =
+chain_skips order first bytes pieces last rest follows keeps chain following =
     let walk : Walk first bytes (headers_of pieces) last rest = record {
       named = row_skips order [] first pieces last keeps chain.row;
       cut = chain.cut ∙ ap (λ (xs : List ℕ). xs ++ rest) (sym (concat_headers pieces));
-      ended = λ is. absurd (true_false (sym is ∙ behind));
+      ended = λ is. absurd (true_false (sym is ∙ following));
     } in
     let ends : outcome (length (concat (headers_of pieces))) last rest ≡ Ok (last, rest) =
-    rw behind refl in
+    rw following refl in
     follows first bytes (headers_of pieces) last rest walk ∙ ends
   where
     true_false : true ≡ false → ⊥
     true_false e = cc
 
--- the answer of a call that gives what the walk does
+-- the result of a call that returns what the walk does
 pub skip_answer : (wanted : Result (ℕ × List ℕ) LenError) (last : ℕ) (rest : List ℕ)
     (answer : Result (IpNumber × Bor (List ℕ)) LenError) → Gives wanted answer
     → wanted ≡ Ok (last, rest) → IsOkAnd answer (λ r. (r.0.0 ≡ last) × (r.1.now ≡ rest))
@@ -88,30 +88,30 @@ skip_answer wanted last rest (Ok r) gives is =
     (sym (ap (λ (x : ℕ × List ℕ). x.0) same), sym (ap (λ (x : ℕ × List ℕ). x.1) same))
 skip_answer wanted last rest (Err e) gives is = absurd (ok_err (last, rest) e (sym is ∙ gives))
 
-number_from : (passed : List Ipv6ExtPlace) (number : ℕ) (p place : Ipv6ExtPlace)
-    → eqb number (number_of p) ≡ true → once passed p ≡ Some place → number_of place ≡ number
-number_from passed number p place is e = sym (ap number_of (once_open passed p place e).1)
+number_from : (passed : List Ipv6ExtSlot) (number : ℕ) (p slot : Ipv6ExtSlot)
+    → eqb number (number_of p) ≡ true → once passed p ≡ Some slot → number_of slot ≡ number
+number_from passed number p slot is e = sym (ap number_of (once_open passed p slot e).1)
     ∙ sym (eqb-true number (number_of p) is)
 
-front_number : (passed : List Ipv6ExtPlace) (place : Ipv6ExtPlace)
-    → in_front passed ≡ Some place → number_of place ≡ 0
-front_number [] place e = sym (ap number_of (same_Some HopByHop place e))
-front_number (p ∷ passed) place e = absurd (none-some place e)
+at_start_number : (passed : List Ipv6ExtSlot) (slot : Ipv6ExtSlot)
+    → at_start passed ≡ Some slot → number_of slot ≡ 0
+at_start_number [] slot e = sym (ap number_of (same_Some HopByHop slot e))
+at_start_number (p ∷ passed) slot e = absurd (none-some slot e)
 
-pub place_numbers : KeepsNumbers place_of
-place_numbers passed number place e =
-    ⊎_elim (λ hop. front_number passed place hop.1 ∙ sym (eqb-true number 0 hop.0))
-    (λ a. ⊎_elim (λ routing. number_from passed number Routing place routing.0 routing.1)
-    (λ b. ⊎_elim (λ fragment. number_from passed number Fragment place fragment.0 fragment.1)
-    (λ c. ⊎_elim (λ auth. number_from passed number Authentication place auth.0 auth.1)
+pub slot_numbers : KeepsNumbers slot_of
+slot_numbers passed number slot e =
+    ⊎_elim (λ hop. at_start_number passed slot hop.1 ∙ sym (eqb-true number 0 hop.0))
+    (λ a. ⊎_elim (λ routing. number_from passed number Routing slot routing.0 routing.1)
+    (λ b. ⊎_elim (λ fragment. number_from passed number Fragment slot fragment.0 fragment.1)
+    (λ c. ⊎_elim (λ auth. number_from passed number Authentication slot auth.0 auth.1)
     (λ d. ⊎_elim (λ options. ⊎_elim
-    (λ final. number_from passed number FinalDestination place options.0 final.1)
-    (λ before. number_from passed number Destination place options.0 before.1)
+    (λ final. number_from passed number FinalDestination slot options.0 final.1)
+    (λ before. number_from passed number Destination slot options.0 before.1)
     (one_of (is_passed passed Routing) (once passed FinalDestination) (once passed Destination)
-    (Some place) options.1))
-    (λ other. absurd (none-some place other.1))
-    (one_of (eqb number 60) _ _ (Some place) d.1))
-    (one_of (eqb number 51) _ _ (Some place) c.1))
-    (one_of (eqb number 44) _ _ (Some place) b.1))
-    (one_of (eqb number 43) _ _ (Some place) a.1))
-    (one_of (eqb number 0) _ _ (Some place) e)
+    (Some slot) options.1))
+    (λ other. absurd (none-some slot other.1))
+    (one_of (eqb number 60) _ _ (Some slot) d.1))
+    (one_of (eqb number 51) _ _ (Some slot) c.1))
+    (one_of (eqb number 44) _ _ (Some slot) b.1))
+    (one_of (eqb number 43) _ _ (Some slot) a.1))
+    (one_of (eqb number 0) _ _ (Some slot) e)

@@ -8,10 +8,10 @@ use Rattle.std.specs.Prelude.{IfOk, IfErr, MatchResult}
 use Rattle.ep_base.specs.declared.net.ip_number.IpNumber.{IpNumber}
 use Rattle.ep_ext.specs.Chain.{IsPiece, Row}
 use Rattle.ep_ext.specs.Limited.{Limited, at_next_layer}
-use Rattle.ep_ext.specs.Place.{place_of}
+use Rattle.ep_ext.specs.Slot.{slot_of}
 use Rattle.ep_ext.specs.ReadsExts.{IsWholeRow, IsExtsLimitedIo, ReadsRowWithin, RefusesBytes}
 use Rattle.ep_ext.specs.ReadsExts.{RefusesRowWithin, TakesRow, read_layer}
-use Rattle.ep_ext.specs.Value.{Piece, places, bytes_of, value_of}
+use Rattle.ep_ext.specs.Value.{Piece, slots, bytes_of, value_of}
 use Rattle.ep_ext.specs.declared.err.io.limited_read_error.LimitedReadError.TheVariants as bytes_fault
 use Rattle.ep_ext.specs.declared.err.ip_auth.header_limited_read_error.HeaderLimitedReadError.TheVariants as auth_limited
 use Rattle.ep_ext.specs.declared.err.ipv6_exts.header_error.HeaderError.TheVariants.{HopByHopNotAtStart}
@@ -21,13 +21,13 @@ use Rattle.ep_ext.specs.declared.err.ipv6_exts.header_limited_read_error.HeaderL
 use Rattle.ep_ext.specs.declared.err.ipv6_exts.header_limited_read_error.HeaderLimitedReadError.TheVariants.{Len}
 use Rattle.ep_ext.specs.declared.err.ipv6_exts.header_limited_read_error.HeaderLimitedReadError.TheVariants.{Content}
 use Rattle.ep_base.specs.declared.err.len_error.LenError.{LenError}
-use Rattle.ep_ext.specs.declared.net.ipv6_ext_place.Ipv6ExtPlace.{Ipv6ExtPlace}
-use Rattle.ep_ext.specs.declared.net.ipv6_ext_place.Ipv6ExtPlace.TheVariants.{HopByHop, Destination}
-use Rattle.ep_ext.specs.declared.net.ipv6_ext_place.Ipv6ExtPlace.TheVariants.{Routing, Fragment}
-use Rattle.ep_ext.specs.declared.net.ipv6_ext_place.Ipv6ExtPlace.TheVariants.{Authentication}
-use Rattle.ep_ext.specs.declared.net.ipv6_ext_place.Ipv6ExtPlace.TheVariants.{FinalDestination}
+use Rattle.ep_ext.specs.declared.net.ipv6_ext_slot.Ipv6ExtSlot.{Ipv6ExtSlot}
+use Rattle.ep_ext.specs.declared.net.ipv6_ext_slot.Ipv6ExtSlot.TheVariants.{HopByHop, Destination}
+use Rattle.ep_ext.specs.declared.net.ipv6_ext_slot.Ipv6ExtSlot.TheVariants.{Routing, Fragment}
+use Rattle.ep_ext.specs.declared.net.ipv6_ext_slot.Ipv6ExtSlot.TheVariants.{Authentication}
+use Rattle.ep_ext.specs.declared.net.ipv6_ext_slot.Ipv6ExtSlot.TheVariants.{FinalDestination}
 use Rattle.ep_ext.specs.declared.net.ipv6_extensions.Ipv6Extensions.{Ipv6Extensions}
-use Rattle.ep_ext.proofs.Fronts.{same_front, same_rest}
+use Rattle.ep_ext.proofs.Prefixes.{same_prefix, same_rest}
 use Rattle.ep_ext.proofs.Reading.{consumed_some, raw_refused, auth_refused_within}
 use Rattle.ep_ext.proofs.ReadOnly.{alone, auth_end, read_same}
 use Rattle.ep_ext.proofs.ReadWalk.{consumes_none}
@@ -45,61 +45,61 @@ taken {T = T} remaining old new [] row =
     (consumes_none (remaining old.reader), omega arith)
 taken {T = T} remaining old new (piece ∷ pieces) row =
     let between = row.0 in
-    let behind = taken remaining between new pieces row.2 in
+    let following = taken remaining between new pieces row.2 in
     let limit : between.max_len ≡ old.max_len - old.read_len =
     ap {A = Limited T} (λ r. r.max_len) row.1.counted in
     let read : between.read_len ≡ 0 + length piece.1 =
     ap {A = Limited T} (λ r. r.read_len) row.1.counted in (
       Consumes-trans (remaining old.reader) (remaining between.reader)
-          (remaining new.reader) piece.1 (bytes_of pieces) row.1.consumed behind.0,
-      omega (arith, limit, read, row.1.within, behind.1, length-append piece.1 (bytes_of pieces)),
+          (remaining new.reader) piece.1 (bytes_of pieces) row.1.consumed following.0,
+      omega (arith, limit, read, row.1.within, following.1, length-append piece.1 (bytes_of pieces)),
     )
 
--- of two rows over the same bytes, where one has a place for its next header and the other has
--- none, the other goes on behind the one
-next_there : (passed : List Ipv6ExtPlace) (number : ℕ) (ps qs : List Piece) (m n : ℕ)
-    (r s : List ℕ) (p : Ipv6ExtPlace) →
-    Row place_of passed number ps m → Row place_of passed number qs n
+-- of two rows over the same bytes, where one has a slot for its next header and the other has none,
+-- the other continues after the one
+next_there : (passed : List Ipv6ExtSlot) (number : ℕ) (ps qs : List Piece) (m n : ℕ)
+    (r s : List ℕ) (p : Ipv6ExtSlot) →
+    Row slot_of passed number ps m → Row slot_of passed number qs n
     → bytes_of ps ++ r ≡ bytes_of qs ++ s →
-    place_of (passed ++ places ps) m ≡ Some p → place_of (passed ++ places qs) n ≡ None →
-    (header : List ℕ) × (behind : List ℕ) × IsPiece p header × (r ≡ header ++ behind)
+    slot_of (passed ++ slots ps) m ≡ Some p → slot_of (passed ++ slots qs) n ≡ None →
+    (header : List ℕ) × (following : List ℕ) × IsPiece p header × (r ≡ header ++ following)
     × (length (bytes_of ps) + length header ≤ length (bytes_of qs))
 next_there passed number [] [] m n r s p row other e free closed =
-    absurd (none-some p (sym closed ∙ ap (place_of (passed ++ [])) (sym other ∙ row) ∙ free))
+    absurd (none-some p (sym closed ∙ ap (slot_of (passed ++ [])) (sym other ∙ row) ∙ free))
 next_there passed number [] (q ∷ qs) m n r s p row other e free closed =
-    let free_here : place_of passed number ≡ Some p =
-    ap (place_of passed) row ∙ ap (λ (xs : List Ipv6ExtPlace). place_of xs m)
+    let free_here : slot_of passed number ≡ Some p =
+    ap (slot_of passed) row ∙ ap (λ (xs : List Ipv6ExtSlot). slot_of xs m)
     (sym (append-nil passed)) ∙ free in
-    let place : q.0 ≡ p = same_Some q.0 p (sym other.0 ∙ free_here) in (
+    let slot : q.0 ≡ p = same_Some q.0 p (sym other.0 ∙ free_here) in (
       q.1,
       bytes_of qs ++ s,
-      subst (λ (x : Ipv6ExtPlace). IsPiece x q.1) place other.1,
+      subst (λ (x : Ipv6ExtSlot). IsPiece x q.1) slot other.1,
       e ∙ append_assoc q.1 (bytes_of qs) s,
       omega (arith, length-append q.1 (bytes_of qs)),
     )
 next_there passed number (x ∷ xs) [] m n r s p row other e free closed =
-    absurd (none-some x.0 (sym closed ∙ ap (λ (ys : List Ipv6ExtPlace). place_of ys n)
-    (append-nil passed) ∙ ap (place_of passed) (sym other) ∙ row.0))
+    absurd (none-some x.0 (sym closed ∙ ap (λ (ys : List Ipv6ExtSlot). slot_of ys n)
+    (append-nil passed) ∙ ap (slot_of passed) (sym other) ∙ row.0))
 next_there passed number (x ∷ xs) (q ∷ qs) m n r s p row other e free closed =
-    let place : q.0 ≡ x.0 = same_Some q.0 x.0 (sym other.0 ∙ row.0) in
+    let slot : q.0 ≡ x.0 = same_Some q.0 x.0 (sym other.0 ∙ row.0) in
     let both : x.1 ++ (bytes_of xs ++ r) ≡ q.1 ++ (bytes_of qs ++ s) =
     sym (append_assoc x.1 (bytes_of xs) r) ∙ e ∙ append_assoc q.1 (bytes_of qs) s in
-    let header : x.1 ≡ q.1 = same_front x.0 x.1 q.1 _ _ row.1
-    (subst (λ (y : Ipv6ExtPlace). IsPiece y q.1) place other.1) both in
-    let behind : bytes_of xs ++ r ≡ bytes_of qs ++ s = same_rest x.1 q.1 _ _ header both in
-    let piece : q ≡ x = λ i. (place i, sym header i) in
-    let others : Row place_of (passed ++ x.0 ∷ []) (get_or x.1 0 0) qs n =
-    subst (λ (y : Piece). Row place_of (passed ++ y.0 ∷ []) (get_or y.1 0 0) qs n)
+    let header : x.1 ≡ q.1 = same_prefix x.0 x.1 q.1 _ _ row.1
+    (subst (λ (y : Ipv6ExtSlot). IsPiece y q.1) slot other.1) both in
+    let following : bytes_of xs ++ r ≡ bytes_of qs ++ s = same_rest x.1 q.1 _ _ header both in
+    let piece : q ≡ x = λ i. (slot i, sym header i) in
+    let others : Row slot_of (passed ++ x.0 ∷ []) (get_or x.1 0 0) qs n =
+    subst (λ (y : Piece). Row slot_of (passed ++ y.0 ∷ []) (get_or y.1 0 0) qs n)
     piece other.2 in
-    let free_there : place_of ((passed ++ x.0 ∷ []) ++ places xs) m ≡ Some p =
-    ap (λ (ys : List Ipv6ExtPlace). place_of ys m)
-    (append_assoc passed (x.0 ∷ []) (places xs)) ∙ free in
-    let closed_there : place_of ((passed ++ x.0 ∷ []) ++ places qs) n ≡ None =
-    ap (λ (ys : List Ipv6ExtPlace). place_of ys n)
-    (append_assoc passed (x.0 ∷ []) (places qs)
-    ∙ ap (λ (y : Ipv6ExtPlace). passed ++ y ∷ places qs) (sym place)) ∙ closed in
+    let free_there : slot_of ((passed ++ x.0 ∷ []) ++ slots xs) m ≡ Some p =
+    ap (λ (ys : List Ipv6ExtSlot). slot_of ys m)
+    (append_assoc passed (x.0 ∷ []) (slots xs)) ∙ free in
+    let closed_there : slot_of ((passed ++ x.0 ∷ []) ++ slots qs) n ≡ None =
+    ap (λ (ys : List Ipv6ExtSlot). slot_of ys n)
+    (append_assoc passed (x.0 ∷ []) (slots qs)
+    ∙ ap (λ (y : Ipv6ExtSlot). passed ++ y ∷ slots qs) (sym slot)) ∙ closed in
     let there = next_there (passed ++ x.0 ∷ [])
-    (get_or x.1 0 0) xs qs m n r s p row.2 others behind free_there closed_there in (
+    (get_or x.1 0 0) xs qs m n r s p row.2 others following free_there closed_there in (
       there.0,
       there.1,
       there.2,
@@ -116,26 +116,26 @@ next_there passed number (x ∷ xs) (q ∷ qs) m n r s p row other e free closed
 
 module _ {T : Type 0} (remaining : T → Option (List ℕ)) where
   -- a header that is next, and within the limit, isn't refused for its length
-  not_long : (at : Ipv6ExtPlace) (start new : Limited T) (e : LenError) (header behind : List ℕ)
+  not_long : (at : Ipv6ExtSlot) (start new : Limited T) (e : LenError) (header following : List ℕ)
       → IsPiece at header → start.read_len ≡ 0 → length header ≤ start.max_len →
-      remaining start.reader ≡ Some (header ++ behind)
+      remaining start.reader ≡ Some (header ++ following)
       → RefusesBytes remaining at start (bytes_fault.Len e) new → ⊥
-  not_long HopByHop start new e header behind piece begins fits known refused =
-      raw_refused remaining start new (bytes_fault.Len e) header behind piece
+  not_long HopByHop start new e header following piece begins fits known refused =
+      raw_refused remaining start new (bytes_fault.Len e) header following piece
       begins fits known refused
-  not_long Destination start new e header behind piece begins fits known refused =
-      raw_refused remaining start new (bytes_fault.Len e) header behind piece
+  not_long Destination start new e header following piece begins fits known refused =
+      raw_refused remaining start new (bytes_fault.Len e) header following piece
       begins fits known refused
-  not_long Routing start new e header behind piece begins fits known refused =
-      raw_refused remaining start new (bytes_fault.Len e) header behind piece
+  not_long Routing start new e header following piece begins fits known refused =
+      raw_refused remaining start new (bytes_fault.Len e) header following piece
       begins fits known refused
-  not_long Fragment start new e header behind piece begins fits known refused =
+  not_long Fragment start new e header following piece begins fits known refused =
       omega (arith, refused.0, piece.whole)
-  not_long Authentication start new e header behind piece begins fits known refused =
+  not_long Authentication start new e header following piece begins fits known refused =
       auth_refused_within remaining start new
-      (auth_limited.Len e) header behind piece begins fits known refused
-  not_long FinalDestination start new e header behind piece begins fits known refused =
-      raw_refused remaining start new (bytes_fault.Len e) header behind piece
+      (auth_limited.Len e) header following piece begins fits known refused
+  not_long FinalDestination start new e header following piece begins fits known refused =
+      raw_refused remaining start new (bytes_fault.Len e) header following piece
       begins fits known refused
 
   module _ (first : ℕ) (pieces : List Piece) (last : ℕ) (rest : List ℕ)
@@ -159,7 +159,7 @@ module _ {T : Type 0} (remaining : T → Option (List ℕ)) where
         let facts = taken remaining old refused.2 refused.0 refused.5 in
         let same = alone first pieces last rest whole (remaining old.reader)
         (remaining refused.2.reader) refused.0 refused.1 known refused.3 facts.0
-        (λ behind is. end_closed place_of (places refused.0) refused.1 behind refused.6.0) in
+        (λ following is. end_closed slot_of (slots refused.0) refused.1 following refused.6.0) in
         absurd (whole.number (sym same.1 ∙ refused.6.1))
     refused_within old new (Content (IpAuth e)) refused known fits =
         let facts = taken remaining old refused.2 refused.0 refused.5 in
@@ -168,8 +168,8 @@ module _ {T : Type 0} (remaining : T → Option (List ℕ)) where
         (auth_end first pieces last rest whole (remaining old.reader) (remaining refused.2.reader)
         (remaining new.reader) refused.0 refused.1 refused.6.1.0 e refused.6.0 refused.6.1.1
         refused.6.1.2.consumed) in
-        let there : place_of (places refused.0) refused.1 ≡ place_of (places pieces) last =
-        λ i. place_of (places (same.0 i)) (same.1 i) in
+        let there : slot_of (slots refused.0) refused.1 ≡ slot_of (slots pieces) last =
+        λ i. slot_of (slots (same.0 i)) (same.1 i) in
         absurd (none-some Authentication (sym whole.closed ∙ sym there ∙ refused.6.0))
 
     pub read_within : (old new : Limited T)

@@ -3,16 +3,16 @@ use Rattle.std.specs.Prelude.{◌≡◌, ℕ, if◌then◌else◌, List, Option,
 use Rattle.std.specs.Borrow.{Bor}
 use Rattle.ep_base.specs.declared.net.ip_number.IpNumber.{IpNumber}
 use Rattle.ep_ext.specs.Chain.{Fault, fault_of}
-use Rattle.ep_ext.specs.Place.{is_same, place_of}
+use Rattle.ep_ext.specs.Slot.{is_same, slot_of}
 use Rattle.ep_ext.specs.Value.{Piece, piece_at}
 use Rattle.ep_ext.specs.declared.net.borrowed_extensions.BorrowedExtensions.{BorrowedExtensions}
-use Rattle.ep_ext.specs.declared.net.ipv6_ext_place.Ipv6ExtPlace.{Ipv6ExtPlace}
-use Rattle.ep_ext.specs.declared.net.ipv6_ext_place.Ipv6ExtPlace.TheVariants.{HopByHop, Destination}
-use Rattle.ep_ext.specs.declared.net.ipv6_ext_place.Ipv6ExtPlace.TheVariants.{Routing, Fragment}
-use Rattle.ep_ext.specs.declared.net.ipv6_ext_place.Ipv6ExtPlace.TheVariants.{Authentication}
-use Rattle.ep_ext.specs.declared.net.ipv6_ext_place.Ipv6ExtPlace.TheVariants.{FinalDestination}
+use Rattle.ep_ext.specs.declared.net.ipv6_ext_slot.Ipv6ExtSlot.{Ipv6ExtSlot}
+use Rattle.ep_ext.specs.declared.net.ipv6_ext_slot.Ipv6ExtSlot.TheVariants.{HopByHop, Destination}
+use Rattle.ep_ext.specs.declared.net.ipv6_ext_slot.Ipv6ExtSlot.TheVariants.{Routing, Fragment}
+use Rattle.ep_ext.specs.declared.net.ipv6_ext_slot.Ipv6ExtSlot.TheVariants.{Authentication}
+use Rattle.ep_ext.specs.declared.net.ipv6_ext_slot.Ipv6ExtSlot.TheVariants.{FinalDestination}
 
--- each of the pieces at its place
+-- each of the headers in its slot
 abbrev pub headers_of : List Piece → BorrowedExtensions
 headers_of pieces = record {
   hop_by_hop_options = piece_at pieces HopByHop;
@@ -26,23 +26,23 @@ headers_of pieces = record {
 abbrev pub Holds : BorrowedExtensions → List Piece → Type 0
 Holds headers pieces = headers ≡ headers_of pieces
 
--- these with this header at this place
-abbrev pub with_slice_at : BorrowedExtensions → Ipv6ExtPlace → List ℕ → BorrowedExtensions
-with_slice_at headers place header = record {
-  hop_by_hop_options = if is_same place HopByHop then Some header else headers.hop_by_hop_options;
-  destination_options = if is_same place Destination then Some header
+-- these with this header in this slot
+abbrev pub with_slice_at : BorrowedExtensions → Ipv6ExtSlot → List ℕ → BorrowedExtensions
+with_slice_at headers slot header = record {
+  hop_by_hop_options = if is_same slot HopByHop then Some header else headers.hop_by_hop_options;
+  destination_options = if is_same slot Destination then Some header
       else headers.destination_options;
-  routing = if is_same place Routing then Some header else headers.routing;
-  fragment = if is_same place Fragment then Some header else headers.fragment;
-  auth = if is_same place Authentication then Some header else headers.auth;
-  final_destination_options = if is_same place FinalDestination then Some header
+  routing = if is_same slot Routing then Some header else headers.routing;
+  fragment = if is_same slot Fragment then Some header else headers.fragment;
+  auth = if is_same slot Authentication then Some header else headers.auth;
+  final_destination_options = if is_same slot FinalDestination then Some header
       else headers.final_destination_options;
 }
 
--- the walk over these pieces has found them and stopped
+-- the walk over these headers has found them and stopped
 pub record Finds (pieces : List Piece) (last : ℕ) (rest : List ℕ) (headers : BorrowedExtensions)
     (answer : IpNumber × Bor (List ℕ) × Option Fault) : Type 0 where
   pub held : Holds headers pieces
   pub number : answer.0.0 ≡ last
   pub left : answer.1.now ≡ rest
-  pub fault : answer.2 ≡ fault_of place_of pieces last rest
+  pub fault : answer.2 ≡ fault_of slot_of pieces last rest

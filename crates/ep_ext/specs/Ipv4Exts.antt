@@ -5,7 +5,7 @@ use Rattle.std.specs.Prelude.{◌&&◌, not, Option, Some, None, Result, Ok, Err
 use Rattle.std.specs.Option.{option_map}
 use Rattle.ep_base.specs.Bytes.{num}
 use Rattle.ep_base.specs.declared.net.ip_number.IpNumber.{IpNumber}
-use Rattle.ep_ext.specs.Auth.{IsAuth, auth_at, auth_of, auth_spelling}
+use Rattle.ep_ext.specs.Auth.{IsAuth, auth_at, auth_of, auth_encoding}
 use Rattle.ep_base.specs.declared.err.slice_error.SliceError.{SliceError}
 use Rattle.ep_ext.specs.declared.err.ip_auth.header_error.HeaderError.{HeaderError}
 use Rattle.ep_ext.specs.declared.err.ipv4_exts.exts_walk_error.ExtsWalkError.{ExtsWalkError}
@@ -20,34 +20,34 @@ use Rattle.ep_ext.specs.declared.net.ipv4_extensions.Ipv4Extensions.{Ipv4Extensi
 abbrev pub auth_number : ℕ
 auth_number = 51
 
--- behind a number there is an authentication header where it names one, and none where it doesn't
-abbrev pub IsAuthBehind : ℕ → Option (List ℕ) → Type 0
-IsAuthBehind number None = number ≢ auth_number
-IsAuthBehind number (Some auth) = (number ≡ auth_number) × IsAuth auth
+-- after a number there is an authentication header where it names one, and none where it doesn't
+abbrev pub IsAuthAfter : ℕ → Option (List ℕ) → Type 0
+IsAuthAfter number None = number ≢ auth_number
+IsAuthAfter number (Some auth) = (number ≡ auth_number) × IsAuth auth
 
 -- the bytes of an authentication header, if there is one
 abbrev pub auth_bytes : Option (List ℕ) → List ℕ
 auth_bytes None = []
 auth_bytes (Some auth) = auth
 
--- the number that stands behind it, where this one stood in front
-abbrev pub number_behind : ℕ → Option (List ℕ) → ℕ
-number_behind number None = number
-number_behind number (Some auth) = num auth 0 1
+-- the number after it, where this one came before it
+abbrev pub number_after : ℕ → Option (List ℕ) → ℕ
+number_after number None = number
+number_after number (Some auth) = num auth 0 1
 
 abbrev pub some_auth : Result (List ℕ) (SliceError HeaderError)
     → Result (Option (List ℕ)) (SliceError HeaderError)
 some_auth (Ok auth) = Ok (Some auth)
 some_auth (Err e) = Err e
 
--- the authentication header of this number at the front of the bytes, if it names one, or the fault
-abbrev pub auth_behind : ℕ → List ℕ → Result (Option (List ℕ)) (SliceError HeaderError)
-auth_behind number bytes = if number == auth_number then some_auth (auth_at bytes) else Ok None
+-- the authentication header of this number at the start of the bytes, if it names one, or the fault
+abbrev pub auth_after : ℕ → List ℕ → Result (Option (List ℕ)) (SliceError HeaderError)
+auth_after number bytes = if number == auth_number then some_auth (auth_at bytes) else Ok None
 
--- the bytes are the extension headers behind a number, and a rest
+-- the bytes are the extension headers after a number, and a rest
 pub record Ipv4Chain (number : ℕ) (bytes : List ℕ) (auth : Option (List ℕ))
     (rest : List ℕ) : Type 0 where
-  pub named : IsAuthBehind number auth
+  pub named : IsAuthAfter number auth
   pub cut : bytes ≡ auth_bytes auth ++ rest
 
 -- the value of the header, if there is one
@@ -55,8 +55,8 @@ abbrev pub ipv4_exts_of : Option (List ℕ) → Ipv4Extensions
 ipv4_exts_of auth = record { auth = option_map auth_of auth }
 
 -- the bytes of a value
-abbrev pub ipv4_exts_spelling : Ipv4Extensions → List ℕ
-ipv4_exts_spelling value = unwrap_or (option_map auth_spelling value.auth) []
+abbrev pub ipv4_exts_encoding : Ipv4Extensions → List ℕ
+ipv4_exts_encoding value = unwrap_or (option_map auth_encoding value.auth) []
 
 -- a header that the first number doesn't name
 abbrev pub ipv4_walk_fault : Ipv4Extensions → ℕ → Option ExtsWalkError
@@ -64,18 +64,18 @@ ipv4_walk_fault value first =
     if is_some value.auth && not (first == auth_number)
     then Some (ExtNotReferenced (record { 0 = auth_number })) else None
 
--- the number behind the value where it is named, and else the fault
-abbrev pub NamesBehind : Ipv4Extensions → ℕ → Result IpNumber ExtsWalkError → Type 0
-NamesBehind value first (Ok number) =
+-- the number after the value where it is named, and else the fault
+abbrev pub NamesAfter : Ipv4Extensions → ℕ → Result IpNumber ExtsWalkError → Type 0
+NamesAfter value first (Ok number) =
     (number.0 ≡ unwrap_or (option_map {T = IpAuthHeader} (λ h. h.next_header.0) value.auth) first)
     × (ipv4_walk_fault value first ≡ None)
-NamesBehind value first (Err e) = ipv4_walk_fault value first ≡ Some e
+NamesAfter value first (Err e) = ipv4_walk_fault value first ≡ Some e
 
 -- the bytes are appended where the value is named, and else the buffer keeps its bytes
 abbrev pub AppendsNamed : Ipv4Extensions → ℕ → List ℕ → List ℕ
     → Result Unit HeaderWriteError → Type 0
 AppendsNamed value first old new (Ok u) =
-    (new ≡ old ++ ipv4_exts_spelling value) × (ipv4_walk_fault value first ≡ None)
+    (new ≡ old ++ ipv4_exts_encoding value) × (ipv4_walk_fault value first ≡ None)
 AppendsNamed value first old new (Err Memory) = (new ≡ old) × (ipv4_walk_fault value first ≡ None)
 AppendsNamed value first old new (Err (Content e)) = (new ≡ old)
     × (ipv4_walk_fault value first ≡ Some e)

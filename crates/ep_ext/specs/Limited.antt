@@ -7,7 +7,7 @@ use Rattle.ep_base.specs.declared.len_source.LenSource.{LenSource}
 use Rattle.ep_ext.specs.declared.err.io.limited_read_error.LimitedReadError.{LimitedReadError}
 use Rattle.ep_ext.specs.declared.err.io.limited_read_error.LimitedReadError.TheVariants.{Io, Len}
 
--- what is read of a layer: its place, how many bytes it may have and why, and how many were read
+-- what is read of a layer: its offset, how many bytes it may have and why, and how many were read
 pub record Limited (T : Type 0) : Type 0 where
   pub reader : T
   pub max_len : ℕ
@@ -16,7 +16,7 @@ pub record Limited (T : Type 0) : Type 0 where
   pub layer_offset : ℕ
   pub read_len : ℕ
 
--- a layer begins behind what was read
+-- a layer starts after what was read
 abbrev pub at_next_layer : {T : Type 0} → Limited T → Layer → Limited T
 at_next_layer r layer =
     record r {
@@ -26,9 +26,9 @@ at_next_layer r layer =
       read_len = 0;
     }
 
--- the layer would have to have so many bytes more than were read of it
-abbrev pub want_of_more : {T : Type 0} → Limited T → ℕ → LenError
-want_of_more r more =
+-- the error of a layer that would need so many bytes more than were read of it
+abbrev pub beyond_limit : {T : Type 0} → Limited T → ℕ → LenError
+beyond_limit r more =
     record {
       required_len = min (r.read_len + more) (2 ^ 64 - 1);
       len = r.max_len;
@@ -49,4 +49,4 @@ abbrev pub Refuses : {T : Type 0} → Limited T → ℕ → LimitedReadError →
 Refuses old more (Io e) new = (old.read_len + more ≤ old.max_len)
     × (new ≡ record old { reader = new.reader })
 Refuses old more (Len e) new = (old.max_len < old.read_len + more)
-    × (e ≡ want_of_more old more) × (new ≡ old)
+    × (e ≡ beyond_limit old more) × (new ≡ old)

@@ -26,14 +26,14 @@ IsAuthLimitedIo (auth_limited.Io e) = ⊤
 IsAuthLimitedIo (auth_limited.Len e) = ⊥
 IsAuthLimitedIo (auth_limited.Content e) = ⊥
 
--- a header was not read whole: of its first bytes, so many, or of the bytes that it has by them
--- behind those, a read failed, or they go beyond the limit
+-- a header was not read whole: a read of its first bytes (so many), or of those after them that its
+-- length field counts, failed or went beyond the limit
 abbrev pub RefusesHeader : {T : Type 0} → (T → Option (List ℕ)) → ℕ → (List ℕ → ℕ) → Limited T
     → LimitedReadError → Limited T → Type 0
 RefusesHeader {T = T} remaining least size start e new =
     Refuses start least e new
-    ⊎ ((front : List ℕ) × (middle : Limited T) × (length front ≡ least)
-    × Takes remaining start front middle × Refuses middle (size front - least) e new)
+    ⊎ ((prefix : List ℕ) × (middle : Limited T) × (length prefix ≡ least)
+    × Takes remaining start prefix middle × Refuses middle (size prefix - least) e new)
 
 -- the same error, of an authentication header
 abbrev pub auth_error : LimitedReadError → HeaderLimitedReadError
@@ -41,15 +41,15 @@ auth_error (limited.Io e) = auth_limited.Io e
 auth_error (limited.Len e) = auth_limited.Len e
 
 -- 12 bytes of which no header can be made
-pub record HasContentFault (front : List ℕ) (e : HeaderError) : Type 0 where
-  pub whole : length front ≡ 12
-  pub fault : auth_at front ≡ Err (slice_error.Content e)
+pub record HasContentFault (prefix : List ℕ) (e : HeaderError) : Type 0 where
+  pub whole : length prefix ≡ 12
+  pub fault : auth_at prefix ≡ Err (slice_error.Content e)
 
 -- a read failed, or what was read is no header
 abbrev pub RefusesAuth : Option (List ℕ) → HeaderReadError → Option (List ℕ) → Type 0
 RefusesAuth old (auth_read.Io e) new = ⊤
-RefusesAuth old (auth_read.Content e) new = (front : List ℕ) × HasContentFault front e
-    × Consumes old new front
+RefusesAuth old (auth_read.Content e) new = (prefix : List ℕ) × HasContentFault prefix e
+    × Consumes old new prefix
 
 abbrev pub RefusesAuthWithin : {T : Type 0} → (T → Option (List ℕ)) → Limited T
     → HeaderLimitedReadError → Limited T → Type 0
@@ -57,5 +57,5 @@ RefusesAuthWithin remaining start (auth_limited.Io e) new =
     RefusesHeader remaining 12 auth_len start (limited.Io e) new
 RefusesAuthWithin remaining start (auth_limited.Len e) new =
     RefusesHeader remaining 12 auth_len start (limited.Len e) new
-RefusesAuthWithin remaining start (auth_limited.Content e) new = (front : List ℕ)
-    × HasContentFault front e × Takes remaining start front new
+RefusesAuthWithin remaining start (auth_limited.Content e) new = (prefix : List ℕ)
+    × HasContentFault prefix e × Takes remaining start prefix new

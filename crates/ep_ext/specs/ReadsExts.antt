@@ -6,12 +6,12 @@ use Rattle.ep_base.specs.declared.err.layer.Layer.TheVariants.{Ipv6ExtHeader, Ip
 use Rattle.ep_base.specs.declared.err.layer.Layer.TheVariants.{IpAuthHeader}
 use Rattle.ep_base.specs.declared.net.ip_number.IpNumber.{IpNumber}
 use Rattle.ep_ext.specs.Chain.{Row}
-use Rattle.ep_ext.specs.Place.{place_of}
+use Rattle.ep_ext.specs.Slot.{slot_of}
 use Rattle.ep_ext.specs.Auth.{auth_len}
 use Rattle.ep_ext.specs.Limited.{Limited, at_next_layer, Takes, Refuses}
 use Rattle.ep_ext.specs.Raw.{raw_len}
 use Rattle.ep_ext.specs.Reads.{HasContentFault, RefusesHeader}
-use Rattle.ep_ext.specs.Value.{Piece, places, bytes_of, value_of}
+use Rattle.ep_ext.specs.Value.{Piece, slots, bytes_of, value_of}
 use Rattle.ep_ext.specs.declared.err.ip_auth.header_limited_read_error.HeaderLimitedReadError.{HeaderLimitedReadError as AuthLimitedReadError}
 use Rattle.ep_ext.specs.declared.err.ip_auth.header_limited_read_error.HeaderLimitedReadError.TheVariants as auth_limited
 use Rattle.ep_ext.specs.declared.err.ipv6_exts.header_error.HeaderError.TheVariants.{HopByHopNotAtStart}
@@ -23,19 +23,19 @@ use Rattle.ep_ext.specs.declared.err.ipv6_exts.header_limited_read_error.HeaderL
 use Rattle.ep_ext.specs.declared.err.ipv6_exts.header_read_error.HeaderReadError.{HeaderReadError}
 use Rattle.ep_ext.specs.declared.err.ipv6_exts.header_read_error.HeaderReadError.TheVariants.{Io}
 use Rattle.ep_ext.specs.declared.err.ipv6_exts.header_read_error.HeaderReadError.TheVariants.{Content}
-use Rattle.ep_ext.specs.declared.net.ipv6_ext_place.Ipv6ExtPlace.{Ipv6ExtPlace}
-use Rattle.ep_ext.specs.declared.net.ipv6_ext_place.Ipv6ExtPlace.TheVariants.{HopByHop, Destination}
-use Rattle.ep_ext.specs.declared.net.ipv6_ext_place.Ipv6ExtPlace.TheVariants.{Routing, Fragment}
-use Rattle.ep_ext.specs.declared.net.ipv6_ext_place.Ipv6ExtPlace.TheVariants.{Authentication}
-use Rattle.ep_ext.specs.declared.net.ipv6_ext_place.Ipv6ExtPlace.TheVariants.{FinalDestination}
+use Rattle.ep_ext.specs.declared.net.ipv6_ext_slot.Ipv6ExtSlot.{Ipv6ExtSlot}
+use Rattle.ep_ext.specs.declared.net.ipv6_ext_slot.Ipv6ExtSlot.TheVariants.{HopByHop, Destination}
+use Rattle.ep_ext.specs.declared.net.ipv6_ext_slot.Ipv6ExtSlot.TheVariants.{Routing, Fragment}
+use Rattle.ep_ext.specs.declared.net.ipv6_ext_slot.Ipv6ExtSlot.TheVariants.{Authentication}
+use Rattle.ep_ext.specs.declared.net.ipv6_ext_slot.Ipv6ExtSlot.TheVariants.{FinalDestination}
 use Rattle.ep_ext.specs.declared.net.ipv6_extensions.Ipv6Extensions.{Ipv6Extensions}
 
--- headers in a row, no more than six, of which the value holds each at its place, and a number that
--- has no place behind them and is not that of hop-by-hop options
+-- headers in a row, no more than six, of which the value holds each in its slot, and a number that
+-- has no slot after them and is not that of hop-by-hop options
 pub record IsWholeRow (first : ℕ) (pieces : List Piece) (last : ℕ) : Type 0 where
-  pub row : Row place_of [] first pieces last
+  pub row : Row slot_of [] first pieces last
   pub most : length pieces ≤ 6
-  pub closed : place_of (places pieces) last ≡ None
+  pub closed : slot_of (slots pieces) last ≡ None
   pub number : last ≢ 0
 
 -- a reader whose known bytes went from old to new gave these headers
@@ -43,30 +43,30 @@ abbrev pub ReadsRow : ℕ → Option (List ℕ) → Option (List ℕ) → Ipv6Ex
 ReadsRow first old new answer = (pieces : List Piece) × IsWholeRow first pieces answer.1.0
     × Consumes old new (bytes_of pieces) × (answer.0 ≡ value_of pieces)
 
--- the header of this place was not read: a read failed, or what was read is no authentication
--- header; or hop-by-hop options are not in first place, and nothing was read
-abbrev pub RefusesExt : Option Ipv6ExtPlace → ℕ → Option (List ℕ) → HeaderReadError
+-- the header of this slot was not read: a read failed, or what was read is no authentication
+-- header; or hop-by-hop options are not the first header, and nothing was read
+abbrev pub RefusesExt : Option Ipv6ExtSlot → ℕ → Option (List ℕ) → HeaderReadError
     → Option (List ℕ) → Type 0
-RefusesExt place number old (Io e) new = IsSome place
-RefusesExt place number old (Content HopByHopNotAtStart) new = (place ≡ None)
+RefusesExt slot number old (Io e) new = IsSome slot
+RefusesExt slot number old (Content HopByHopNotAtStart) new = (slot ≡ None)
     × (number ≡ 0) × (new ≡ old)
-RefusesExt place number old (Content (IpAuth e)) new =
-    (place ≡ Some Authentication)
-    × ((front : List ℕ) × HasContentFault front e × Consumes old new front)
+RefusesExt slot number old (Content (IpAuth e)) new =
+    (slot ≡ Some Authentication)
+    × ((prefix : List ℕ) × HasContentFault prefix e × Consumes old new prefix)
 
 -- the reader gave headers in a row, and the next was not read
 abbrev pub RefusesRow : ℕ → Option (List ℕ) → HeaderReadError → Option (List ℕ) → Type 0
 RefusesRow first old e new = (pieces : List Piece) × (number : ℕ) × (between : Option (List ℕ))
-    × Row place_of [] first pieces number × (length pieces ≤ 6)
+    × Row slot_of [] first pieces number × (length pieces ≤ 6)
     × Consumes old between (bytes_of pieces)
-    × RefusesExt (place_of (places pieces) number) number between e new
+    × RefusesExt (slot_of (slots pieces) number) number between e new
 
 abbrev pub IsExtsIo : HeaderReadError → Type 0
 IsExtsIo (Io e) = Unit {0}
 IsExtsIo (Content e) = ⊥
 
 -- the layer that a header is when it is read with a limit
-abbrev pub read_layer : Ipv6ExtPlace → Layer
+abbrev pub read_layer : Ipv6ExtSlot → Layer
 read_layer HopByHop = Ipv6ExtHeader
 read_layer Destination = Ipv6ExtHeader
 read_layer Routing = Ipv6ExtHeader
@@ -88,8 +88,8 @@ ReadsRowWithin remaining first old new answer = (pieces : List Piece)
     × IsWholeRow first pieces answer.1.0
     × TakesRow remaining old pieces new × (answer.0 ≡ value_of pieces)
 
--- the bytes of the header of this place were not read: a read failed, or they go beyond the limit
-abbrev pub RefusesBytes : {T : Type 0} → (T → Option (List ℕ)) → Ipv6ExtPlace → Limited T
+-- the bytes of the header of this slot were not read: a read failed, or they go beyond the limit
+abbrev pub RefusesBytes : {T : Type 0} → (T → Option (List ℕ)) → Ipv6ExtSlot → Limited T
     → LimitedReadError → Limited T → Type 0
 RefusesBytes remaining HopByHop start e new = RefusesHeader remaining 8 raw_len start e new
 RefusesBytes remaining Destination start e new = RefusesHeader remaining 8 raw_len start e new
@@ -98,31 +98,31 @@ RefusesBytes remaining Fragment start e new = Refuses start 8 e new
 RefusesBytes remaining Authentication start e new = RefusesHeader remaining 12 auth_len start e new
 RefusesBytes remaining FinalDestination start e new = RefusesHeader remaining 8 raw_len start e new
 
--- the header of this place was not read: its bytes were not, or they are no authentication header;
--- or hop-by-hop options are not in first place, and nothing was read
-abbrev pub RefusesExtWithin : {T : Type 0} → (T → Option (List ℕ)) → Option Ipv6ExtPlace → ℕ
+-- the header of this slot was not read: its bytes were not, or they are no authentication header;
+-- or hop-by-hop options are not the first header, and nothing was read
+abbrev pub RefusesExtWithin : {T : Type 0} → (T → Option (List ℕ)) → Option Ipv6ExtSlot → ℕ
     → Limited T → HeaderLimitedReadError → Limited T → Type 0
-RefusesExtWithin remaining place number old (limited.Io e) new =
-    (at : Ipv6ExtPlace) × (place ≡ Some at)
+RefusesExtWithin remaining slot number old (limited.Io e) new =
+    (at : Ipv6ExtSlot) × (slot ≡ Some at)
     × RefusesBytes remaining at (at_next_layer old (read_layer at)) (bytes_fault.Io e) new
-RefusesExtWithin remaining place number old (limited.Len e) new =
-    (at : Ipv6ExtPlace) × (place ≡ Some at)
+RefusesExtWithin remaining slot number old (limited.Len e) new =
+    (at : Ipv6ExtSlot) × (slot ≡ Some at)
     × RefusesBytes remaining at (at_next_layer old (read_layer at)) (bytes_fault.Len e) new
-RefusesExtWithin remaining place number old (limited.Content HopByHopNotAtStart) new =
-    (place ≡ None) × (number ≡ 0) × (new ≡ old)
-RefusesExtWithin remaining place number old (limited.Content (IpAuth e)) new =
-    (place ≡ Some Authentication)
-    × ((front : List ℕ) × HasContentFault front e
-    × Takes remaining (at_next_layer old IpAuthHeader) front new)
+RefusesExtWithin remaining slot number old (limited.Content HopByHopNotAtStart) new =
+    (slot ≡ None) × (number ≡ 0) × (new ≡ old)
+RefusesExtWithin remaining slot number old (limited.Content (IpAuth e)) new =
+    (slot ≡ Some Authentication)
+    × ((prefix : List ℕ) × HasContentFault prefix e
+    × Takes remaining (at_next_layer old IpAuthHeader) prefix new)
 
 -- the reader gave headers in a row within its limit, and the next was not read
 abbrev pub RefusesRowWithin : {T : Type 0} → (T → Option (List ℕ)) → ℕ → Limited T
     → HeaderLimitedReadError → Limited T → Type 0
 RefusesRowWithin {T = T} remaining first old e new = (pieces : List Piece) × (number : ℕ)
     × (between : Limited T)
-    × Row place_of [] first pieces number × (length pieces ≤ 6)
+    × Row slot_of [] first pieces number × (length pieces ≤ 6)
     × TakesRow remaining old pieces between
-    × RefusesExtWithin remaining (place_of (places pieces) number) number between e new
+    × RefusesExtWithin remaining (slot_of (slots pieces) number) number between e new
 
 abbrev pub IsExtsLimitedIo : HeaderLimitedReadError → Type 0
 IsExtsLimitedIo (limited.Io e) = Unit {0}

@@ -1,4 +1,4 @@
--- Fields that are read again from the bytes that spell them.
+-- Fields that are parsed again from the bytes that encode them.
 use Rattle.std.proofs.Common.{◌≡◌, refl, ℕ, ◌+◌, ◌*◌, ◌/◌, ◌%◌, ◌^◌, ◌<◌, Bool, false, None, List}
 use Rattle.std.proofs.Common.{[], ◌∷◌, ◌++◌, find, length, slice_range, arith}
 use Rattle.std.proofs.lemmas.List.{append-nil, take_at}
@@ -40,7 +40,7 @@ timestamp_again m a b c d rest fits =
       transmit_timestamp = transmit i;
     }
 
--- four bytes behind the checksum
+-- four bytes after the checksum
 pub bytes_again : (bytes : List ℕ) (a b c d : ℕ) (rest : List ℕ) → length bytes ≡ 4
     → slice_range (a ∷ b ∷ c ∷ d ∷ (bytes_of_fields (used_bytes bytes) ++ rest)) 4 8 ≡ bytes
 bytes_again bytes a b c d rest four = rw (append-nil bytes) (take_at bytes rest 4 four)

@@ -1,4 +1,4 @@
--- Fields that were read from bytes are spelled by them.
+-- Fields that were parsed from bytes are encoded by them.
 use Rattle.std.proofs.Common.{◌≡◌, ◌∙◌, ap, sym, refl, ℕ, ◌+◌, ◌*◌, ◌/◌, ◌%◌, ◌^◌, ◌<◌, ◌≤◌, List}
 use Rattle.std.proofs.Common.{[], ◌∷◌, ◌++◌, length, get_or, replicate, slice_range, take, arith}
 use Rattle.std.specs.Int.{w16, w32, to_be_bytes}
@@ -8,7 +8,7 @@ use Rattle.ep_base.proofs.Numbers.{digits_of, high_of, low_of}
 use Rattle.ep_icmp.specs.Fields.{echo_bytes, echo_in, timestamp_bytes, timestamp_in}
 use Rattle.ep_icmp.specs.Layout.{Layout, with_unused_bytes_zero, bytes_of_layout}
 
--- the two bytes at place p
+-- the two bytes at offset p
 two_back : (m : List ℕ) (p : ℕ) → IsBytes m
     → to_be_bytes w16 (num m p 2) ≡ get_or m p 0 ∷ get_or m (p + 1) 0 ∷ []
 two_back m p fits =
@@ -16,7 +16,7 @@ two_back m p fits =
     let low = low_of (get_or m p 0) (get_or m (p + 1) 0) (fits (p + 1)) in
     λ i. high i ∷ low i ∷ []
 
--- the four bytes at place p
+-- the four bytes at offset p
 four_back : (m : List ℕ) (p : ℕ) → IsBytes m
     → to_be_bytes w32 (num m p 4) ≡ get_or m p 0 ∷ get_or m (p + 1) 0 ∷ get_or m (p + 2) 0 ∷
     get_or m (p + 3) 0 ∷ []
@@ -66,10 +66,10 @@ pub written_back : (l : Layout) (m : List ℕ) → 4 ≤ length m → IsBytes m 
     → bytes_of_layout l (num m 2 2) ≡ with_unused_bytes_zero l m
 written_back l m long fits t c field =
     let around : List ℕ → List ℕ = λ xs. replicate l.fields.before 0 ++ xs
-    ++ replicate l.fields.behind 0 in
-    let behind : List ℕ =
+    ++ replicate l.fields.after 0 in
+    let after : List ℕ =
     around (slice_range m (4 + l.fields.before)
     (4 + l.fields.before + length l.fields.field)) in
-    let front : take 4 m ≡ cells 4 0 m = take-drop-cells 4 0 m long in
+    let prefix : take 4 m ≡ cells 4 0 m = take-drop-cells 4 0 m long in
     (λ i. t i ∷ c i ∷ (two_back m 2 fits i ++ around (field i)))
-    ∙ ap (λ (xs : List ℕ). xs ++ behind) (sym front)
+    ∙ ap (λ (xs : List ℕ). xs ++ after) (sym prefix)

@@ -7,7 +7,7 @@ pick : {A : Type 0} (P : A → Type 0) (b : Bool) (x d : A) (rest : Option A) �
 pick P true x d rest h e = h refl
 pick P false x d rest h e = e
 
--- what each that passes has, and the one in its place
+-- what each value that passes has, and so has the default
 pub found_passes : {A : Type 0} (p : A → Bool) (P : A → Type 0) (xs : List A) (d : A)
     → ((x : A) → p x ≡ true → P x) → P d → P (unwrap_or (find p xs) d)
 found_passes p P [] d h e = e
@@ -18,7 +18,7 @@ abbrev pub Each : {A : Type 0} → (A → Type 0) → List A → Type 0
 Each P [] = Unit {0}
 Each P (x ∷ xs) = P x × Each P xs
 
--- what each of the list has, and the one in its place
+-- what each value of the list has, and so has the default
 pub found_among : {A : Type 0} (p : A → Bool) (P : A → Type 0) (xs : List A) (d : A) → Each P xs
     → P d → P (unwrap_or (find p xs) d)
 found_among p P [] d each e = e

@@ -1,11 +1,11 @@
--- A kind of ICMPv4 message is read again from the bytes that spell it.
+-- A kind of ICMPv4 message is parsed again from the bytes that encode it.
 use Rattle.std.proofs.Common.{◌≡◌, ◌∙◌, ap, sym, refl, ℕ, ◌+◌, ◌/◌, ◌%◌, ◌≤◌, List, ◌∷◌, ◌++◌}
 use Rattle.std.proofs.Common.{length, arith, Some}
 use Rattle.ep_base.specs.Bytes.{num}
 use Rattle.ep_icmp.specs.Icmpv4.{FieldsFit, HasNextHopMtu, HeaderFits, HasPointer, IsPayload}
-use Rattle.ep_icmp.specs.Icmpv4.{IsSpelledOut, ReadableIcmpv4, UnreachableFits, fixed_payload_size}
+use Rattle.ep_icmp.specs.Icmpv4.{IsCanonical, ReadableIcmpv4, UnreachableFits, fixed_payload_size}
 use Rattle.ep_icmp.specs.Icmpv4.{header_len, icmpv4_header_of, is_listed, layout_of, problem_code}
-use Rattle.ep_icmp.specs.Icmpv4.{problem_fields, redirect_code, spelling, type_of, unreachable_code}
+use Rattle.ep_icmp.specs.Icmpv4.{problem_fields, redirect_code, encoding, type_of, unreachable_code}
 use Rattle.ep_icmp.specs.Icmpv4.{unreachable_fields}
 use Rattle.ep_icmp.specs.Layout.{bytes_of_layout, bytes_of_fields}
 use Rattle.ep_icmp.specs.declared.transport.icmpv4_header.Icmpv4Header.{Icmpv4Header}
@@ -37,9 +37,9 @@ pointer_again : (header : ParameterProblemHeader) (a b c d : ℕ) (rest : List �
 pointer_again (PointerIndicatesError n) a b c d rest = refl
 pointer_again _ a b c d rest = tt
 
--- the fields stand in the bytes that spell them
+-- the bytes that encode the fields hold them
 stands_again : (kind : Icmpv4Type) (checksum : ℕ) (rest : List ℕ)
-    → FieldsFit kind → IsSpelledOut kind
+    → FieldsFit kind → IsCanonical kind
     → StandsIn (bytes_of_layout (layout_of kind) checksum ++ rest) kind
 stands_again (EchoReply echo) checksum rest fits out =
     sym (echo_again echo 0 0 (checksum / 256 % 256) (checksum % 256) rest fits)
@@ -63,13 +63,13 @@ stands_again (Unknown t c bytes5to8) checksum rest fits out = (
 )
 stands_again _ checksum rest fits out = tt
 
-kind_again : (kind : Icmpv4Type) (checksum : ℕ) (rest : List ℕ) → FieldsFit kind → IsSpelledOut kind
+kind_again : (kind : Icmpv4Type) (checksum : ℕ) (rest : List ℕ) → FieldsFit kind → IsCanonical kind
     → type_of (bytes_of_layout (layout_of kind) checksum ++ rest) ≡ kind
 kind_again kind checksum rest fits out =
     sym (kind_is _ _ _ kind refl refl (stands_again kind checksum rest fits out))
 
-pub header_again : (h : Icmpv4Header) (rest : List ℕ) → HeaderFits h → IsSpelledOut h.icmp_type
-    → icmpv4_header_of (spelling h ++ rest) ≡ h
+pub header_again : (h : Icmpv4Header) (rest : List ℕ) → HeaderFits h → IsCanonical h.icmp_type
+    → icmpv4_header_of (encoding h ++ rest) ≡ h
 header_again h rest fits out =
     let kind = kind_again h.icmp_type h.checksum rest fits.kind.fields out in
     let checksum = two_again h.checksum fits.checksum in
@@ -87,12 +87,12 @@ least_len (TimestampReply message) = omega arith
 least_len _ = omega arith
 
 -- a header and a payload of its kind are a message
-pub message_again : (h : Icmpv4Header) (slice rest : List ℕ) → slice ≡ spelling h ++ rest
+pub message_again : (h : Icmpv4Header) (slice rest : List ℕ) → slice ≡ encoding h ++ rest
     → length slice ≡ header_len h.icmp_type + length rest → HeaderFits h
-    → IsSpelledOut h.icmp_type → IsPayload h.icmp_type rest → ReadableIcmpv4 slice
-message_again h slice rest place len fits out payload =
+    → IsCanonical h.icmp_type → IsPayload h.icmp_type rest → ReadableIcmpv4 slice
+message_again h slice rest slice_is len fits out payload =
     let same : type_of slice ≡ h.icmp_type =
-    ap type_of place ∙ kind_again h.icmp_type h.checksum rest fits.kind.fields out in
+    ap type_of slice_is ∙ kind_again h.icmp_type h.checksum rest fits.kind.fields out in
     record {
       least = omega (arith, least_len h.icmp_type);
       timestamp = λ timestamp.

@@ -4,7 +4,7 @@ use Rattle.std.proofs.Common.{length, slice_range, arith}
 use Rattle.ep_base.specs.Bytes.{IsBytes, num}
 use Rattle.ep_icmp.specs.Icmpv4.{ReadableIcmpv4, has_numbers, header_len, icmpv4_header_of}
 use Rattle.ep_icmp.specs.Icmpv4.{is_timestamp}
-use Rattle.ep_icmp.specs.Icmpv4.{kind_at, kinds, layout_of, spelling, type_of}
+use Rattle.ep_icmp.specs.Icmpv4.{kind_at, kinds, layout_of, encoding, type_of}
 use Rattle.ep_icmp.specs.Layout.{with_unused_bytes_zero}
 use Rattle.ep_icmp.specs.declared.transport.icmpv4_type.Icmpv4Type.TheVariants.{Unknown}
 use Rattle.ep_icmp.proofs.Back.{IsFieldIn, echo_back, mtu_back, pointer_back, range_back}
@@ -25,7 +25,7 @@ numbers_at t c m =
     (sym numbers.0, sym numbers.1))
     (refl, refl)
 
--- and its field stands in the bytes
+-- and the bytes hold its field
 fields_at : (t c : ℕ) (m : List ℕ) → IsBytes m → header_len (kind_at t c m) ≤ length m
     → IsFieldIn m (layout_of (kind_at t c m))
 unfolding kind_at
@@ -154,7 +154,7 @@ holds_header m true is len message = omega (arith, message.timestamp is)
 holds_header m false is len message = omega (arith, message.least)
 
 pub header_back : (m : List ℕ) → ReadableIcmpv4 m → IsBytes m
-    → spelling (icmpv4_header_of m) ≡ with_unused_bytes_zero (layout_of (type_of m)) m
+    → encoding (icmpv4_header_of m) ≡ with_unused_bytes_zero (layout_of (type_of m)) m
 header_back m message fits =
     let numbers = numbers_at (num m 0 1) (num m 1 1) m in
     let long = holds_header m (is_timestamp m) refl (header_len_at m) message in

@@ -96,7 +96,7 @@ problem_at m (PointerIndicatesError n) e =
 problem_at m MissingRequiredOption e = refl
 problem_at m BadLength e = refl
 
--- the fields of a kind stand in the bytes, and an `Unknown` isn't listed
+-- the bytes hold the fields of a kind, and an `Unknown` isn't listed
 abbrev pub StandsIn : List ℕ → Icmpv4Type → Type 0
 StandsIn m (EchoReply echo) = echo ≡ echo_in m 4
 StandsIn m (DestinationUnreachable header) = HasNextHopMtu header (num m 6 2)
@@ -130,13 +130,13 @@ numbers_at m (TimestampReply message) e = ap TimestampReply e
 numbers_at m (Unknown t c bytes5to8) e = ap (λ (bytes : List ℕ). Unknown t c bytes) e.1
     ∙ unknown_at m t c e.0
 
--- the kind with this type and code, whose fields stand in the bytes
+-- the kind with this type and code, whose fields the bytes hold
 pub kind_is : (m : List ℕ) (t c : ℕ) (kind : Icmpv4Type) → (layout_of kind).type_u8 ≡ t
     → (layout_of kind).code_u8 ≡ c
     → StandsIn m kind → kind ≡ kind_at t c m
 kind_is m t c kind p q e = rw (← p, ← q) (numbers_at m kind e)
 
--- codes behind the last of a type that has several
+-- codes above the last of a type that has several
 pub no_unreachable : (t c : ℕ) → t ≡ 3 → 16 ≤ c → is_listed t c ≡ false
 unfolding is_listed
 no_unreachable t c p h = grind (arith, nat_tests)

@@ -1,7 +1,7 @@
--- A kind of ICMPv6 message is read again from the bytes that spell it.
+-- A kind of ICMPv6 message is parsed again from the bytes that encode it.
 use Rattle.std.proofs.Common.{◌≡◌, sym, refl, ℕ, ◌/◌, ◌%◌, List, ◌++◌}
-use Rattle.ep_icmp.specs.Icmpv6.{FieldsFit, HeaderFits, IsSpelledOut, icmpv6_header_of, is_listed}
-use Rattle.ep_icmp.specs.Icmpv6.{layout_of, spelling, type_of}
+use Rattle.ep_icmp.specs.Icmpv6.{FieldsFit, HeaderFits, IsCanonical, icmpv6_header_of, is_listed}
+use Rattle.ep_icmp.specs.Icmpv6.{layout_of, encoding, type_of}
 use Rattle.ep_icmp.specs.Layout.{bytes_of_layout}
 use Rattle.ep_icmp.specs.declared.transport.icmpv6_header.Icmpv6Header.{Icmpv6Header}
 use Rattle.ep_icmp.proofs.Again.{bytes_again, echo_again, four_again, two_again}
@@ -14,9 +14,9 @@ use Rattle.ep_icmp.specs.declared.transport.icmpv6_type.Icmpv6Type.TheVariants.{
 use Rattle.ep_icmp.specs.declared.transport.icmpv6_type.Icmpv6Type.TheVariants.{EchoRequest}
 use Rattle.ep_icmp.specs.declared.transport.icmpv6_type.Icmpv6Type.TheVariants.{EchoReply}
 
--- the fields stand in the bytes that spell them
+-- the bytes that encode the fields hold them
 stands_again : (kind : Icmpv6Type) (checksum : ℕ) (rest : List ℕ)
-    → FieldsFit kind → IsSpelledOut kind
+    → FieldsFit kind → IsCanonical kind
     → StandsIn (bytes_of_layout (layout_of kind) checksum ++ rest) kind
 stands_again (PacketTooBig mtu) checksum rest fits out = sym (four_again mtu fits)
 stands_again (ParameterProblem header) checksum rest fits out = sym (four_again header.pointer fits)
@@ -31,13 +31,13 @@ stands_again (Unknown t c bytes5to8) checksum rest fits out = (
 )
 stands_again _ checksum rest fits out = tt
 
-kind_again : (kind : Icmpv6Type) (checksum : ℕ) (rest : List ℕ) → FieldsFit kind → IsSpelledOut kind
+kind_again : (kind : Icmpv6Type) (checksum : ℕ) (rest : List ℕ) → FieldsFit kind → IsCanonical kind
     → type_of (bytes_of_layout (layout_of kind) checksum ++ rest) ≡ kind
 kind_again kind checksum rest fits out =
     sym (kind_is _ _ _ kind refl refl (stands_again kind checksum rest fits out))
 
-pub header_again : (h : Icmpv6Header) (rest : List ℕ) → HeaderFits h → IsSpelledOut h.icmp_type
-    → icmpv6_header_of (spelling h ++ rest) ≡ h
+pub header_again : (h : Icmpv6Header) (rest : List ℕ) → HeaderFits h → IsCanonical h.icmp_type
+    → icmpv6_header_of (encoding h ++ rest) ≡ h
 header_again h rest fits out =
     let kind = kind_again h.icmp_type h.checksum rest fits.kind.fields out in
     let checksum = two_again h.checksum fits.checksum in

@@ -3,7 +3,7 @@ use Rattle.std.proofs.Common.{◌≡◌, sym, refl, ℕ, ◌≤◌, List, length
 use Rattle.ep_base.specs.Bytes.{IsBytes, num}
 use Rattle.ep_icmp.specs.Icmpv6.{ReadableIcmpv6, has_numbers, icmpv6_header_of, kind_at, kinds}
 use Rattle.ep_icmp.specs.Icmpv6.{layout_of}
-use Rattle.ep_icmp.specs.Icmpv6.{spelling, type_of}
+use Rattle.ep_icmp.specs.Icmpv6.{encoding, type_of}
 use Rattle.ep_icmp.specs.Layout.{with_unused_bytes_zero}
 use Rattle.ep_icmp.specs.declared.transport.icmpv6_type.Icmpv6Type.TheVariants.{Unknown}
 use Rattle.ep_icmp.proofs.Back.{IsFieldIn, echo_back, number_back, range_back, written_back}
@@ -22,7 +22,7 @@ numbers_at t c m =
     (sym numbers.0, sym numbers.1))
     (refl, refl)
 
--- and its field stands in the bytes
+-- and the bytes hold its field
 fields_at : (t c : ℕ) (m : List ℕ) → IsBytes m → 8 ≤ length m
     → IsFieldIn m (layout_of (kind_at t c m))
 unfolding kind_at
@@ -113,7 +113,7 @@ fields_at t c m fits =
     (λ long. range_back m long)
 
 pub header_back : (m : List ℕ) → ReadableIcmpv6 m → IsBytes m
-    → spelling (icmpv6_header_of m) ≡ with_unused_bytes_zero (layout_of (type_of m)) m
+    → encoding (icmpv6_header_of m) ≡ with_unused_bytes_zero (layout_of (type_of m)) m
 header_back m message fits =
     let numbers = numbers_at (num m 0 1) (num m 1 1) m in
     written_back (layout_of (type_of m)) m (omega (arith, message.least)) fits numbers.0 numbers.1

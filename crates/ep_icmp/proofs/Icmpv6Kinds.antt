@@ -72,7 +72,7 @@ problem_at m TooManyExtensionHeaders = refl
 problem_at m TooManyOptionsInExtensionHeader = refl
 problem_at m OptionTooBig = refl
 
--- the fields of a kind stand in the bytes, and an `Unknown` isn't listed
+-- the bytes hold the fields of a kind, and an `Unknown` isn't listed
 abbrev pub StandsIn : List ℕ → Icmpv6Type → Type 0
 StandsIn m (PacketTooBig mtu) = mtu ≡ num m 4 4
 StandsIn m (ParameterProblem header) = header.pointer ≡ num m 4 4
@@ -101,13 +101,13 @@ numbers_at m (EchoReply echo) e = ap EchoReply e
 numbers_at m (Unknown t c bytes5to8) e = ap (λ (bytes : List ℕ). Unknown t c bytes) e.1
     ∙ unknown_at m t c e.0
 
--- the kind with this type and code, whose fields stand in the bytes
+-- the kind with this type and code, whose fields the bytes hold
 pub kind_is : (m : List ℕ) (t c : ℕ) (kind : Icmpv6Type) → (layout_of kind).type_u8 ≡ t
     → (layout_of kind).code_u8 ≡ c
     → StandsIn m kind → kind ≡ kind_at t c m
 kind_is m t c kind p q e = rw (← p, ← q) (numbers_at m kind e)
 
--- codes behind the last of a type that has several
+-- codes above the last of a type that has several
 pub no_unreachable : (t c : ℕ) → t ≡ 1 → 7 ≤ c → is_listed t c ≡ false
 unfolding is_listed
 no_unreachable t c p h = grind (arith, nat_tests)

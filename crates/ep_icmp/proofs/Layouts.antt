@@ -15,7 +15,7 @@ four_cells bytes four =
       four,
     )))
 
--- fields of four bytes, where nothing stands behind them
+-- fields of four bytes, where nothing follows them
 pub written_four : (fields : Fields) → drop 4 (bytes_of_fields fields) ≡ []
     → bytes_of_fields fields ≡ take 4 (bytes_of_fields fields)
 written_four fields none =
@@ -23,11 +23,11 @@ written_four fields none =
     ∙ ap (λ (xs : List ℕ). take 4 (bytes_of_fields fields) ++ xs) none
     ∙ append-nil (take 4 (bytes_of_fields fields))
 
--- a front of n bytes and what stands behind it
-pub front_of : (n : ℕ) (slice front rest : List ℕ) → slice ≡ front ++ rest → length front ≡ n
+-- a prefix of n bytes and what follows it
+pub prefix_of : (n : ℕ) (slice prefix rest : List ℕ) → slice ≡ prefix ++ rest → length prefix ≡ n
     → (length slice ≡ n + length rest) × (drop n slice ≡ rest)
-front_of n slice front rest place len = (
-  ap length place ∙ length-append front rest ∙ ap (λ k. k + length rest) len,
-  ap (drop n) place
-      ∙ drop_at front rest n len,
+prefix_of n slice prefix rest slice_is len = (
+  ap length slice_is ∙ length-append prefix rest ∙ ap (λ k. k + length rest) len,
+  ap (drop n) slice_is
+      ∙ drop_at prefix rest n len,
 )

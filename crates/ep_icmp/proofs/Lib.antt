@@ -3,7 +3,7 @@ pub mod Back
 pub mod Found
 pub mod Icmpv4Again
 pub mod Icmpv4Back
-pub mod Icmpv4Behind
+pub mod Icmpv4After
 pub mod Icmpv4Kinds
 pub mod Icmpv6Again
 pub mod Icmpv6Back

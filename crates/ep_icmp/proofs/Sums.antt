@@ -7,12 +7,12 @@ use Rattle.ep_icmp.specs.Icmpv6.{pseudo}
 use Rattle.ep_icmp.specs.Layout.{Layout, bytes_of_layout, bytes_of_fields}
 
 -- a pseudo header, a header and a payload, as a text with the checksum as a word in it
-pub joined : (l : Layout) (front payload : List ℕ) (c : ℕ)
-    → front ++ bytes_of_layout l c ++ payload ≡ with_word (front ++ (l.type_u8 ∷ l.code_u8 ∷ [])) c
+pub joined : (l : Layout) (prefix payload : List ℕ) (c : ℕ)
+    → prefix ++ bytes_of_layout l c ++ payload ≡ with_word (prefix ++ (l.type_u8 ∷ l.code_u8 ∷ [])) c
     (bytes_of_fields l.fields ++ payload)
-joined l front payload c =
-    append_assoc front (bytes_of_layout l c) payload
-    ∙ sym (append_assoc front (l.type_u8 ∷ l.code_u8 ∷ [])
+joined l prefix payload c =
+    append_assoc prefix (bytes_of_layout l c) payload
+    ∙ sym (append_assoc prefix (l.type_u8 ∷ l.code_u8 ∷ [])
     (to_be_bytes w16 c ++ (bytes_of_fields l.fields ++ payload)))
 
 -- a pseudo header, a type and a code are whole words

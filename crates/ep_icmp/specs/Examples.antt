@@ -1,4 +1,4 @@
--- Messages from outside, at which laws state the definitions' values.
+-- Literal messages, at which laws state the definitions' values.
 use Rattle.std.specs.Prelude.{ℕ, List, [], ◌∷◌, ◌++◌, replicate}
 
 -- the data of an echo request, as `ping` of Windows sends it: 23 letters of the alphabet and nine
@@ -9,7 +9,7 @@ letters =
     113 ∷ 114 ∷ 115 ∷ 116 ∷ 117 ∷ 118 ∷ 119 ∷ 97 ∷ 98 ∷ 99 ∷ 100 ∷ 101 ∷
     102 ∷ 103 ∷ 104 ∷ 105 ∷ []
 
--- the header in front of it: an echo request with identifier and sequence number 1, checksum 4d5a
+-- the header before it: an echo request with identifier and sequence number 1, checksum 4d5a
 abbrev pub ping : List ℕ
 ping = 8 ∷ 0 ∷ 77 ∷ 90 ∷ 0 ∷ 1 ∷ 0 ∷ 1 ∷ []
 

@@ -1,4 +1,4 @@
--- ICMPv4 messages (RFC 792): the table of their kinds, and the header that bytes spell.
+-- ICMPv4 messages (RFC 792): the table of their kinds, and the header that bytes encode.
 use Rattle.std.specs.Prelude.{◌≡◌, ℕ, ◌^◌, ◌<◌, ◌≤◌, ◌==◌, ◌&&◌, ◌||◌, not, Bool, IsTrue, Option}
 use Rattle.std.specs.Prelude.{Some, None, unwrap_or, List, [], ◌∷◌, ◌++◌, find, length, slice_range}
 use Rattle.std.specs.Prelude.{drop}
@@ -69,10 +69,10 @@ unreachable_code FilterProhibited = 13
 unreachable_code HostPrecedenceViolation = 14
 unreachable_code PrecedenceCutoff = 15
 
--- code 4 has the length in bytes 7 and 8 (RFC 1191, section 4)
+-- code 4 has the length in bytes 6 and 7, counted from 0 (RFC 1191, section 4)
 abbrev pub unreachable_fields : DestUnreachableHeader → Fields
 unreachable_fields (FragmentationNeeded next_hop_mtu) =
-    record { before = 2; field = to_be_bytes w16 next_hop_mtu; behind = 0 }
+    record { before = 2; field = to_be_bytes w16 next_hop_mtu; after = 0 }
 unreachable_fields _ = nothing
 
 -- the codes of type 5
@@ -93,13 +93,13 @@ problem_code (PointerIndicatesError pointer) = 0
 problem_code MissingRequiredOption = 1
 problem_code BadLength = 2
 
--- code 0 has the place of the fault in byte 5
+-- code 0 has the offset of the fault in byte 4, counted from 0
 abbrev pub problem_fields : ParameterProblemHeader → Fields
 problem_fields (PointerIndicatesError pointer) =
-    record { before = 0; field = pointer ∷ []; behind = 3 }
+    record { before = 0; field = pointer ∷ []; after = 3 }
 problem_fields _ = nothing
 
--- the table: each kind's type, code and bytes from byte 5 on
+-- the table: each kind's type, code and bytes from byte 4 on, counted from 0
 abbrev pub layout_of : Icmpv4Type → Layout
 layout_of (EchoReply echo) = layout 0 0 (used_bytes (echo_bytes echo))
 layout_of (DestinationUnreachable header) =
@@ -135,7 +135,7 @@ fixed_payload_size _ = None
 abbrev pub IsPayload : Icmpv4Type → List ℕ → Type 0
 IsPayload kind bytes = (n : ℕ) → fixed_payload_size kind ≡ Some n → length bytes ≡ n
 
--- the kinds that the table names, each with the fields that stand in a header's bytes
+-- the kinds that the table names, each with the fields that a header's bytes hold
 abbrev pub kinds : List ℕ → List Icmpv4Type
 kinds bytes =
     EchoReply (echo_in bytes 4)
@@ -185,7 +185,7 @@ has_numbers type_u8 code_u8 kind = (layout_of kind).type_u8 == type_u8
 unfoldable pub is_listed : ℕ → ℕ → Bool
 is_listed type_u8 code_u8 = list_any (has_numbers type_u8 code_u8) (kinds [])
 
--- the kind with this type and code, its fields as they stand in the bytes of its header; one that
+-- the kind with this type and code, with the fields that the bytes of its header hold; one that
 -- isn't listed is `Unknown` with its four bytes
 unfoldable pub kind_at : ℕ → ℕ → List ℕ → Icmpv4Type
 kind_at type_u8 code_u8 bytes =
@@ -195,28 +195,29 @@ kind_at type_u8 code_u8 bytes =
 abbrev pub type_of : List ℕ → Icmpv4Type
 type_of bytes = kind_at (num bytes 0 1) (num bytes 1 1) bytes
 
--- a kind that its own bytes spell: a listed one, or an `Unknown` of a type and code that isn't
-abbrev pub IsSpelledOut : Icmpv4Type → Type 0
-IsSpelledOut (Unknown type_u8 code_u8 bytes5to8) = IsTrue (not (is_listed type_u8 code_u8))
-IsSpelledOut _ = Unit {0}
+-- a kind that is parsed from its own bytes: a listed one, or an `Unknown` of a type and code that
+-- isn't
+abbrev pub IsCanonical : Icmpv4Type → Type 0
+IsCanonical (Unknown type_u8 code_u8 bytes5to8) = IsTrue (not (is_listed type_u8 code_u8))
+IsCanonical _ = Unit {0}
 
 -- code 4 names this length
 abbrev pub HasNextHopMtu : DestUnreachableHeader → ℕ → Type 0
 HasNextHopMtu (FragmentationNeeded next_hop_mtu) n = next_hop_mtu ≡ n
 HasNextHopMtu _ n = Unit {0}
 
--- code 0 names this place
+-- code 0 names this offset
 abbrev pub HasPointer : ParameterProblemHeader → ℕ → Type 0
 HasPointer (PointerIndicatesError pointer) n = pointer ≡ n
 HasPointer _ n = Unit {0}
 
--- the header that bytes spell
+-- the header that bytes encode
 abbrev pub icmpv4_header_of : List ℕ → Icmpv4Header
 icmpv4_header_of bytes = record { icmp_type = type_of bytes; checksum = num bytes 2 2 }
 
 -- the bytes of a header
-abbrev pub spelling : Icmpv4Header → List ℕ
-spelling h = bytes_of_layout (layout_of h.icmp_type) h.checksum
+abbrev pub encoding : Icmpv4Header → List ℕ
+encoding h = bytes_of_layout (layout_of h.icmp_type) h.checksum
 
 -- the checksum of the message of this kind with this payload: over the header with its checksum as
 -- 0, and the payload (RFC 792; there is no pseudo header)
@@ -265,11 +266,11 @@ pub record Fits (kind : Icmpv4Type) : Type 0 where
   pub code_u8 : (layout_of kind).code_u8 < 2 ^ 8
   pub fields : FieldsFit kind
 
--- a message is read: its header's fields, and what stands behind the header
+-- a message is read: its header's fields, and what follows the header
 pub record IsRead (bytes : List ℕ) (h : Icmpv4Header) (rest : List ℕ) : Type 0 where
   pub message : ReadableIcmpv4 bytes
   pub fields : h ≡ icmpv4_header_of bytes
-  pub behind : rest ≡ drop (header_len h.icmp_type) bytes
+  pub after : rest ≡ drop (header_len h.icmp_type) bytes
 
 -- the header of this kind with the checksum that belongs to this payload
 abbrev pub icmpv4_with_checksum : Icmpv4Type → List ℕ → Icmpv4Header

@@ -1,4 +1,4 @@
--- ICMPv6 messages (RFC 4443): the table of their kinds, and the header that bytes spell.
+-- ICMPv6 messages (RFC 4443): the table of their kinds, and the header that bytes encode.
 use Rattle.std.specs.Prelude.{◌≡◌, ℕ, ◌+◌, ◌^◌, ◌<◌, ◌≤◌, ◌==◌, ◌&&◌, not, Bool, IsTrue, unwrap_or}
 use Rattle.std.specs.Prelude.{List, [], ◌∷◌, ◌++◌, find, length, slice_range, drop}
 use Rattle.std.specs.Int.{w32, to_be_bytes}
@@ -71,7 +71,7 @@ problem_code TooManyExtensionHeaders = 8
 problem_code TooManyOptionsInExtensionHeader = 9
 problem_code OptionTooBig = 10
 
--- the table: each kind's type, code and bytes 5 to 8
+-- the table: each kind's type, code and bytes 4 to 7, counted from 0
 abbrev pub layout_of : Icmpv6Type → Layout
 layout_of (DestinationUnreachable code) = layout 1 (unreachable_code code) nothing
 layout_of (PacketTooBig mtu) = layout 2 0 (used_bytes (to_be_bytes w32 mtu))
@@ -82,7 +82,7 @@ layout_of (EchoRequest echo) = layout 128 0 (used_bytes (echo_bytes echo))
 layout_of (EchoReply echo) = layout 129 0 (used_bytes (echo_bytes echo))
 layout_of (Unknown type_u8 code_u8 bytes5to8) = layout type_u8 code_u8 (used_bytes bytes5to8)
 
--- the kinds that the table names, each with the fields that stand in a header's bytes
+-- the kinds that the table names, each with the fields that a header's bytes hold
 abbrev pub kinds : List ℕ → List Icmpv6Type
 kinds bytes =
     DestinationUnreachable NoRoute
@@ -121,7 +121,7 @@ has_numbers type_u8 code_u8 kind = (layout_of kind).type_u8 == type_u8
 unfoldable pub is_listed : ℕ → ℕ → Bool
 is_listed type_u8 code_u8 = list_any (has_numbers type_u8 code_u8) (kinds [])
 
--- the kind with this type and code, its fields as they stand in the bytes of its header; one that
+-- the kind with this type and code, with the fields that the bytes of its header hold; one that
 -- isn't listed is `Unknown` with its four bytes
 unfoldable pub kind_at : ℕ → ℕ → List ℕ → Icmpv6Type
 kind_at type_u8 code_u8 bytes =
@@ -131,18 +131,19 @@ kind_at type_u8 code_u8 bytes =
 abbrev pub type_of : List ℕ → Icmpv6Type
 type_of bytes = kind_at (num bytes 0 1) (num bytes 1 1) bytes
 
--- a kind that its own bytes spell: a listed one, or an `Unknown` of a type and code that isn't
-abbrev pub IsSpelledOut : Icmpv6Type → Type 0
-IsSpelledOut (Unknown type_u8 code_u8 bytes5to8) = IsTrue (not (is_listed type_u8 code_u8))
-IsSpelledOut _ = Unit {0}
+-- a kind that is parsed from its own bytes: a listed one, or an `Unknown` of a type and code that
+-- isn't
+abbrev pub IsCanonical : Icmpv6Type → Type 0
+IsCanonical (Unknown type_u8 code_u8 bytes5to8) = IsTrue (not (is_listed type_u8 code_u8))
+IsCanonical _ = Unit {0}
 
--- the header that bytes spell
+-- the header that bytes encode
 abbrev pub icmpv6_header_of : List ℕ → Icmpv6Header
 icmpv6_header_of bytes = record { icmp_type = type_of bytes; checksum = num bytes 2 2 }
 
 -- the bytes of a header
-abbrev pub spelling : Icmpv6Header → List ℕ
-spelling h = bytes_of_layout (layout_of h.icmp_type) h.checksum
+abbrev pub encoding : Icmpv6Header → List ℕ
+encoding h = bytes_of_layout (layout_of h.icmp_type) h.checksum
 
 -- the pseudo header of a message of this length: next header 58 (RFC 4443, section 2.3)
 abbrev pub pseudo : List ℕ → List ℕ → ℕ → List ℕ
@@ -164,11 +165,11 @@ icmpv6_with_checksum source destination kind payload =
 pub record ReadableIcmpv6 (bytes : List ℕ) : Type 0 where
   pub least : 8 ≤ length bytes
 
--- a message is read: its header's fields, and what stands behind the header
+-- a message is read: its header's fields, and what follows the header
 pub record IsRead (bytes : List ℕ) (h : Icmpv6Header) (rest : List ℕ) : Type 0 where
   pub message : ReadableIcmpv6 bytes
   pub fields : h ≡ icmpv6_header_of bytes
-  pub behind : rest ≡ drop 8 bytes
+  pub after : rest ≡ drop 8 bytes
 
 -- the ranges of the fields
 abbrev pub FieldsFit : Icmpv6Type → Type 0

@@ -3,23 +3,23 @@ use Rattle.std.proofs.Common.{◌≡◌, ℕ, suc, ◌+◌, ◌-◌, ◌%◌, �
 use Rattle.std.proofs.Common.{◌&&◌, eqb, ◌⊎◌, inl, inr, arith, ap, ◌↔◌, ⊎_elim}
 use Rattle.std.proofs.lemmas.Bool.{eq-eqb, eqb-true, ne_eqb, cases_lt}
 use Rattle.ep_base.specs.Sum.{total, fold, all_ones}
-use Rattle.ep_ip.specs.Ipv4.{spelling}
+use Rattle.ep_ip.specs.Ipv4.{encoding}
 use Rattle.ep_ip.specs.Ipv4Checksum.{right_checksum, HasRightChecksum}
 use Rattle.ep_ip.specs.declared.net.ipv4_header.Ipv4Header.{Ipv4Header}
 
 -- the checksum is one word of the sum
-total-spelling : (h : Ipv4Header) → h.header_checksum < 2 ^ 16 →
-    total (spelling h) ≡ total (spelling (record h { header_checksum = 0 })) + h.header_checksum
+total-encoding : (h : Ipv4Header) → h.header_checksum < 2 ^ 16 →
+    total (encoding h) ≡ total (encoding (record h { header_checksum = 0 })) + h.header_checksum
 unfolding total
-total-spelling h fits = omega arith
+total-encoding h fits = omega arith
 
 -- the first byte is not 0
 positive : (n : ℕ) → 0 < n → (m : ℕ) × (n ≡ suc m)
 positive n h = (n - 1, omega arith)
 
-spelling_not_zero : (h : Ipv4Header) → (n : ℕ) × (total (spelling h) ≡ suc n)
+encoding_not_zero : (h : Ipv4Header) → (n : ℕ) × (total (encoding h) ≡ suc n)
 unfolding total
-spelling_not_zero h = positive (total (spelling h)) (omega arith)
+encoding_not_zero h = positive (total (encoding h)) (omega arith)
 
 second_of : (a b : Bool) → IsTrue (a && b) → b ≡ true
 second_of true b h = h
@@ -54,13 +54,13 @@ all_ones_where t m n c sum rest fits = rw (sum, rest) (
       (eq-eqb ((suc n + c) % 65535) 0 (complement_sums n c h))),
 )
 
-pub all_ones-spelling : (h : Ipv4Header) → h.header_checksum < 2 ^ 16
-    → IsTrue (all_ones (spelling h)) ↔ HasRightChecksum h
-all_ones-spelling h fits =
-    let without = spelling_not_zero (record h { header_checksum = 0 }) in
-    all_ones_where (total (spelling h)) (total (spelling (record h { header_checksum = 0 })))
+pub all_ones-encoding : (h : Ipv4Header) → h.header_checksum < 2 ^ 16
+    → IsTrue (all_ones (encoding h)) ↔ HasRightChecksum h
+all_ones-encoding h fits =
+    let without = encoding_not_zero (record h { header_checksum = 0 }) in
+    all_ones_where (total (encoding h)) (total (encoding (record h { header_checksum = 0 })))
     without.0 h.header_checksum
-    (rw (← without.1) (total-spelling h fits)) without.1 fits
+    (rw (← without.1) (total-encoding h fits)) without.1 fits
 
 below_all : (m n : ℕ) → m ≡ suc n → 65535 - fold m < 65535
 unfolding fold
@@ -68,5 +68,5 @@ below_all m n e = rw e (omega arith)
 
 pub right_checksum_below : (h : Ipv4Header) → right_checksum h < 65535
 right_checksum_below h =
-    let without = spelling_not_zero (record h { header_checksum = 0 }) in
-    below_all (total (spelling (record h { header_checksum = 0 }))) without.0 without.1
+    let without = encoding_not_zero (record h { header_checksum = 0 }) in
+    below_all (total (encoding (record h { header_checksum = 0 }))) without.0 without.1

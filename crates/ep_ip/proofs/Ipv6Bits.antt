@@ -37,7 +37,7 @@ ecn_in-or dscp ecn most =
     let low : (4 * dscp + ecn_number ecn) % 4 ≡ ecn_number ecn = omega arith in
     ap ecn_in (or-shared_byte dscp (ecn_number ecn) most small) ∙ ap ecn_of low ∙ ecn_of-number ecn
 
--- version, traffic class and flow label, each at its place
+-- version, traffic class and flow label, each in its bits
 pub or-first_word : (class label : ℕ) → class < 2 ^ 8 → label < 2 ^ 20 →
     bit_or (bit_or (6 * 2 ^ 28) (class * 2 ^ 20 % 2 ^ 32)) label
     ≡ 6 * 2 ^ 28 + class * 2 ^ 20 + label

@@ -1,4 +1,4 @@
--- Sums of pseudo headers, built up piece by piece.
+-- Sums of pseudo headers, built up chunk by chunk.
 use Rattle.std.proofs.Common.{◌≡◌, subst, refl, ℕ, ◌%◌, List, [], ◌∷◌, ◌++◌, length, append_assoc}
 use Rattle.std.proofs.Common.{length-append, arith}
 use Rattle.std.specs.Int.{w16, w32, to_be_bytes}
@@ -6,20 +6,20 @@ use Rattle.ep_base.specs.Sum.{AddsText, fold, total}
 use Rattle.ep_base.specs.MessageSum.{SumsWords}
 use Rattle.ep_ip.specs.Pseudo.{pseudo_v4, pseudo_v6}
 
--- a piece of whole words is added behind a text of whole words
-more_words : (sum next : ℕ) (text piece : List ℕ) → SumsWords sum text → length piece % 2 ≡ 0
-    → AddsText sum piece next
-    → SumsWords next (text ++ piece)
-more_words sum next text piece sums even adds = record {
-  whole = let both = length-append text piece in omega (arith, sums.whole);
+-- a chunk of whole words is added after a text of whole words
+more_words : (sum next : ℕ) (text chunk : List ℕ) → SumsWords sum text → length chunk % 2 ≡ 0
+    → AddsText sum chunk next
+    → SumsWords next (text ++ chunk)
+more_words sum next text chunk sums even adds = record {
+  whole = let both = length-append text chunk in omega (arith, sums.whole);
   folded = adds text sums.whole sums.folded;
 }
 
-even_4 : (piece : List ℕ) → length piece ≡ 4 → length piece % 2 ≡ 0
-even_4 piece len = omega arith
+even_4 : (chunk : List ℕ) → length chunk ≡ 4 → length chunk % 2 ≡ 0
+even_4 chunk len = omega arith
 
-even_16 : (piece : List ℕ) → length piece ≡ 16 → length piece % 2 ≡ 0
-even_16 piece len = omega arith
+even_16 : (chunk : List ℕ) → length chunk ≡ 16 → length chunk % 2 ≡ 0
+even_16 chunk len = omega arith
 
 pub pseudo_v4_sums : (source destination : List ℕ) (number len a b c d e : ℕ) → length source ≡ 4
     → length destination ≡ 4
@@ -27,8 +27,8 @@ pub pseudo_v4_sums : (source destination : List ℕ) (number len a b c d e : ℕ
     → AddsText c (0 ∷ number ∷ []) d → AddsText d (to_be_bytes w16 len) e
     → SumsWords e (pseudo_v4 source destination number len)
 pseudo_v4_sums source destination number len a b c d e p q none s t u v =
-    let begun : SumsWords a [] = record { whole = refl; folded = none } in
-    let first = more_words a b [] source begun (even_4 source p) s in
+    let started : SumsWords a [] = record { whole = refl; folded = none } in
+    let first = more_words a b [] source started (even_4 source p) s in
     let second = more_words b c source destination first (even_4 destination q) t in
     let third = more_words c d (source ++ destination) (0 ∷ number ∷ []) second refl u in
     let all = more_words d e (source ++ destination ++ 0 ∷ number ∷ [])
@@ -42,8 +42,8 @@ pub pseudo_v6_sums : (source destination : List ℕ) (number len a b c d e : ℕ
     → AddsText c (to_be_bytes w32 len) d → AddsText d (0 ∷ 0 ∷ 0 ∷ number ∷ []) e
     → SumsWords e (pseudo_v6 source destination number len)
 pseudo_v6_sums source destination number len a b c d e p q none s t u v =
-    let begun : SumsWords a [] = record { whole = refl; folded = none } in
-    let first = more_words a b [] source begun (even_16 source p) s in
+    let started : SumsWords a [] = record { whole = refl; folded = none } in
+    let first = more_words a b [] source started (even_16 source p) s in
     let second = more_words b c source destination first (even_16 destination q) t in
     let third = more_words c d (source ++ destination) (to_be_bytes w32 len) second refl u in
     more_words d e (source ++ destination ++ to_be_bytes w32 len)

@@ -6,27 +6,27 @@ use Rattle.std.proofs.Common.{List, [], ◌∷◌, length, get_or, Some, None}
 use Rattle.std.specs.List.{list_any}
 use Rattle.ep_ip.specs.Skip.{is_skipped, length_kind, len_of_kind, skipped_by}
 
--- the fourth test and the last two behind the others
-pub three_behind : (a b c d e f g h i j k : Bool) →
+-- the fourth test and the last two after the others
+pub three_last : (a b c d e f g h i j k : Bool) →
     (a || (b || (c || (d || (e || (f || (g || (h || (i || (j || (k || false)))))))))))
     ≡ ((a || (b || (c || (e || (f || (g || (h || (i || false)))))))) || (d || (j || k)))
-three_behind true b c d e f g h i j k = refl
-three_behind false true c d e f g h i j k = refl
-three_behind false false true d e f g h i j k = refl
-three_behind false false false true true f g h i j k = refl
-three_behind false false false true false true g h i j k = refl
-three_behind false false false true false false true h i j k = refl
-three_behind false false false true false false false true i j k = refl
-three_behind false false false true false false false false true j k = refl
-three_behind false false false true false false false false false j k = refl
-three_behind false false false false true f g h i j k = refl
-three_behind false false false false false true g h i j k = refl
-three_behind false false false false false false true h i j k = refl
-three_behind false false false false false false false true i j k = refl
-three_behind false false false false false false false false true j k = refl
-three_behind false false false false false false false false false true k = refl
-three_behind false false false false false false false false false false true = refl
-three_behind false false false false false false false false false false false = refl
+three_last true b c d e f g h i j k = refl
+three_last false true c d e f g h i j k = refl
+three_last false false true d e f g h i j k = refl
+three_last false false false true true f g h i j k = refl
+three_last false false false true false true g h i j k = refl
+three_last false false false true false false true h i j k = refl
+three_last false false false true false false false true i j k = refl
+three_last false false false true false false false false true j k = refl
+three_last false false false true false false false false false j k = refl
+three_last false false false false true f g h i j k = refl
+three_last false false false false false true g h i j k = refl
+three_last false false false false false false true h i j k = refl
+three_last false false false false false false false true i j k = refl
+three_last false false false false false false false false true j k = refl
+three_last false false false false false false false false false true k = refl
+three_last false false false false false false false false false false true = refl
+three_last false false false false false false false false false false false = refl
 
 among_third : (a b c d : Bool) → (c || (a || (b || (c || d)))) ≡ (a || (b || (c || d)))
 among_third a b false d = refl

@@ -10,19 +10,19 @@ use Rattle.std.specs.List.{concat}
 use Rattle.ep_base.specs.declared.err.len_error.LenError.{LenError}
 use Rattle.ep_base.specs.declared.net.ip_number.IpNumber.{IpNumber}
 use Rattle.ep_ip.specs.Skip.{is_skipped, skipped_len, required_len, IsWhole, Skips, Walk, outcome}
-use Rattle.ep_ip.specs.Skip.{headers_within, skipped_headers, named_behind, skip, Gives, Ends}
+use Rattle.ep_ip.specs.Skip.{headers_within, skipped_headers, next_number_after, skip, Gives, Ends}
 
 -- with fewer bytes than two, two are needed
-begun_of : (len n : ℕ) → cond (ltb len 2) 2 n ≤ len → (2 ≤ len) × (cond (ltb len 2) 2 n ≡ n)
-begun_of zero n h = absurd (omega arith)
-begun_of (suc zero) n h = absurd (omega arith)
-begun_of (suc (suc len)) n h =
+started_of : (len n : ℕ) → cond (ltb len 2) 2 n ≤ len → (2 ≤ len) × (cond (ltb len 2) 2 n ≡ n)
+started_of zero n h = absurd (omega arith)
+started_of (suc zero) n h = absurd (omega arith)
+started_of (suc (suc len)) n h =
     let enough : ltb (suc (suc len)) 2 ≡ false = le-ltb (suc (suc len)) 2 (omega arith) in
     (omega arith, rw enough refl)
 
 pub required_of : (number : ℕ) (bytes : List ℕ) → required_len number bytes ≤ length bytes
     → (2 ≤ length bytes) × (required_len number bytes ≡ skipped_len number bytes)
-required_of number bytes h = begun_of (length bytes) (skipped_len number bytes) h
+required_of number bytes h = started_of (length bytes) (skipped_len number bytes) h
 
 least_eight : (fragment authentication : Bool) (n : ℕ)
     → 8 ≤ cond fragment 8 (cond authentication ((n + 2) * 4) ((n + 1) * 8))
@@ -40,10 +40,10 @@ same_len : (number : ℕ) (a b : List ℕ) → get_or a 1 0 ≡ get_or b 1 0
 same_len number a b e =
     ap (λ (n : ℕ). cond (eqb number 44) 8 (cond (eqb number 51) ((n + 2) * 4) ((n + 1) * 8))) e
 
--- a front that is long enough is a whole header
-pub whole_front : (number : ℕ) (bytes : List ℕ) → required_len number bytes ≤ length bytes
+-- a prefix that is long enough is a whole header
+pub whole_prefix : (number : ℕ) (bytes : List ℕ) → required_len number bytes ≤ length bytes
     → IsWhole number (take (skipped_len number bytes) bytes)
-whole_front number bytes h =
+whole_prefix number bytes h =
     let required = required_of number bytes h in
     let least = eight_le number bytes in
     let fits : skipped_len number bytes ≤ length bytes = omega (arith, required.1, h) in
@@ -52,7 +52,7 @@ whole_front number bytes h =
     let second : get_or (take (skipped_len number bytes) bytes) 1 0 ≡ get_or bytes 1 0 =
     get_or-take (skipped_len number bytes) bytes 1 0 (omega arith) in
     record {
-      begun = omega arith;
+      started = omega arith;
       whole = len ∙ sym (same_len number (take (skipped_len number bytes) bytes) bytes second);
     }
 
@@ -67,7 +67,7 @@ found_header number n bytes e h =
     let same : n ≡ skipped_len number bytes = e ∙ required.1 in
     let least = eight_le number bytes in (
       take n bytes,
-      rw same (whole_front number bytes (rw (← e) h)),
+      rw same (whole_prefix number bytes (rw (← e) h)),
       rw (take_rest bytes n) (sym (take-append-drop n bytes)),
       sym (get_or-take n bytes 0 0 (omega arith)),
     )
@@ -86,7 +86,7 @@ eight_each number (header ∷ headers) last row =
       length-append header (concat headers),
     )
 
--- one more header behind a row
+-- one more header after a row
 pub skips_more : (number : ℕ) (headers : List (List ℕ)) (m : ℕ) (header : List ℕ)
     → Skips number headers m → IsTrue (is_skipped m) → IsWhole m header
     → Skips number (headers ++ header ∷ []) (get_or header 0 0)
@@ -124,14 +124,14 @@ len_again : (number : ℕ) (header rest : List ℕ) → IsWhole number header
     → skipped_len number (header ++ rest) ≡ length header
 len_again number header rest whole =
     same_len number (header ++ rest) header
-    (get_or_append_left header rest 0 1 (omega (arith, whole.begun))) ∙ sym whole.whole
+    (get_or_append_left header rest 0 1 (omega (arith, whole.started))) ∙ sym whole.whole
 
 required_again : (number : ℕ) (header rest : List ℕ) → IsWhole number header
     → required_len number (header ++ rest) ≤ length (header ++ rest)
 required_again number header rest whole =
     let len = length-append header rest in
     let enough : ltb (length (header ++ rest)) 2 ≡ false =
-    le-ltb (length (header ++ rest)) 2 (omega (arith, whole.begun)) in
+    le-ltb (length (header ++ rest)) 2 (omega (arith, whole.started)) in
     rw (enough, len_again number header rest whole) (omega arith)
 
 both : (a b : Bool) → a ≡ true → b ≡ true → (a && b) ≡ true
@@ -147,17 +147,17 @@ headers_one most number header rest skipped whole =
     (le-leb (required_len number bytes) (length bytes)
     (required_again number header rest whole)) in
     let len : skipped_len number bytes ≡ length header = len_again number header rest whole in
-    let front : take (skipped_len number bytes) bytes ≡ header =
+    let prefix : take (skipped_len number bytes) bytes ≡ header =
     take_at header rest (skipped_len number bytes) (sym len) in
-    let behind : drop (skipped_len number bytes) bytes ≡ rest =
+    let following : drop (skipped_len number bytes) bytes ≡ rest =
     drop_at header rest (skipped_len number bytes) (sym len) in
     let first : get_or bytes 0 0 ≡ get_or header 0 0 =
-    get_or_append_left header rest 0 0 (omega (arith, whole.begun)) in
+    get_or_append_left header rest 0 0 (omega (arith, whole.started)) in
     ap (λ (b : Bool). cond b (take (skipped_len number bytes) bytes ∷
     headers_within most (get_or bytes 0 0) (drop (skipped_len number bytes) bytes)) []) test
     ∙ ap (λ (xs : List ℕ). xs ∷ headers_within most (get_or bytes 0 0)
-    (drop (skipped_len number bytes) bytes)) front
-    ∙ ap (λ (xs : List ℕ). header ∷ headers_within most (get_or bytes 0 0) xs) behind
+    (drop (skipped_len number bytes) bytes)) prefix
+    ∙ ap (λ (xs : List ℕ). header ∷ headers_within most (get_or bytes 0 0) xs) following
     ∙ ap (λ (n : ℕ). header ∷ headers_within most n rest) first
 
 -- the function finds the headers in a row
@@ -176,8 +176,8 @@ found_headers (suc most) number (header ∷ headers) last rest h row ended =
     (found_headers most (get_or header 0 0) headers last rest (omega arith) row.2 ended)
 
 named_last : (number : ℕ) (headers : List (List ℕ)) (last : ℕ) → Skips number headers last
-    → named_behind number headers ≡ last
-unfolding named_behind
+    → next_number_after number headers ≡ last
+unfolding next_number_after
 named_last number [] last row = row
 named_last number (header ∷ headers) last row = named_last (get_or header 0 0) headers last row.2
 
@@ -200,16 +200,16 @@ pub walk_skips : (number : ℕ) (bytes : List ℕ) (headers : List (List ℕ)) (
     → Walk number bytes headers last rest
     → skip number bytes ≡ outcome (length (concat headers)) last rest
 walk_skips number bytes headers last rest walk =
-    let behind : drop (length (concat headers)) bytes ≡ rest =
+    let following : drop (length (concat headers)) bytes ≡ rest =
     ap (drop (length (concat headers))) walk.cut
     ∙ drop_at (concat headers) rest (length (concat headers)) refl in
-    ap (λ (hs : List (List ℕ)). outcome (length (concat hs)) (named_behind number hs)
+    ap (λ (hs : List (List ℕ)). outcome (length (concat hs)) (next_number_after number hs)
     (drop (length (concat hs)) bytes)) (walk_headers number bytes headers last rest walk)
     ∙ ap (λ (n : ℕ). outcome (length (concat headers)) n (drop (length (concat headers)) bytes))
     (named_last number headers last walk.named)
-    ∙ ap (outcome (length (concat headers)) last) behind
+    ∙ ap (outcome (length (concat headers)) last) following
 
--- the turns behind headers in a row
+-- the turns after headers in a row
 pub turns_le : (number : ℕ) (bytes : List ℕ) (headers : List (List ℕ)) (last : ℕ) (rest : List ℕ)
     (turns : ℕ) → Skips number headers last → bytes ≡ concat headers ++ rest
     → turns ≡ length headers + 1 → 8 * turns ≤ length bytes + 8
@@ -230,22 +230,22 @@ turns_bound number bytes headers last rest turns row cut counted =
 
 -- one header further
 pub walk_on : (number : ℕ) (bytes : List ℕ) (headers : List (List ℕ)) (m : ℕ) (rest : List ℕ)
-    (turns : ℕ) (header behind : List ℕ) (next : ℕ) →
+    (turns : ℕ) (header following : List ℕ) (next : ℕ) →
     Skips number headers m → bytes ≡ concat headers ++ rest → turns ≡ length headers + 1 →
-    IsTrue (is_skipped m) → IsWhole m header → rest ≡ header ++ behind → next ≡ get_or header 0 0 →
-    Skips number (headers ++ header ∷ []) next × (bytes ≡ concat (headers ++ header ∷ []) ++ behind)
+    IsTrue (is_skipped m) → IsWhole m header → rest ≡ header ++ following → next ≡ get_or header 0 0 →
+    Skips number (headers ++ header ∷ []) next × (bytes ≡ concat (headers ++ header ∷ []) ++ following)
     × (turns + 1 ≡ length (headers ++ header ∷ []) + 1)
-walk_on number bytes headers m rest turns header behind next row cut counted skipped
+walk_on number bytes headers m rest turns header following next row cut counted skipped
     whole rest_is next_is = (
       subst (Skips number (headers ++ header ∷ [])) (sym next_is)
           (skips_more number headers m header row skipped whole),
       cut ∙ ap (λ (xs : List ℕ). concat headers ++ xs) rest_is
-          ∙ sym (append_assoc (concat headers) header behind)
-          ∙ ap (λ (xs : List ℕ). xs ++ behind) (sym (concat_more headers header)),
+          ∙ sym (append_assoc (concat headers) header following)
+          ∙ ap (λ (xs : List ℕ). xs ++ following) (sym (concat_more headers header)),
       omega (arith, length-append headers (header ∷ [])),
     )
 
--- the same answer for every way to see the bytes as headers in a row and a rest
+-- the same result for every division of the bytes into headers in a row and a rest
 pub gives_same : (number : ℕ) (bytes : List ℕ) (headers others : List (List ℕ))
     (last other_last : ℕ) (rest other_rest : List ℕ)
     (answer : Result (IpNumber × Bor (List ℕ)) LenError) →
@@ -271,7 +271,7 @@ ends_same number bytes headers others last other_last rest other_rest answer tur
       counted = ends.counted ∙ ap (λ (hs : List (List ℕ)). length hs + 1) same;
     }
 
--- the answer is the function's
+-- the result is that of the function
 pub gives_skip : (number : ℕ) (bytes : List ℕ) (headers : List (List ℕ)) (last : ℕ) (rest : List ℕ)
     (answer : Result (IpNumber × Bor (List ℕ)) LenError) →
     Walk number bytes headers last rest → Gives (outcome (length (concat headers)) last rest) answer

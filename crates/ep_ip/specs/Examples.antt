@@ -26,6 +26,6 @@ ipv6_example =
     (replicate 14 0 ++ 1 ∷ 253 ∷ (replicate 14 0 ++ 2 ∷ []))
 
 -- extension headers in a row, hop-by-hop options and destination options of 8 bytes each, and
--- behind them the number 17 and two bytes
+-- after them the number 17 and two bytes
 abbrev pub two_headers : List (List ℕ)
 two_headers = (60 ∷ replicate 7 0) ∷ (17 ∷ replicate 7 0) ∷ []

@@ -1,10 +1,10 @@
--- The IPv4 header (RFC 791, section 3.1): its bytes, and each field by its place in them.
+-- The IPv4 header (RFC 791, section 3.1): its bytes, and each field by its offset in them.
 use Rattle.std.specs.Prelude.{◌≡◌, ◌<◌, ℕ, ◌+◌, ◌*◌, ◌/◌, ◌%◌, ◌^◌, ◌≤◌, Bool, true, false, ◌==◌}
 use Rattle.std.specs.Prelude.{◌||◌, nat_lt, if◌then◌else◌, List, [], ◌∷◌, ◌++◌, replicate, length}
 use Rattle.std.specs.Prelude.{slice_range, slice_index, slice_set, drop}
 use Rattle.std.specs.Int.{bit_at, w16, to_be_bytes}
 use Rattle.ep_base.specs.Bytes.{num}
-use Rattle.ep_base.specs.Fronts.{IsReadAs}
+use Rattle.ep_base.specs.Prefixes.{IsReadAs}
 use Rattle.ep_base.specs.IpEcn.{ecn_number}
 use Rattle.ep_base.specs.IpEcn.{ecn_of as ecn_value}
 use Rattle.ep_base.specs.declared.net.ip_ecn.IpEcn.{IpEcn}
@@ -47,7 +47,7 @@ dont_fragment_of bytes = bit_at (num bytes 6 1) 6 == 1
 abbrev pub more_fragments_of : List ℕ → Bool
 more_fragments_of bytes = bit_at (num bytes 6 1) 5 == 1
 
--- the place of the payload in the message, in units of 8 bytes
+-- the offset of the payload in the datagram's payload, in units of 8 bytes
 abbrev pub fragment_offset_of : List ℕ → ℕ
 fragment_offset_of bytes = num bytes 6 2 % 2 ^ 13
 
@@ -69,7 +69,7 @@ destination_of bytes = slice_range bytes 16 20
 abbrev pub options_of : List ℕ → List ℕ
 options_of bytes = drop 20 bytes
 
--- the fields that these bytes spell
+-- the fields that these bytes encode
 abbrev pub ipv4_header_of : List ℕ → Ipv4Header
 ipv4_header_of bytes = record {
   dscp = dscp_of bytes;
@@ -118,8 +118,8 @@ flags_and_offset h = (if h.dont_fragment then 2 ^ 14 else 0) +
     (if h.more_fragments then 2 ^ 13 else 0) + h.fragment_offset
 
 -- the bytes of a header
-abbrev pub spelling : Ipv4Header → List ℕ
-spelling h =
+abbrev pub encoding : Ipv4Header → List ℕ
+encoding h =
     (4 * 16 + ihl h) ∷ (4 * h.dscp + ecn_number h.ecn)
     ∷ (to_be_bytes w16 h.total_len ++ to_be_bytes w16 h.identification
     ++ to_be_bytes w16 (flags_and_offset h)
@@ -130,10 +130,10 @@ spelling h =
 abbrev pub with_reserved_bit_zero : List ℕ → List ℕ
 with_reserved_bit_zero bytes = slice_set bytes 6 (slice_index bytes 6 % 2 ^ 7)
 
--- in front of the rest stood a header, with these fields; written again it is the same, but for
+-- the bytes are a header with these fields and the rest; written again it is the same, but for
 -- the reserved bit
 abbrev pub IsRead : List ℕ → Ipv4Header → List ℕ → Type 0
-IsRead = IsReadAs IsIpv4Header ipv4_header_of spelling with_reserved_bit_zero
+IsRead = IsReadAs IsIpv4Header ipv4_header_of encoding with_reserved_bit_zero
 
 -- the ranges of the fields
 pub record Fits (h : Ipv4Header) : Type 0 where

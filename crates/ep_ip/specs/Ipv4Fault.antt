@@ -14,7 +14,7 @@ use Rattle.ep_base.specs.declared.err.slice_error.SliceError.TheVariants.{Len, C
 use Rattle.ep_ip.specs.declared.err.ipv4.header_error.HeaderError.{HeaderError}
 use Rattle.ep_ip.specs.Ipv4.{version_of, ihl_of}
 
--- the header at the front of the bytes, or the first fault
+-- the header at the start of the bytes, or the first fault
 abbrev pub header_at : List ℕ → Result (List ℕ) (SliceError HeaderError)
 header_at bytes = unless_refused (
     (nat_lt (length bytes) 20, Len (too_few_bytes Ipv4Header 20 (length bytes)))

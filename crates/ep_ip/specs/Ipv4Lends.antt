@@ -1,4 +1,4 @@
--- What options end as, where a `&mut` to their bytes was returned.
+-- What the options are in the end, where a `&mut` to their bytes was returned.
 use Rattle.std.specs.Prelude.{ℕ, List, length}
 use Rattle.std.specs.List.{refill}
 use Rattle.std.specs.Borrow.{Lends, Fml, MutBor, Array, u8}

@@ -1,5 +1,5 @@
 -- The options of an IPv4 header (RFC 791, section 3.1): what the header's length in words of 4
--- bytes, from 5 to 15, leaves behind the 20 bytes of the fixed fields.
+-- bytes, from 5 to 15, leaves after the 20 bytes of the fixed fields.
 use Rattle.std.specs.Prelude.{◌≡◌, ℕ, ◌%◌, ◌≤◌, List, length, Result, Ok, Err}
 use Rattle.ep_ip.specs.declared.err.ipv4.bad_options_len.BadOptionsLen.{BadOptionsLen}
 

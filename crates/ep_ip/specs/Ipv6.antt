@@ -1,11 +1,11 @@
--- The IPv6 header (RFC 8200, section 3): its bytes, and each field by its place in them. The
+-- The IPv6 header (RFC 8200, section 3): its bytes, and each field by its offset in them. The
 -- traffic class is the differentiated services code point, 6 bits (RFC 2474, section 3), and
 -- explicit congestion notification, 2 bits (RFC 3168, section 5).
 use Rattle.std.specs.Prelude.{◌≡◌, ℕ, ◌+◌, ◌*◌, ◌/◌, ◌%◌, ◌^◌, ◌<◌, List, [], ◌∷◌, ◌++◌, length}
 use Rattle.std.specs.Prelude.{slice_range}
 use Rattle.std.specs.Int.{w16, w32, to_be_bytes}
 use Rattle.ep_base.specs.Bytes.{num}
-use Rattle.ep_base.specs.Fronts.{IsReadAs}
+use Rattle.ep_base.specs.Prefixes.{IsReadAs}
 use Rattle.ep_base.specs.IpEcn.{ecn_of}
 use Rattle.ep_base.specs.declared.net.ip_ecn.IpEcn.{IpEcn}
 use Rattle.ep_ip.specs.declared.net.ipv6_header.Ipv6Header.{Ipv6Header}
@@ -14,7 +14,7 @@ use Rattle.ep_ip.specs.declared.net.ipv6_header.Ipv6Header.{Ipv6Header}
 abbrev pub version_of : List ℕ → ℕ
 version_of bytes = num bytes 0 1 / 2 ^ 4
 
--- the traffic class, 8 bits behind the version
+-- the traffic class, 8 bits after the version
 abbrev pub traffic_class_of : List ℕ → ℕ
 traffic_class_of bytes = num bytes 0 2 / 2 ^ 4 % 2 ^ 8
 
@@ -42,7 +42,7 @@ pub record IsIpv6Header (bytes : List ℕ) : Type 0 where
   pub version : version_of bytes ≡ 6
   pub whole : length bytes ≡ 40
 
--- the header that these bytes spell
+-- the header that these bytes encode
 abbrev pub ipv6_header_of : List ℕ → Ipv6Header
 ipv6_header_of bytes = record {
   traffic_class = traffic_class_of bytes;
@@ -55,15 +55,15 @@ ipv6_header_of bytes = record {
 }
 
 -- the bytes of a header
-abbrev pub spelling : Ipv6Header → List ℕ
-spelling h =
+abbrev pub encoding : Ipv6Header → List ℕ
+encoding h =
     to_be_bytes w32 (6 * 2 ^ 28 + h.traffic_class * 2 ^ 20 + h.flow_label)
     ++ to_be_bytes w16 h.payload_length
     ++ h.next_header.0 ∷ h.hop_limit ∷ [] ++ h.source ++ h.destination
 
--- the header h is read at the front of the bytes, and rest stands behind it
+-- the header h is read at the start of the bytes, and rest follows it
 abbrev pub IsRead : List ℕ → Ipv6Header → List ℕ → Type 0
-IsRead = IsReadAs IsIpv6Header ipv6_header_of spelling (λ front. front)
+IsRead = IsReadAs IsIpv6Header ipv6_header_of encoding (λ prefix. prefix)
 
 -- the differentiated services code point and explicit congestion notification in a traffic class
 abbrev pub dscp_in : ℕ → ℕ

@@ -9,7 +9,7 @@ use Rattle.ep_base.specs.declared.err.slice_error.SliceError.TheVariants.{Len, C
 use Rattle.ep_ip.specs.declared.err.ipv6.header_error.HeaderError.{HeaderError}
 use Rattle.ep_ip.specs.Ipv6.{version_of}
 
--- the header at the front of the bytes, or the first fault
+-- the header at the start of the bytes, or the first fault
 abbrev pub header_at : List ℕ → Result (List ℕ) (SliceError HeaderError)
 header_at bytes = unless_refused (
     (nat_lt (length bytes) 40, Len (too_few_bytes Ipv6Header 40 (length bytes)))

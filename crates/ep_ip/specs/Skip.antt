@@ -52,7 +52,7 @@ len_of_kind kind bytes =
 
 -- the bytes are one whole header of this number
 pub record IsWhole (number : ℕ) (header : List ℕ) : Type 0 where
-  pub begun : 2 ≤ length header
+  pub started : 2 ≤ length header
   pub whole : length header ≡ skipped_len number header
 
 -- headers in a row: the first has this number, each names the next by its first byte, and the last
@@ -76,12 +76,12 @@ not_whole offset number bytes =
     record (too_few_bytes Ipv6ExtHeader (required_len number bytes) (length bytes))
     { layer_start_offset = offset }
 
--- what the walk gives at its end, behind so many bytes
+-- what the walk gives at its end, after so many bytes
 abbrev pub outcome : ℕ → ℕ → List ℕ → Result (ℕ × List ℕ) LenError
 outcome offset last rest = if is_skipped last then Err (not_whole offset last rest)
     else Ok (last, rest)
 
--- the headers in a row at the front of the bytes, at most so many
+-- the headers in a row at the start of the bytes, at most so many
 unfoldable pub headers_within : ℕ → ℕ → List ℕ → List (List ℕ)
 headers_within zero number bytes = []
 headers_within (suc most) number bytes =
@@ -94,25 +94,25 @@ headers_within (suc most) number bytes =
 abbrev pub skipped_headers : ℕ → List ℕ → List (List ℕ)
 skipped_headers number bytes = headers_within (length bytes) number bytes
 
--- the number that headers in a row name behind them
-unfoldable pub named_behind : ℕ → List (List ℕ) → ℕ
-named_behind number [] = number
-named_behind number (header ∷ headers) = named_behind (num header 0 1) headers
+-- the number that headers in a row name after them
+unfoldable pub next_number_after : ℕ → List (List ℕ) → ℕ
+next_number_after number [] = number
+next_number_after number (header ∷ headers) = next_number_after (num header 0 1) headers
 
--- the first number that is not skipped and what stands behind the headers, or the first header that
+-- the first number that is not skipped and what follows the headers, or the first header that
 -- is not whole
 abbrev pub skip : ℕ → List ℕ → Result (ℕ × List ℕ) LenError
 skip number bytes =
     let headers = skipped_headers number bytes in
     let offset = length (concat headers) in
-    outcome offset (named_behind number headers) (drop offset bytes)
+    outcome offset (next_number_after number headers) (drop offset bytes)
 
--- the answer of a call, which lends a part of the bytes
+-- the result of a call, which borrows a section of the bytes
 abbrev pub Gives : Result (ℕ × List ℕ) LenError → Result (IpNumber × Bor (List ℕ)) LenError → Type 0
 Gives wanted (Ok r) = wanted ≡ Ok (r.0.0, r.1.now)
 Gives wanted (Err e) = wanted ≡ Err e
 
--- what is answered behind these headers, after one turn for each of them and one for the number at
+-- what is returned after these headers, after one turn for each of them and one for the number at
 -- which the walk ends
 pub record Ends (headers : List (List ℕ)) (last : ℕ) (rest : List ℕ)
     (answer : Result (IpNumber × Bor (List ℕ)) LenError) (turns : ℕ) : Type 0 where

@@ -1,5 +1,5 @@
-//! IP base headers, each seen as its bytes by position, and read and written both ways; and the
-//! walk over IPv6 extension headers.
+//! IP base headers, as borrowed bytes and as values that are read and written; sums of pseudo
+//! headers; and the walk over IPv6 extension headers.
 #![tactic(auto)]
 
 pub mod checksum;

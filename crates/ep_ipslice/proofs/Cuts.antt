@@ -1,40 +1,40 @@
--- A header, what a length gives it, and what stands behind.
+-- A header, the bytes that a length bounds, and what follows.
 use Rattle.std.proofs.Common.{◌≡◌, ℕ, ◌+◌, ◌≤◌, List, ◌++◌, length, take, drop, refl, sym, ap, ◌∙◌}
 use Rattle.std.proofs.Common.{take-append-drop, length-append}
 use Rattle.std.proofs.lemmas.List.{take_at, drop_at, take-take, length-take-le}
 
--- the front of this length is the header and what stands behind it there
+-- the prefix of this length is the header and what follows it there
 pub header_and_body : (bytes header rest whole body : List ℕ) (total : ℕ) → bytes ≡ header ++ rest
     → length header ≤ total
     → whole ≡ take total bytes → body ≡ drop (length header) whole → whole ≡ header ++ body
-header_and_body bytes header rest whole body total parts fits cut behind =
-    let front : take (length header) whole ≡ header =
+header_and_body bytes header rest whole body total parts fits cut following =
+    let prefix : take (length header) whole ≡ header =
     ap (take (length header)) cut ∙ take-take (length header) total bytes fits
     ∙ ap (take (length header)) parts ∙ take_at header rest (length header) refl in
     sym (take-append-drop (length header) whole)
-    ∙ ap (λ (xs : List ℕ). xs ++ drop (length header) whole) front
-    ∙ ap (λ (xs : List ℕ). header ++ xs) (sym behind)
+    ∙ ap (λ (xs : List ℕ). xs ++ drop (length header) whole) prefix
+    ∙ ap (λ (xs : List ℕ). header ++ xs) (sym following)
 
--- the bytes are header, body and what stands behind the length
+-- the bytes are header, body and what follows the length
 pub header_body_rest : (bytes header rest whole body : List ℕ) (total : ℕ) → bytes ≡ header ++ rest
     → length header ≤ total
     → whole ≡ take total bytes → body ≡ drop (length header) whole
     → bytes ≡ header ++ body ++ drop total bytes
-header_body_rest bytes header rest whole body total parts fits cut behind =
+header_body_rest bytes header rest whole body total parts fits cut following =
     sym (take-append-drop total bytes) ∙ ap (λ (xs : List ℕ). xs ++ drop total bytes)
-    (sym cut ∙ header_and_body bytes header rest whole body total parts fits cut behind)
+    (sym cut ∙ header_and_body bytes header rest whole body total parts fits cut following)
 
 -- header and body have this length together
 pub header_body_len : (bytes header rest whole body : List ℕ) (total : ℕ) → bytes ≡ header ++ rest
     → length header ≤ total → total ≤ length bytes
     → whole ≡ take total bytes → body ≡ drop (length header) whole
     → length header + length body ≡ total
-header_body_len bytes header rest whole body total parts fits most cut behind =
+header_body_len bytes header rest whole body total parts fits most cut following =
     sym (length-append header body)
-    ∙ sym (ap length (header_and_body bytes header rest whole body total parts fits cut behind))
+    ∙ sym (ap length (header_and_body bytes header rest whole body total parts fits cut following))
     ∙ ap length cut ∙ length-take-le total bytes most
 
--- the other way: what the length gives a header is the body that stands behind it
+-- the other way: what the length bounds after a header is the body that follows it
 pub body_again : (header body rest : List ℕ) (total : ℕ) → length header + length body ≡ total
     → drop (length header) (take total (header ++ body ++ rest)) ≡ body
 body_again header body rest total size =
@@ -42,10 +42,10 @@ body_again header body rest total size =
     (take_at (header ++ body) rest total (length-append header body ∙ size))
     ∙ drop_at header body (length header) refl
 
--- a split behind a header gives the header and what stands behind it
-pub split_front : (bytes header rest front : List ℕ) (n : ℕ) → bytes ≡ header ++ rest
-    → n ≡ length header → front ≡ take n bytes → front ≡ header
-split_front bytes header rest front n parts len cut =
+-- a split after a header gives the header and what follows it
+pub split_prefix : (bytes header rest prefix : List ℕ) (n : ℕ) → bytes ≡ header ++ rest
+    → n ≡ length header → prefix ≡ take n bytes → prefix ≡ header
+split_prefix bytes header rest prefix n parts len cut =
     cut ∙ ap (take n) parts ∙ take_at header rest n (sym len)
 
 pub split_back : (bytes header rest back : List ℕ) (n : ℕ) → bytes ≡ header ++ rest

@@ -1,12 +1,12 @@
--- Bytes that begin with no packet have one first fault.
+-- Bytes that start with no packet have one first fault.
 use Rattle.std.proofs.Common.{◌≡◌, ℕ, ◌<◌, ◌≤◌, ◌-◌, List, [], ◌∷◌, length, take, drop, refl, sym}
 use Rattle.std.proofs.Common.{ap, ◌∙◌, subst, arith}
 use Rattle.std.proofs.lemmas.Option.{same_Some}
-use Rattle.ep_base.proofs.Fronts.{ok_same, err_same, ok_err}
+use Rattle.ep_base.proofs.Prefixes.{ok_same, err_same, ok_err}
 use Rattle.ep_ip.specs.Ipv4.{version_of}
 use Rattle.ep_ip.specs.Ipv6.{next_header_of}
 use Rattle.ep_ext.specs.Chain.{Chain, fault_of}
-use Rattle.ep_ext.specs.Place.{Order}
+use Rattle.ep_ext.specs.Slot.{Order}
 use Rattle.ep_ipslice.specs.IpSlice.{IsIpFaultIn, NoBytes, OtherVersion, OfIpv4, OfIpv6, ipv4_fault}
 use Rattle.ep_ipslice.specs.IpSlice.{ipv6_fault}
 use Rattle.ep_ipslice.specs.Ipv6Fault.{IsCutOff, IsFaultIn, IsRowFault, OfHeader, OfLength}
@@ -22,18 +22,18 @@ use Rattle.ep_ipslice.proofs.ViewWalk.{ChainAlone}
 row_fault_alone : ChainAlone → (order : Order) (bytes header other : List ℕ) (e f : SliceError)
     → header ≡ other → IsRowFault order bytes header e → IsRowFault order bytes other f → e ≡ f
 row_fault_alone alone order bytes header other e f same p q =
-    let behind : ℕ = length bytes - 40 in
+    let following : ℕ = length bytes - 40 in
     let chain : Chain order (next_header_of header)
-    (take (body_len header behind) (drop 40 bytes)) q.pieces q.last q.rest =
+    (take (body_len header following) (drop 40 bytes)) q.pieces q.last q.rest =
     subst (λ (h : List ℕ). Chain order (next_header_of h)
-    (take (body_len h behind) (drop 40 bytes)) q.pieces q.last q.rest) (sym same) q.chain in
+    (take (body_len h following) (drop 40 bytes)) q.pieces q.last q.rest) (sym same) q.chain in
     let one = alone order (next_header_of header)
-    (take (body_len header behind) (drop 40 bytes)) p.pieces q.pieces p.last q.last p.rest
+    (take (body_len header following) (drop 40 bytes)) p.pieces q.pieces p.last q.last p.rest
     q.rest p.chain chain in
     let fault : p.fault ≡ q.fault =
     same_Some p.fault q.fault
     (sym p.found ∙ (λ i. fault_of order (one.0 i) (one.1 i) (one.2 i)) ∙ q.found) in
-    p.error ∙ (λ i. of_exts_fault (body_source (same i) behind) (fault i).0) ∙ sym q.error
+    p.error ∙ (λ i. of_exts_fault (body_source (same i) following) (fault i).0) ∙ sym q.error
 
 length_fits : (order : Order) (bytes header other : List ℕ) (e f : SliceError) → header ≡ other
     → IsCutOff bytes header e → IsRowFault order bytes other f → ⊥

@@ -5,14 +5,14 @@ use Rattle.std.specs.Prelude.{nat_lt, if◌then◌else◌}
 use Rattle.std.proofs.lemmas.Bool.{eqb-false, eqb-true, ltb-false, ltb-true}
 use Rattle.std.proofs.lemmas.Option.{none-some}
 use Rattle.std.proofs.lemmas.List.{drop_at}
-use Rattle.ep_base.proofs.Fronts.{err_same}
-use Rattle.ep_ext.specs.Chain.{Fault, IsEnd, fault_at, fault_in, fault_of, front_of}
+use Rattle.ep_base.proofs.Prefixes.{err_same}
+use Rattle.ep_ext.specs.Chain.{Fault, IsEnd, fault_at, fault_in, fault_of, prefix_of}
 use Rattle.ep_ext.specs.Chain.{layer_of}
-use Rattle.ep_ext.specs.Place.{Order}
-use Rattle.ep_ext.specs.Value.{Piece, bytes_of, places}
+use Rattle.ep_ext.specs.Slot.{Order}
+use Rattle.ep_ext.specs.Value.{Piece, bytes_of, slots}
 use Rattle.ep_base.specs.declared.err.slice_error.SliceError.{SliceError as HeaderSliceError}
 use Rattle.ep_ext.specs.declared.err.ipv6_exts.header_error.HeaderError.{HeaderError}
-use Rattle.ep_ext.specs.declared.net.ipv6_ext_place.Ipv6ExtPlace.{Ipv6ExtPlace}
+use Rattle.ep_ext.specs.declared.net.ipv6_ext_slot.Ipv6ExtSlot.{Ipv6ExtSlot}
 use Rattle.ep_ip.specs.Ipv6.{next_header_of}
 use Rattle.ep_ip.specs.Ipv6Fault.{header_at}
 use Rattle.ep_ip.specs.declared.err.ipv6.header_error.HeaderError.{HeaderError as HeaderFault}
@@ -23,8 +23,8 @@ use Rattle.ep_ipslice.specs.Ipv4Packet.{ipv4_packet_at}
 use Rattle.ep_ipslice.specs.Ipv6Exts.{view_order}
 use Rattle.ep_ipslice.specs.Ipv6Fault.{IsFaultIn, IsIpv6Fault, IsRowFault, OfExtensions, OfHeader}
 use Rattle.ep_ipslice.specs.Ipv6Fault.{OfLength, not_whole, of_exts_fault}
-use Rattle.ep_ipslice.specs.Ipv6Packet.{body_of, extensions_of, fault_behind, ipv6_packet_at}
-use Rattle.ep_ipslice.specs.Ipv6Packet.{number_behind, packet_behind, packet_unless, rest_behind}
+use Rattle.ep_ipslice.specs.Ipv6Packet.{body_of, extensions_of, fault_after, ipv6_packet_at}
+use Rattle.ep_ipslice.specs.Ipv6Packet.{number_after, packet_after, packet_unless, rest_after}
 use Rattle.ep_ipslice.specs.Ipv6Walk.{pieces_within}
 use Rattle.ep_ipslice.specs.Packet.{Ipv4Packet, Ipv6Packet, body_len, body_source}
 use Rattle.ep_ipslice.specs.declared.err.ip.header_error.HeaderError.TheVariants.{UnsupportedIpVersion}
@@ -40,61 +40,61 @@ use Rattle.ep_ipslice.proofs.Found.{IsWalk, walk}
 
 -- the law of how rows end, as it is called
 pub record RowEnds : Type 0 where
-  pub closed : (order : Order) (passed : List Ipv6ExtPlace) (last : ℕ) (rest : List ℕ)
+  pub closed : (order : Order) (passed : List Ipv6ExtSlot) (last : ℕ) (rest : List ℕ)
       → order passed last ≡ None → IsEnd order passed last rest
-  pub fault : (order : Order) (passed : List Ipv6ExtPlace) (last : ℕ) (rest : List ℕ)
-      (place : Ipv6ExtPlace) (error : HeaderSliceError HeaderError) → order passed last ≡ Some place
-      → front_of place rest ≡ Err error → IsEnd order passed last rest
+  pub fault : (order : Order) (passed : List Ipv6ExtSlot) (last : ℕ) (rest : List ℕ)
+      (slot : Ipv6ExtSlot) (error : HeaderSliceError HeaderError) → order passed last ≡ Some slot
+      → prefix_of slot rest ≡ Err error → IsEnd order passed last rest
 
-ends_open : RowEnds → (order : Order) (passed : List Ipv6ExtPlace) (last offset : ℕ)
-    (rest : List ℕ) (place : Ipv6ExtPlace) (fault : Fault)
-    (r : Result (List ℕ) (HeaderSliceError HeaderError)) → order passed last ≡ Some place
-    → front_of place rest ≡ r → fault_at offset (Some place) last rest ≡ Some fault
+ends_open : RowEnds → (order : Order) (passed : List Ipv6ExtSlot) (last offset : ℕ)
+    (rest : List ℕ) (slot : Ipv6ExtSlot) (fault : Fault)
+    (r : Result (List ℕ) (HeaderSliceError HeaderError)) → order passed last ≡ Some slot
+    → prefix_of slot rest ≡ r → fault_at offset (Some slot) last rest ≡ Some fault
     → IsEnd order passed last rest
-ends_open law order passed last offset rest place fault (Ok header) here front found =
-    absurd (none-some fault (sym (ap (fault_in (layer_of place) offset) front) ∙ found))
-ends_open law order passed last offset rest place fault (Err e) here front found =
-    law.fault order passed last rest place e here front
+ends_open law order passed last offset rest slot fault (Ok header) here prefix found =
+    absurd (none-some fault (sym (ap (fault_in (layer_of slot) offset) prefix) ∙ found))
+ends_open law order passed last offset rest slot fault (Err e) here prefix found =
+    law.fault order passed last rest slot e here prefix
 
--- at a fault no further header begins
-ends_faulty : RowEnds → (order : Order) (passed : List Ipv6ExtPlace) (last offset : ℕ)
-    (rest : List ℕ) (fault : Fault) (place : Option Ipv6ExtPlace) → order passed last ≡ place
-    → fault_at offset place last rest ≡ Some fault → IsEnd order passed last rest
+-- at a fault no further header starts
+ends_faulty : RowEnds → (order : Order) (passed : List Ipv6ExtSlot) (last offset : ℕ)
+    (rest : List ℕ) (fault : Fault) (slot : Option Ipv6ExtSlot) → order passed last ≡ slot
+    → fault_at offset slot last rest ≡ Some fault → IsEnd order passed last rest
 ends_faulty law order passed last offset rest fault None here found =
     law.closed order passed last rest here
-ends_faulty law order passed last offset rest fault (Some place) here found =
-    ends_open law order passed last offset rest place fault (front_of place rest) here refl found
+ends_faulty law order passed last offset rest fault (Some slot) here found =
+    ends_open law order passed last offset rest slot fault (prefix_of slot rest) here refl found
 
--- headers that are found in a row, under whatever order, and the fault behind them
+-- headers that are found in a row, under whatever order, and the fault after them
 pub row_fault : RowEnds → (order : Order) (bytes header : List ℕ) (fault : Fault) →
     body_len header (length bytes - 40) ≤ length bytes - 40 →
     (pieces : List Piece) → pieces ≡ pieces_within (length (body_of bytes header)) order []
     (next_header_of header) (body_of bytes header)
-    → fault_of order pieces (number_behind (next_header_of header) pieces)
-    (rest_behind bytes header pieces) ≡ Some fault
+    → fault_of order pieces (number_after (next_header_of header) pieces)
+    (rest_after bytes header pieces) ≡ Some fault
     → IsRowFault order bytes header
     (of_exts_fault (body_source header (length bytes - 40)) fault.0)
 row_fault law order bytes header fault fits pieces are found =
     let first : ℕ = next_header_of header in
     let body : List ℕ = body_of bytes header in
-    let last : ℕ = number_behind first pieces in
+    let last : ℕ = number_after first pieces in
     let exts : List ℕ = bytes_of pieces in
     let here : IsWalk order [] first body pieces = subst (IsWalk order [] first body) (sym are)
     (walk (length body) order [] first body (omega arith)) in
-    let left : here.rest ≡ rest_behind bytes header pieces =
+    let left : here.rest ≡ rest_after bytes header pieces =
     sym (drop_at exts here.rest (length exts) refl)
     ∙ ap (drop (length exts)) (sym here.cut) in
     record {
       pieces = pieces;
       last = last;
-      rest = rest_behind bytes header pieces;
+      rest = rest_after bytes header pieces;
       fault = fault;
       size = fits;
       chain = record {
         row = here.row;
         cut = here.cut ∙ ap (λ (xs : List ℕ). exts ++ xs) left;
-        ended = ends_faulty law order (places pieces) last (length exts)
-            (rest_behind bytes header pieces) fault (order (places pieces) last) refl found;
+        ended = ends_faulty law order (slots pieces) last (length exts)
+            (rest_after bytes header pieces) fault (order (slots pieces) last) refl found;
       };
       found = found;
       error = refl;
@@ -104,7 +104,7 @@ unless_faulty : RowEnds → (bytes header : List ℕ) (pieces : List Piece) (o :
     (e : SliceError) → header_at bytes ≡ Ok header
     → body_len header (length bytes - 40) ≤ length bytes - 40
     → pieces ≡ extensions_of (next_header_of header) (body_of bytes header)
-    → fault_behind bytes header pieces ≡ o → packet_unless bytes header pieces o ≡ Err e
+    → fault_after bytes header pieces ≡ o → packet_unless bytes header pieces o ≡ Err e
     → IsIpv6Fault bytes e
 unless_faulty law bytes header pieces None e at fits are ends is = cc
 unless_faulty law bytes header pieces (Some fault) e at fits are ends is =
@@ -116,7 +116,7 @@ sized : RowEnds → (bytes header : List ℕ) (pieces : List Piece) (short : Boo
     → pieces ≡ extensions_of (next_header_of header) (body_of bytes header)
     → nat_lt (length bytes - 40) (body_len header (length bytes - 40)) ≡ short
     → (if short then Err (Len (not_whole header (length bytes)))
-    else packet_unless bytes header pieces (fault_behind bytes header pieces)) ≡ Err e
+    else packet_unless bytes header pieces (fault_after bytes header pieces)) ≡ Err e
     → IsIpv6Fault bytes e
 sized law bytes header pieces true e at are size is =
     OfLength header at (record {
@@ -124,32 +124,32 @@ sized law bytes header pieces true e at are size is =
       error = sym (err_same {A = Ipv6Packet} _ _ is);
     })
 sized law bytes header pieces false e at are size is =
-    unless_faulty law bytes header pieces (fault_behind bytes header pieces) e at
+    unless_faulty law bytes header pieces (fault_after bytes header pieces) e at
     (ltb-false (length bytes - 40) (body_len header (length bytes - 40)) size) are refl is
 
-behind_header : RowEnds → (bytes : List ℕ) (r : Result (List ℕ) (HeaderSliceError HeaderFault))
-    (e : SliceError) → header_at bytes ≡ r → packet_behind bytes r ≡ Err e → IsIpv6Fault bytes e
-behind_header law bytes (Err fault) e at is =
+after_header : RowEnds → (bytes : List ℕ) (r : Result (List ℕ) (HeaderSliceError HeaderFault))
+    (e : SliceError) → header_at bytes ≡ r → packet_after bytes r ≡ Err e → IsIpv6Fault bytes e
+after_header law bytes (Err fault) e at is =
     OfHeader fault at (sym (err_same {A = Ipv6Packet} _ _ is))
-behind_header law bytes (Ok header) e at is =
+after_header law bytes (Ok header) e at is =
     sized law bytes header (extensions_of (next_header_of header) (body_of bytes header))
     (nat_lt (length bytes - 40) (body_len header (length bytes - 40))) e at refl refl is
 
 -- where no IPv6 packet is found, the fault is the first one
 pub ipv6_fault_found : RowEnds → (bytes : List ℕ) (e : SliceError) → ipv6_packet_at bytes ≡ Err e
     → IsIpv6Fault bytes e
-ipv6_fault_found law bytes e is = behind_header law bytes (header_at bytes) e refl is
+ipv6_fault_found law bytes e is = after_header law bytes (header_at bytes) e refl is
 
-ipv4_part : (bytes : List ℕ) (r : Result Ipv4Packet Ipv4Fault) (e : IpFault) → version_of bytes ≡ 4
+ipv4_case : (bytes : List ℕ) (r : Result Ipv4Packet Ipv4Fault) (e : IpFault) → version_of bytes ≡ 4
     → ipv4_packet_at bytes ≡ r → with_ipv4 r ≡ Err e → IsIpFault bytes e
-ipv4_part bytes (Ok packet) e version at is = cc
-ipv4_part bytes (Err fault) e version at is =
+ipv4_case bytes (Ok packet) e version at is = cc
+ipv4_case bytes (Err fault) e version at is =
     OfIpv4 fault version at (sym (err_same {A = IpSlice} _ _ is))
 
-ipv6_part : RowEnds → (bytes : List ℕ) (r : Result Ipv6Packet SliceError) (e : IpFault)
+ipv6_case : RowEnds → (bytes : List ℕ) (r : Result Ipv6Packet SliceError) (e : IpFault)
     → version_of bytes ≡ 6 → ipv6_packet_at bytes ≡ r → with_ipv6 r ≡ Err e → IsIpFault bytes e
-ipv6_part law bytes (Ok packet) e version at is = cc
-ipv6_part law bytes (Err fault) e version at is =
+ipv6_case law bytes (Ok packet) e version at is = cc
+ipv6_case law bytes (Err fault) e version at is =
     OfIpv6 fault version (ipv6_fault_found law bytes fault at)
     (sym (err_same {A = IpSlice} _ _ is))
 
@@ -167,9 +167,9 @@ by_version : RowEnds → (none four six : Bool) (bytes : List ℕ) (e : IpFault)
 by_version law true four six bytes e size v4 v6 is =
     NoBytes (eqb-true (length bytes) 0 size) (sym (err_same {A = IpSlice} _ _ is))
 by_version law false true six bytes e size v4 v6 is =
-    ipv4_part bytes (ipv4_packet_at bytes) e (eqb-true (version_of bytes) 4 v4) refl is
+    ipv4_case bytes (ipv4_packet_at bytes) e (eqb-true (version_of bytes) 4 v4) refl is
 by_version law false false true bytes e size v4 v6 is =
-    ipv6_part law bytes (ipv6_packet_at bytes) e (eqb-true (version_of bytes) 6 v6) refl is
+    ipv6_case law bytes (ipv6_packet_at bytes) e (eqb-true (version_of bytes) 6 v6) refl is
 by_version law false false false bytes e size v4 v6 is =
     OtherVersion (some_bytes (length bytes) size)
     (eqb-false (version_of bytes) 4 v4) (eqb-false (version_of bytes) 6 v6)

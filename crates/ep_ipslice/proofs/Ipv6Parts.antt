@@ -14,32 +14,32 @@ use Rattle.ep_ip.specs.Ipv6Fault.{header_at}
 use Rattle.ep_base.specs.declared.err.slice_error.SliceError.{SliceError as HeaderSliceError}
 use Rattle.ep_base.specs.declared.err.slice_error.SliceError.TheVariants.{Content}
 use Rattle.ep_ip.specs.declared.err.ipv6.header_error.HeaderError.{HeaderError as HeaderFault}
-use Rattle.ep_ipslice.specs.Ipv6Fault.{IsCutOff, IsFrontFault, IsIpv6Fault, IsRowFault, InHeader}
+use Rattle.ep_ipslice.specs.Ipv6Fault.{IsCutOff, IsPrefixFault, IsIpv6Fault, IsRowFault, InHeader}
 use Rattle.ep_ipslice.specs.Ipv6Fault.{InLength, OfHeader, OfLength, of_exts_fault}
 use Rattle.ep_ext.specs.Chain.{Chain, Fault, IsEnd, IsPiece, Row, fault_at, fault_in, fault_of}
-use Rattle.ep_ext.specs.Chain.{front_of, layer_of}
-use Rattle.ep_ext.specs.Follow.{has_place}
-use Rattle.ep_ext.specs.Place.{KeepsNumbers, Order, in_front, number_of}
-use Rattle.ep_ext.specs.Value.{Piece, bytes_of, places}
+use Rattle.ep_ext.specs.Chain.{prefix_of, layer_of}
+use Rattle.ep_ext.specs.Follow.{has_slot}
+use Rattle.ep_ext.specs.Slot.{KeepsNumbers, Order, at_start, number_of}
+use Rattle.ep_ext.specs.Value.{Piece, bytes_of, slots}
 use Rattle.ep_base.specs.declared.err.len_error.LenError.{LenError}
 use Rattle.std.proofs.lemmas.Bool.{eqb-true}
 use Rattle.ep_base.specs.declared.err.layer.Layer.TheVariants.{Ipv6HopByHopHeader}
 use Rattle.ep_ext.specs.declared.err.ipv6_exts.header_error.HeaderError.TheVariants.{HopByHopNotAtStart}
 use Rattle.ep_ext.specs.declared.err.ipv6_exts.header_error.HeaderError.{HeaderError}
-use Rattle.ep_ext.specs.declared.net.ipv6_ext_place.Ipv6ExtPlace.{Ipv6ExtPlace}
-use Rattle.ep_ext.specs.declared.net.ipv6_ext_place.Ipv6ExtPlace.TheVariants.{HopByHop, Destination}
-use Rattle.ep_ext.specs.declared.net.ipv6_ext_place.Ipv6ExtPlace.TheVariants.{Routing, Fragment}
-use Rattle.ep_ext.specs.declared.net.ipv6_ext_place.Ipv6ExtPlace.TheVariants.{Authentication}
+use Rattle.ep_ext.specs.declared.net.ipv6_ext_slot.Ipv6ExtSlot.{Ipv6ExtSlot}
+use Rattle.ep_ext.specs.declared.net.ipv6_ext_slot.Ipv6ExtSlot.TheVariants.{HopByHop, Destination}
+use Rattle.ep_ext.specs.declared.net.ipv6_ext_slot.Ipv6ExtSlot.TheVariants.{Routing, Fragment}
+use Rattle.ep_ext.specs.declared.net.ipv6_ext_slot.Ipv6ExtSlot.TheVariants.{Authentication}
 use Rattle.ep_ipslice.specs.Ipv6Exts.{Ipv6Exts, exts_of, is_any_fragmenting, view_order}
 use Rattle.ep_ipslice.specs.Packet.{IpPayload, Ipv6Packet, IsIpv6Body, IsIpv6Packet, IsWholeIpv6}
 use Rattle.ep_ipslice.specs.Packet.{body_len, body_source, ipv6_bytes}
 use Rattle.ep_ipslice.specs.declared.err.ipv6.slice_error.SliceError.{SliceError}
-use Rattle.ep_ipslice.proofs.Fronts.{front_begins}
+use Rattle.ep_ipslice.proofs.Prefixes.{prefix_begins}
 use Rattle.ep_ipslice.proofs.ViewWalk.{EndsClosed}
 
--- the order has no place for a number, and it is not that of hop-by-hop options: it is none of the
+-- the order has no slot for a number, and it is not that of hop-by-hop options: it is none of the
 -- five
-pub closed_all : (zero hop routing fragment auth destination : Bool) (x : Option Ipv6ExtPlace)
+pub closed_all : (zero hop routing fragment auth destination : Bool) (x : Option Ipv6ExtSlot)
     → zero ≡ false →
     cond zero x (cond routing (Some Routing)
     (cond fragment (Some Fragment)
@@ -52,7 +52,7 @@ closed_all false hop false false true destination x none closed = cc
 closed_all false hop false false false true x none closed = cc
 closed_all false hop false false false false x none closed = refl
 
-closed_back : (zero routing fragment auth destination : Bool) (x : Option Ipv6ExtPlace) →
+closed_back : (zero routing fragment auth destination : Bool) (x : Option Ipv6ExtSlot) →
     (zero || (routing || (fragment || (auth || (destination || false))))) ≡ false →
     cond zero x (cond routing (Some Routing)
     (cond fragment (Some Fragment)
@@ -64,7 +64,7 @@ closed_back false false false true destination x none = cc
 closed_back false false false false true x none = cc
 closed_back false false false false false x none = refl
 
-pub none_left : (passed : List Ipv6ExtPlace) (last : ℕ) → has_place last ≡ false
+pub none_left : (passed : List Ipv6ExtSlot) (last : ℕ) → has_slot last ≡ false
     → view_order passed last ≡ None
 none_left passed last none = closed_back (last == 0) (last == 43) (last == 44)
     (last == 51) (last == 60) _ none
@@ -84,34 +84,34 @@ pub not_misplaced : (zero : Bool) (fault : Fault)
 not_misplaced true fault none = cc
 not_misplaced false fault none = refl
 
-no_fault : (offset : ℕ) (place : Option Ipv6ExtPlace) (last : ℕ) (rest : List ℕ)
-    → fault_at offset place last rest ≡ None →
-    ((p : Ipv6ExtPlace) (header behind : List ℕ) → place ≡ Some p → IsPiece p header
-    → rest ≡ header ++ behind → ⊥) → (place ≡ None) × ((last == 0) ≡ false)
+no_fault : (offset : ℕ) (slot : Option Ipv6ExtSlot) (last : ℕ) (rest : List ℕ)
+    → fault_at offset slot last rest ≡ None →
+    ((p : Ipv6ExtSlot) (header following : List ℕ) → slot ≡ Some p → IsPiece p header
+    → rest ≡ header ++ following → ⊥) → (slot ≡ None) × ((last == 0) ≡ false)
 no_fault offset (Some p) last rest none ended =
-    let front = no_fault_in (layer_of p) offset (front_of p rest) none in
-    let begins = front_begins p rest front.0 front.1 in
-    absurd (ended p front.0 begins.1.0 refl begins.0 begins.1.1)
+    let prefix = no_fault_in (layer_of p) offset (prefix_of p rest) none in
+    let begins = prefix_begins p rest prefix.0 prefix.1 in
+    absurd (ended p prefix.0 begins.1.0 refl begins.0 begins.1.1)
 no_fault offset None last rest none ended = (refl, not_misplaced (last == 0) _ none)
 
 pub ended_of : (pieces : List Piece) (last : ℕ) (rest : List ℕ)
-    → IsEnd view_order (places pieces) last rest → fault_of view_order pieces last rest ≡ None
-    → has_place last ≡ false
+    → IsEnd view_order (slots pieces) last rest → fault_of view_order pieces last rest ≡ None
+    → has_slot last ≡ false
 ended_of pieces last rest ended none =
     let closed = no_fault (length (bytes_of pieces))
-    (view_order (places pieces) last) last rest none ended in
+    (view_order (slots pieces) last) last rest none ended in
     closed_all (last == 0) false (last == 43) (last == 44) (last == 51)
     (last == 60) _ closed.1 closed.0
 
-pub no_fault_of : (pieces : List Piece) (last : ℕ) (rest : List ℕ) → has_place last ≡ false
+pub no_fault_of : (pieces : List Piece) (last : ℕ) (rest : List ℕ) → has_slot last ≡ false
     → fault_of view_order pieces last rest ≡ None
 no_fault_of pieces last rest none =
-    ap (λ (p : Option Ipv6ExtPlace). fault_at (length (bytes_of pieces)) p last rest)
-    (none_left (places pieces) last none)
+    ap (λ (p : Option Ipv6ExtSlot). fault_at (length (bytes_of pieces)) p last rest)
+    (none_left (slots pieces) last none)
     ∙ ap (λ (b : Bool). cond b (Some (Content HopByHopNotAtStart, Ipv6HopByHopHeader)) None)
     (not_zero (last == 0) _ none)
 
--- a header begins the bytes, and its body stands behind it
+-- the bytes start with a header, and its body follows it
 pub body_parts : (bytes header : List ℕ) (source : LenSource) (body : List ℕ)
     (is : IsIpv6Body bytes header source body) → bytes ≡ header ++ (body ++ is.padding)
 body_parts bytes header source body is = is.cut ∙ append_assoc header body is.padding
@@ -150,31 +150,31 @@ body_cut bytes header source body is =
     (drop_at header (body ++ is.padding) 40 is.whole.whole)
     ∙ take_at body is.padding (body_len header (length bytes - 40)) is.size
 
--- a header and its body stand where they were found
-pub body_found : (bytes header rest behind body : List ℕ) (n len : ℕ) (source : LenSource)
-    → IsIpv6Header header → bytes ≡ header ++ rest → n ≡ length header → behind ≡ drop n bytes
-    → source ≡ body_source header (length behind) → len ≡ body_len header (length behind)
-    → len ≤ length behind → body ≡ take len behind → IsIpv6Body bytes header source body
-body_found bytes header rest behind body n len source is parts n_is split bounded sized fits cut =
-    let behind_is : behind ≡ rest = split ∙ ap (λ (m : ℕ). drop m bytes) n_is
+-- a header and its body are where they were found
+pub body_found : (bytes header rest following body : List ℕ) (n len : ℕ) (source : LenSource)
+    → IsIpv6Header header → bytes ≡ header ++ rest → n ≡ length header → following ≡ drop n bytes
+    → source ≡ body_source header (length following) → len ≡ body_len header (length following)
+    → len ≤ length following → body ≡ take len following → IsIpv6Body bytes header source body
+body_found bytes header rest following body n len source is parts n_is split bounded sized fits cut =
+    let following_is : following ≡ rest = split ∙ ap (λ (m : ℕ). drop m bytes) n_is
     ∙ ap (drop (length header)) parts ∙ drop_at header rest (length header) refl in
     let all : length bytes ≡ length header + length rest =
     ap length parts ∙ length-append header rest in
-    let size : length behind ≡ length bytes - 40 =
-    omega (arith, all, is.whole, ap length behind_is) in
+    let size : length following ≡ length bytes - 40 =
+    omega (arith, all, is.whole, ap length following_is) in
     record {
-      padding = drop len behind;
+      padding = drop len following;
       cut =
           parts ∙ ap (λ (xs : List ℕ). header ++ xs)
-          (sym behind_is ∙ sym (take-append-drop len behind)
-          ∙ ap (λ (xs : List ℕ). xs ++ drop len behind) (sym cut))
-          ∙ sym (append_assoc header body (drop len behind));
+          (sym following_is ∙ sym (take-append-drop len following)
+          ∙ ap (λ (xs : List ℕ). xs ++ drop len following) (sym cut))
+          ∙ sym (append_assoc header body (drop len following));
       whole = is;
-      size = ap length cut ∙ length-take-le len behind fits ∙ sized ∙ ap (body_len header) size;
+      size = ap length cut ∙ length-take-le len following fits ∙ sized ∙ ap (body_len header) size;
       bounded = bounded ∙ ap (body_source header) size;
     }
 
--- the bytes begin with one header and body at most
+-- the bytes start with one header and body at most
 pub body_alone : (bytes header other : List ℕ) (source bound : LenSource) (body rest : List ℕ)
     → header ≡ other → IsIpv6Body bytes header source body → IsIpv6Body bytes other bound rest →
     (source ≡ bound) × (body ≡ rest)
@@ -212,7 +212,7 @@ row_fault order bytes header source body pieces last rest fault is chain found =
   error = ap (λ (s : LenSource). of_exts_fault s fault.0) is.bounded;
 }
 
--- a packet stands where its header, its body and its extension headers were found
+-- a packet is there where its header, its body and its extension headers were found
 pub packet_found : (bytes header body : List ℕ) (first : ℕ) (source : LenSource)
     (pieces : List Piece) (last : ℕ) (rest : List ℕ) →
     (exts : Ipv6Exts) (number : IpNumber) (fragmented : Bool) (payload : List ℕ) →
@@ -257,7 +257,7 @@ packet_found bytes header body first source pieces last rest exts number fragmen
           };
     }
 
--- a packet's header begins the bytes, and its extension headers and payload are the body
+-- the bytes start with a packet's header, and its extension headers and payload are the body
 pub packet_body : (bytes : List ℕ) (packet : Ipv6Packet) (is : IsIpv6Packet bytes packet) →
     IsIpv6Body bytes packet.header (body_source packet.header (length bytes - 40))
     (bytes_of is.pieces ++ packet.payload.payload)
@@ -280,11 +280,11 @@ packet_chain ends bytes body first header packet is same named cut = record {
   row = subst (λ (m : ℕ). Row view_order [] m is.pieces is.last)
       (sym (named ∙ ap next_header_of same)) is.row;
   cut = cut;
-  ended = ends view_order (places is.pieces) is.last packet.payload.payload
-      (none_left (places is.pieces) is.last is.ended);
+  ended = ends view_order (slots is.pieces) is.last packet.payload.payload
+      (none_left (slots is.pieces) is.last is.ended);
 }
 
--- what the parts of a row tell is what the packet tells
+-- what the parts of a row say is what the packet says
 pub payload_same : (bytes : List ℕ) (first : ℕ) (source : LenSource) (exts : Ipv6Exts)
     (number : IpNumber) (fragmented : Bool) (payload : List ℕ) (packet : Ipv6Packet)
     (is : IsIpv6Packet bytes packet) →
@@ -296,11 +296,11 @@ pub payload_same : (bytes : List ℕ) (first : ℕ) (source : LenSource) (exts :
 payload_same bytes first source exts number fragmented payload packet is bounded
     seen numbered parted left =
     let number_is : number ≡ record { 0 = is.last } = λ i. record { 0 = numbered i } in
-    let part_is : fragmented ≡ is_any_fragmenting is.pieces =
+    let flag_is : fragmented ≡ is_any_fragmenting is.pieces =
     parted ∙ ap (λ (e : Ipv6Exts). e.fragmented) seen in
     (λ i. record {
       ip_number = number_is i;
-      fragmented = part_is i;
+      fragmented = flag_is i;
       len_source = bounded i;
       payload = left i;
     }) ∙ sym is.fields
@@ -314,23 +314,23 @@ packet_same packet header exts payload h e p =
 
 -- a row that ends at none of the five numbers ends without a fault
 pub never_refused : (pieces : List Piece) (last : ℕ) (rest : List ℕ) (fault : Fault)
-    → has_place last ≡ false → fault_of view_order pieces last rest ≡ Some fault → ⊥
+    → has_slot last ≡ false → fault_of view_order pieces last rest ≡ Some fault → ⊥
 never_refused pieces last rest fault none found =
     none-some fault (sym (no_fault_of pieces last rest none) ∙ found)
 
--- behind a header, the first fault is that of the length
+-- after a header, the first fault is that of the length
 pub length_fault : (bytes header : List ℕ)
     (r : Result (List ℕ × LenSource × Bor (List ℕ)) SliceError) → header_at bytes ≡ Ok header →
-    IfErr r (λ e. IsCutOff bytes header e) → IfErr r (λ e. IsFrontFault bytes e)
+    IfErr r (λ e. IsCutOff bytes header e) → IfErr r (λ e. IsPrefixFault bytes e)
 length_fault bytes header (Ok parts) is cut = tt
 length_fault bytes header (Err e) is cut = InLength header is cut
 
--- a fault in front of the extension headers is the first one
-pub front_fault : (bytes : List ℕ) (e : SliceError) → IsFrontFault bytes e → IsIpv6Fault bytes e
-front_fault bytes e (InHeader fault is error) = OfHeader fault is error
-front_fault bytes e (InLength header is cut) = OfLength header is cut
+-- a fault before the extension headers is the first one
+pub prefix_fault : (bytes : List ℕ) (e : SliceError) → IsPrefixFault bytes e → IsIpv6Fault bytes e
+prefix_fault bytes e (InHeader fault is error) = OfHeader fault is error
+prefix_fault bytes e (InLength header is cut) = OfLength header is cut
 
--- what a call that tells every fault takes is the only header with its body
+-- what a call that reports every fault takes is the only header with its body
 pub body_only : (bytes header : List ℕ) (r : Result (List ℕ × LenSource × Bor (List ℕ)) SliceError)
     → IfOk r (λ a. (a.0 ≡ header) × IsIpv6Body bytes header a.1 a.2.now)
     → IfErr r (λ e. IsCutOff bytes header e) →
@@ -347,7 +347,7 @@ pub header_same : (x y : List ℕ)
     → ◌≡◌ {A = Result (List ℕ) (HeaderSliceError HeaderFault)} (Ok x) (Ok y) → x ≡ y
 header_same x y h = cc
 
--- a packet begins with its header
+-- a packet starts with its header
 pub packet_parts : (bytes : List ℕ) (packet : Ipv6Packet) (is : IsIpv6Packet bytes packet)
     → bytes ≡ packet.header ++ (bytes_of is.pieces ++ packet.payload.payload ++ is.padding)
 packet_parts bytes packet is =
@@ -355,42 +355,42 @@ packet_parts bytes packet is =
     (append_assoc packet.header (bytes_of is.pieces) packet.payload.payload)
     ∙ append_assoc packet.header (bytes_of is.pieces ++ packet.payload.payload) is.padding
 
-place_same : (x y : Ipv6ExtPlace) → ◌≡◌ {A = Option Ipv6ExtPlace} (Some x) (Some y) → x ≡ y
-place_same x y h = cc
+slot_same : (x y : Ipv6ExtSlot) → ◌≡◌ {A = Option Ipv6ExtSlot} (Some x) (Some y) → x ≡ y
+slot_same x y h = cc
 
--- a view takes headers at places of their own numbers
-numbered : (hop routing fragment auth destination : Bool) (number : ℕ) (passed : List Ipv6ExtPlace)
-    (place : Ipv6ExtPlace) →
+-- a view takes headers in slots of their own numbers
+numbered : (hop routing fragment auth destination : Bool) (number : ℕ) (passed : List Ipv6ExtSlot)
+    (slot : Ipv6ExtSlot) →
     (hop ≡ true → 0 ≡ number) → (routing ≡ true → 43 ≡ number) → (fragment ≡ true → 44 ≡ number)
     → (auth ≡ true → 51 ≡ number) → (destination ≡ true → 60 ≡ number) →
-    cond hop (in_front passed)
+    cond hop (at_start passed)
     (cond routing (Some Routing)
     (cond fragment (Some Fragment)
     (cond auth (Some Authentication) (cond destination (Some Destination) None))))
-    ≡ Some place →
-    number_of place ≡ number
-numbered true routing fragment auth destination number [] place a b c d e is =
-    sym (ap number_of (place_same HopByHop place is)) ∙ a refl
-numbered true routing fragment auth destination number (p ∷ ps) place a b c d e is = cc
-numbered false true fragment auth destination number passed place a b c d e is =
-    sym (ap number_of (place_same Routing place is)) ∙ b refl
-numbered false false true auth destination number passed place a b c d e is =
-    sym (ap number_of (place_same Fragment place is)) ∙ c refl
-numbered false false false true destination number passed place a b c d e is =
-    sym (ap number_of (place_same Authentication place is)) ∙ d refl
-numbered false false false false true number passed place a b c d e is =
-    sym (ap number_of (place_same Destination place is)) ∙ e refl
-numbered false false false false false number passed place a b c d e is = cc
+    ≡ Some slot →
+    number_of slot ≡ number
+numbered true routing fragment auth destination number [] slot a b c d e is =
+    sym (ap number_of (slot_same HopByHop slot is)) ∙ a refl
+numbered true routing fragment auth destination number (p ∷ ps) slot a b c d e is = cc
+numbered false true fragment auth destination number passed slot a b c d e is =
+    sym (ap number_of (slot_same Routing slot is)) ∙ b refl
+numbered false false true auth destination number passed slot a b c d e is =
+    sym (ap number_of (slot_same Fragment slot is)) ∙ c refl
+numbered false false false true destination number passed slot a b c d e is =
+    sym (ap number_of (slot_same Authentication slot is)) ∙ d refl
+numbered false false false false true number passed slot a b c d e is =
+    sym (ap number_of (slot_same Destination slot is)) ∙ e refl
+numbered false false false false false number passed slot a b c d e is = cc
 
 pub keeps_numbers : KeepsNumbers view_order
-keeps_numbers passed number place is =
+keeps_numbers passed number slot is =
     numbered (number == 0) (number == 43) (number == 44) (number == 51)
-    (number == 60) number passed place
+    (number == 60) number passed slot
     (λ h. sym (eqb-true number 0 h)) (λ h. sym (eqb-true number 43 h))
     (λ h. sym (eqb-true number 44 h)) (λ h. sym (eqb-true number 51 h))
     (λ h. sym (eqb-true number 60 h)) is
 
--- a packet's extension headers are a row in front of its payload
+-- a packet's extension headers are a row before its payload
 pub view_chain : EndsClosed
     → (bytes : List ℕ) (packet : Ipv6Packet) (is : IsIpv6Packet bytes packet) (first : ℕ)
     (body : List ℕ) → first ≡ next_header_of packet.header →
@@ -399,8 +399,8 @@ pub view_chain : EndsClosed
 view_chain ends bytes packet is first body named cut = record {
   row = subst (λ (m : ℕ). Row view_order [] m is.pieces is.last) (sym named) is.row;
   cut = cut ∙ ap (λ (e : Ipv6Exts). e.slice ++ packet.payload.payload) is.exts;
-  ended = ends view_order (places is.pieces) is.last packet.payload.payload
-      (none_left (places is.pieces) is.last is.ended);
+  ended = ends view_order (slots is.pieces) is.last packet.payload.payload
+      (none_left (slots is.pieces) is.last is.ended);
 }
 
 pub skipped_answer : (packet : Ipv6Packet) (last : ℕ)
@@ -416,27 +416,27 @@ cond_same true n = refl
 cond_same false n = refl
 
 -- a length that was read stays, where no more bytes are there
-len_again : (none some : Bool) (behind len : ℕ) → nat_lt 0 behind ≡ some →
-    cond (none && nat_lt 0 (cond (none && some) behind len)) (cond (none && some) behind len) len
-    ≡ cond (none && some) behind len
-len_again false some behind len is = refl
-len_again true true behind len is = ap (λ (b : Bool). cond b behind len) is
-len_again true false behind len is = cond_same (nat_lt 0 len) len
+len_again : (none some : Bool) (following len : ℕ) → nat_lt 0 following ≡ some →
+    cond (none && nat_lt 0 (cond (none && some) following len)) (cond (none && some) following len) len
+    ≡ cond (none && some) following len
+len_again false some following len is = refl
+len_again true true following len is = ap (λ (b : Bool). cond b following len) is
+len_again true false following len is = cond_same (nat_lt 0 len) len
 
-source_again : (none some : Bool) (behind len : ℕ) → nat_lt 0 behind ≡ some
+source_again : (none some : Bool) (following len : ℕ) → nat_lt 0 following ≡ some
     → (none ≡ true → len ≡ 0) →
-    cond (none && nat_lt 0 (cond (none && some) behind len)) Slice Ipv6HeaderPayloadLen
+    cond (none && nat_lt 0 (cond (none && some) following len)) Slice Ipv6HeaderPayloadLen
     ≡ cond (none && some) Slice Ipv6HeaderPayloadLen
-source_again false some behind len is empty = refl
-source_again true true behind len is empty = ap (λ (b : Bool). cond b Slice Ipv6HeaderPayloadLen) is
-source_again true false behind len is empty =
+source_again false some following len is empty = refl
+source_again true true following len is empty = ap (λ (b : Bool). cond b Slice Ipv6HeaderPayloadLen) is
+source_again true false following len is empty =
     ap (λ (n : ℕ). cond (nat_lt 0 n) Slice Ipv6HeaderPayloadLen) (empty refl)
 
--- what stands behind a packet is no part of it
+-- what follows a packet doesn't belong to it
 pub packet_by_itself : (bytes : List ℕ) (packet : Ipv6Packet)
     → IsIpv6Packet bytes packet → IsWholeIpv6 packet
 packet_by_itself bytes packet is =
-    let behind : ℕ = length bytes - 40 in
+    let following : ℕ = length bytes - 40 in
     let len : ℕ = payload_length_of packet.header in
     let exts : packet.exts.slice ≡ bytes_of is.pieces = ap (λ (e : Ipv6Exts). e.slice) is.exts in
     let parts : length (ipv6_bytes packet)
@@ -444,14 +444,14 @@ packet_by_itself bytes packet is =
     length-append (packet.header ++ packet.exts.slice) packet.payload.payload
     ∙ ap (λ (n : ℕ). n + length packet.payload.payload)
     (length-append packet.header packet.exts.slice) in
-    let size : length (ipv6_bytes packet) - 40 ≡ body_len packet.header behind =
+    let size : length (ipv6_bytes packet) - 40 ≡ body_len packet.header following =
     omega (arith, parts, ap length exts, is.header.whole, is.size) in
-    let same_len : body_len packet.header (body_len packet.header behind)
-    ≡ body_len packet.header behind = len_again (len == 0) (nat_lt 0 behind) behind len refl in
-    let same_source : body_source packet.header (body_len packet.header behind)
-    ≡ body_source packet.header behind =
-    source_again (len == 0) (nat_lt 0 behind) behind len refl (eqb-true len 0) in
-    let source : body_source packet.header behind
+    let same_len : body_len packet.header (body_len packet.header following)
+    ≡ body_len packet.header following = len_again (len == 0) (nat_lt 0 following) following len refl in
+    let same_source : body_source packet.header (body_len packet.header following)
+    ≡ body_source packet.header following =
+    source_again (len == 0) (nat_lt 0 following) following len refl (eqb-true len 0) in
+    let source : body_source packet.header following
     ≡ body_source packet.header (length (ipv6_bytes packet) - 40) =
     sym (ap (body_source packet.header) size ∙ same_source) in
     record {

@@ -1,4 +1,4 @@
--- The headers that are left to go over.
+-- The headers that an iterator has left.
 use Rattle.std.proofs.Common.{◌≡◌, ℕ, ◌+◌, ◌*◌, suc, zero, ◌≤◌, ◌==◌, Bool, true, false, cond, List}
 use Rattle.std.proofs.Common.{[], ◌∷◌, ◌++◌, length, drop, Option, Some, None, Result, Ok, Err}
 use Rattle.std.proofs.Common.{refl, sym, ap, ◌∙◌, subst, append-nil, append_assoc, length-append}
@@ -7,34 +7,34 @@ use Rattle.std.proofs.lemmas.List.{drop_at, get_or_append_left}
 use Rattle.ep_base.specs.Bytes.{num}
 use Rattle.ep_base.specs.declared.net.ip_number.IpNumber.{IpNumber}
 use Rattle.ep_ext.specs.Auth.{IsAuth, auth_len}
-use Rattle.ep_ext.specs.Chain.{Chain, IsPiece, Row, front_of}
-use Rattle.ep_ext.specs.Place.{Order, in_front}
+use Rattle.ep_ext.specs.Chain.{Chain, IsPiece, Row, prefix_of}
+use Rattle.ep_ext.specs.Slot.{Order, at_start}
 use Rattle.ep_ext.specs.Raw.{IsRawExt, raw_len}
-use Rattle.ep_ext.specs.Value.{Piece, bytes_of, places}
-use Rattle.ep_ext.specs.declared.net.ipv6_ext_place.Ipv6ExtPlace.{Ipv6ExtPlace}
-use Rattle.ep_ext.specs.declared.net.ipv6_ext_place.Ipv6ExtPlace.TheVariants.{HopByHop, Destination}
-use Rattle.ep_ext.specs.declared.net.ipv6_ext_place.Ipv6ExtPlace.TheVariants.{Routing, Fragment}
-use Rattle.ep_ext.specs.declared.net.ipv6_ext_place.Ipv6ExtPlace.TheVariants.{Authentication}
-use Rattle.ep_ext.specs.declared.net.ipv6_ext_place.Ipv6ExtPlace.TheVariants.{FinalDestination}
+use Rattle.ep_ext.specs.Value.{Piece, bytes_of, slots}
+use Rattle.ep_ext.specs.declared.net.ipv6_ext_slot.Ipv6ExtSlot.{Ipv6ExtSlot}
+use Rattle.ep_ext.specs.declared.net.ipv6_ext_slot.Ipv6ExtSlot.TheVariants.{HopByHop, Destination}
+use Rattle.ep_ext.specs.declared.net.ipv6_ext_slot.Ipv6ExtSlot.TheVariants.{Routing, Fragment}
+use Rattle.ep_ext.specs.declared.net.ipv6_ext_slot.Ipv6ExtSlot.TheVariants.{Authentication}
+use Rattle.ep_ext.specs.declared.net.ipv6_ext_slot.Ipv6ExtSlot.TheVariants.{FinalDestination}
 use Rattle.ep_base.specs.declared.err.slice_error.SliceError.{SliceError}
 use Rattle.ep_ext.specs.declared.err.ipv6_exts.header_error.HeaderError.{HeaderError}
 use Rattle.ep_ipslice.specs.Ipv6Ext.{ext_len, ext_of, piece_of}
-use Rattle.ep_ipslice.specs.Ipv6Exts.{Ipv6Exts, IsView, exts_of, first_header_of, place_behind}
+use Rattle.ep_ipslice.specs.Ipv6Exts.{Ipv6Exts, IsView, exts_of, first_header_of, slot_after}
 use Rattle.ep_ipslice.specs.Ipv6Exts.{view_order}
-use Rattle.ep_ipslice.specs.Ipv6Walk.{IsLeft, any_order, front_piece, piece_then, pieces_left}
+use Rattle.ep_ipslice.specs.Ipv6Walk.{IsLeft, any_order, piece_at_start, piece_then, pieces_left}
 use Rattle.ep_ipslice.specs.Ipv6Walk.{pieces_within, whole_piece}
-use Rattle.ep_ipslice.proofs.Fronts.{front_begins}
+use Rattle.ep_ipslice.proofs.Prefixes.{prefix_begins}
 
 -- laws of whole headers, as they are called
 abbrev pub IsFound : Type 0
-IsFound = (place : Ipv6ExtPlace) (header rest : List ℕ) → IsPiece place header
-    → front_of place (header ++ rest) ≡ Ok header
+IsFound = (slot : Ipv6ExtSlot) (header rest : List ℕ) → IsPiece slot header
+    → prefix_of slot (header ++ rest) ≡ Ok header
 
 abbrev pub HasLeast : Type 0
-HasLeast = (place : Ipv6ExtPlace) (header : List ℕ) → IsPiece place header → 8 ≤ length header
+HasLeast = (slot : Ipv6ExtSlot) (header : List ℕ) → IsPiece slot header → 8 ≤ length header
 
--- no header begins where there are no bytes
-none_at_end : (place : Option Ipv6ExtPlace) → front_piece place [] ≡ None
+-- no header starts where there are no bytes
+none_at_end : (slot : Option Ipv6ExtSlot) → piece_at_start slot [] ≡ None
 none_at_end None = refl
 none_at_end (Some HopByHop) = refl
 none_at_end (Some Destination) = refl
@@ -43,8 +43,8 @@ none_at_end (Some Fragment) = refl
 none_at_end (Some Authentication) = refl
 none_at_end (Some FinalDestination) = refl
 
-no_more : (most : ℕ) (order : Order) (passed : List Ipv6ExtPlace) (number : ℕ) (rest : List ℕ)
-    → front_piece (order passed number) rest ≡ None
+no_more : (most : ℕ) (order : Order) (passed : List Ipv6ExtSlot) (number : ℕ) (rest : List ℕ)
+    → piece_at_start (order passed number) rest ≡ None
     → pieces_within most order passed number rest ≡ []
 unfolding pieces_within
 no_more zero order passed number rest closed = refl
@@ -53,33 +53,33 @@ no_more (suc most) order passed number rest closed =
     (λ (piece : Piece). pieces_within most order (passed ++ piece.0 ∷ []) (num piece.1 0 1)
     (drop (length piece.1) rest))) closed
 
-one_more : (most : ℕ) (order : Order) (passed : List Ipv6ExtPlace) (number : ℕ) (bytes : List ℕ)
-    (piece : Piece) → front_piece (order passed number) bytes ≡ Some piece →
+one_more : (most : ℕ) (order : Order) (passed : List Ipv6ExtSlot) (number : ℕ) (bytes : List ℕ)
+    (piece : Piece) → piece_at_start (order passed number) bytes ≡ Some piece →
     pieces_within (suc most) order passed number bytes ≡ piece ∷
     pieces_within most order (passed ++ piece.0 ∷ []) (num piece.1 0 1)
     (drop (length piece.1) bytes)
 unfolding pieces_within
-one_more most order passed number bytes piece front =
+one_more most order passed number bytes piece prefix =
     ap (λ (p : Option Piece). piece_then p
     (λ (piece : Piece). pieces_within most order (passed ++ piece.0 ∷ []) (num piece.1 0 1)
-    (drop (length piece.1) bytes))) front
+    (drop (length piece.1) bytes))) prefix
 
-front_open : IsFound → (order : Order) (passed : List Ipv6ExtPlace) (number : ℕ) (piece : Piece)
+prefix_open : IsFound → (order : Order) (passed : List Ipv6ExtSlot) (number : ℕ) (piece : Piece)
     (rest : List ℕ) → order passed number ≡ Some piece.0 → IsPiece piece.0 piece.1 →
-    front_piece (order passed number) (piece.1 ++ rest) ≡ Some piece
-front_open found order passed number piece rest place whole =
-    ap (λ (p : Option Ipv6ExtPlace). front_piece p (piece.1 ++ rest)) place
+    piece_at_start (order passed number) (piece.1 ++ rest) ≡ Some piece
+prefix_open found order passed number piece rest slot whole =
+    ap (λ (p : Option Ipv6ExtSlot). piece_at_start p (piece.1 ++ rest)) slot
     ∙ ap (whole_piece piece.0) (found piece.0 piece.1 rest whole)
 
--- headers in a row are those that the walk finds, where no header is found behind them
+-- headers in a row are those that the walk finds, where no header is found after them
 pub walk_is : IsFound → HasLeast
-    → (most : ℕ) (order : Order) (passed : List Ipv6ExtPlace) (number : ℕ) (pieces : List Piece)
+    → (most : ℕ) (order : Order) (passed : List Ipv6ExtSlot) (number : ℕ) (pieces : List Piece)
     (last : ℕ) (rest : List ℕ) → Row order passed number pieces last →
-    length (bytes_of pieces) ≤ most → front_piece (order (passed ++ places pieces) last) rest ≡ None
+    length (bytes_of pieces) ≤ most → piece_at_start (order (passed ++ slots pieces) last) rest ≡ None
     → pieces_within most order passed number (bytes_of pieces ++ rest) ≡ pieces
 walk_is found least most order passed number [] last rest row fits closed =
     no_more most order passed number rest
-    ((λ i. front_piece (order (sym (append-nil passed) i) (row i)) rest) ∙ closed)
+    ((λ i. piece_at_start (order (sym (append-nil passed) i) (row i)) rest) ∙ closed)
 walk_is found least zero order passed number (piece ∷ pieces) last rest row fits closed =
     absurd (omega (
       arith,
@@ -91,36 +91,36 @@ walk_is found least zero order passed number (piece ∷ pieces) last rest row fi
 walk_is found least (suc most) order passed number (piece ∷ pieces) last rest row fits closed =
     let shorter : length (bytes_of pieces) ≤ most =
     omega (arith, fits, length-append piece.1 (bytes_of pieces), least piece.0 piece.1 row.1) in
-    let passed_here : (passed ++ piece.0 ∷ []) ++ places pieces ≡ passed ++ piece.0 ∷
-    places pieces = append_assoc passed (piece.0 ∷ []) (places pieces) in
+    let passed_here : (passed ++ piece.0 ∷ []) ++ slots pieces ≡ passed ++ piece.0 ∷
+    slots pieces = append_assoc passed (piece.0 ∷ []) (slots pieces) in
     ap (pieces_within (suc most) order passed number) (append_assoc piece.1 (bytes_of pieces) rest)
     ∙ one_more most order passed number (piece.1 ++ (bytes_of pieces ++ rest)) piece
-    (front_open found order passed number piece (bytes_of pieces ++ rest) row.0 row.1)
+    (prefix_open found order passed number piece (bytes_of pieces ++ rest) row.0 row.1)
     ∙ ap (λ (xs : List ℕ). piece ∷ pieces_within most order (passed ++ piece.0 ∷ [])
     (num piece.1 0 1) xs) (drop_at piece.1 (bytes_of pieces ++ rest) (length piece.1) refl)
     ∙ ap (λ (ps : List Piece). piece ∷ ps)
     (walk_is found least most order (passed ++ piece.0 ∷ [])
     (num piece.1 0 1) pieces last rest row.2 shorter
-    (ap (λ (ps : List Ipv6ExtPlace). front_piece (order ps last) rest) passed_here ∙ closed))
+    (ap (λ (ps : List Ipv6ExtSlot). piece_at_start (order ps last) rest) passed_here ∙ closed))
 
--- where no whole header begins the rest, none is found
-none_whole : (place : Ipv6ExtPlace) (rest : List ℕ) (r : Result (List ℕ) (SliceError HeaderError))
-    → front_of place rest ≡ r
-    → ((header behind : List ℕ) → IsPiece place header → rest ≡ header ++ behind → ⊥) →
-    whole_piece place r ≡ None
-none_whole place rest (Ok header) is ended =
-    let begins = front_begins place rest header is in
+-- where the rest starts with no whole header, none is found
+none_whole : (slot : Ipv6ExtSlot) (rest : List ℕ) (r : Result (List ℕ) (SliceError HeaderError))
+    → prefix_of slot rest ≡ r
+    → ((header following : List ℕ) → IsPiece slot header → rest ≡ header ++ following → ⊥) →
+    whole_piece slot r ≡ None
+none_whole slot rest (Ok header) is ended =
+    let begins = prefix_begins slot rest header is in
     absurd (ended header begins.1.0 begins.0 begins.1.1)
-none_whole place rest (Err e) is ended = refl
+none_whole slot rest (Err e) is ended = refl
 
-none_found : (place : Option Ipv6ExtPlace) (rest : List ℕ)
-    → ((p : Ipv6ExtPlace) (header behind : List ℕ) → place ≡ Some p → IsPiece p header
-    → rest ≡ header ++ behind → ⊥) → front_piece place rest ≡ None
+none_found : (slot : Option Ipv6ExtSlot) (rest : List ℕ)
+    → ((p : Ipv6ExtSlot) (header following : List ℕ) → slot ≡ Some p → IsPiece p header
+    → rest ≡ header ++ following → ⊥) → piece_at_start slot rest ≡ None
 none_found None rest ended = refl
-none_found (Some p) rest ended = none_whole p rest (front_of p rest) refl
-    (λ header behind. ended p header behind refl)
+none_found (Some p) rest ended = none_whole p rest (prefix_of p rest) refl
+    (λ header following. ended p header following refl)
 
--- headers in a row, as far as the order has a place for one, are those that the walk finds
+-- headers in a row, as far as the order has a slot for one, are those that the walk finds
 pub row_found : IsFound → HasLeast
     → (order : Order) (first : ℕ) (bytes : List ℕ) (pieces : List Piece) (last : ℕ) (rest : List ℕ)
     → Chain order first bytes pieces last rest →
@@ -129,17 +129,17 @@ row_found found least order first bytes pieces last rest chain =
     ap (pieces_within (length bytes) order [] first) chain.cut
     ∙ walk_is found least (length bytes) order [] first pieces last rest chain.row
     (omega (arith, ap length chain.cut, length-append (bytes_of pieces) rest))
-    (none_found (order (places pieces) last) rest chain.ended)
+    (none_found (order (slots pieces) last) rest chain.ended)
 
-any_step : (zero : Bool) (passed : List Ipv6ExtPlace) (r : Option Ipv6ExtPlace)
-    (place : Ipv6ExtPlace) → cond zero (in_front passed) r ≡ Some place
-    → cond zero (Some HopByHop) r ≡ Some place
-any_step true [] r place open_here = open_here
-any_step true (p ∷ ps) r place open_here = cc
-any_step false passed r place open_here = open_here
+any_step : (zero : Bool) (passed : List Ipv6ExtSlot) (r : Option Ipv6ExtSlot)
+    (slot : Ipv6ExtSlot) → cond zero (at_start passed) r ≡ Some slot
+    → cond zero (Some HopByHop) r ≡ Some slot
+any_step true [] r slot open_here = open_here
+any_step true (p ∷ ps) r slot open_here = cc
+any_step false passed r slot open_here = open_here
 
--- a header that is in its place has it behind any others
-row_any : (passed other : List Ipv6ExtPlace) (number : ℕ) (pieces : List Piece) (last : ℕ)
+-- a header that has a slot has it after any others
+row_any : (passed other : List Ipv6ExtSlot) (number : ℕ) (pieces : List Piece) (last : ℕ)
     → Row view_order passed number pieces last → Row any_order other number pieces last
 row_any passed other number [] last row = row
 row_any passed other number (piece ∷ pieces) last row = (
@@ -157,18 +157,18 @@ left_is found least number bytes left =
     ∙ walk_is found least (length (bytes_of left.1 ++ [])) any_order [] number left.1 left.2 []
     (row_any left.0 [] number left.1 left.2 left.3)
     (omega (arith, length-append (bytes_of left.1) []))
-    (none_at_end (any_order (places left.1) left.2))
+    (none_at_end (any_order (slots left.1) left.2))
 
 -- the first of the headers that are left
 pub record First (number : ℕ) (bytes : List ℕ) : Type 0 where
-  pub passed : List Ipv6ExtPlace
+  pub passed : List Ipv6ExtSlot
   pub piece : Piece
   pub pieces : List Piece
   pub last : ℕ
   pub row : Row view_order passed number (piece ∷ pieces) last
   pub cut : bytes ≡ piece.1 ++ bytes_of pieces
 
-first_in : (number : ℕ) (bytes : List ℕ) (passed : List Ipv6ExtPlace) (pieces : List Piece)
+first_in : (number : ℕ) (bytes : List ℕ) (passed : List Ipv6ExtSlot) (pieces : List Piece)
     (last : ℕ) → Row view_order passed number pieces last → bytes ≡ bytes_of pieces →
     (length bytes ≡ 0 → ⊥) → First number bytes
 first_in number bytes passed [] last row cut some = absurd (some (ap length cut))
@@ -179,9 +179,9 @@ pub first_of : (number : ℕ) (bytes : List ℕ) → IsLeft number bytes
     → (length bytes ≡ 0 → ⊥) → First number bytes
 first_of number bytes left some = first_in number bytes left.0 left.1 left.2 left.3 left.4 some
 
-pub first_placed : (number : ℕ) (bytes : List ℕ) (first : First number bytes)
-    → place_behind false number ≡ Some first.piece.0
-first_placed number bytes first = any_step (number == 0) first.passed _ first.piece.0 first.row.0
+pub first_has_slot : (number : ℕ) (bytes : List ℕ) (first : First number bytes)
+    → slot_after false number ≡ Some first.piece.0
+first_has_slot number bytes first = any_step (number == 0) first.passed _ first.piece.0 first.row.0
 
 len_raw : (header rest : List ℕ) → IsRawExt header → raw_len (header ++ rest) ≡ length header
 len_raw header rest raw = ap (λ (n : ℕ). (n + 1) * 8)
@@ -192,8 +192,8 @@ len_auth header rest auth = ap (λ (n : ℕ). (n + 2) * 4)
     (get_or_append_left header rest 0 1 (omega (arith, auth.least))) ∙ sym auth.whole
 
 -- a whole header has the length that its own field says, whatever follows it
-len_again : (place : Ipv6ExtPlace) (header rest : List ℕ) → IsPiece place header
-    → ext_len place (header ++ rest) ≡ length header
+len_again : (slot : Ipv6ExtSlot) (header rest : List ℕ) → IsPiece slot header
+    → ext_len slot (header ++ rest) ≡ length header
 len_again HopByHop header rest piece = len_raw header rest piece
 len_again Destination header rest piece = len_raw header rest piece
 len_again Routing header rest piece = len_raw header rest piece
@@ -206,25 +206,25 @@ pub first_len : (number : ℕ) (bytes : List ℕ) (first : First number bytes)
 first_len number bytes first = ap (ext_len first.piece.0) first.cut
     ∙ len_again first.piece.0 first.piece.1 (bytes_of first.pieces) first.row.1
 
--- of the bytes that are left, the first header is a part
+-- the first header lies within the bytes that are left
 pub first_fits : (number : ℕ) (bytes : List ℕ) (first : First number bytes)
     → length first.piece.1 ≤ length bytes
 first_fits number bytes first =
     omega (arith, ap length first.cut, length-append first.piece.1 (bytes_of first.pieces))
 
-same_piece_at : (front routing fragment auth destination : Bool)
-    (place : Ipv6ExtPlace) (header : List ℕ) →
-    cond front (Some HopByHop)
+same_piece_at : (prefix routing fragment auth destination : Bool)
+    (slot : Ipv6ExtSlot) (header : List ℕ) →
+    cond prefix (Some HopByHop)
     (cond routing (Some Routing)
     (cond fragment (Some Fragment)
     (cond auth (Some Authentication) (cond destination (Some Destination) None))))
-    ≡ Some place →
-    piece_of (ext_of place header) ≡ (place, header)
-same_piece_at front routing fragment auth destination HopByHop header is = refl
-same_piece_at front routing fragment auth destination Destination header is = refl
-same_piece_at front routing fragment auth destination Routing header is = refl
-same_piece_at front routing fragment auth destination Fragment header is = refl
-same_piece_at front routing fragment auth destination Authentication header is = refl
+    ≡ Some slot →
+    piece_of (ext_of slot header) ≡ (slot, header)
+same_piece_at prefix routing fragment auth destination HopByHop header is = refl
+same_piece_at prefix routing fragment auth destination Destination header is = refl
+same_piece_at prefix routing fragment auth destination Routing header is = refl
+same_piece_at prefix routing fragment auth destination Fragment header is = refl
+same_piece_at prefix routing fragment auth destination Authentication header is = refl
 same_piece_at true routing fragment auth destination FinalDestination header is = cc
 same_piece_at false true fragment auth destination FinalDestination header is = cc
 same_piece_at false false true auth destination FinalDestination header is = cc
@@ -236,7 +236,7 @@ pub first_piece : (number : ℕ) (bytes : List ℕ) (first : First number bytes)
     → piece_of (ext_of first.piece.0 first.piece.1) ≡ first.piece
 first_piece number bytes first =
     same_piece_at (number == 0) (number == 43) (number == 44) (number == 51)
-    (number == 60) first.piece.0 first.piece.1 (first_placed number bytes first)
+    (number == 60) first.piece.0 first.piece.1 (first_has_slot number bytes first)
 
 pub first_left : IsFound → HasLeast → (number : ℕ) (bytes : List ℕ) (first : First number bytes)
     → pieces_left number bytes ≡ first.piece ∷ first.pieces
@@ -244,32 +244,32 @@ first_left found least number bytes first =
     left_is found least number bytes
     (first.passed, first.piece ∷ first.pieces, first.last, first.row, first.cut)
 
-pub behind_left : (number : ℕ) (bytes : List ℕ) (first : First number bytes)
+pub row_after_first : (number : ℕ) (bytes : List ℕ) (first : First number bytes)
     → Row view_order (first.passed ++ first.piece.0 ∷ [])
     (num first.piece.1 0 1) first.pieces first.last
-behind_left number bytes first = first.row.2
+row_after_first number bytes first = first.row.2
 
 pub none_left : (number : ℕ) (bytes : List ℕ) → length bytes ≡ 0 → pieces_left number bytes ≡ []
 unfolding pieces_within
 none_left number bytes len = ap (λ (n : ℕ). pieces_within n any_order [] number bytes) len
 
-pub some_place : (x y : Ipv6ExtPlace) → ◌≡◌ {A = Option Ipv6ExtPlace} (Some x) (Some y) → x ≡ y
-some_place x y h = cc
+pub some_slot : (x y : Ipv6ExtSlot) → ◌≡◌ {A = Option Ipv6ExtSlot} (Some x) (Some y) → x ≡ y
+some_slot x y h = cc
 
--- behind the first of the headers that are left stand the others
-pub left_behind : IsFound → HasLeast
+-- after the first of the headers that are left come the others
+pub left_after : IsFound → HasLeast
     → (number : ℕ) (bytes : List ℕ) (first : First number bytes) (piece : Piece)
-    (next : ℕ) (behind : List ℕ) →
-    piece ≡ first.piece → next ≡ num first.piece.1 0 1 → behind ≡ bytes_of first.pieces →
-    (pieces_left number bytes ≡ piece ∷ pieces_left next behind) × IsLeft next behind
-left_behind found least number bytes first piece next behind same named cut =
+    (next : ℕ) (following : List ℕ) →
+    piece ≡ first.piece → next ≡ num first.piece.1 0 1 → following ≡ bytes_of first.pieces →
+    (pieces_left number bytes ≡ piece ∷ pieces_left next following) × IsLeft next following
+left_after found least number bytes first piece next following same named cut =
     let row : Row view_order (first.passed ++ first.piece.0 ∷ []) next first.pieces first.last =
     subst (λ (n : ℕ). Row view_order (first.passed ++ first.piece.0 ∷ []) n first.pieces first.last)
     (sym named) first.row.2 in
-    let left : IsLeft next behind =
+    let left : IsLeft next following =
     (first.passed ++ first.piece.0 ∷ [], first.pieces, first.last, row, cut) in (
       first_left found least number bytes first
-          ∙ (λ i. (sym same i) ∷ (sym (left_is found least next behind left) i)),
+          ∙ (λ i. (sym same i) ∷ (sym (left_is found least next following left) i)),
       left,
     )
 
@@ -283,7 +283,7 @@ first_named number (piece ∷ pieces) first is =
     let same : record { 0 = number } ≡ first = some_number _ _ is in
     ap (λ (n : IpNumber). n.0) same
 
--- the headers of a view are left in front of it
+-- an iterator that starts has all headers of its view left
 pub view_left : (exts : Ipv6Exts) (first : IpNumber) → IsView exts → exts.first_header ≡ Some first
     → IsLeft first.0 exts.slice
 view_left exts first view is =

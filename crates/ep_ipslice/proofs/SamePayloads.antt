@@ -8,8 +8,8 @@ use Rattle.ep_base.specs.declared.len_source.LenSource.TheVariants.{Ipv4HeaderTo
 use Rattle.ep_base.specs.declared.len_source.LenSource.TheVariants.{Ipv6HeaderPayloadLen}
 use Rattle.ep_base.specs.declared.len_source.LenSource.TheVariants.{UdpHeaderLen, TcpHeaderLen}
 use Rattle.ep_base.specs.declared.len_source.LenSource.TheVariants.{ArpAddrLengths}
-use Rattle.ep_base.specs.LenSource.{source_place}
-use Rattle.ep_ipslice.specs.Compared.{bool_place, ordered_as}
+use Rattle.ep_base.specs.LenSource.{source_index}
+use Rattle.ep_ipslice.specs.Compared.{bool_index, ordered_as}
 use Rattle.ep_ipslice.specs.Packet.{IpPayload}
 
 source_at : ℕ → LenSource
@@ -21,7 +21,7 @@ source_at (suc (suc (suc (suc zero)))) = UdpHeaderLen
 source_at (suc (suc (suc (suc (suc zero))))) = TcpHeaderLen
 source_at (suc (suc (suc (suc (suc (suc n)))))) = ArpAddrLengths
 
-source_again : (source : LenSource) → source_at (source_place source) ≡ source
+source_again : (source : LenSource) → source_at (source_index source) ≡ source
 unfolding source_at
 source_again Slice = refl
 source_again MacsecShortLength = refl
@@ -35,7 +35,7 @@ pub bool_at : ℕ → Bool
 bool_at zero = false
 bool_at (suc n) = true
 
-pub bool_again : (b : Bool) → bool_at (bool_place b) ≡ b
+pub bool_again : (b : Bool) → bool_at (bool_index b) ≡ b
 unfolding bool_at
 bool_again true = refl
 bool_again false = refl
@@ -47,11 +47,11 @@ blank = record
 payload_at : List ℕ → IpPayload
 payload_at [] = blank
 payload_at (n ∷ []) = blank
-payload_at (n ∷ (part ∷ [])) = blank
-payload_at (n ∷ (part ∷ (source ∷ bytes))) =
+payload_at (n ∷ (fragment_flag ∷ [])) = blank
+payload_at (n ∷ (fragment_flag ∷ (source ∷ bytes))) =
     record {
       ip_number = record { 0 = n };
-      fragmented = bool_at part;
+      fragmented = bool_at fragment_flag;
       len_source = source_at source;
       payload = bytes;
     }

@@ -4,7 +4,7 @@ use Rattle.std.proofs.Common.{Option, Some, None, IsTrue, ◌↔◌, nat_eq, ref
 use Rattle.std.specs.Cmp.Lexicographic.{pointwise, bytes_decides}
 use Rattle.std.specs.Cmp.Derive.{both_true}
 use Rattle.ep_base.specs.declared.net.ip_number.IpNumber.{IpNumber}
-use Rattle.ep_ipslice.specs.Compared.{auth_code, compared_as, left_as, number_place, ordered_as}
+use Rattle.ep_ipslice.specs.Compared.{auth_code, compared_as, left_as, number_index, ordered_as}
 use Rattle.ep_ipslice.specs.Ipv6Exts.{Ipv6Exts}
 use Rattle.ep_ipslice.specs.Ipv6Walk.{HeadersLeft}
 use Rattle.ep_ipslice.specs.Packet.{Ipv4Packet, Ipv6Packet}
@@ -14,7 +14,7 @@ number_at : ℕ → Option IpNumber
 number_at zero = None
 number_at (suc n) = Some (record { 0 = n })
 
-number_again : (number : Option IpNumber) → number_at (number_place number) ≡ number
+number_again : (number : Option IpNumber) → number_at (number_index number) ≡ number
 unfolding number_at
 number_again None = refl
 number_again (Some number) =
@@ -27,8 +27,8 @@ no_exts = record { first_header = None; fragmented = false; slice = [] }
 exts_at : List ℕ → Ipv6Exts
 exts_at [] = no_exts
 exts_at (number ∷ []) = no_exts
-exts_at (number ∷ (part ∷ bytes)) =
-    record { first_header = number_at number; fragmented = bool_at part; slice = bytes }
+exts_at (number ∷ (fragment_flag ∷ bytes)) =
+    record { first_header = number_at number; fragmented = bool_at fragment_flag; slice = bytes }
 
 exts_again : (exts : Ipv6Exts) → exts_at (compared_as exts) ≡ exts
 unfolding exts_at

@@ -8,53 +8,53 @@ use Rattle.ep_base.specs.Bytes.{num}
 use Rattle.ep_base.specs.declared.err.layer.Layer.{Layer}
 use Rattle.ep_base.specs.declared.net.ip_number.IpNumber.{IpNumber}
 use Rattle.ep_ext.specs.Chain.{Chain, Fault, IsEnd, IsPiece, Row, fault_at, fault_in, fault_of}
-use Rattle.ep_ext.specs.Chain.{front_of, layer_of}
+use Rattle.ep_ext.specs.Chain.{prefix_of, layer_of}
 use Rattle.ep_base.specs.SliceError.{offset_by}
-use Rattle.ep_ext.specs.Place.{Order}
-use Rattle.ep_ext.specs.Value.{Piece, bytes_of, places}
+use Rattle.ep_ext.specs.Slot.{Order}
+use Rattle.ep_ext.specs.Value.{Piece, bytes_of, slots}
 use Rattle.ep_base.specs.declared.err.slice_error.SliceError.{SliceError}
 use Rattle.ep_ext.specs.declared.err.ipv6_exts.header_error.HeaderError.{HeaderError}
-use Rattle.ep_ext.specs.declared.net.ipv6_ext_place.Ipv6ExtPlace.{Ipv6ExtPlace}
+use Rattle.ep_ext.specs.declared.net.ipv6_ext_slot.Ipv6ExtSlot.{Ipv6ExtSlot}
 use Rattle.ep_ipslice.specs.Ipv6Exts.{Ipv6Exts, IsViewOf, Stops, exts_of, is_any_fragmenting}
-use Rattle.ep_ipslice.specs.Ipv6Exts.{is_begun, is_fragmenting_piece, place_behind, view_order}
+use Rattle.ep_ipslice.specs.Ipv6Exts.{is_started, is_fragmenting_piece, slot_after, view_order}
 
 -- what the walk keeps: so far the bytes are headers in a row and the rest
-pub record Kept (first : ℕ) (bytes : List ℕ) (begun fragmented : Bool) (number : ℕ)
+pub record Kept (first : ℕ) (bytes : List ℕ) (has_header fragmented : Bool) (number : ℕ)
     (rest : List ℕ) : Type 0 where
   pub pieces : List Piece
   pub row : Row view_order [] first pieces number
   pub cut : bytes ≡ bytes_of pieces ++ rest
-  pub started : begun ≡ is_begun pieces
+  pub started : has_header ≡ is_started pieces
   pub parted : fragmented ≡ is_any_fragmenting pieces
 
 -- laws of rows, as they are called
 abbrev pub RowGrows : Type 0
 RowGrows =
     (order : Order) (first : ℕ) (pieces : List Piece) (last : ℕ)
-    (place : Ipv6ExtPlace) (header : List ℕ)
-    → Row order [] first pieces last → order (places pieces) last ≡ Some place
-    → IsPiece place header
-    → Row order [] first (pieces ++ (place, header) ∷ []) (num header 0 1)
+    (slot : Ipv6ExtSlot) (header : List ℕ)
+    → Row order [] first pieces last → order (slots pieces) last ≡ Some slot
+    → IsPiece slot header
+    → Row order [] first (pieces ++ (slot, header) ∷ []) (num header 0 1)
 
 abbrev pub BytesGrow : Type 0
-BytesGrow = (pieces : List Piece) (place : Ipv6ExtPlace) (header : List ℕ)
-    → bytes_of (pieces ++ (place, header) ∷ []) ≡ bytes_of pieces ++ header
+BytesGrow = (pieces : List Piece) (slot : Ipv6ExtSlot) (header : List ℕ)
+    → bytes_of (pieces ++ (slot, header) ∷ []) ≡ bytes_of pieces ++ header
 
--- that something is in front is all that matters for the next place
-pub place_shown : (pieces : List Piece) (number : ℕ)
-    → place_behind (is_begun pieces) number ≡ view_order (places pieces) number
-place_shown [] number = refl
-place_shown (piece ∷ pieces) number = refl
+-- that some header came before is all that matters for the next slot
+pub slot_shown : (pieces : List Piece) (number : ℕ)
+    → slot_after (is_started pieces) number ≡ view_order (slots pieces) number
+slot_shown [] number = refl
+slot_shown (piece ∷ pieces) number = refl
 
-place_open : (pieces : List Piece) (begun : Bool) (number : ℕ) (place : Option Ipv6ExtPlace)
-    → begun ≡ is_begun pieces → place_behind begun number ≡ place
-    → view_order (places pieces) number ≡ place
-place_open pieces begun number place is behind =
-    sym (place_shown pieces number) ∙ ap (λ (b : Bool). place_behind b number) (sym is) ∙ behind
+slot_open : (pieces : List Piece) (has_header : Bool) (number : ℕ) (slot : Option Ipv6ExtSlot)
+    → has_header ≡ is_started pieces → slot_after has_header number ≡ slot
+    → view_order (slots pieces) number ≡ slot
+slot_open pieces has_header number slot is following =
+    sym (slot_shown pieces number) ∙ ap (λ (b : Bool). slot_after b number) (sym is) ∙ following
 
-begun_more : (pieces : List Piece) (piece : Piece) → true ≡ is_begun (pieces ++ piece ∷ [])
-begun_more [] piece = refl
-begun_more (first ∷ pieces) piece = refl
+started_more : (pieces : List Piece) (piece : Piece) → true ≡ is_started (pieces ++ piece ∷ [])
+started_more [] piece = refl
+started_more (first ∷ pieces) piece = refl
 
 or_false : (b : Bool) → (b || false) ≡ b
 or_false true = refl
@@ -68,47 +68,47 @@ parted_more pieces piece =
     ∙ ap (λ (b : Bool). is_any_fragmenting pieces || b) (or_false (is_fragmenting_piece piece))
 
 pub kept_more : RowGrows → BytesGrow
-    → (first : ℕ) (bytes : List ℕ) (begun fragmented : Bool) (number : ℕ) (rest : List ℕ) →
-    (place : Ipv6ExtPlace) (header behind : List ℕ) (next : ℕ) (part : Bool) →
-    Kept first bytes begun fragmented number rest → place_behind begun number ≡ Some place
-    → IsPiece place header →
-    rest ≡ header ++ behind → next ≡ num header 0 1
-    → part ≡ (fragmented || is_fragmenting_piece (place, header)) →
-    Kept first bytes true part next behind
-kept_more grows lengthens first bytes begun fragmented number rest place header behind next part
+    → (first : ℕ) (bytes : List ℕ) (has_header fragmented : Bool) (number : ℕ) (rest : List ℕ) →
+    (slot : Ipv6ExtSlot) (header following : List ℕ) (next : ℕ) (fragment_flag : Bool) →
+    Kept first bytes has_header fragmented number rest → slot_after has_header number ≡ Some slot
+    → IsPiece slot header →
+    rest ≡ header ++ following → next ≡ num header 0 1
+    → fragment_flag ≡ (fragmented || is_fragmenting_piece (slot, header)) →
+    Kept first bytes true fragment_flag next following
+kept_more grows lengthens first bytes has_header fragmented number rest slot header following next fragment_flag
     kept free piece cut named parted =
-    let open_here : view_order (places kept.pieces) number ≡ Some place =
-    place_open kept.pieces begun number (Some place) kept.started free in record {
-      pieces = kept.pieces ++ (place, header) ∷ [];
-      row = subst (Row view_order [] first (kept.pieces ++ (place, header) ∷ [])) (sym named)
-          (grows view_order first kept.pieces number place header kept.row open_here piece);
+    let open_here : view_order (slots kept.pieces) number ≡ Some slot =
+    slot_open kept.pieces has_header number (Some slot) kept.started free in record {
+      pieces = kept.pieces ++ (slot, header) ∷ [];
+      row = subst (Row view_order [] first (kept.pieces ++ (slot, header) ∷ [])) (sym named)
+          (grows view_order first kept.pieces number slot header kept.row open_here piece);
       cut =
           kept.cut ∙ ap (λ (xs : List ℕ). bytes_of kept.pieces ++ xs) cut
-          ∙ sym (append_assoc (bytes_of kept.pieces) header behind)
-          ∙ ap (λ (xs : List ℕ). xs ++ behind) (sym (lengthens kept.pieces place header));
-      started = begun_more kept.pieces (place, header);
-      parted = parted ∙ ap (λ (b : Bool). b || is_fragmenting_piece (place, header)) kept.parted
-          ∙ sym (parted_more kept.pieces (place, header));
+          ∙ sym (append_assoc (bytes_of kept.pieces) header following)
+          ∙ ap (λ (xs : List ℕ). xs ++ following) (sym (lengthens kept.pieces slot header));
+      started = started_more kept.pieces (slot, header);
+      parted = parted ∙ ap (λ (b : Bool). b || is_fragmenting_piece (slot, header)) kept.parted
+          ∙ sym (parted_more kept.pieces (slot, header));
     }
 
 -- how many bytes the headers have
-pub passed_len : (first : ℕ) (bytes : List ℕ) (begun fragmented : Bool) (number : ℕ) (rest : List ℕ)
-    (kept : Kept first bytes begun fragmented number rest) →
+pub passed_len : (first : ℕ) (bytes : List ℕ) (has_header fragmented : Bool) (number : ℕ) (rest : List ℕ)
+    (kept : Kept first bytes has_header fragmented number rest) →
     length bytes - length rest ≡ length (bytes_of kept.pieces)
-passed_len first bytes begun fragmented number rest kept =
+passed_len first bytes has_header fragmented number rest kept =
     omega (arith, ap length kept.cut, length-append (bytes_of kept.pieces) rest)
 
-pub passed_bytes : (first : ℕ) (bytes : List ℕ) (begun fragmented : Bool) (number : ℕ)
-    (rest : List ℕ) (kept : Kept first bytes begun fragmented number rest) (len : ℕ) →
+pub passed_bytes : (first : ℕ) (bytes : List ℕ) (has_header fragmented : Bool) (number : ℕ)
+    (rest : List ℕ) (kept : Kept first bytes has_header fragmented number rest) (len : ℕ) →
     len ≡ length bytes - length rest → take len bytes ≡ bytes_of kept.pieces
-passed_bytes first bytes begun fragmented number rest kept len is =
+passed_bytes first bytes has_header fragmented number rest kept len is =
     ap (take len) kept.cut ∙ take_at (bytes_of kept.pieces) rest len
-    (sym (is ∙ passed_len first bytes begun fragmented number rest kept))
+    (sym (is ∙ passed_len first bytes has_header fragmented number rest kept))
 
-pub view_of : (first : IpNumber) (bytes : List ℕ) (begun fragmented : Bool) (number : ℕ)
-    (rest front : List ℕ) (kept : Kept first.0 bytes begun fragmented number rest) →
-    front ≡ bytes_of kept.pieces → IsViewOf first begun fragmented front
-view_of first bytes begun fragmented number rest front kept is =
+pub view_of : (first : IpNumber) (bytes : List ℕ) (has_header fragmented : Bool) (number : ℕ)
+    (rest prefix : List ℕ) (kept : Kept first.0 bytes has_header fragmented number rest) →
+    prefix ≡ bytes_of kept.pieces → IsViewOf first has_header fragmented prefix
+view_of first bytes has_header fragmented number rest prefix kept is =
     (kept.pieces, number, kept.row, is, kept.started, kept.parted)
 
 abbrev pub Answer : Type 0
@@ -119,59 +119,59 @@ Found first bytes answer = (pieces : List Piece) × (last : ℕ) × (rest : List
     × Chain view_order first bytes pieces last rest × Stops first pieces last rest answer
 
 abbrev pub EndsClosed : Type 0
-EndsClosed = (order : Order) (passed : List Ipv6ExtPlace) (last : ℕ) (rest : List ℕ)
+EndsClosed = (order : Order) (passed : List Ipv6ExtSlot) (last : ℕ) (rest : List ℕ)
     → order passed last ≡ None → IsEnd order passed last rest
 
 abbrev pub EndsAtFault : Type 0
 EndsAtFault =
-    (order : Order) (passed : List Ipv6ExtPlace) (last : ℕ) (rest : List ℕ) (place : Ipv6ExtPlace)
+    (order : Order) (passed : List Ipv6ExtSlot) (last : ℕ) (rest : List ℕ) (slot : Ipv6ExtSlot)
     (error : SliceError HeaderError)
-    → order passed last ≡ Some place → front_of place rest ≡ Err error
+    → order passed last ≡ Some slot → prefix_of slot rest ≡ Err error
     → IsEnd order passed last rest
 
 pub found_closed : EndsClosed
-    → (first : ℕ) (bytes : List ℕ) (begun fragmented : Bool) (number : IpNumber)
+    → (first : ℕ) (bytes : List ℕ) (has_header fragmented : Bool) (number : IpNumber)
     (rest : Bor (List ℕ)) (view : Ipv6Exts) (fault : Option Fault) →
-    (kept : Kept first bytes begun fragmented number.0 rest.now)
-    → place_behind begun number.0 ≡ None → view ≡ exts_of first kept.pieces
+    (kept : Kept first bytes has_header fragmented number.0 rest.now)
+    → slot_after has_header number.0 ≡ None → view ≡ exts_of first kept.pieces
     → fault ≡ fault_at 0 None number.0 [] →
     Found first bytes (view, number, rest, fault)
-found_closed ends first bytes begun fragmented number rest view fault kept closed seen is =
-    let closed_here : view_order (places kept.pieces) number.0 ≡ None =
-    place_open kept.pieces begun number.0 None kept.started closed in (
+found_closed ends first bytes has_header fragmented number rest view fault kept closed seen is =
+    let closed_here : view_order (slots kept.pieces) number.0 ≡ None =
+    slot_open kept.pieces has_header number.0 None kept.started closed in (
       kept.pieces,
       number.0,
       rest.now,
       record {
         row = kept.row;
         cut = kept.cut;
-        ended = ends view_order (places kept.pieces) number.0 rest.now closed_here;
+        ended = ends view_order (slots kept.pieces) number.0 rest.now closed_here;
       },
       record {
         view = seen;
         number = refl;
         left = refl;
-        fault = is ∙ ap (λ (p : Option Ipv6ExtPlace). fault_at
+        fault = is ∙ ap (λ (p : Option Ipv6ExtSlot). fault_at
             (length (bytes_of kept.pieces)) p number.0 rest.now) (sym closed_here);
       },
     )
 
 pub found_fault : EndsAtFault
-    → (first : ℕ) (bytes : List ℕ) (begun fragmented : Bool) (number : IpNumber)
-    (rest : Bor (List ℕ)) (view : Ipv6Exts) (place : Ipv6ExtPlace)
+    → (first : ℕ) (bytes : List ℕ) (has_header fragmented : Bool) (number : IpNumber)
+    (rest : Bor (List ℕ)) (view : Ipv6Exts) (slot : Ipv6ExtSlot)
     (error far : SliceError HeaderError) (offset : ℕ) (layer : Layer) →
-    (kept : Kept first bytes begun fragmented number.0 rest.now)
-    → place_behind begun number.0 ≡ Some place → view ≡ exts_of first kept.pieces
-    → front_of place rest.now ≡ Err error →
-    offset ≡ length bytes - length rest.now → far ≡ offset_by error offset → layer ≡ layer_of place
+    (kept : Kept first bytes has_header fragmented number.0 rest.now)
+    → slot_after has_header number.0 ≡ Some slot → view ≡ exts_of first kept.pieces
+    → prefix_of slot rest.now ≡ Err error →
+    offset ≡ length bytes - length rest.now → far ≡ offset_by error offset → layer ≡ layer_of slot
     →
     Found first bytes (view, number, rest, Some (far, layer))
-found_fault ends first bytes begun fragmented number rest view place error far offset layer kept
+found_fault ends first bytes has_header fragmented number rest view slot error far offset layer kept
     free seen fault offset_is far_is layer_is =
-    let open_here : view_order (places kept.pieces) number.0 ≡ Some place =
-    place_open kept.pieces begun number.0 (Some place) kept.started free in
+    let open_here : view_order (slots kept.pieces) number.0 ≡ Some slot =
+    slot_open kept.pieces has_header number.0 (Some slot) kept.started free in
     let start : offset ≡ length (bytes_of kept.pieces) =
-    offset_is ∙ passed_len first bytes begun fragmented number.0 rest.now kept in
+    offset_is ∙ passed_len first bytes has_header fragmented number.0 rest.now kept in
     let moved_is : far ≡ offset_by error (length (bytes_of kept.pieces)) =
     far_is ∙ ap (offset_by error) start in (
       kept.pieces,
@@ -180,7 +180,7 @@ found_fault ends first bytes begun fragmented number rest view place error far o
       record {
         row = kept.row;
         cut = kept.cut;
-        ended = ends view_order (places kept.pieces) number.0 rest.now place error open_here fault;
+        ended = ends view_order (slots kept.pieces) number.0 rest.now slot error open_here fault;
       },
       record {
         view = seen;
@@ -188,8 +188,8 @@ found_fault ends first bytes begun fragmented number rest view place error far o
         left = refl;
         fault =
             (λ i. Some (moved_is i, layer_is i))
-            ∙ ap (fault_in (layer_of place) (length (bytes_of kept.pieces))) (sym fault)
-            ∙ ap (λ (p : Option Ipv6ExtPlace). fault_at
+            ∙ ap (fault_in (layer_of slot) (length (bytes_of kept.pieces))) (sym fault)
+            ∙ ap (λ (p : Option Ipv6ExtSlot). fault_at
             (length (bytes_of kept.pieces)) p number.0 rest.now) (sym open_here);
       },
     )

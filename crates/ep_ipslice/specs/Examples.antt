@@ -1,8 +1,8 @@
--- Packets from outside, at which laws state the definitions' values.
+-- Literal packets, at which laws state the definitions' values.
 use Rattle.std.specs.Prelude.{ℕ, true, List, [], ◌∷◌, ◌++◌, Some}
 use Rattle.ep_base.specs.declared.len_source.LenSource.TheVariants.{Ipv6HeaderPayloadLen}
 use Rattle.ep_ext.specs.Value.{Piece}
-use Rattle.ep_ext.specs.declared.net.ipv6_ext_place.Ipv6ExtPlace.TheVariants.{HopByHop, Fragment}
+use Rattle.ep_ext.specs.declared.net.ipv6_ext_slot.Ipv6ExtSlot.TheVariants.{HopByHop, Fragment}
 use Rattle.ep_ipslice.specs.Packet.{Ipv4Packet, Ipv6Packet}
 
 -- a header of 20 bytes with a total length of 34 and protocol 51
@@ -22,7 +22,7 @@ abbrev pub example_ipv4_packet : Ipv4Packet
 example_ipv4_packet =
     record { header = example_header; auth = Some example_auth; payload = 0xaa ∷ 0xbb ∷ [] }
 
--- the header of a fragment in the middle of a message: identification 0102, offset 5, more
+-- the header of a fragment in the middle of a datagram: identification 0102, offset 5, more
 -- fragments
 abbrev pub fragment_header : List ℕ
 fragment_header = 0x45 ∷ 0 ∷ 0 ∷ 28 ∷ 1 ∷ 2 ∷ 0x20 ∷ 5 ∷ 64 ∷ 17 ∷ 0 ∷ 0 ∷ 10 ∷ 0 ∷ 0 ∷

@@ -1,4 +1,4 @@
--- Faults of IP headers of either version, seen from a slice that begins earlier.
+-- Faults of IP headers of either version, seen from a slice that starts earlier.
 use Rattle.std.specs.Prelude.{ℕ, ⊤}
 use Rattle.ep_base.specs.LenError as len
 use Rattle.ep_ipslice.specs.declared.err.ip.headers_slice_error.HeadersSliceError.{HeadersSliceError}
@@ -12,7 +12,7 @@ abbrev pub CanMove : HeadersSliceError → ℕ → Type 0
 CanMove (Len e) n = len.CanMove e n
 CanMove (Content e) n = ⊤
 
--- a want of bytes is further on, and a fault of the content is the same
+-- an error of too few bytes is further on, and a fault of the content is the same
 abbrev pub offset_by : HeadersSliceError → ℕ → HeadersSliceError
 offset_by (Len e) n = Len (len.offset_by e n)
 offset_by (Content e) n = Content e

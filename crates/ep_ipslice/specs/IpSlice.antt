@@ -12,7 +12,7 @@ use Rattle.ep_ip.specs.Ipv6 as v6
 use Rattle.ep_ip.specs.declared.err.ipv4.header_error.HeaderError.TheVariants as v4_header
 use Rattle.ep_ip.specs.declared.err.ipv6.header_error.HeaderError.TheVariants as v6_header
 use Rattle.ep_ipslice.specs.Ipv4Packet.{ipv4_packet_at}
-use Rattle.ep_ext.specs.Place.{Order}
+use Rattle.ep_ext.specs.Slot.{Order}
 use Rattle.ep_ipslice.specs.Ipv6Exts.{view_order}
 use Rattle.ep_ipslice.specs.Ipv6Fault.{IsFaultIn}
 use Rattle.ep_ipslice.specs.Ipv6Packet.{ipv6_packet_at}
@@ -87,7 +87,7 @@ ipv6_fault (v6_fault.Header (v6_header.UnexpectedVersion version)) =
     IpHeaders (headers.Ip (UnsupportedIpVersion version))
 ipv6_fault (v6_fault.Exts e) = IpHeaders (headers.Ipv6Ext e)
 
--- the first fault of the bytes, where extension headers of IPv6 stand in this order: none are
+-- the first fault of the bytes, where extension headers of IPv6 come in this order: no bytes are
 -- there, the version is neither 4 nor 6, or the first fault of that version's packet
 pub data IsIpFaultIn (order : Order) (bytes : List ℕ) (e : SliceError) : Type 0 where
   NoBytes : length bytes ≡ 0 → e ≡ Len no_version → IsIpFaultIn order bytes e
@@ -111,7 +111,7 @@ abbrev pub with_ipv6 : Result Ipv6Packet Ipv6Fault → Result IpSlice SliceError
 with_ipv6 (Ok packet) = Ok (Ipv6 packet)
 with_ipv6 (Err e) = Err (ipv6_fault e)
 
--- the packet at the front of the bytes, of the version that they tell, or the first fault
+-- the packet at the start of the bytes, of the version in their first byte, or the first fault
 abbrev pub ip_packet_at : List ℕ → Result IpSlice SliceError
 ip_packet_at bytes =
     if length bytes == 0 then Err (Len no_version)

@@ -1,4 +1,4 @@
--- The IPv4 packet at the front of bytes, or why there is none.
+-- The IPv4 packet at the start of bytes, or why there is none.
 use Rattle.std.specs.Prelude.{ℕ, nat_lt, if◌then◌else◌, List, length, take, drop, Option, Result}
 use Rattle.std.specs.Prelude.{Ok, Err}
 use Rattle.ep_base.specs.LenError.{offset_by, too_few_bytes}
@@ -11,7 +11,7 @@ use Rattle.ep_base.specs.declared.err.slice_error.SliceError.{SliceError as Head
 use Rattle.ep_base.specs.declared.err.slice_error.SliceError.TheVariants as slice_error
 use Rattle.ep_ip.specs.declared.err.ipv4.header_error.HeaderError.{HeaderError as HeaderFault}
 use Rattle.ep_ext.specs.declared.err.ip_auth.header_error.HeaderError.{HeaderError as AuthFault}
-use Rattle.ep_ext.specs.Ipv4Exts.{auth_behind, auth_bytes}
+use Rattle.ep_ext.specs.Ipv4Exts.{auth_after, auth_bytes}
 use Rattle.ep_ipslice.specs.Packet.{Ipv4Packet}
 use Rattle.ep_ipslice.specs.declared.err.ipv4.slice_error.SliceError.{SliceError}
 use Rattle.ep_ipslice.specs.declared.err.ipv4.slice_error.SliceError.TheVariants.{Len, Header, Exts}
@@ -20,7 +20,7 @@ abbrev pub of_header_fault : HeaderSliceError HeaderFault → SliceError
 of_header_fault (slice_error.Len e) = Len e
 of_header_fault (slice_error.Content e) = Header e
 
--- a want of bytes in what the total length bounds, n bytes behind the front
+-- an error of too few bytes in what the total length bounds, n bytes after the start
 abbrev pub in_total_len : ℕ → LenError → LenError
 in_total_len n e = record (offset_by e n) { len_source = Ipv4HeaderTotalLen }
 
@@ -28,11 +28,11 @@ abbrev pub of_auth_fault : ℕ → HeaderSliceError AuthFault → SliceError
 of_auth_fault n (slice_error.Len e) = Len (in_total_len n e)
 of_auth_fault n (slice_error.Content e) = Exts e
 
--- the packet of this header and what its total length gives it
-abbrev pub packet_behind : List ℕ → List ℕ → Result (Option (List ℕ)) (HeaderSliceError AuthFault)
+-- the packet of this header and the bytes that its total length bounds
+abbrev pub packet_after : List ℕ → List ℕ → Result (Option (List ℕ)) (HeaderSliceError AuthFault)
     → Result Ipv4Packet SliceError
-packet_behind header body (Err e) = Err (of_auth_fault (length header) e)
-packet_behind header body (Ok auth) =
+packet_after header body (Err e) = Err (of_auth_fault (length header) e)
+packet_after header body (Ok auth) =
     Ok (record { header = header; auth = auth; payload = drop (length (auth_bytes auth)) body })
 
 abbrev pub body_of : List ℕ → List ℕ → List ℕ
@@ -46,9 +46,9 @@ packet_with bytes (Ok header) =
     then Err (Len (no_payload (length header) (total_len_of header))) else (
     if nat_lt (length bytes) (total_len_of header)
     then Err (Len (too_few_bytes layer.Ipv4Packet (total_len_of header) (length bytes))) else
-    packet_behind header (body_of header bytes)
-    (auth_behind (protocol_of header) (body_of header bytes)))
+    packet_after header (body_of header bytes)
+    (auth_after (protocol_of header) (body_of header bytes)))
 
--- the packet at the front of the bytes, or the first fault
+-- the packet at the start of the bytes, or the first fault
 abbrev pub ipv4_packet_at : List ℕ → Result Ipv4Packet SliceError
 ipv4_packet_at bytes = packet_with bytes (header_at bytes)

@@ -7,40 +7,40 @@ use Rattle.ep_base.specs.declared.err.layer.Layer.{Layer}
 use Rattle.ep_base.specs.declared.net.ip_number.IpNumber.{IpNumber}
 use Rattle.ep_ext.specs.Chain.{Row, Fault, fault_of}
 use Rattle.ep_ext.specs.Fragment.{fragment_of, fragments}
-use Rattle.ep_ext.specs.Place.{Order, in_front}
+use Rattle.ep_ext.specs.Slot.{Order, at_start}
 use Rattle.ep_ext.specs.Value.{Piece, bytes_of}
 use Rattle.ep_base.specs.declared.err.slice_error.SliceError.{SliceError}
 use Rattle.ep_ext.specs.declared.err.ipv6_exts.header_error.HeaderError.{HeaderError}
-use Rattle.ep_ext.specs.declared.net.ipv6_ext_place.Ipv6ExtPlace.{Ipv6ExtPlace}
-use Rattle.ep_ext.specs.declared.net.ipv6_ext_place.Ipv6ExtPlace.TheVariants.{HopByHop, Destination}
-use Rattle.ep_ext.specs.declared.net.ipv6_ext_place.Ipv6ExtPlace.TheVariants.{Routing, Fragment}
-use Rattle.ep_ext.specs.declared.net.ipv6_ext_place.Ipv6ExtPlace.TheVariants.{Authentication}
-use Rattle.ep_ext.specs.declared.net.ipv6_ext_place.Ipv6ExtPlace.TheVariants.{FinalDestination}
+use Rattle.ep_ext.specs.declared.net.ipv6_ext_slot.Ipv6ExtSlot.{Ipv6ExtSlot}
+use Rattle.ep_ext.specs.declared.net.ipv6_ext_slot.Ipv6ExtSlot.TheVariants.{HopByHop, Destination}
+use Rattle.ep_ext.specs.declared.net.ipv6_ext_slot.Ipv6ExtSlot.TheVariants.{Routing, Fragment}
+use Rattle.ep_ext.specs.declared.net.ipv6_ext_slot.Ipv6ExtSlot.TheVariants.{Authentication}
+use Rattle.ep_ext.specs.declared.net.ipv6_ext_slot.Ipv6ExtSlot.TheVariants.{FinalDestination}
 
--- the order of a view: hop-by-hop options in front of all, and every other header as often as it is
--- named
+-- the order of a view: hop-by-hop options before all others, and every other header as often as it
+-- is named
 abbrev pub view_order : Order
 view_order passed number =
-    if number == 0 then in_front passed else (
+    if number == 0 then at_start passed else (
     if number == 43 then Some Routing else (
     if number == 44 then Some Fragment else (
     if number == 51 then Some Authentication else (
     if number == 60 then Some Destination else None))))
 
--- the same place, where all that matters of the headers in front is whether there are any
-abbrev pub place_behind : Bool → ℕ → Option Ipv6ExtPlace
-place_behind begun number =
-    if number == 0 then (if begun then None else Some HopByHop) else (
+-- the same slot, where all that matters of the headers before is whether there are any
+abbrev pub slot_after : Bool → ℕ → Option Ipv6ExtSlot
+slot_after has_header number =
+    if number == 0 then (if has_header then None else Some HopByHop) else (
     if number == 43 then Some Routing else (
     if number == 44 then Some Fragment else (
     if number == 51 then Some Authentication else (
     if number == 60 then Some Destination else None))))
 
-abbrev pub is_begun : List Piece → Bool
-is_begun [] = false
-is_begun (piece ∷ pieces) = true
+abbrev pub is_started : List Piece → Bool
+is_started [] = false
+is_started (piece ∷ pieces) = true
 
--- the fragment header of a part of a message
+-- the fragment header of a fragment
 abbrev pub is_fragmenting_header : List ℕ → Bool
 is_fragmenting_header header = fragments (fragment_of header)
 
@@ -52,12 +52,12 @@ is_fragmenting_piece (Fragment, header) = is_fragmenting_header header
 is_fragmenting_piece (Authentication, header) = false
 is_fragmenting_piece (FinalDestination, header) = false
 
--- one of the headers at least is that of a part of a message
+-- at least one of the headers is the fragment header of a fragment
 abbrev pub is_any_fragmenting : List Piece → Bool
 is_any_fragmenting pieces = list_any is_fragmenting_piece pieces
 
--- what a view shows: the number of the first header, where there is one, whether a header is that
--- of a part of a message, and the bytes of all headers
+-- what a view shows: the number of the first header, where there is one, whether a header is the
+-- fragment header of a fragment, and the bytes of all headers
 pub record Ipv6Exts : Type 0 where
   pub first_header : Option IpNumber
   pub fragmented : Bool
@@ -82,12 +82,12 @@ IsView exts = (first : ℕ) × (pieces : List Piece) × (last : ℕ) × Row view
 
 -- the parts of a view are those of some headers in a row
 abbrev pub IsViewOf : IpNumber → Bool → Bool → List ℕ → Type 0
-IsViewOf first begun fragmented bytes =
+IsViewOf first has_header fragmented bytes =
     (pieces : List Piece) × (last : ℕ) × Row view_order [] first.0 pieces last
     × (bytes ≡ bytes_of pieces)
-    × (begun ≡ is_begun pieces) × (fragmented ≡ is_any_fragmenting pieces)
+    × (has_header ≡ is_started pieces) × (fragmented ≡ is_any_fragmenting pieces)
 
--- the answers of a call that stops at a fault, and of one that refuses it
+-- the results of a call that stops at a fault, and of one that refuses it
 pub record Stops (first : ℕ) (pieces : List Piece) (last : ℕ) (rest : List ℕ)
     (answer : Ipv6Exts × IpNumber × Bor (List ℕ) × Option Fault) : Type 0 where
   pub view : answer.0 ≡ exts_of first pieces

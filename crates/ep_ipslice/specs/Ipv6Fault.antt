@@ -10,7 +10,7 @@ use Rattle.ep_base.specs.declared.err.slice_error.SliceError.{SliceError as Head
 use Rattle.ep_base.specs.declared.err.slice_error.SliceError.TheVariants as slice_error
 use Rattle.ep_ip.specs.declared.err.ipv6.header_error.HeaderError.{HeaderError as HeaderFault}
 use Rattle.ep_ext.specs.Chain.{Chain, Fault, fault_of}
-use Rattle.ep_ext.specs.Place.{Order}
+use Rattle.ep_ext.specs.Slot.{Order}
 use Rattle.ep_ext.specs.Value.{Piece}
 use Rattle.ep_ext.specs.declared.err.ipv6_exts.header_error.HeaderError.{HeaderError as ExtsFault}
 use Rattle.ep_ipslice.specs.Ipv6Exts.{view_order}
@@ -22,7 +22,7 @@ abbrev pub of_header_fault : HeaderSliceError HeaderFault → SliceError
 of_header_fault (slice_error.Len e) = Len e
 of_header_fault (slice_error.Content e) = Header e
 
--- a want of bytes behind the header, in what this source bounds
+-- an error of too few bytes after the header, in what this source bounds
 abbrev pub of_exts_fault : LenSource → HeaderSliceError ExtsFault → SliceError
 of_exts_fault source (slice_error.Len e) = Len (record (offset_by e 40) { len_source = source })
 of_exts_fault source (slice_error.Content e) = Exts e
@@ -31,7 +31,7 @@ of_exts_fault source (slice_error.Content e) = Exts e
 abbrev pub not_whole : List ℕ → ℕ → LenError
 not_whole header found = too_few_bytes layer.Ipv6Packet (40 + payload_length_of header) found
 
--- fewer bytes stand behind the header than its payload length
+-- fewer bytes follow the header than its payload length says
 pub record IsCutOff (bytes header : List ℕ) (e : SliceError) : Type 0 where
   pub size : length bytes - 40 < body_len header (length bytes - 40)
   pub error : e ≡ Len (not_whole header (length bytes))
@@ -48,15 +48,15 @@ pub record IsRowFault (order : Order) (bytes header : List ℕ) (e : SliceError)
   pub found : fault_of order pieces last rest ≡ Some fault
   pub error : e ≡ of_exts_fault (body_source header (length bytes - 40)) fault.0
 
--- the first fault of a header and of the length that it tells
-pub data IsFrontFault (bytes : List ℕ) (e : SliceError) : Type 0 where
+-- the first fault of a header and of its payload length
+pub data IsPrefixFault (bytes : List ℕ) (e : SliceError) : Type 0 where
   InHeader : (fault : HeaderSliceError HeaderFault) → header_at bytes ≡ Err fault
-      → e ≡ of_header_fault fault → IsFrontFault bytes e
+      → e ≡ of_header_fault fault → IsPrefixFault bytes e
   InLength : (header : List ℕ) → header_at bytes ≡ Ok header
-      → IsCutOff bytes header e → IsFrontFault bytes e
+      → IsCutOff bytes header e → IsPrefixFault bytes e
 
--- the first fault of the bytes, where extension headers stand in this order: of the header, then of
--- the length that it tells, then of the extension headers
+-- the first fault of the bytes, where extension headers come in this order: of the header, then of
+-- its payload length, then of the extension headers
 pub data IsFaultIn (order : Order) (bytes : List ℕ) (e : SliceError) : Type 0 where
   OfHeader : (fault : HeaderSliceError HeaderFault) → header_at bytes ≡ Err fault
       → e ≡ of_header_fault fault → IsFaultIn order bytes e

@@ -1,4 +1,4 @@
--- The IPv6 packet at the front of bytes, or why there is none (RFC 8200, sections 3 and 4).
+-- The IPv6 packet at the start of bytes, or why there is none (RFC 8200, sections 3 and 4).
 use Rattle.std.specs.Prelude.{ℕ, ◌-◌, nat_lt, if◌then◌else◌, List, [], ◌∷◌, length, take, drop}
 use Rattle.std.specs.Prelude.{Option, Some, None, Result, Ok, Err}
 use Rattle.ep_base.specs.Bytes.{num}
@@ -16,33 +16,33 @@ use Rattle.ep_ipslice.specs.Packet.{ipv6_fragment_fields}
 use Rattle.ep_ipslice.specs.declared.err.ipv6.slice_error.SliceError.{SliceError}
 use Rattle.ep_ipslice.specs.declared.err.ipv6.slice_error.SliceError.TheVariants.{Len}
 
--- what the header's payload length gives the packet behind it
+-- the body of the packet after the header, bounded by the payload length
 abbrev pub body_of : (bytes header : List ℕ) → List ℕ
 body_of bytes header = take (body_len header (length bytes - 40)) (drop 40 bytes)
 
--- the extension headers at the front of a body, of which the first has this number. (None is
+-- the extension headers at the start of a body, of which the first has this number. (None is
 -- empty.)
 abbrev pub extensions_of : ℕ → List ℕ → List Piece
 extensions_of first body = pieces_within (length body) view_order [] first body
 
--- the number that headers in a row name behind them
-abbrev pub number_behind : ℕ → List Piece → ℕ
-number_behind first [] = first
-number_behind first (piece ∷ pieces) = number_behind (num piece.1 0 1) pieces
+-- the number that headers in a row name last
+abbrev pub number_after : ℕ → List Piece → ℕ
+number_after first [] = first
+number_after first (piece ∷ pieces) = number_after (num piece.1 0 1) pieces
 
--- what is left of the body behind these headers
-abbrev pub rest_behind : (bytes header : List ℕ) → List Piece → List ℕ
-rest_behind bytes header pieces = drop (length (bytes_of pieces)) (body_of bytes header)
+-- what is left of the body after these headers
+abbrev pub rest_after : (bytes header : List ℕ) → List Piece → List ℕ
+rest_after bytes header pieces = drop (length (bytes_of pieces)) (body_of bytes header)
 
 abbrev pub packet_of : (bytes header : List ℕ) → List Piece → Ipv6Packet
 packet_of bytes header pieces = record {
   header = header;
   exts = exts_of (next_header_of header) pieces;
   payload = record {
-    ip_number = record { 0 = number_behind (next_header_of header) pieces };
+    ip_number = record { 0 = number_after (next_header_of header) pieces };
     fragmented = is_any_fragmenting pieces;
     len_source = body_source header (length bytes - 40);
-    payload = rest_behind bytes header pieces;
+    payload = rest_after bytes header pieces;
   };
 }
 
@@ -54,31 +54,31 @@ packet_unless bytes header pieces (Some fault) =
     Err (of_exts_fault (body_source header (length bytes - 40)) fault.0)
 
 -- the fault at which extension headers end, if there is one
-abbrev pub fault_behind : (bytes header : List ℕ) → List Piece → Option Fault
-fault_behind bytes header pieces = fault_of view_order pieces
-    (number_behind (next_header_of header) pieces) (rest_behind bytes header pieces)
+abbrev pub fault_after : (bytes header : List ℕ) → List Piece → Option Fault
+fault_after bytes header pieces = fault_of view_order pieces
+    (number_after (next_header_of header) pieces) (rest_after bytes header pieces)
 
 abbrev pub packet_with : (bytes header : List ℕ) → List Piece → Result Ipv6Packet SliceError
 packet_with bytes header pieces =
     if nat_lt (length bytes - 40) (body_len header (length bytes - 40))
     then Err (Len (not_whole header (length bytes)))
-    else packet_unless bytes header pieces (fault_behind bytes header pieces)
+    else packet_unless bytes header pieces (fault_after bytes header pieces)
 
-abbrev pub packet_behind : List ℕ → Result (List ℕ) (HeaderSliceError HeaderFault)
+abbrev pub packet_after : List ℕ → Result (List ℕ) (HeaderSliceError HeaderFault)
     → Result Ipv6Packet SliceError
-packet_behind bytes (Err e) = Err (of_header_fault e)
-packet_behind bytes (Ok header) = packet_with bytes header
+packet_after bytes (Err e) = Err (of_header_fault e)
+packet_after bytes (Ok header) = packet_with bytes header
     (extensions_of (next_header_of header) (body_of bytes header))
 
--- the packet at the front of the bytes, or the first fault
+-- the packet at the start of the bytes, or the first fault
 abbrev pub ipv6_packet_at : List ℕ → Result Ipv6Packet SliceError
-ipv6_packet_at bytes = packet_behind bytes (header_at bytes)
+ipv6_packet_at bytes = packet_after bytes (header_at bytes)
 
 -- the extension headers of a packet, in their order
 abbrev pub extensions_in : Ipv6Packet → List Piece
 extensions_in packet = extensions_of (next_header_of packet.header) packet.exts.slice
 
--- what a packet's first fragment header tells of the message that the payload is a part of, if
--- there is such a header
+-- what a packet's first fragment header says of the payload as a fragment, if there is such a
+-- header
 abbrev pub fragment_fields_in : Ipv6Packet → Option FragmentFields
 fragment_fields_in packet = ipv6_fragment_fields (extensions_in packet)

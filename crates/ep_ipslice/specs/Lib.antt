@@ -1,6 +1,6 @@
 pub mod Compared
 pub mod Examples
-pub mod FaultPlace
+pub mod FaultOffset
 pub mod IpFault
 pub mod Ipv4Lax
 pub mod Ipv4Packet

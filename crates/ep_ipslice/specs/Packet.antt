@@ -1,5 +1,6 @@
 -- IP packets: base header, extension headers, payload and padding (IPv4: RFC 791, section 3.1, and
--- RFC 4302, section 3.1.1; IPv6: RFC 8200, sections 3 and 4), and what a packet tells.
+-- RFC 4302, section 3.1.1; IPv6: RFC 8200, sections 3 and 4), and what a packet says of its
+-- payload.
 use Rattle.std.specs.Prelude.{◌≡◌, ℕ, ◌+◌, ◌-◌, ◌==◌, ◌&&◌, nat_lt, Bool, false, if◌then◌else◌}
 use Rattle.std.specs.Prelude.{List, [], ◌++◌, length, Option}
 use Rattle.std.specs.Option.{option_map}
@@ -10,23 +11,23 @@ use Rattle.ep_base.specs.declared.net.ip_number.IpNumber.{IpNumber}
 use Rattle.ep_ip.specs.Ipv4 as v4
 use Rattle.ep_ip.specs.Ipv6 as v6
 use Rattle.ep_ext.specs.Chain.{Row}
-use Rattle.ep_ext.specs.Follow.{has_place}
+use Rattle.ep_ext.specs.Follow.{has_slot}
 use Rattle.ep_ext.specs.Fragment.{fragment_of}
 use Rattle.ep_ext.specs.Value.{Piece, bytes_of, piece_at}
-use Rattle.ep_ext.specs.Ipv4Exts.{IsAuthBehind, auth_bytes, number_behind}
-use Rattle.ep_ext.specs.declared.net.ipv6_ext_place.Ipv6ExtPlace.TheVariants.{Fragment}
+use Rattle.ep_ext.specs.Ipv4Exts.{IsAuthAfter, auth_bytes, number_after}
+use Rattle.ep_ext.specs.declared.net.ipv6_ext_slot.Ipv6ExtSlot.TheVariants.{Fragment}
 use Rattle.ep_ipslice.specs.Ipv6Exts.{Ipv6Exts, exts_of, is_any_fragmenting, view_order}
 
--- the payload of a packet: its protocol number, whether it is a part of a message, what its length
--- came from, and its bytes
+-- the payload of a packet: its protocol number, whether it is a fragment, what its length came
+-- from, and its bytes
 pub record IpPayload : Type 0 where
   pub ip_number : IpNumber
   pub fragmented : Bool
   pub len_source : LenSource
   pub payload : List ℕ
 
--- what a packet tells of the message that its payload is a part of: the identification that all
--- parts share, the place of the payload in units of 8 bytes, and whether other parts follow
+-- what a packet says of its payload as a fragment: the identification that all fragments of a
+-- datagram share, the offset of the payload in units of 8 bytes, and whether more fragments follow
 pub record FragmentFields : Type 0 where
   pub identification : ℕ
   pub offset : ℕ
@@ -34,7 +35,7 @@ pub record FragmentFields : Type 0 where
 
 -- of these three
 abbrev pub fragment_fields : ℕ × ℕ × Bool → FragmentFields
-fragment_fields told = record { identification = told.0; offset = told.1; more = told.2 }
+fragment_fields triple = record { identification = triple.0; offset = triple.1; more = triple.2 }
 
 -- by the IPv4 header (RFC 791, section 3.1)
 abbrev pub ipv4_fragment_fields : List ℕ → FragmentFields
@@ -62,13 +63,13 @@ pub record Ipv4Packet : Type 0 where
   pub auth : Option (List ℕ)
   pub payload : List ℕ
 
--- the bytes begin with this packet: its parts have the header's total length, and padding may
+-- the bytes start with this packet: its parts have the header's total length, and padding may
 -- follow
 pub record IsIpv4Packet (bytes : List ℕ) (packet : Ipv4Packet) : Type 0 where
   pub padding : List ℕ
   pub cut : bytes ≡ packet.header ++ auth_bytes packet.auth ++ packet.payload ++ padding
   pub header : v4.IsIpv4Header packet.header
-  pub auth : IsAuthBehind (v4.protocol_of packet.header) packet.auth
+  pub auth : IsAuthAfter (v4.protocol_of packet.header) packet.auth
   pub total : length packet.header + length (auth_bytes packet.auth) + length packet.payload
       ≡ v4.total_len_of packet.header
 
@@ -80,14 +81,14 @@ ipv4_bytes packet = packet.header ++ auth_bytes packet.auth ++ packet.payload
 abbrev pub IsWholeIpv4 : Ipv4Packet → Type 0
 IsWholeIpv4 packet = IsIpv4Packet (ipv4_bytes packet) packet
 
--- the payload is a part of a message
+-- the payload is a fragment
 abbrev pub is_ipv4_fragment : List ℕ → Bool
 is_ipv4_fragment header = v4.is_fragmenting (v4.more_fragments_of header)
     (v4.fragment_offset_of header)
 
 abbrev pub ipv4_payload : Ipv4Packet → IpPayload
 ipv4_payload packet = record {
-  ip_number = record { 0 = number_behind (v4.protocol_of packet.header) packet.auth };
+  ip_number = record { 0 = number_after (v4.protocol_of packet.header) packet.auth };
   fragmented = is_ipv4_fragment packet.header;
   len_source = Ipv4HeaderTotalLen;
   payload = packet.payload;
@@ -105,17 +106,17 @@ ipv6_bytes packet = packet.header ++ packet.exts.slice ++ packet.payload.payload
 -- the packet's own length is not given: the payload length is 0 (RFC 2675, section 3), and more
 -- than the header is there
 abbrev pub is_open : List ℕ → ℕ → Bool
-is_open header behind = (v6.payload_length_of header == 0) && nat_lt 0 behind
+is_open header following = (v6.payload_length_of header == 0) && nat_lt 0 following
 
--- how long extension headers and payload are, where so many bytes stand behind the header
+-- how long extension headers and payload are, where so many bytes follow the header
 abbrev pub body_len : List ℕ → ℕ → ℕ
-body_len header behind = if is_open header behind then behind else v6.payload_length_of header
+body_len header following = if is_open header following then following else v6.payload_length_of header
 
 -- what that length came from
 abbrev pub body_source : List ℕ → ℕ → LenSource
-body_source header behind = if is_open header behind then Slice else Ipv6HeaderPayloadLen
+body_source header following = if is_open header following then Slice else Ipv6HeaderPayloadLen
 
--- the bytes begin with this header, and as many of those behind it as its payload length says are
+-- the bytes start with this header, and as many of those after it as its payload length says are
 -- the body, extension headers and payload; padding may follow
 pub record IsIpv6Body (bytes header : List ℕ) (source : LenSource) (body : List ℕ) : Type 0 where
   pub padding : List ℕ
@@ -124,7 +125,7 @@ pub record IsIpv6Body (bytes header : List ℕ) (source : LenSource) (body : Lis
   pub size : length body ≡ body_len header (length bytes - 40)
   pub bounded : source ≡ body_source header (length bytes - 40)
 
--- the bytes begin with this packet: behind the header stand its extension headers, in a row up to a
+-- the bytes start with this packet: its extension headers follow the header, in a row up to a
 -- number that names none, and its payload, and padding may follow
 pub record IsIpv6Packet (bytes : List ℕ) (packet : Ipv6Packet) : Type 0 where
   pub pieces : List Piece
@@ -133,7 +134,7 @@ pub record IsIpv6Packet (bytes : List ℕ) (packet : Ipv6Packet) : Type 0 where
   pub cut : bytes ≡ packet.header ++ bytes_of pieces ++ packet.payload.payload ++ padding
   pub header : v6.IsIpv6Header packet.header
   pub row : Row view_order [] (v6.next_header_of packet.header) pieces last
-  pub ended : has_place last ≡ false
+  pub ended : has_slot last ≡ false
   pub size : length (bytes_of pieces) + length packet.payload.payload
       ≡ body_len packet.header (length bytes - 40)
   pub exts : packet.exts ≡ exts_of (v6.next_header_of packet.header) pieces

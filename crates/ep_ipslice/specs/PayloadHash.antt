@@ -10,8 +10,8 @@ use Rattle.ep_ipslice.specs.Packet.{IpPayload}
 fed_from : List ℕ → fed.HashWrites
 fed_from [] = []
 fed_from (n ∷ []) = []
-fed_from (n ∷ (part ∷ [])) = []
-fed_from (n ∷ (part ∷ (source ∷ bytes))) = fed.u8 n ++ fed.u8 part ++ fed.u8 source
+fed_from (n ∷ (fragment_flag ∷ [])) = []
+fed_from (n ∷ (fragment_flag ∷ (source ∷ bytes))) = fed.u8 n ++ fed.u8 fragment_flag ++ fed.u8 source
     ++ fed.slice fed.u8 bytes
 
 pub hashed_alike : (p q : IpPayload) → on ordered_as (pointwise nat_eq) p q ≡ true

@@ -1,4 +1,4 @@
-//! Views of IP packets: an IPv4 or IPv6 header, the extension headers behind it and the payload,
+//! Views of IP packets: an IPv4 or IPv6 header, the extension headers after it and the payload,
 //! borrowed from the bytes of the packet.
 #![tactic(auto)]
 

@@ -1,5 +1,5 @@
-mod ArpFront
-mod ArpSpelling
-mod EthernetSpelling
-mod SllFront
-mod SllSpelling
+mod ArpPrefix
+mod ArpEncoding
+mod EthernetEncoding
+mod SllPrefix
+mod SllEncoding

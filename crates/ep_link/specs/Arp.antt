@@ -1,4 +1,4 @@
--- An ARP packet (RFC 826): its bytes, and each field by its place in them.
+-- An ARP packet (RFC 826): its bytes, and each field by its offset in them.
 use Rattle.std.specs.Prelude.{◌≡◌, ℕ, ◌+◌, ◌*◌, ◌^◌, ◌<◌, ◌≤◌, nat_lt, List, ◌∷◌, ◌++◌, length}
 use Rattle.std.specs.Prelude.{take, drop, Result, []}
 use Rattle.std.specs.Int.{w16, to_be_bytes}
@@ -48,32 +48,32 @@ proto_type_of bytes = ether_type_at bytes 2
 abbrev pub operation_of : List ℕ → ArpOperation
 operation_of bytes = record { 0 = num bytes 6 2 }
 
--- the four addresses, one behind the other
+-- the four addresses, one after the other
 abbrev pub addresses_of : List ℕ → List ℕ
 addresses_of bytes = drop 8 bytes
 
-abbrev pub behind_sender_hw : List ℕ → List ℕ
-behind_sender_hw bytes = drop (hw_len_of bytes) (addresses_of bytes)
+abbrev pub after_sender_hw : List ℕ → List ℕ
+after_sender_hw bytes = drop (hw_len_of bytes) (addresses_of bytes)
 
-abbrev pub behind_sender : List ℕ → List ℕ
-behind_sender bytes = drop (proto_len_of bytes) (behind_sender_hw bytes)
+abbrev pub after_sender : List ℕ → List ℕ
+after_sender bytes = drop (proto_len_of bytes) (after_sender_hw bytes)
 
-abbrev pub behind_target_hw : List ℕ → List ℕ
-behind_target_hw bytes = drop (hw_len_of bytes) (behind_sender bytes)
+abbrev pub after_target_hw : List ℕ → List ℕ
+after_target_hw bytes = drop (hw_len_of bytes) (after_sender bytes)
 
 abbrev pub sender_hw_of : List ℕ → List ℕ
 sender_hw_of bytes = take (hw_len_of bytes) (addresses_of bytes)
 
 abbrev pub sender_proto_of : List ℕ → List ℕ
-sender_proto_of bytes = take (proto_len_of bytes) (behind_sender_hw bytes)
+sender_proto_of bytes = take (proto_len_of bytes) (after_sender_hw bytes)
 
 abbrev pub target_hw_of : List ℕ → List ℕ
-target_hw_of bytes = take (hw_len_of bytes) (behind_sender bytes)
+target_hw_of bytes = take (hw_len_of bytes) (after_sender bytes)
 
 abbrev pub target_proto_of : List ℕ → List ℕ
-target_proto_of bytes = take (proto_len_of bytes) (behind_target_hw bytes)
+target_proto_of bytes = take (proto_len_of bytes) (after_target_hw bytes)
 
--- the fields that a packet's bytes spell
+-- the fields that a packet's bytes encode
 abbrev pub fields_of : List ℕ → ArpFields
 fields_of bytes = record {
   hw_addr_type = hw_type_of bytes;
@@ -85,15 +85,15 @@ fields_of bytes = record {
   target_protocol_addr = target_proto_of bytes;
 }
 
--- the part in front of the addresses
-abbrev pub fixed_spelling : ArpFields → List ℕ
-fixed_spelling a =
+-- the fields before the addresses
+abbrev pub fixed_encoding : ArpFields → List ℕ
+fixed_encoding a =
     to_be_bytes w16 a.hw_addr_type.0 ++ to_be_bytes w16 a.proto_addr_type.0
     ++ length a.sender_hw_addr ∷ length a.sender_protocol_addr ∷ to_be_bytes w16 a.operation.0
 
 -- the bytes of a packet
-abbrev pub spelling : ArpFields → List ℕ
-spelling a = fixed_spelling a
+abbrev pub encoding : ArpFields → List ℕ
+encoding a = fixed_encoding a
     ++ (a.sender_hw_addr ++ (a.sender_protocol_addr
     ++ (a.target_hw_addr ++ a.target_protocol_addr)))
 
@@ -107,12 +107,13 @@ pub record IsArp (a : ArpFields) : Type 0 where
   pub hw : AreAddresses a.sender_hw_addr a.target_hw_addr
   pub proto : AreAddresses a.sender_protocol_addr a.target_protocol_addr
 
--- the address lengths want so many bytes, and fewer are there
+-- the address lengths need so many bytes, and fewer are there
 abbrev pub addresses_cut : ℕ → ℕ → LenError
 addresses_cut required found =
     record (too_few_bytes layer.Arp required found) { len_source = ArpAddrLengths }
 
--- the packet at the front of the bytes, or the first want: 8 bytes, the addresses
+-- the packet at the start of the bytes, or the first error: fewer than 8 bytes, then too few for
+-- the addresses
 abbrev pub packet_at : List ℕ → Result (List ℕ) LenError
 packet_at bytes = unless_refused (
     (nat_lt (length bytes) 8, too_few_bytes layer.Arp 8 (length bytes))
@@ -132,11 +133,11 @@ pub record Fits (a : ArpFields) : Type 0 where
 abbrev pub packet_len_in : ArpFields → ℕ
 packet_len_in a = 8 + 2 * length a.sender_hw_addr + 2 * length a.sender_protocol_addr
 
--- at the front of the bytes stands a packet with these fields, which spell it again
+-- the bytes start with a packet with these fields, which encode it again
 pub record IsRead (bytes : List ℕ) (a : ArpFields) : Type 0 where
-  pub front : List ℕ
+  pub prefix : List ℕ
   pub rest : List ℕ
-  pub packet : IsArpPacket front
-  pub place : bytes ≡ front ++ rest
-  pub fields : a ≡ fields_of front
-  pub again : spelling a ≡ front
+  pub packet : IsArpPacket prefix
+  pub offset : bytes ≡ prefix ++ rest
+  pub fields : a ≡ fields_of prefix
+  pub again : encoding a ≡ prefix

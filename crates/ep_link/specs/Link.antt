@@ -20,9 +20,9 @@ linux_sll_in (header.Ethernet2 h) = None
 linux_sll_in (header.LinuxSll h) = Some h
 
 -- the bytes of a link header
-abbrev pub link_spelling : LinkHeader → List ℕ
-link_spelling (header.Ethernet2 h) = ethernet.spelling h
-link_spelling (header.LinuxSll h) = sll.spelling h
+abbrev pub link_encoding : LinkHeader → List ℕ
+link_encoding (header.Ethernet2 h) = ethernet.encoding h
+link_encoding (header.LinuxSll h) = sll.encoding h
 
 -- the length of a link header
 abbrev pub link_len : LinkHeader → ℕ
@@ -36,9 +36,9 @@ fields_of (slice.LinuxSll bytes) = Some (header.LinuxSll (sll.sll_header_of byte
 fields_of (slice.EtherPayload p) = None
 fields_of (slice.LinuxSllPayload p) = None
 
--- what stands behind an ether type, the link header's own or that in its place
-abbrev pub payload_behind : LinkSlice → Option EtherPayload
-payload_behind (slice.Ethernet2 frame) = Some (ethernet.payload_of frame)
-payload_behind (slice.LinuxSll bytes) = cooked.named_payload (cooked.payload_of bytes)
-payload_behind (slice.EtherPayload p) = Some p
-payload_behind (slice.LinuxSllPayload p) = cooked.named_payload p
+-- what follows an ether type: that of the link header, or the one given without a link header
+abbrev pub payload_after : LinkSlice → Option EtherPayload
+payload_after (slice.Ethernet2 frame) = Some (ethernet.payload_of frame)
+payload_after (slice.LinuxSll bytes) = cooked.named_payload (cooked.payload_of bytes)
+payload_after (slice.EtherPayload p) = Some p
+payload_after (slice.LinuxSllPayload p) = cooked.named_payload p

@@ -1,4 +1,4 @@
--- What a link header ends as, where a `&mut` to its fields was returned.
+-- What a link header is in the end, where a `&mut` to its fields was returned.
 use Rattle.std.specs.Prelude.{Option}
 use Rattle.std.specs.Borrow.{Fml, LendsIf, MutBor}
 use Rattle.ep_link.specs.contracts.link.ethernet2_header.Ethernet2Header.{the_row as ethernet2_row}

@@ -1,5 +1,5 @@
 -- The header of a Linux cooked capture (libpcap's page on LINKTYPE_LINUX_SLL): its bytes, and each
--- field by its place in them.
+-- field by its offset in them.
 use Rattle.std.specs.Prelude.{◌≡◌, ℕ, ◌^◌, ◌<◌, ◌≤◌, ◌==◌, ◌||◌, nat_le, if◌then◌else◌, List, ◌++◌}
 use Rattle.std.specs.Prelude.{length, slice_range}
 use Rattle.std.specs.Int.{w16, to_be_bytes}
@@ -8,7 +8,7 @@ use Rattle.ep_link.specs.declared.link.arp_hardware_id.ArpHardwareId.{ArpHardwar
 use Rattle.ep_link.specs.declared.link.linux_sll_header.LinuxSllHeader.{LinuxSllHeader}
 use Rattle.ep_link.specs.declared.link.linux_sll_protocol_type.LinuxSllProtocolType.{LinuxSllProtocolType}
 use Rattle.ep_link.specs.declared.link.linux_sll_protocol_type.LinuxSllProtocolType.TheVariants as protocol
-use Rattle.ep_base.specs.Fronts.{IsReadAs}
+use Rattle.ep_base.specs.Prefixes.{IsReadAs}
 
 abbrev pub sll_len : ℕ
 sll_len = 16
@@ -68,7 +68,7 @@ pub record IsSllHeader (bytes : List ℕ) : Type 0 where
   pub packet_type : packet_type_of bytes ≤ greatest_packet_type
   pub whole : length bytes ≡ sll_len
 
--- the fields that the first 16 bytes spell
+-- the fields that the first 16 bytes encode
 abbrev pub sll_header_of : List ℕ → LinuxSllHeader
 sll_header_of bytes = record {
   packet_type = packet_type_of bytes;
@@ -79,8 +79,8 @@ sll_header_of bytes = record {
 }
 
 -- the bytes of a header
-abbrev pub spelling : LinuxSllHeader → List ℕ
-spelling h =
+abbrev pub encoding : LinuxSllHeader → List ℕ
+encoding h =
     to_be_bytes w16 h.packet_type ++ to_be_bytes w16 h.arp_hrd_type.0
     ++ to_be_bytes w16 h.sender_address_valid_length
     ++ h.sender_address ++ to_be_bytes w16 (number_of h.protocol_type)
@@ -89,9 +89,9 @@ spelling h =
 abbrev pub NamesProtocol : LinuxSllHeader → Type 0
 NamesProtocol h = protocol_of h.arp_hrd_type (number_of h.protocol_type) ≡ h.protocol_type
 
--- in front of the rest stands a header with these fields, which spell it again
+-- the bytes are a header with these fields, which encode it again, and the rest
 abbrev pub IsRead : List ℕ → LinuxSllHeader → List ℕ → Type 0
-IsRead = IsReadAs IsSllHeader sll_header_of spelling (λ front. front)
+IsRead = IsReadAs IsSllHeader sll_header_of encoding (λ prefix. prefix)
 
 -- the ranges of the fields
 pub record Fits (h : LinuxSllHeader) : Type 0 where

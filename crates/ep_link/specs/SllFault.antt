@@ -28,7 +28,7 @@ unless_fault bytes = unless_refused ((
     )
     ∷ [])
 
--- the header at the front of the bytes
+-- the header at the start of the bytes
 abbrev pub header_at : List ℕ → Result (List ℕ) (SliceError HeaderError)
 header_at bytes = unless_fault bytes (take sll_len bytes)
 

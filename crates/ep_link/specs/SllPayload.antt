@@ -8,7 +8,7 @@ use Rattle.ep_link.specs.declared.link.linux_sll_protocol_type.LinuxSllProtocolT
 use Rattle.ep_link.specs.Sll.{hardware_type_of, number_of, protocol_of, sll_len}
 use Rattle.ep_tag.specs.Ether.{EtherPayload}
 
--- the protocol, and the bytes behind the header
+-- the protocol, and the bytes after the header
 pub record SllPayload : Type 0 where
   pub protocol_type : LinuxSllProtocolType
   pub payload : List ℕ
@@ -20,21 +20,21 @@ payload_of bytes =
       payload = drop sll_len bytes;
     }
 
--- the place of a kind of protocol among the variants
-abbrev pub kind_place : LinuxSllProtocolType → ℕ
-kind_place (protocol.Ignored n) = 0
-kind_place (protocol.NetlinkProtocolType n) = 1
-kind_place (protocol.GenericRoutingEncapsulationProtocolType n) = 2
-kind_place (protocol.EtherType t) = 3
-kind_place (protocol.LinuxNonstandardEtherType n) = 4
+-- the index of a kind of protocol among the variants
+abbrev pub kind_index : LinuxSllProtocolType → ℕ
+kind_index (protocol.Ignored n) = 0
+kind_index (protocol.NetlinkProtocolType n) = 1
+kind_index (protocol.GenericRoutingEncapsulationProtocolType n) = 2
+kind_index (protocol.EtherType t) = 3
+kind_index (protocol.LinuxNonstandardEtherType n) = 4
 
--- kind and number of a protocol, which tell protocols apart
+-- kind and number of a protocol, which differ where protocols differ
 abbrev pub protocol_ordered_as : LinuxSllProtocolType → List ℕ
-protocol_ordered_as p = kind_place p ∷ number_of p ∷ []
+protocol_ordered_as p = kind_index p ∷ number_of p ∷ []
 
--- all of a payload in one list, which tells payloads apart
+-- all of a payload in one list, which differs where payloads differ
 abbrev pub compared_as : SllPayload → List ℕ
-compared_as p = kind_place p.protocol_type ∷ number_of p.protocol_type ∷ p.payload
+compared_as p = kind_index p.protocol_type ∷ number_of p.protocol_type ∷ p.payload
 
 abbrev pub ether_payload_of : LinuxSllProtocolType → List ℕ → Option EtherPayload
 ether_payload_of (protocol.Ignored n) bytes = None
@@ -44,7 +44,7 @@ ether_payload_of (protocol.EtherType t) bytes =
     Some (record { ether_type = t; len_source = Slice; payload = bytes })
 ether_payload_of (protocol.LinuxNonstandardEtherType n) bytes = None
 
--- the same bytes behind an ether type, where the protocol is one
+-- the same bytes after an ether type, where the protocol is one
 abbrev pub named_payload : SllPayload → Option EtherPayload
 named_payload p = ether_payload_of p.protocol_type p.payload
 

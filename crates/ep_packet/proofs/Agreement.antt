@@ -1,11 +1,11 @@
--- Headers of an IPv6 packet as values beside its view.
+-- Headers of an IPv6 packet as values agree with its view.
 use Rattle.std.proofs.Common.{◌≡◌, ◌∙◌, ℕ, false, List, [], ◌++◌, length, refl, sym, ap}
 use Rattle.std.proofs.Common.{append_assoc, length-append}
 use Rattle.std.specs.Option.{option_map_or}
 use Rattle.ep_ext.specs.Chain.{Row}
-use Rattle.ep_ext.specs.Follow.{has_place}
+use Rattle.ep_ext.specs.Follow.{has_slot}
 use Rattle.ep_ext.specs.Fragment.{fragments}
-use Rattle.ep_ext.specs.Place.{place_of}
+use Rattle.ep_ext.specs.Slot.{slot_of}
 use Rattle.ep_ext.specs.Value.{Piece, bytes_of, value_of}
 use Rattle.ep_ext.specs.declared.net.ipv6_extensions.Ipv6Extensions.{Ipv6Extensions}
 use Rattle.ep_ip.specs.Ipv6.{ipv6_header_of, next_header_of}
@@ -16,10 +16,10 @@ use Rattle.ep_packet.specs.ReadIpHeaders.{IsIpv6Headers}
 use Rattle.ep_packet.specs.declared.net.ip_headers.IpHeaders.{IpHeaders}
 use Rattle.ep_packet.specs.declared.net.ip_headers.IpHeaders.TheVariants as ip
 
--- that headers at places of one value are headers of a view
-abbrev pub PlacedAreViews : Type 0
-PlacedAreViews =
-    (first : ℕ) (pieces : List Piece) (last : ℕ) → Row place_of [] first pieces last
+-- that headers in the slots of one value are headers of a view
+abbrev pub SlotsAreViews : Type 0
+SlotsAreViews =
+    (first : ℕ) (pieces : List Piece) (last : ℕ) → Row slot_of [] first pieces last
     → (q : List Piece) × Row view_order [] first q last × (bytes_of q ≡ bytes_of pieces)
     × (is_any_fragmenting q ≡ option_map_or fragments (value_of pieces).fragment false)
 
@@ -28,7 +28,7 @@ view_is : (bytes : List ℕ) (headers : IpHeaders) (payload : IpPayload)
     (is : IsIpv6Headers bytes headers payload) (q : List Piece)
     → Row view_order [] (next_header_of is.header) q is.last → bytes_of q ≡ bytes_of is.pieces →
     is_any_fragmenting q ≡ option_map_or fragments (value_of is.pieces).fragment false
-    → has_place payload.ip_number.0 ≡ false →
+    → has_slot payload.ip_number.0 ≡ false →
     IsIpv6Packet bytes
     (record {
       header = is.header;
@@ -38,7 +38,7 @@ view_is : (bytes : List ℕ) (headers : IpHeaders) (payload : IpPayload)
 view_is bytes headers payload is q row same parted none =
     let body : is.body ≡ bytes_of q ++ payload.payload =
     is.chain.cut ∙ ap (λ (xs : List ℕ). xs ++ payload.payload) (sym same) in
-    let part : is_fragmenting headers ≡ is_any_fragmenting q =
+    let fragment : is_fragmenting headers ≡ is_any_fragmenting q =
     ap is_fragmenting is.value ∙ sym parted in
     record {
       pieces = q;
@@ -49,23 +49,23 @@ view_is bytes headers payload is q row same parted none =
           (sym (append_assoc is.header (bytes_of q) payload.payload));
       header = is.begins.whole;
       row = row;
-      ended = ap (λ (p : IpPayload). has_place p.ip_number.0) (sym is.told) ∙ none;
+      ended = ap (λ (p : IpPayload). has_slot p.ip_number.0) (sym is.returned) ∙ none;
       size = sym (length-append (bytes_of q) payload.payload)
           ∙ sym (ap length body) ∙ is.begins.size;
       exts = refl;
-      fields = is.told
+      fields = is.returned
           ∙ (λ i. record {
             ip_number = record { 0 = is.last };
-            fragmented = part i;
+            fragmented = fragment i;
             len_source = is.begins.bounded i;
             payload = payload.payload;
           });
     }
 
-pub agree : (bytes : List ℕ) → PlacedAreViews
+pub agree : (bytes : List ℕ) → SlotsAreViews
     → ((p q : Ipv6Packet) → IsIpv6Packet bytes p → IsIpv6Packet bytes q → p ≡ q) →
     (packet : Ipv6Packet) (headers : IpHeaders) (payload : IpPayload) → IsIpv6Packet bytes packet
-    → IsIpv6Headers bytes headers payload → has_place payload.ip_number.0 ≡ false →
+    → IsIpv6Headers bytes headers payload → has_slot payload.ip_number.0 ≡ false →
     (payload ≡ packet.payload)
     × ((e : Ipv6Extensions) × (headers ≡ ip.Ipv6 (ipv6_header_of packet.header) e))
 agree bytes placed alone packet headers payload begins is none =

@@ -1,4 +1,4 @@
--- The class of a frame, as its parts tell it.
+-- The class of a frame is that of its layers.
 use Rattle.std.proofs.Common.{◌≡◌, ◌↔◌, ◌∙◌, ℕ, ◌==◌, Bool, true, false, cond, List, Option, Some}
 use Rattle.std.proofs.Common.{None, Result, Ok, Err, IsErr, IfOk, if◌then◌else◌, refl, sym, ap}
 use Rattle.std.specs.Prelude.{⊤}
@@ -15,10 +15,10 @@ use Rattle.ep_link.specs.Arp.{packet_at}
 use Rattle.ep_link.specs.Ethernet.{ethernet_len, payload_of}
 use Rattle.ep_link.specs.declared.link.link_slice.LinkSlice.{LinkSlice}
 use Rattle.ep_link.specs.declared.link.link_slice.LinkSlice.TheVariants as link
-use Rattle.ep_packet.specs.Class.{Class, arp_class_at, class_of, class_told, frame_class}
+use Rattle.ep_packet.specs.Class.{Class, arp_class_at, class_of, sliced_class, frame_class}
 use Rattle.ep_packet.specs.Class.{ipv4_addresses, ipv4_class_at, ipv6_addresses, ipv6_class_at}
-use Rattle.ep_packet.specs.Class.{last_class, message_class, message_told, net_told, part_class}
-use Rattle.ep_packet.specs.Class.{read_class, tagged_class, whole_told}
+use Rattle.ep_packet.specs.Class.{last_class, message_class, transport_message, net_class, fragmented_class}
+use Rattle.ep_packet.specs.Class.{read_class, tagged_class, whole_class}
 use Rattle.ep_packet.specs.Class.Class.{Whole, Other, Refused}
 use Rattle.ep_packet.specs.Readable.{ReadMessage, icmpv4, icmpv6, message_at, read_as, tcp, udp}
 use Rattle.ep_packet.specs.Readable.ReadMessage.{Icmpv4, Icmpv6, Raw, Tcp, Udp}
@@ -36,15 +36,15 @@ use Rattle.ep_packet.specs.declared.net.net_slice.NetSlice.TheVariants as net
 use Rattle.ep_packet.specs.declared.sliced_packet.SlicedPacket.{SlicedPacket}
 use Rattle.ep_packet.specs.declared.transport.transport_slice.TransportSlice.{TransportSlice}
 use Rattle.ep_tag.specs.Ether.{EtherPayload}
-use Rattle.ep_tag.specs.Front.{whole_at}
+use Rattle.ep_tag.specs.Prefix.{whole_at}
 use Rattle.ep_tag.specs.declared.link.link_ext_slice.LinkExtSlice.{LinkExtSlice}
 
--- the class that the layers tell, behind tags with these identifiers
-abbrev pub layers_told : List ℕ → Result Layers SliceError → Class
-layers_told ids (Ok layers) = net_told ids layers.net layers.transport
-layers_told ids (Err e) = Refused
+-- the class of the layers, after tags with these identifiers
+abbrev pub layers_class : List ℕ → Result Layers SliceError → Class
+layers_class ids (Ok layers) = net_class ids layers.net layers.transport
+layers_class ids (Err e) = Refused
 
--- of a message as a slice the message can be told again: only one of another protocol is its bytes
+-- a message is recovered from its slice, where a message of another protocol is all of the bytes
 abbrev IsOwn : List ℕ → ReadMessage → Type 0
 IsOwn bytes (Raw m) = m ≡ bytes
 IsOwn bytes (Icmpv4 m) = ⊤
@@ -73,13 +73,13 @@ read_own number bytes =
     (chosen (AllOwn bytes) (number == icmpv6) _ _
     (own_as bytes (λ m. Icmpv6 m) _ _ (λ m. tt)) refl)))
 
-told_again : (bytes : List ℕ) (message : ReadMessage) → IsOwn bytes message
-    → message_told bytes (transport_of message) ≡ message
-told_again bytes (Raw m) own = ap (λ (xs : List ℕ). Raw xs) (sym own)
-told_again bytes (Icmpv4 m) own = refl
-told_again bytes (Tcp m) own = refl
-told_again bytes (Udp m) own = refl
-told_again bytes (Icmpv6 m) own = refl
+message_recovered : (bytes : List ℕ) (message : ReadMessage) → IsOwn bytes message
+    → transport_message bytes (transport_of message) ≡ message
+message_recovered bytes (Raw m) own = ap (λ (xs : List ℕ). Raw xs) (sym own)
+message_recovered bytes (Icmpv4 m) own = refl
+message_recovered bytes (Tcp m) own = refl
+message_recovered bytes (Udp m) own = refl
+message_recovered bytes (Icmpv6 m) own = refl
 
 -- what is wrong with bytes that are no message
 pub unread : (r : Result ReadMessage SliceError) (e : SliceError)
@@ -87,56 +87,56 @@ pub unread : (r : Result ReadMessage SliceError) (e : SliceError)
 unread (Ok message) e is = cc
 unread (Err f) e is = cc
 
--- a part over IPv6, by the first fragment header of the packet's own bytes
+-- a fragment over IPv6, by the first fragment header of the packet's own bytes
 taken : {X : Type 0} (b : Bool) (x y : X) → b ≡ true → cond b x y ≡ x
 taken true x y is = refl
 taken false x y is = cc
 
-pub ipv6_part_told : (ids : List ℕ) (packet : Ipv6Packet) (message : Option TransportSlice)
+pub ipv6_fragment_agrees : (ids : List ℕ) (packet : Ipv6Packet) (message : Option TransportSlice)
     (whole : IsWholeIpv6 packet)
     (fields : Option FragmentFields) → packet.payload.fragmented ≡ true
     → extensions_in packet ≡ whole.pieces
     → ipv6_fragment_fields whole.pieces ≡ fields
-    → net_told ids (Some (net.Ipv6 packet)) message
-    ≡ part_class ids (ipv6_addresses packet) packet.payload fields
-ipv6_part_told ids packet message whole fields is same told =
+    → net_class ids (Some (net.Ipv6 packet)) message
+    ≡ fragmented_class ids (ipv6_addresses packet) packet.payload fields
+ipv6_fragment_agrees ids packet message whole fields is same returned =
     taken packet.payload.fragmented _ _ is
-    ∙ ap (λ (fs : Option FragmentFields). part_class ids (ipv6_addresses packet) packet.payload fs)
-    (ap ipv6_fragment_fields same ∙ told)
+    ∙ ap (λ (fs : Option FragmentFields). fragmented_class ids (ipv6_addresses packet) packet.payload fs)
+    (ap ipv6_fragment_fields same ∙ returned)
 
--- the class that a packet tells with what was read of its payload
-abbrev ChoiceTold : Class → Addresses → IpPayload → Bool → Option TransportSlice → Class
-ChoiceTold part addresses p fragmented message = if fragmented then part
-    else whole_told addresses p message
+-- the class of a packet, by what was read of its payload
+abbrev ChosenClass : Class → Addresses → IpPayload → Bool → Option TransportSlice → Class
+ChosenClass fragment addresses p fragmented message = if fragmented then fragment
+    else whole_class addresses p message
 
 abbrev message_read : Class → Addresses → IpPayload → Bool
     → Result (Option TransportSlice) SliceError → Class
-message_read part addresses p fragmented (Ok message) =
-    ChoiceTold part addresses p fragmented message
-message_read part addresses p fragmented (Err e) = Refused
+message_read fragment addresses p fragmented (Ok message) =
+    ChosenClass fragment addresses p fragmented message
+message_read fragment addresses p fragmented (Err e) = Refused
 
-uncut : (part : Class) (addresses : Addresses) (p : IpPayload) (r : Result ReadMessage SliceError)
+uncut : (fragment : Class) (addresses : Addresses) (p : IpPayload) (r : Result ReadMessage SliceError)
     → AllOwn p.payload r →
-    message_read part addresses p false (result_within p.len_source (read_transport r))
+    message_read fragment addresses p false (result_within p.len_source (read_transport r))
     ≡ read_class addresses p r
-uncut part addresses p (Ok message) own =
+uncut fragment addresses p (Ok message) own =
     ap (λ (m : ReadMessage). Whole addresses p.ip_number.0 p.payload m)
-    (told_again p.payload message own)
-uncut part addresses p (Err e) own = refl
+    (message_recovered p.payload message own)
+uncut fragment addresses p (Err e) own = refl
 
-payload_told : (part : Class) (addresses : Addresses) (p : IpPayload) (fragmented : Bool) →
-    message_read part addresses p fragmented
+payload_parsed : (fragment : Class) (addresses : Addresses) (p : IpPayload) (fragmented : Bool) →
+    message_read fragment addresses p fragmented
     (if fragmented then Ok None
     else result_within p.len_source (read_transport (message_at p.ip_number.0 p.payload)))
-    ≡ (if fragmented then part else message_class addresses p)
-payload_told part addresses p true = refl
-payload_told part addresses p false =
-    uncut part addresses p (message_at p.ip_number.0 p.payload) (read_own p.ip_number.0 p.payload)
+    ≡ (if fragmented then fragment else message_class addresses p)
+payload_parsed fragment addresses p true = refl
+payload_parsed fragment addresses p false =
+    uncut fragment addresses p (message_at p.ip_number.0 p.payload) (read_own p.ip_number.0 p.payload)
 
 ipv4_with : (ids : List ℕ) (packet : Ipv4Packet) (n : ℕ)
     (r : Result (Option TransportSlice) SliceError) →
-    layers_told ids (with_transport (net.Ipv4 packet) n r)
-    ≡ message_read (part_class ids (ipv4_addresses packet) (ipv4_payload packet)
+    layers_class ids (with_transport (net.Ipv4 packet) n r)
+    ≡ message_read (fragmented_class ids (ipv4_addresses packet) (ipv4_payload packet)
     (Some (ipv4_fragment_fields packet.header))) (ipv4_addresses packet) (ipv4_payload packet)
     (ipv4_payload packet).fragmented r
 ipv4_with ids packet n (Ok message) = refl
@@ -144,106 +144,106 @@ ipv4_with ids packet n (Err e) = refl
 
 ipv6_with : (ids : List ℕ) (packet : Ipv6Packet) (n : ℕ)
     (r : Result (Option TransportSlice) SliceError) →
-    layers_told ids (with_transport (net.Ipv6 packet) n r)
-    ≡ message_read (part_class ids (ipv6_addresses packet) packet.payload
+    layers_class ids (with_transport (net.Ipv6 packet) n r)
+    ≡ message_read (fragmented_class ids (ipv6_addresses packet) packet.payload
     (fragment_fields_in packet)) (ipv6_addresses packet) packet.payload
     packet.payload.fragmented r
 ipv6_with ids packet n (Ok message) = refl
 ipv6_with ids packet n (Err e) = refl
 
-pub ipv4_told : (ids : List ℕ) (r : Result Ipv4Packet Ipv4Fault)
-    → layers_told ids (ipv4_layers r) ≡ ipv4_class_at ids r
-ipv4_told ids (Ok packet) =
+pub ipv4_agrees : (ids : List ℕ) (r : Result Ipv4Packet Ipv4Fault)
+    → layers_class ids (ipv4_layers r) ≡ ipv4_class_at ids r
+ipv4_agrees ids (Ok packet) =
     ipv4_with ids packet _ (transport_in (ipv4_payload packet))
-    ∙ payload_told _ (ipv4_addresses packet) (ipv4_payload packet)
+    ∙ payload_parsed _ (ipv4_addresses packet) (ipv4_payload packet)
     (ipv4_payload packet).fragmented
-ipv4_told ids (Err e) = refl
+ipv4_agrees ids (Err e) = refl
 
-pub ipv6_told : (ids : List ℕ) (r : Result Ipv6Packet Ipv6Fault)
-    → layers_told ids (ipv6_layers r) ≡ ipv6_class_at ids r
-ipv6_told ids (Ok packet) = ipv6_with ids packet _ (transport_in packet.payload)
-    ∙ payload_told _ (ipv6_addresses packet) packet.payload packet.payload.fragmented
-ipv6_told ids (Err e) = refl
+pub ipv6_agrees : (ids : List ℕ) (r : Result Ipv6Packet Ipv6Fault)
+    → layers_class ids (ipv6_layers r) ≡ ipv6_class_at ids r
+ipv6_agrees ids (Ok packet) = ipv6_with ids packet _ (transport_in packet.payload)
+    ∙ payload_parsed _ (ipv6_addresses packet) packet.payload packet.payload.fragmented
+ipv6_agrees ids (Err e) = refl
 
-arp_told : (ids : List ℕ) (r : Result (List ℕ) LenError)
-    → layers_told ids (arp_layers r) ≡ arp_class_at r
-arp_told ids (Ok packet) = refl
-arp_told ids (Err e) = refl
+arp_agrees : (ids : List ℕ) (r : Result (List ℕ) LenError)
+    → layers_class ids (arp_layers r) ≡ arp_class_at r
+arp_agrees ids (Ok packet) = refl
+arp_agrees ids (Err e) = refl
 
-chosen_told : (ids : List ℕ) (b : Bool) (x y : Result Layers SliceError) (j k : Class)
-    → layers_told ids x ≡ j → layers_told ids y ≡ k → layers_told ids (cond b x y) ≡ cond b j k
-chosen_told ids true x y j k left right = left
-chosen_told ids false x y j k left right = right
+chosen_agrees : (ids : List ℕ) (b : Bool) (x y : Result Layers SliceError) (j k : Class)
+    → layers_class ids x ≡ j → layers_class ids y ≡ k → layers_class ids (cond b x y) ≡ cond b j k
+chosen_agrees ids true x y j k left right = left
+chosen_agrees ids false x y j k left right = right
 
-last_told : (ids : List ℕ) (last : Option EtherPayload)
-    → layers_told ids (layers_in last) ≡ last_class ids last
-last_told ids None = refl
-last_told ids (Some p) =
-    chosen_told ids (p.ether_type.0 == ipv4_type) _ _ _ _ (ipv4_told ids (ipv4_packet_at p.payload))
-    (chosen_told ids (p.ether_type.0 == ipv6_type) _ _ _ _
-    (ipv6_told ids (ipv6_packet_at p.payload))
-    (chosen_told ids (p.ether_type.0 == arp_type) _ _ _ _
-    (arp_told ids (packet_at p.payload)) refl))
+last_agrees : (ids : List ℕ) (last : Option EtherPayload)
+    → layers_class ids (layers_in last) ≡ last_class ids last
+last_agrees ids None = refl
+last_agrees ids (Some p) =
+    chosen_agrees ids (p.ether_type.0 == ipv4_type) _ _ _ _ (ipv4_agrees ids (ipv4_packet_at p.payload))
+    (chosen_agrees ids (p.ether_type.0 == ipv6_type) _ _ _ _
+    (ipv6_agrees ids (ipv6_packet_at p.payload))
+    (chosen_agrees ids (p.ether_type.0 == arp_type) _ _ _ _
+    (arp_agrees ids (packet_at p.payload)) refl))
 
-with_told : (header : Option LinkSlice) (tags : List LinkExtSlice) (n m : ℕ)
-    (r : Result Layers SliceError) → class_told (later n (packet_with header tags (later m r)))
-    ≡ layers_told (vlan_ids_of tags) r
-with_told header tags n m (Ok layers) = refl
-with_told header tags n m (Err e) = refl
+with_agrees : (header : Option LinkSlice) (tags : List LinkExtSlice) (n m : ℕ)
+    (r : Result Layers SliceError) → sliced_class (later n (packet_with header tags (later m r)))
+    ≡ layers_class (vlan_ids_of tags) r
+with_agrees header tags n m (Ok layers) = refl
+with_agrees header tags n m (Err e) = refl
 
-pub tagged_told : (header : Option LinkSlice) (n : ℕ) (r : Result Tagged SliceError)
-    → class_told (later n (packet_tagged header r)) ≡ tagged_class r
-tagged_told header n (Ok t) = with_told header t.tags n t.len (layers_in t.last)
-    ∙ last_told (vlan_ids_of t.tags) t.last
-tagged_told header n (Err e) = refl
+pub tagged_agrees : (header : Option LinkSlice) (n : ℕ) (r : Result Tagged SliceError)
+    → sliced_class (later n (packet_tagged header r)) ≡ tagged_class r
+tagged_agrees header n (Ok t) = with_agrees header t.tags n t.len (layers_in t.last)
+    ∙ last_agrees (vlan_ids_of t.tags) t.last
+tagged_agrees header n (Err e) = refl
 
-frame_told : (r : Result (List ℕ) LenError) → class_told (in_frame r) ≡ frame_class r
-frame_told (Ok frame) = tagged_told (Some (link.Ethernet2 frame)) ethernet_len
+frame_agrees : (r : Result (List ℕ) LenError) → sliced_class (in_frame r) ≡ frame_class r
+frame_agrees (Ok frame) = tagged_agrees (Some (link.Ethernet2 frame)) ethernet_len
     (tags_in most_tags (payload_of frame))
-frame_told (Err e) = refl
+frame_agrees (Err e) = refl
 
-pub class_is_told : (frame : List ℕ) (r : Result SlicedPacket SliceError)
-    → r ≡ sliced_ethernet frame → class_told r ≡ class_of frame
-class_is_told frame r same = ap class_told same
-    ∙ frame_told (whole_at Ethernet2Header ethernet_len frame)
+pub class_agrees : (frame : List ℕ) (r : Result SlicedPacket SliceError)
+    → r ≡ sliced_ethernet frame → sliced_class r ≡ class_of frame
+class_agrees frame r same = ap sliced_class same
+    ∙ frame_agrees (whole_at Ethernet2Header ethernet_len frame)
 
 -- what is sliced is never refused
 fragment_taken : (b : Bool) (k : Class) → (k ≡ Refused → ⊥) → cond b k Other ≡ Refused → ⊥
 fragment_taken true k never is = never is
 fragment_taken false k never is = cc
 
-part_taken : (ids : List ℕ) (addresses : Addresses) (p : IpPayload) (fields : Option FragmentFields)
-    → part_class ids addresses p fields ≡ Refused → ⊥
-part_taken ids addresses p (Some fields) is =
+fragmented_taken : (ids : List ℕ) (addresses : Addresses) (p : IpPayload) (fields : Option FragmentFields)
+    → fragmented_class ids addresses p fields ≡ Refused → ⊥
+fragmented_taken ids addresses p (Some fields) is =
     fragment_taken (v4.is_fragmenting fields.more fields.offset) _ (λ same. cc) is
-part_taken ids addresses p None is = cc
+fragmented_taken ids addresses p None is = cc
 
-choice_taken : (b : Bool) (part whole : Class) → (part ≡ Refused → ⊥) → (whole ≡ Refused → ⊥)
-    → cond b part whole ≡ Refused → ⊥
-choice_taken true part whole left right is = left is
-choice_taken false part whole left right is = right is
+choice_taken : (b : Bool) (fragment whole : Class) → (fragment ≡ Refused → ⊥) → (whole ≡ Refused → ⊥)
+    → cond b fragment whole ≡ Refused → ⊥
+choice_taken true fragment whole left right is = left is
+choice_taken false fragment whole left right is = right is
 
 net_taken : (ids : List ℕ) (o : Option NetSlice) (message : Option TransportSlice)
-    → net_told ids o message ≡ Refused → ⊥
+    → net_class ids o message ≡ Refused → ⊥
 net_taken ids None message is = cc
 net_taken ids (Some (net.Ipv4 packet)) message is =
     choice_taken (ipv4_payload packet).fragmented _ _
-    (part_taken ids (ipv4_addresses packet) (ipv4_payload packet)
+    (fragmented_taken ids (ipv4_addresses packet) (ipv4_payload packet)
     (Some (ipv4_fragment_fields packet.header))) (λ same. cc) is
 net_taken ids (Some (net.Ipv6 packet)) message is =
     choice_taken packet.payload.fragmented _ _
-    (part_taken ids (ipv6_addresses packet) packet.payload (fragment_fields_in packet))
+    (fragmented_taken ids (ipv6_addresses packet) packet.payload (fragment_fields_in packet))
     (λ same. cc) is
 net_taken ids (Some (net.Arp packet)) message is = cc
 
-pub told_refused : (r : Result SlicedPacket SliceError) → IsErr r ↔ (class_told r ≡ Refused)
-told_refused (Ok packet) = (
+pub err_is_refused : (r : Result SlicedPacket SliceError) → IsErr r ↔ (sliced_class r ≡ Refused)
+err_is_refused (Ok packet) = (
   λ h. cc,
   λ h. absurd
       (net_taken (vlan_ids_of packet.link_exts.items) packet.net packet.transport h),
 )
-told_refused (Err e) = (λ h. refl, λ h. refl)
+err_is_refused (Err e) = (λ h. refl, λ h. refl)
 
-pub refused_is_told : (frame : List ℕ) (r : Result SlicedPacket SliceError)
+pub refusal_agrees : (frame : List ℕ) (r : Result SlicedPacket SliceError)
     → r ≡ sliced_ethernet frame → IsErr r ↔ (class_of frame ≡ Refused)
-refused_is_told frame r same = rw (← class_is_told frame r same) (told_refused r)
+refusal_agrees frame r same = rw (← class_agrees frame r same) (err_is_refused r)

@@ -1,6 +1,6 @@
--- Faults, seen from earlier bytes.
+-- Faults with offsets from an earlier start.
 use Rattle.std.proofs.Common.{◌≡◌, ℕ, ◌+◌, ◌≤◌, arith, refl, ap}
-use Rattle.ep_ipslice.specs.FaultPlace.{ip_place, ipv6_place}
+use Rattle.ep_ipslice.specs.FaultOffset.{ip_offset, ipv6_offset}
 use Rattle.ep_ipslice.specs.declared.err.ip.headers_error.HeadersError.TheVariants as headers
 use Rattle.ep_ipslice.specs.declared.err.ip.slice_error.SliceError.{SliceError as IpFault}
 use Rattle.ep_ipslice.specs.declared.err.ip.slice_error.SliceError.TheVariants as ip
@@ -13,16 +13,16 @@ use Rattle.ep_packet.specs.declared.err.packet.slice_error.SliceError.TheVariant
 use Rattle.ep_packet.specs.declared.err.packet.slice_error.SliceError.TheVariants.{Ipv6, Ipv4Exts}
 use Rattle.ep_packet.specs.declared.err.packet.slice_error.SliceError.TheVariants.{Ipv6Exts, Tcp}
 
-pub place_of_ip : (e : IpFault) → fault_offset (of_ip e) ≡ ip_place e
-place_of_ip (ip.Len e) = refl
-place_of_ip (ip.IpHeaders (headers.Ip e)) = refl
-place_of_ip (ip.IpHeaders (headers.Ipv4Ext e)) = refl
-place_of_ip (ip.IpHeaders (headers.Ipv6Ext e)) = refl
+pub offset_of_ip : (e : IpFault) → fault_offset (of_ip e) ≡ ip_offset e
+offset_of_ip (ip.Len e) = refl
+offset_of_ip (ip.IpHeaders (headers.Ip e)) = refl
+offset_of_ip (ip.IpHeaders (headers.Ipv4Ext e)) = refl
+offset_of_ip (ip.IpHeaders (headers.Ipv6Ext e)) = refl
 
-pub place_of_ipv6 : (e : Ipv6Fault) → fault_offset (of_ipv6 e) ≡ ipv6_place e
-place_of_ipv6 (ipv6.Len e) = refl
-place_of_ipv6 (ipv6.Header e) = refl
-place_of_ipv6 (ipv6.Exts e) = refl
+pub offset_of_ipv6 : (e : Ipv6Fault) → fault_offset (of_ipv6 e) ≡ ipv6_offset e
+offset_of_ipv6 (ipv6.Len e) = refl
+offset_of_ipv6 (ipv6.Header e) = refl
+offset_of_ipv6 (ipv6.Exts e) = refl
 
 pub moved_twice : (m n : ℕ) (e : SliceError) → offset_by m (offset_by n e) ≡ offset_by (m + n) e
 moved_twice m n (Len e) = let sum : e.layer_start_offset + n + m ≡ e.layer_start_offset + (m + n) =
@@ -48,15 +48,15 @@ moved_nothing (Ipv4Exts e) = refl
 moved_nothing (Ipv6Exts e) = refl
 moved_nothing (Tcp e) = refl
 
--- a fault at the front, moved, is at that place or has none
-pub place_moved : (e : SliceError) (n m : ℕ) → fault_offset e ≡ 0 → n ≤ m → fault_offset (offset_by
+-- a fault at offset 0, moved, has the new offset or none
+pub offset_moved : (e : SliceError) (n m : ℕ) → fault_offset e ≡ 0 → n ≤ m → fault_offset (offset_by
     n e) ≤ m
-place_moved (Len e) n m zero fits = omega arith
-place_moved (LinuxSll e) n m zero fits = omega arith
-place_moved (Macsec e) n m zero fits = omega arith
-place_moved (Ip e) n m zero fits = omega arith
-place_moved (Ipv4 e) n m zero fits = omega arith
-place_moved (Ipv6 e) n m zero fits = omega arith
-place_moved (Ipv4Exts e) n m zero fits = omega arith
-place_moved (Ipv6Exts e) n m zero fits = omega arith
-place_moved (Tcp e) n m zero fits = omega arith
+offset_moved (Len e) n m zero fits = omega arith
+offset_moved (LinuxSll e) n m zero fits = omega arith
+offset_moved (Macsec e) n m zero fits = omega arith
+offset_moved (Ip e) n m zero fits = omega arith
+offset_moved (Ipv4 e) n m zero fits = omega arith
+offset_moved (Ipv6 e) n m zero fits = omega arith
+offset_moved (Ipv4Exts e) n m zero fits = omega arith
+offset_moved (Ipv6Exts e) n m zero fits = omega arith
+offset_moved (Tcp e) n m zero fits = omega arith

@@ -1,11 +1,11 @@
--- The parts of a packet stand in its bytes, and what stands there is taken.
+-- The layers of a packet are in its bytes, and the layers there are the result.
 use Rattle.std.proofs.Common.{◌≡◌, ◌∙◌, ℕ, List, [], Option, Some, None, Result, Ok, Err, IfOk}
 use Rattle.std.proofs.Common.{refl, sym, ap, subst}
 use Rattle.ep_link.specs.declared.link.link_slice.LinkSlice.{LinkSlice}
 use Rattle.ep_packet.specs.Parts.{tags_len}
 use Rattle.ep_packet.specs.SliceFault.{later}
 use Rattle.ep_packet.specs.Sliced.{AreIpLayers, IsSliced, IsSlicedIp, Layers, layers_in}
-use Rattle.ep_packet.specs.Sliced.{packet_behind, packet_of, packet_tagged, packet_with}
+use Rattle.ep_packet.specs.Sliced.{packet_after, packet_of, packet_tagged, packet_with}
 use Rattle.ep_packet.specs.Tags.{Tagged, most_tags, tags_in}
 use Rattle.ep_packet.specs.declared.err.packet.slice_error.SliceError.{SliceError}
 use Rattle.ep_packet.specs.declared.sliced_packet.SlicedPacket.{SlicedPacket}
@@ -26,20 +26,20 @@ found_tagged law header p n (Ok t) same =
     found_with header p n t (layers_in t.last) refl (tags_found law most_tags p t same)
 found_tagged law header p n (Err e) same = tt
 
--- what is taken stands in the payload
-pub found_behind : MacsecIsRead
+-- the result is in the payload
+pub found_after : MacsecIsRead
     → (header : LinkSlice) (p : EtherPayload) (n : ℕ) (r : Result SlicedPacket SliceError)
-    → r ≡ later n (packet_behind header p) → IfOk r (IsSliced p)
-found_behind law header p n r same =
+    → r ≡ later n (packet_after header p) → IfOk r (IsSliced p)
+found_after law header p n r same =
     subst (λ (x : Result SlicedPacket SliceError). IfOk x (IsSliced p)) (sym same)
     (found_tagged law (Some header) p n (tags_in most_tags p) refl)
 
--- what stands in the payload is taken
-pub taken_behind : MacsecIsRead
+-- what is in the payload is the result
+pub taken_after : MacsecIsRead
     → (header : LinkSlice) (p : EtherPayload) (n : ℕ) (r : Result SlicedPacket SliceError)
-    → r ≡ later n (packet_behind header p) →
+    → r ≡ later n (packet_after header p) →
     (packet : SlicedPacket) → packet.link ≡ Some header → IsSliced p packet → r ≡ Ok packet
-taken_behind law header p n r same packet linked is =
+taken_after law header p n r same packet linked is =
     let layers : Layers = record { net = packet.net; transport = packet.transport } in
     let tags = packet.link_exts.items in
     same
@@ -49,7 +49,7 @@ taken_behind law header p n r same packet linked is =
     (packet_with (Some header) tags (later (tags_len tags) x))) is.layers
     ∙ ap (λ (o : Option LinkSlice). Ok (packet_of o tags layers)) (sym linked)
 
--- an IP packet that the bytes begin with is taken
+-- an IP packet that the bytes start with is the result
 pub taken_ip : (bytes : List ℕ) (r : Result Layers SliceError)
     → ((layers : Layers) → AreIpLayers bytes layers → r ≡ Ok layers) → (packet : SlicedPacket)
     → IsSlicedIp bytes packet → packet_with None [] r ≡ Ok packet

@@ -3,14 +3,14 @@ use Rattle.std.proofs.Common.{◌≡◌, ◌∙◌, ℕ, zero, suc, ◌-◌, ◌
 use Rattle.std.proofs.Common.{arith, IfErr, Option, Some, None, Result, Ok, Err, refl, sym, ap, subst}
 use Rattle.std.specs.Prelude.{nat_lt, if◌then◌else◌}
 use Rattle.std.proofs.lemmas.Bool.{eqb-false, eqb-true, ltb-false, ltb-true}
-use Rattle.ep_base.proofs.Fronts.{err_same}
+use Rattle.ep_base.proofs.Prefixes.{err_same}
 use Rattle.ep_base.specs.LenError.{too_few_bytes}
 use Rattle.ep_base.specs.declared.err.layer.Layer.TheVariants.{Ethernet2Header}
 use Rattle.ep_base.specs.declared.err.len_error.LenError.{LenError}
 use Rattle.ep_base.specs.declared.err.slice_error.SliceError.{SliceError as HeaderSliceError}
 use Rattle.ep_base.specs.declared.link.ether_type.EtherType.{EtherType}
 use Rattle.ep_ext.specs.Chain.{Fault, fault_of}
-use Rattle.ep_ext.specs.Place.{Order, place_of}
+use Rattle.ep_ext.specs.Slot.{Order, slot_of}
 use Rattle.ep_ext.specs.Value.{Piece}
 use Rattle.ep_ip.specs.Ipv4.{version_of}
 use Rattle.ep_ip.specs.Ipv6.{next_header_of}
@@ -22,7 +22,7 @@ use Rattle.ep_ipslice.specs.IpSlice.{ip_packet_at, ipv4_fault, ipv6_fault, no_ve
 use Rattle.ep_ipslice.specs.Ipv4Packet.{ipv4_packet_at}
 use Rattle.ep_ipslice.specs.Ipv6Fault.{IsFaultIn, IsIpv6Fault, IsRowFault, OfExtensions, OfHeader}
 use Rattle.ep_ipslice.specs.Ipv6Fault.{OfLength, not_whole, of_exts_fault}
-use Rattle.ep_ipslice.specs.Ipv6Packet.{body_of, ipv6_packet_at, number_behind, rest_behind}
+use Rattle.ep_ipslice.specs.Ipv6Packet.{body_of, ipv6_packet_at, number_after, rest_after}
 use Rattle.ep_ipslice.specs.Ipv6Walk.{pieces_within}
 use Rattle.ep_ipslice.specs.Packet.{IpPayload, Ipv4Packet, Ipv6Packet, body_len, body_source}
 use Rattle.ep_ipslice.specs.declared.err.ip.header_error.HeaderError.TheVariants.{UnsupportedIpVersion}
@@ -48,13 +48,13 @@ use Rattle.ep_link.specs.declared.link.link_header.LinkHeader.{LinkHeader}
 use Rattle.ep_link.specs.declared.link.link_slice.LinkSlice.{LinkSlice}
 use Rattle.ep_packet.specs.FrameFault as fault
 use Rattle.ep_packet.specs.FrameFault.{IsCookedFault, IsEtherTypeFault, IsEtherTypeHeadersFault}
-use Rattle.ep_packet.specs.FrameFault.{IsFaultBehind, IsFrameFault, IsFrameHeadersFault}
+use Rattle.ep_packet.specs.FrameFault.{IsFaultAfter, IsFrameFault, IsFrameHeadersFault}
 use Rattle.ep_packet.specs.FrameFault.{IsHeaderLayersFault, IsIpPacketFault}
 use Rattle.ep_packet.specs.FrameFault.{IsIpPacketHeadersFault, IsLayersFault}
 use Rattle.ep_packet.specs.HeaderLayers as headers
 use Rattle.ep_packet.specs.HeaderLayers.{HeaderLayers, in_packet, of_headers}
 use Rattle.ep_packet.specs.IpHeadersAt.{ip_headers_at, ipv4_headers_at, ipv6_headers_at}
-use Rattle.ep_packet.specs.IpHeadersAt.{ipv6_parts_behind, ipv6_parts_unless, placed_headers}
+use Rattle.ep_packet.specs.IpHeadersAt.{ipv6_parts_after, ipv6_parts_unless, headers_in_slots}
 use Rattle.ep_packet.specs.IpHeaders.{with_ipv4_headers}
 use Rattle.ep_packet.specs.IpHeadersAt as at
 use Rattle.ep_packet.specs.Payload as payload
@@ -62,13 +62,13 @@ use Rattle.ep_packet.specs.IsTagged.{IsTagged}
 use Rattle.ep_packet.specs.Parts.{tags_len}
 use Rattle.ep_packet.specs.PacketHeaders as packet_headers
 use Rattle.ep_packet.specs.PacketHeaders.{Headers, ether_type_headers, ethernet_headers}
-use Rattle.ep_packet.specs.PacketHeaders.{headers_behind, headers_tagged, headers_with}
-use Rattle.ep_packet.specs.PacketHeaders.{ip_packet_headers, layers_behind, result_told}
-use Rattle.ep_packet.specs.PacketView.{source_behind}
+use Rattle.ep_packet.specs.PacketHeaders.{headers_after, headers_tagged, headers_with}
+use Rattle.ep_packet.specs.PacketHeaders.{ip_packet_headers, layers_after, result_parsed}
+use Rattle.ep_packet.specs.PacketView.{source_after}
 use Rattle.ep_packet.specs.ReadIpHeaders.{IsIpHeadersFault}
 use Rattle.ep_packet.specs.SliceFault.{later, of_ip, of_ipv4, of_ipv6, offset_by}
 use Rattle.ep_packet.specs.Sliced as sliced
-use Rattle.ep_packet.specs.Sliced.{ether_payload, in_cooked, in_linux_sll, packet_behind}
+use Rattle.ep_packet.specs.Sliced.{ether_payload, in_cooked, in_linux_sll, packet_after}
 use Rattle.ep_packet.specs.Sliced.{sliced_ether_type, sliced_ethernet, sliced_ip, sliced_linux_sll}
 use Rattle.ep_packet.specs.Sliced.{Layers, arp_layers, arp_type, in_ipv4, in_ipv6, ip_layers}
 use Rattle.ep_packet.specs.Sliced.{ipv4_layers, ipv4_type, ipv6_layers, ipv6_type, layers_in}
@@ -100,47 +100,47 @@ pub record FaultsAreFirst : Type 0 where
       → body_len header (length bytes - 40) ≤ length bytes - 40 → (pieces : List Piece)
       → pieces ≡ pieces_within (length (body_of bytes header)) order []
       (next_header_of header) (body_of bytes header)
-      → fault_of order pieces (number_behind (next_header_of header) pieces)
-      (rest_behind bytes header pieces) ≡ Some fault
+      → fault_of order pieces (number_after (next_header_of header) pieces)
+      (rest_after bytes header pieces) ≡ Some fault
       → IsRowFault order bytes header
       (of_exts_fault (body_source header (length bytes - 40)) fault.0)
 
--- what was read further on is refused where it is refused there
+-- a result of reading later bytes is refused only if the reading there is
 pub later_err : {A : Type 0} (n : ℕ) (r : Result A SliceError) (e : SliceError) → later n r ≡ Err e
     → (f : SliceError) × (r ≡ Err f) × (e ≡ offset_by n f)
 later_err n (Ok x) e is = cc
 later_err {A} n (Err f) e is = (f, refl, sym (err_same {A = A} _ _ is))
 
--- a fault of the layers behind all tags
-behind_tags : MacsecIsRead → (IsLayers : EtherType → List ℕ → SliceError → Type 0)
+-- a fault of the layers after all tags
+after_tags : MacsecIsRead → (IsLayers : EtherType → List ℕ → SliceError → Type 0)
     (p q : EtherPayload) (t : Tagged) (e f : SliceError) → tags_in most_tags p ≡ Ok t
     → t.last ≡ Some q → IsLayers q.ether_type q.payload f → e ≡ offset_by t.len f
-    → IsFaultBehind IsLayers p e
-behind_tags law IsLayers p q t e f read last is error =
+    → IsFaultAfter IsLayers p e
+after_tags law IsLayers p q t e f read last is error =
     let stands = tags_found law most_tags p t read in
     fault.InLayers t.tags q f (subst (IsTagged most_tags p t.tags) last stands.tagged) is
     (error ∙ ap (λ (n : ℕ). offset_by n f) stands.len)
 
 -- a fault of a tag
 in_tags : MacsecIsRead → (IsLayers : EtherType → List ℕ → SliceError → Type 0) (p : EtherPayload)
-    (e : SliceError) → tags_in most_tags p ≡ Err e → IsFaultBehind IsLayers p e
+    (e : SliceError) → tags_in most_tags p ≡ Err e → IsFaultAfter IsLayers p e
 in_tags law IsLayers p e is =
     let first = tags_first law most_tags p e is in
     fault.InTag first.tags first.next first.fault first.few first.are first.tag first.error
 
-ipv4_part : (t : EtherType) (bytes : List ℕ) (r : Result Ipv4Packet Ipv4Fault) (e : SliceError)
+ipv4_case : (t : EtherType) (bytes : List ℕ) (r : Result Ipv4Packet Ipv4Fault) (e : SliceError)
     → t.0 ≡ ipv4_type → ipv4_packet_at bytes ≡ r → ipv4_layers r ≡ Err e → IsLayersFault t bytes e
-ipv4_part t bytes (Ok packet) e named read is =
+ipv4_case t bytes (Ok packet) e named read is =
     fault.InIpv4 packet named read (payload_faulty (net.Ipv4 packet) _ _ e is)
-ipv4_part t bytes (Err x) e named read is =
+ipv4_case t bytes (Err x) e named read is =
     fault.InNet (fault.OfIpv4 x named read (sym (err_same {A = Layers} _ _ is)))
 
-ipv6_part : FaultsAreFirst → (t : EtherType) (bytes : List ℕ) (r : Result Ipv6Packet Ipv6Fault)
+ipv6_case : FaultsAreFirst → (t : EtherType) (bytes : List ℕ) (r : Result Ipv6Packet Ipv6Fault)
     (e : SliceError) → t.0 ≡ ipv6_type → ipv6_packet_at bytes ≡ r → ipv6_layers r ≡ Err e
     → IsLayersFault t bytes e
-ipv6_part law t bytes (Ok packet) e named read is =
+ipv6_case law t bytes (Ok packet) e named read is =
     fault.InIpv6 packet named read (payload_faulty (net.Ipv6 packet) _ _ e is)
-ipv6_part law t bytes (Err x) e named read is =
+ipv6_case law t bytes (Err x) e named read is =
     fault.InNet (fault.OfIpv6 x named (law.ipv6 bytes x read) (sym (err_same {A = Layers} _ _ is)))
 
 arp_part : (t : EtherType) (bytes : List ℕ) (r : Result (List ℕ) LenError) (e : SliceError)
@@ -158,10 +158,10 @@ layers_by : FaultsAreFirst → (v4 v6 a : Bool) (p : EtherPayload) (e : SliceErr
     else Ok (record { net = None; transport = None })))) ≡ Err e
     → IsLayersFault p.ether_type p.payload e
 layers_by law true v6 a p e is4 is6 isa is =
-    ipv4_part p.ether_type p.payload (ipv4_packet_at p.payload) e
+    ipv4_case p.ether_type p.payload (ipv4_packet_at p.payload) e
     (eqb-true p.ether_type.0 ipv4_type is4) refl is
 layers_by law false true a p e is4 is6 isa is =
-    ipv6_part law p.ether_type p.payload (ipv6_packet_at p.payload) e
+    ipv6_case law p.ether_type p.payload (ipv6_packet_at p.payload) e
     (eqb-true p.ether_type.0 ipv6_type is6) refl is
 layers_by law false false true p e is4 is6 isa is =
     arp_part p.ether_type p.payload (arp.packet_at p.payload) e
@@ -175,17 +175,17 @@ with_err header tags (Err x) e is = ap Err (err_same {A = SlicedPacket} _ _ is)
 
 last_faulty : FaultsAreFirst → (p : EtherPayload) (t : Tagged) (o : Option EtherPayload)
     (e f : SliceError) → tags_in most_tags p ≡ Ok t → t.last ≡ o → layers_in o ≡ Err f
-    → e ≡ offset_by t.len f → IsFaultBehind IsLayersFault p e
+    → e ≡ offset_by t.len f → IsFaultAfter IsLayersFault p e
 last_faulty law p t None e f read last is error = cc
 last_faulty law p t (Some q) e f read last is error =
-    behind_tags law.macsec IsLayersFault p q t e f read last
+    after_tags law.macsec IsLayersFault p q t e f read last
     (layers_by law (q.ether_type.0 == ipv4_type) (q.ether_type.0 == ipv6_type)
     (q.ether_type.0 == arp_type) q f refl refl refl is) error
 
 -- of views
 pub packet_faulty : FaultsAreFirst → (header : Option LinkSlice) (p : EtherPayload)
     (r : Result Tagged SliceError) (e : SliceError) → tags_in most_tags p ≡ r
-    → packet_tagged header r ≡ Err e → IsFaultBehind IsLayersFault p e
+    → packet_tagged header r ≡ Err e → IsFaultAfter IsLayersFault p e
 packet_faulty law header p (Err x) e read is =
     in_tags law.macsec IsLayersFault p e (read ∙ ap Err (err_same {A = SlicedPacket} _ _ is))
 packet_faulty law header p (Ok t) e read is =
@@ -211,41 +211,41 @@ ip_faulty law bytes e is = ip_part law bytes (ip_packet_at bytes) e refl is
 unless_part : FaultsAreFirst → (bytes header : List ℕ) (pieces : List Piece) (o : Option Fault)
     (e : Ipv6Fault) → header_at bytes ≡ Ok header
     → body_len header (length bytes - 40) ≤ length bytes - 40
-    → pieces ≡ placed_headers (next_header_of header) (body_of bytes header)
-    → at.fault_behind bytes header pieces ≡ o → ipv6_parts_unless bytes header pieces o ≡ Err e
-    → IsFaultIn place_of bytes e
+    → pieces ≡ headers_in_slots (next_header_of header) (body_of bytes header)
+    → at.fault_after bytes header pieces ≡ o → ipv6_parts_unless bytes header pieces o ≡ Err e
+    → IsFaultIn slot_of bytes e
 unless_part law bytes header pieces None e read fits are ends is = cc
 unless_part law bytes header pieces (Some x) e read fits are ends is =
-    subst (IsFaultIn place_of bytes) (err_same {A = Parts} _ _ is)
-    (OfExtensions header read (law.row place_of bytes header x fits pieces are ends))
+    subst (IsFaultIn slot_of bytes) (err_same {A = Parts} _ _ is)
+    (OfExtensions header read (law.row slot_of bytes header x fits pieces are ends))
 
 sized_part : FaultsAreFirst → (bytes header : List ℕ) (pieces : List Piece) (short : Bool)
     (e : Ipv6Fault) → header_at bytes ≡ Ok header
-    → pieces ≡ placed_headers (next_header_of header) (body_of bytes header)
+    → pieces ≡ headers_in_slots (next_header_of header) (body_of bytes header)
     → nat_lt (length bytes - 40) (body_len header (length bytes - 40)) ≡ short
     → (if short then Err (ipv6_error.Len (not_whole header (length bytes)))
-    else ipv6_parts_unless bytes header pieces (at.fault_behind bytes header pieces)) ≡ Err e
-    → IsFaultIn place_of bytes e
+    else ipv6_parts_unless bytes header pieces (at.fault_after bytes header pieces)) ≡ Err e
+    → IsFaultIn slot_of bytes e
 sized_part law bytes header pieces true e read are size is =
     OfLength header read (record {
       size = ltb-true (length bytes - 40) (body_len header (length bytes - 40)) size;
       error = sym (err_same {A = Parts} _ _ is);
     })
 sized_part law bytes header pieces false e read are size is =
-    unless_part law bytes header pieces (at.fault_behind bytes header pieces) e read
+    unless_part law bytes header pieces (at.fault_after bytes header pieces) e read
     (ltb-false (length bytes - 40) (body_len header (length bytes - 40)) size) are refl is
 
-behind_header : FaultsAreFirst → (bytes : List ℕ)
+after_header : FaultsAreFirst → (bytes : List ℕ)
     (r : Result (List ℕ) (HeaderSliceError Ipv6HeaderFault)) (e : Ipv6Fault) → header_at bytes ≡ r
-    → ipv6_parts_behind bytes r ≡ Err e → IsFaultIn place_of bytes e
-behind_header law bytes (Err x) e read is = OfHeader x read (sym (err_same {A = Parts} _ _ is))
-behind_header law bytes (Ok header) e read is =
-    sized_part law bytes header (placed_headers (next_header_of header) (body_of bytes header))
+    → ipv6_parts_after bytes r ≡ Err e → IsFaultIn slot_of bytes e
+after_header law bytes (Err x) e read is = OfHeader x read (sym (err_same {A = Parts} _ _ is))
+after_header law bytes (Ok header) e read is =
+    sized_part law bytes header (headers_in_slots (next_header_of header) (body_of bytes header))
     (nat_lt (length bytes - 40) (body_len header (length bytes - 40))) e read refl refl is
 
-ipv6_placed : FaultsAreFirst → (bytes : List ℕ) (e : Ipv6Fault) → ipv6_headers_at bytes ≡ Err e
-    → IsFaultIn place_of bytes e
-ipv6_placed law bytes e is = behind_header law bytes (header_at bytes) e refl is
+ipv6_in_slots : FaultsAreFirst → (bytes : List ℕ) (e : Ipv6Fault) → ipv6_headers_at bytes ≡ Err e
+    → IsFaultIn slot_of bytes e
+ipv6_in_slots law bytes e is = after_header law bytes (header_at bytes) e refl is
 
 ipv4_found : (r : Result Ipv4Packet Ipv4Fault) (e : Ipv4Fault) → with_ipv4_headers r ≡ Err e
     → r ≡ Err e
@@ -267,7 +267,7 @@ ipv6_headers_part : FaultsAreFirst → (t : EtherType) (bytes : List ℕ) (r : R
 ipv6_headers_part law t bytes (Ok parts) e named read is =
     fault.InIpv6 parts.0 parts.1 named read (payload_parts_faulty _ _ parts.1 e is)
 ipv6_headers_part law t bytes (Err x) e named read is =
-    fault.InNet (fault.OfIpv6 x named (ipv6_placed law bytes x read)
+    fault.InNet (fault.OfIpv6 x named (ipv6_in_slots law bytes x read)
     (sym (err_same {A = HeaderLayers} _ _ is)))
 
 arp_headers_part : (t : EtherType) (bytes : List ℕ) (r : Result (List ℕ) LenError) (e : SliceError)
@@ -303,23 +303,23 @@ headers_with_err link tags (Ok layers) e is = cc
 headers_with_err link tags (Err x) e is = ap Err (err_same {A = Headers} _ _ is)
 
 last_headers_faulty : FaultsAreFirst → (p : EtherPayload) (t : Tagged) (o : Option EtherPayload)
-    (e f : SliceError) → tags_in most_tags p ≡ Ok t → t.last ≡ o → layers_behind t.tags o ≡ Err f
-    → e ≡ offset_by t.len f → IsFaultBehind IsHeaderLayersFault p e
+    (e f : SliceError) → tags_in most_tags p ≡ Ok t → t.last ≡ o → layers_after t.tags o ≡ Err f
+    → e ≡ offset_by t.len f → IsFaultAfter IsHeaderLayersFault p e
 last_headers_faulty law p t None e f read last is error = cc
 last_headers_faulty law p t (Some q) e f read last is error =
-    behind_tags law.macsec IsHeaderLayersFault p q t e f read last
+    after_tags law.macsec IsHeaderLayersFault p q t e f read last
     (header_layers_by law (q.ether_type.0 == ipv4_type) (q.ether_type.0 == ipv6_type)
-    (q.ether_type.0 == arp_type) (record q { len_source = source_behind t.tags }) f
+    (q.ether_type.0 == arp_type) (record q { len_source = source_after t.tags }) f
     refl refl refl is) error
 
 pub headers_faulty : FaultsAreFirst → (link : Option LinkHeader) (p : EtherPayload)
     (r : Result Tagged SliceError) (e : SliceError) → tags_in most_tags p ≡ r
-    → headers_tagged link r ≡ Err e → IsFaultBehind IsHeaderLayersFault p e
+    → headers_tagged link r ≡ Err e → IsFaultAfter IsHeaderLayersFault p e
 headers_faulty law link p (Err x) e read is =
     in_tags law.macsec IsHeaderLayersFault p e (read ∙ ap Err (err_same {A = Headers} _ _ is))
 headers_faulty law link p (Ok t) e read is =
-    let f = later_err t.len (layers_behind t.tags t.last) e
-    (headers_with_err link t.tags (later t.len (layers_behind t.tags t.last)) e is) in
+    let f = later_err t.len (layers_after t.tags t.last) e
+    (headers_with_err link t.tags (later t.len (layers_after t.tags t.last)) e is) in
     last_headers_faulty law p t t.last e f.0 read refl f.1 f.2
 
 -- headers of an IP packet of either version
@@ -339,7 +339,7 @@ v6_version : FaultsAreFirst → (bytes : List ℕ) (r : Result Parts Ipv6Fault) 
 v6_version law bytes (Ok parts) e version read is = cc
 v6_version law bytes (Err x) e version read is = (
   ipv6_fault x,
-  OfIpv6 x version (ipv6_placed law bytes x read) refl,
+  OfIpv6 x version (ipv6_in_slots law bytes x read) refl,
   sym (err_same {A = Parts} _ _ is),
 )
 
@@ -397,8 +397,8 @@ ethernet_by law frame true e size is =
 ethernet_by law frame false e size is =
     let p : EtherPayload = payload_of_frame frame in
     let header : LinkSlice = link.Ethernet2 frame in
-    let f = later_err ethernet_len (packet_behind header p) e is in
-    fault.Behind f.0 (ltb-false (length frame) ethernet_len size)
+    let f = later_err ethernet_len (packet_after header p) e is in
+    fault.Following f.0 (ltb-false (length frame) ethernet_len size)
     (packet_faulty law (Some header) p (tags_in most_tags p) f.0 refl f.1) f.2
 
 pub ethernet_fault : FaultsAreFirst → (frame : List ℕ) (e : SliceError)
@@ -416,8 +416,8 @@ ethernet_headers_by law frame true e size is =
 ethernet_headers_by law frame false e size is =
     let p : EtherPayload = payload_of_frame frame in
     let header : LinkHeader = link_header.Ethernet2 (ethernet_header_of frame) in
-    let f = later_err ethernet_len (headers_behind (Some header) p) e is in
-    fault.Behind f.0 (ltb-false (length frame) ethernet_len size)
+    let f = later_err ethernet_len (headers_after (Some header) p) e is in
+    fault.Following f.0 (ltb-false (length frame) ethernet_len size)
     (headers_faulty law (Some header) p (tags_in most_tags p) f.0 refl f.1) f.2
 
 pub ethernet_headers_fault : FaultsAreFirst → (frame : List ℕ) (e : SliceError)
@@ -425,7 +425,7 @@ pub ethernet_headers_fault : FaultsAreFirst → (frame : List ℕ) (e : SliceErr
 ethernet_headers_fault law frame e is =
     ethernet_headers_by law frame (nat_lt (length frame) ethernet_len) e refl is
 
--- bytes behind an ether type
+-- bytes after an ether type
 pub ether_type_fault : FaultsAreFirst → (t : EtherType) (bytes : List ℕ) (e : SliceError)
     → sliced_ether_type t bytes ≡ Err e → IsEtherTypeFault t bytes e
 ether_type_fault law t bytes e is =
@@ -445,8 +445,8 @@ cooked_by : FaultsAreFirst → (packet : List ℕ) (o : Option EtherPayload) (e 
 cooked_by law packet None e whole named is = cc
 cooked_by law packet (Some p) e whole named is =
     let header : LinkSlice = link.LinuxSll packet in
-    let f = later_err sll_len (packet_behind header p) e is in
-    fault.Behind p f.0 whole named
+    let f = later_err sll_len (packet_after header p) e is in
+    fault.Following p f.0 whole named
     (packet_faulty law (Some header) p (tags_in most_tags p) f.0 refl f.1) f.2
 
 cooked_read : FaultsAreFirst → (packet : List ℕ) (r : Result (List ℕ) (HeaderSliceError SllError))
@@ -480,11 +480,11 @@ pub if_err : {A E : Type 0} (P : E → Type 0) (r s : Result A E) → r ≡ s
 if_err P (Ok x) s same each = tt
 if_err P (Err e) s same each = each e (sym same)
 
-pub if_err_told : (P : SliceError → Type 0) (r : Result PacketHeaders SliceError)
-    (s : Result Headers SliceError) → result_told r ≡ s
+pub if_err_agrees : (P : SliceError → Type 0) (r : Result PacketHeaders SliceError)
+    (s : Result Headers SliceError) → result_parsed r ≡ s
     → ((e : SliceError) → s ≡ Err e → P e) → IfErr r P
-if_err_told P (Ok h) s same each = tt
-if_err_told P (Err e) s same each = each e (sym same)
+if_err_agrees P (Ok h) s same each = tt
+if_err_agrees P (Err e) s same each = each e (sym same)
 
 pub later_nothing : {A : Type 0} (r : Result A SliceError) → later 0 r ≡ r
 later_nothing (Ok x) = refl

@@ -1,4 +1,4 @@
--- Headers behind the tags, and their faults.
+-- Headers after the tags, and their faults.
 use Rattle.std.proofs.Common.{◌≡◌, ◌∙◌, ℕ, ◌+◌, ◌-◌, ◌<◌, ◌≤◌, ◌^◌, ◌==◌, ◌&&◌, nat_lt, Bool, true}
 use Rattle.std.proofs.Common.{false, cond, List, ◌++◌, length, Option, Some, None, IsSome, Result}
 use Rattle.std.proofs.Common.{Ok, Err, IfErr, ⊎_elim, refl, ap, append_assoc, length-append, arith}
@@ -8,7 +8,7 @@ use Rattle.ep_ext.specs.Ipv4Exts.{auth_bytes}
 use Rattle.ep_ip.specs.Ipv6.{payload_length_of}
 use Rattle.ep_ipslice.specs.Packet.{IpPayload}
 use Rattle.ep_packet.specs.HeaderLayers.{HeaderLayers, packet_len, payload_alone}
-use Rattle.ep_packet.specs.PacketHeaders.{layers_behind, modified_behind}
+use Rattle.ep_packet.specs.PacketHeaders.{layers_after, modified_after}
 use Rattle.ep_packet.specs.PacketView.{last_of}
 use Rattle.ep_packet.specs.ReadIpHeaders.{IsIpHeaders, IsIpv4Headers, IsIpv6Headers}
 use Rattle.ep_packet.specs.SliceFault.{offset_by, fault_offset, within}
@@ -20,21 +20,21 @@ use Rattle.ep_packet.specs.declared.err.packet.slice_error.SliceError.TheVariant
 use Rattle.ep_packet.specs.declared.net.ip_headers.IpHeaders.{IpHeaders}
 use Rattle.ep_tag.specs.Ether.{EtherPayload}
 use Rattle.ep_tag.specs.declared.link.link_ext_slice.LinkExtSlice.{LinkExtSlice}
-use Rattle.ep_packet.proofs.FaultLemmas.{place_moved}
+use Rattle.ep_packet.proofs.FaultLemmas.{offset_moved}
 use Rattle.ep_packet.proofs.ReadHeaders.{Parts}
 
--- what bounds a fault leaves its place
-pub within_place : (source : LenSource) (e : SliceError) → fault_offset (within source e)
+-- what bounds a fault keeps its offset
+pub within_keeps_offset : (source : LenSource) (e : SliceError) → fault_offset (within source e)
     ≡ fault_offset e
-within_place source (Len e) = refl
-within_place source (LinuxSll e) = refl
-within_place source (Macsec e) = refl
-within_place source (Ip e) = refl
-within_place source (Ipv4 e) = refl
-within_place source (Ipv6 e) = refl
-within_place source (Ipv4Exts e) = refl
-within_place source (Ipv6Exts e) = refl
-within_place source (Tcp e) = refl
+within_keeps_offset source (Len e) = refl
+within_keeps_offset source (LinuxSll e) = refl
+within_keeps_offset source (Macsec e) = refl
+within_keeps_offset source (Ip e) = refl
+within_keeps_offset source (Ipv4 e) = refl
+within_keeps_offset source (Ipv6 e) = refl
+within_keeps_offset source (Ipv4Exts e) = refl
+within_keeps_offset source (Ipv6Exts e) = refl
+within_keeps_offset source (Tcp e) = refl
 
 -- a packet takes no more bytes than there are
 ipv4_fits : (bytes : List ℕ) (headers : IpHeaders) (payload : IpPayload)
@@ -86,30 +86,30 @@ pub packet_fits : (bytes : List ℕ) (headers : IpHeaders) (payload : IpPayload)
 packet_fits bytes headers payload either =
     ⊎_elim (ipv4_fits bytes headers payload) (ipv6_fits bytes headers payload) either
 
--- a fault within so many bytes can be moved by what stands in front of them
+-- a fault within so many bytes can be moved by the bytes before them
 pub within_room : (m : ℕ) (r : Result HeaderLayers SliceError) → IfErr r (λ e. fault_offset e ≤ m)
     → IfErr r (λ e. (n : ℕ) → m + n < 2 ^ 64 → fault_offset e + n < 2 ^ 64)
 within_room m (Ok layers) fits = tt
 within_room m (Err e) fits = λ n room. omega (arith, fits, room)
 
--- a fault at the front of a payload, moved by no more than the packet has
-pub message_fits : (bytes : List ℕ) (headers : IpHeaders) (payload : IpPayload) (place : ℕ)
-    (source : LenSource) (e told placed : SliceError) → IsIpHeaders bytes headers payload
-    → fault_offset e ≡ 0 → told ≡ within source e →
-    place ≤ packet_len headers (length bytes) → placed ≡ offset_by place told
+-- a fault at the start of a payload, moved by no more bytes than the packet has
+pub message_fits : (bytes : List ℕ) (headers : IpHeaders) (payload : IpPayload) (position : ℕ)
+    (source : LenSource) (e returned placed : SliceError) → IsIpHeaders bytes headers payload
+    → fault_offset e ≡ 0 → returned ≡ within source e →
+    position ≤ packet_len headers (length bytes) → placed ≡ offset_by position returned
     → fault_offset placed ≤ length bytes
-message_fits bytes headers payload place source e told placed is front bounded fits moved_is =
-    let zero : fault_offset told ≡ 0 = ap fault_offset bounded ∙ within_place source e ∙ front in
+message_fits bytes headers payload position source e returned placed is prefix bounded fits moved_is =
+    let zero : fault_offset returned ≡ 0 = ap fault_offset bounded ∙ within_keeps_offset source e ∙ prefix in
     omega (
       arith,
       ap fault_offset moved_is,
-      place_moved told place (length bytes) zero
+      offset_moved returned position (length bytes) zero
           (omega (arith, fits, packet_fits bytes headers payload is)),
     )
 
 -- where layers are refused, something was named
-pub named_behind : (tags : List LinkExtSlice) (o : Option EtherPayload) (e : SliceError)
-    → Err e ≡ layers_behind tags o → IsSome o
-named_behind tags None e same = let no : ◌≡◌ {A = Result HeaderLayers SliceError} (Err e)
-    (Ok (payload_alone (modified_behind (last_of tags)))) = same in cc
-named_behind tags (Some q) e same = refl
+pub named_after : (tags : List LinkExtSlice) (o : Option EtherPayload) (e : SliceError)
+    → Err e ≡ layers_after tags o → IsSome o
+named_after tags None e same = let no : ◌≡◌ {A = Result HeaderLayers SliceError} (Err e)
+    (Ok (payload_alone (modified_after (last_of tags)))) = same in cc
+named_after tags (Some q) e same = refl

@@ -1,29 +1,30 @@
--- The headers of the IPv6 packet at the front of bytes are those that stand there, and the fault is
+-- The headers of the IPv6 packet at the start of bytes are those that are there, and the fault is
 -- the first.
 use Rattle.std.proofs.Common.{◌≡◌, ◌∙◌, sym, ap, subst, refl, ℕ, ◌+◌, ◌-◌, true, false, List, []}
-use Rattle.std.proofs.Common.{◌∷◌, ◌++◌, length, take, drop, get_or, Result, Ok, Err, IfOk, IfErr}
+use Rattle.std.proofs.Common.{◌∷◌, ◌++◌, length, take, drop, Result, Ok, Err, IfOk, IfErr}
 use Rattle.std.proofs.Common.{arith, append_assoc, length-append}
 use Rattle.std.specs.Prelude.{nat_lt}
-use Rattle.std.proofs.lemmas.Bool.{lt-ltb, le-ltb, eq-eqb}
-use Rattle.std.proofs.lemmas.List.{get_or_append_left, take_at, drop_at}
+use Rattle.std.proofs.lemmas.Bool.{lt-ltb, le-ltb}
+use Rattle.std.proofs.lemmas.List.{take_at, drop_at}
 use Rattle.ep_base.specs.Bytes.{num}
 use Rattle.ep_base.specs.declared.len_source.LenSource.{LenSource}
 use Rattle.ep_ext.specs.Chain.{Chain, Row, fault_of}
-use Rattle.ep_ext.specs.Place.{Order, place_of}
+use Rattle.ep_ext.specs.Slot.{Order, slot_of}
 use Rattle.ep_ext.specs.Value.{Piece, bytes_of}
-use Rattle.ep_ext.specs.declared.net.ipv6_ext_place.Ipv6ExtPlace.{Ipv6ExtPlace}
-use Rattle.ep_ip.specs.Ipv6.{IsIpv6Header, next_header_of, version_of}
+use Rattle.ep_ext.specs.declared.net.ipv6_ext_slot.Ipv6ExtSlot.{Ipv6ExtSlot}
+use Rattle.ep_ip.specs.Ipv6.{next_header_of}
 use Rattle.ep_ip.specs.Ipv6Fault.{header_at}
+use Rattle.ep_ip.proofs.Ipv6Prefix.{prefix_again}
 use Rattle.ep_ipslice.specs.Ipv6Fault.{IsFaultIn, OfHeader, OfLength, OfExtensions, not_whole}
-use Rattle.ep_ipslice.specs.Ipv6Packet.{body_of, number_behind, rest_behind}
+use Rattle.ep_ipslice.specs.Ipv6Packet.{body_of, number_after, rest_after}
 use Rattle.ep_ipslice.specs.Ipv6Walk.{pieces_within}
 use Rattle.ep_ipslice.specs.Packet.{IpPayload, IsIpv6Body, body_len}
 use Rattle.ep_ipslice.specs.declared.err.ipv6.slice_error.SliceError.{SliceError}
 use Rattle.ep_ipslice.specs.declared.err.ipv6.slice_error.SliceError.TheVariants.{Len}
 use Rattle.ep_packet.specs.IpHeaders.{is_fragmenting}
-use Rattle.ep_packet.specs.IpHeadersAt.{fault_behind, ipv6_headers_at, ipv6_parts}
-use Rattle.ep_packet.specs.IpHeadersAt.{ipv6_parts_behind, ipv6_parts_unless, ipv6_parts_with}
-use Rattle.ep_packet.specs.IpHeadersAt.{placed_headers}
+use Rattle.ep_packet.specs.IpHeadersAt.{fault_after, ipv6_headers_at, ipv6_parts}
+use Rattle.ep_packet.specs.IpHeadersAt.{ipv6_parts_after, ipv6_parts_unless, ipv6_parts_with}
+use Rattle.ep_packet.specs.IpHeadersAt.{headers_in_slots}
 use Rattle.ep_packet.specs.ReadIpHeaders.{IsIpv6Headers}
 use Rattle.ep_packet.specs.declared.net.ip_headers.IpHeaders.{IpHeaders}
 use Rattle.ep_packet.proofs.ReadHeaders.{Parts}
@@ -36,51 +37,38 @@ RowsFound =
     → pieces_within (length bytes) order [] first bytes ≡ pieces
 
 -- the number that a row names last
-pub number_is : (order : Order) (passed : List Ipv6ExtPlace) (number : ℕ) (pieces : List Piece)
-    (last : ℕ) → Row order passed number pieces last → number_behind number pieces ≡ last
+pub number_is : (order : Order) (passed : List Ipv6ExtSlot) (number : ℕ) (pieces : List Piece)
+    (last : ℕ) → Row order passed number pieces last → number_after number pieces ≡ last
 number_is order passed number [] last row = row
 number_is order passed number (piece ∷ pieces) last row =
     number_is order (passed ++ piece.0 ∷ []) (num piece.1 0 1) pieces last row.2
 
--- the header at the front of bytes
-header_is : (bytes header rest : List ℕ) → IsIpv6Header header → bytes ≡ header ++ rest
-    → header_at bytes ≡ Ok header
-header_is bytes header rest is parts =
-    let all : length bytes ≡ 40 + length rest =
-    omega (arith, ap length parts, length-append header rest, is.whole) in
-    let first : get_or bytes 0 0 ≡ get_or header 0 0 =
-    ap (λ (xs : List ℕ). get_or xs 0 0) parts
-    ∙ get_or_append_left header rest 0 0 (omega (arith, is.whole)) in
-    let version : version_of bytes ≡ 6 = rw first is.version in
-    rw (le-ltb (length bytes) 40 (omega arith), eq-eqb (version_of bytes) 6 version)
-    (ap Ok (ap (take 40) parts ∙ take_at header rest 40 is.whole))
-
 -- the parts of a row in a body
 record RowIn (bytes header : List ℕ) (pieces : List Piece) (last : ℕ) (rest : List ℕ) : Type 0 where
-  pieces_are : placed_headers (next_header_of header) (body_of bytes header) ≡ pieces
-  number : number_behind (next_header_of header) pieces ≡ last
-  left : rest_behind bytes header pieces ≡ rest
+  pieces_are : headers_in_slots (next_header_of header) (body_of bytes header) ≡ pieces
+  number : number_after (next_header_of header) pieces ≡ last
+  left : rest_after bytes header pieces ≡ rest
 
 row_in : RowsFound → (bytes header : List ℕ) (pieces : List Piece) (last : ℕ) (rest : List ℕ)
-    → Chain place_of (next_header_of header) (body_of bytes header) pieces last rest
+    → Chain slot_of (next_header_of header) (body_of bytes header) pieces last rest
     → RowIn bytes header pieces last rest
 row_in found bytes header pieces last rest chain = record {
-  pieces_are = found place_of (next_header_of header) (body_of bytes header) pieces last rest chain;
-  number = number_is place_of [] (next_header_of header) pieces last chain.row;
+  pieces_are = found slot_of (next_header_of header) (body_of bytes header) pieces last rest chain;
+  number = number_is slot_of [] (next_header_of header) pieces last chain.row;
   left = ap (drop (length (bytes_of pieces))) chain.cut
       ∙ drop_at (bytes_of pieces) rest (length (bytes_of pieces)) refl;
 }
 
 fault_is : (bytes header : List ℕ) (pieces : List Piece) (last : ℕ) (rest : List ℕ)
     → RowIn bytes header pieces last rest
-    → fault_behind bytes header pieces ≡ fault_of place_of pieces last rest
+    → fault_after bytes header pieces ≡ fault_of slot_of pieces last rest
 fault_is bytes header pieces last rest row =
-    λ i. fault_of place_of pieces (row.number i) (row.left i)
+    λ i. fault_of slot_of pieces (row.number i) (row.left i)
 
 whole_is : (bytes header : List ℕ) (pieces : List Piece)
     → nat_lt (length bytes - 40) (body_len header (length bytes - 40)) ≡ false →
     ipv6_parts_with bytes header pieces ≡ ipv6_parts_unless bytes header pieces
-    (fault_behind bytes header pieces)
+    (fault_after bytes header pieces)
 whole_is bytes header pieces whole = rw whole refl
 
 short_is : (bytes header : List ℕ) (pieces : List Piece)
@@ -99,29 +87,29 @@ body_is bytes header source body is =
     (drop_at header (body ++ is.padding) 40 is.whole.whole)
     ∙ take_at body is.padding (body_len header (length bytes - 40)) is.size
 
--- the parts of a row are those that stand there
+-- the headers and the payload of a row are those that are there
 parts_same : (bytes : List ℕ) (headers : IpHeaders) (payload : IpPayload)
     (is : IsIpv6Headers bytes headers payload)
     → RowIn bytes is.header is.pieces is.last payload.payload →
     ipv6_parts bytes is.header is.pieces ≡ (headers, payload)
 parts_same bytes headers payload is row =
-    let told : (ipv6_parts bytes is.header is.pieces).1 ≡ payload =
+    let returned : (ipv6_parts bytes is.header is.pieces).1 ≡ payload =
     (λ i. record {
       ip_number = record { 0 = row.number i };
       fragmented = is_fragmenting (sym is.value i);
       len_source = sym is.begins.bounded i;
       payload = row.left i;
-    }) ∙ sym is.told in
-    λ i. (sym is.value i, told i)
+    }) ∙ sym is.returned in
+    λ i. (sym is.value i, returned i)
 
--- bytes that begin with headers
+-- bytes that start with headers
 pub parts_are : RowsFound → (bytes : List ℕ) (headers : IpHeaders) (payload : IpPayload)
     → IsIpv6Headers bytes headers payload → ipv6_headers_at bytes ≡ Ok (headers, payload)
 parts_are found bytes headers payload is =
     let header = is.header in
     let parts : bytes ≡ header ++ (is.body ++ is.begins.padding) =
     is.begins.cut ∙ append_assoc header is.body is.begins.padding in
-    let chain = subst (λ (xs : List ℕ). Chain place_of
+    let chain = subst (λ (xs : List ℕ). Chain slot_of
     (next_header_of header) xs is.pieces is.last payload.payload)
     (sym (body_is bytes header is.source is.body is.begins)) is.chain in
     let row = row_in found bytes header is.pieces is.last payload.payload chain in
@@ -138,37 +126,37 @@ parts_are found bytes headers payload is =
     let whole : nat_lt (length bytes - 40) (body_len header (length bytes - 40)) ≡ false =
     le-ltb (length bytes - 40) (body_len header (length bytes - 40))
     (omega (arith, all, is.begins.size)) in
-    ap (ipv6_parts_behind bytes)
-    (header_is bytes header (is.body ++ is.begins.padding) is.begins.whole parts)
+    ap (ipv6_parts_after bytes)
+    (ap header_at parts ∙ prefix_again header (is.body ++ is.begins.padding) is.begins.whole)
     ∙ ap (ipv6_parts_with bytes header) row.pieces_are
     ∙ whole_is bytes header is.pieces whole
     ∙ ap (ipv6_parts_unless bytes header is.pieces)
     (fault_is bytes header is.pieces is.last payload.payload row ∙ is.ended)
     ∙ ap Ok (parts_same bytes headers payload is row)
 
--- bytes that begin with none
-pub fault_told : RowsFound → (bytes : List ℕ) (e : SliceError) → IsFaultIn place_of bytes e
+-- bytes that start with none
+pub fault_agrees : RowsFound → (bytes : List ℕ) (e : SliceError) → IsFaultIn slot_of bytes e
     → ipv6_headers_at bytes ≡ Err e
-fault_told found bytes e (OfHeader fault is error) =
-    ap (ipv6_parts_behind bytes) is ∙ ap Err (sym error)
-fault_told found bytes e (OfLength header is short) =
-    ap (ipv6_parts_behind bytes) is
-    ∙ short_is bytes header (placed_headers (next_header_of header) (body_of bytes header))
+fault_agrees found bytes e (OfHeader fault is error) =
+    ap (ipv6_parts_after bytes) is ∙ ap Err (sym error)
+fault_agrees found bytes e (OfLength header is short) =
+    ap (ipv6_parts_after bytes) is
+    ∙ short_is bytes header (headers_in_slots (next_header_of header) (body_of bytes header))
     (lt-ltb (length bytes - 40) (body_len header (length bytes - 40)) short.size)
     ∙ ap Err (sym short.error)
-fault_told found bytes e (OfExtensions header is row) =
+fault_agrees found bytes e (OfExtensions header is row) =
     let parts = row_in found bytes header row.pieces row.last row.rest row.chain in
-    ap (ipv6_parts_behind bytes) is ∙ ap (ipv6_parts_with bytes header) parts.pieces_are
+    ap (ipv6_parts_after bytes) is ∙ ap (ipv6_parts_with bytes header) parts.pieces_are
     ∙ whole_is bytes header row.pieces
     (le-ltb (length bytes - 40) (body_len header (length bytes - 40)) row.size)
     ∙ ap (ipv6_parts_unless bytes header row.pieces)
     (fault_is bytes header row.pieces row.last row.rest parts ∙ row.found)
     ∙ ap Err (sym row.error)
 
--- what a call that tells every fault takes is what stands there
-pub told_exactly : RowsFound → (bytes : List ℕ) (r : Result Parts SliceError)
-    → IfOk r (λ p. IsIpv6Headers bytes p.0 p.1) → IfErr r (λ e. IsFaultIn place_of bytes e)
+-- a call that reports every fault returns what is there
+pub found_exactly : RowsFound → (bytes : List ℕ) (r : Result Parts SliceError)
+    → IfOk r (λ p. IsIpv6Headers bytes p.0 p.1) → IfErr r (λ e. IsFaultIn slot_of bytes e)
     → r ≡ ipv6_headers_at bytes
-told_exactly found bytes (Ok parts) taken refused =
+found_exactly found bytes (Ok parts) taken refused =
     sym (parts_are found bytes parts.0 parts.1 taken)
-told_exactly found bytes (Err e) taken refused = sym (fault_told found bytes e refused)
+found_exactly found bytes (Err e) taken refused = sym (fault_agrees found bytes e refused)

@@ -1,4 +1,4 @@
--- The headers of the network and the transport layer, and what stands behind them, beside their
+-- The headers of the network and the transport layer and the payload after them agree with their
 -- slices.
 use Rattle.std.proofs.Common.{◌≡◌, ◌∙◌, ℕ, ◌+◌, ◌-◌, ◌==◌, ◌||◌, Bool, true, false, cond}
 use Rattle.std.proofs.Common.{if◌then◌else◌, List, [], ◌++◌, length, Option, Some, None, Result, Ok}
@@ -6,25 +6,25 @@ use Rattle.std.proofs.Common.{Err, refl, sym, ap, subst, append_assoc, length-ap
 use Rattle.std.proofs.lemmas.List.{append-nil}
 use Rattle.std.specs.Option.{option_map, option_map_or}
 use Rattle.ep_base.specs.declared.err.len_error.LenError.{LenError}
-use Rattle.ep_base.proofs.Fronts.{err_ok, ok_same}
+use Rattle.ep_base.proofs.Prefixes.{err_ok, ok_same}
 use Rattle.ep_ext.specs.Chain.{Chain, IsPiece, Row, fault_of}
-use Rattle.ep_ext.specs.Follow.{has_place}
+use Rattle.ep_ext.specs.Follow.{has_slot}
 use Rattle.ep_ext.specs.Fragment.{fragments}
 use Rattle.ep_ext.specs.Ipv4Exts.{auth_bytes, ipv4_exts_of}
-use Rattle.ep_ext.specs.Place.{Order, place_of}
-use Rattle.ep_ext.specs.Value.{Piece, bytes_of, places, value_of}
-use Rattle.ep_ext.specs.declared.net.ipv6_ext_place.Ipv6ExtPlace.{Ipv6ExtPlace}
-use Rattle.ep_ext.specs.declared.net.ipv6_ext_place.Ipv6ExtPlace.TheVariants.{HopByHop, Destination}
-use Rattle.ep_ext.specs.declared.net.ipv6_ext_place.Ipv6ExtPlace.TheVariants.{Routing, Fragment}
-use Rattle.ep_ext.specs.declared.net.ipv6_ext_place.Ipv6ExtPlace.TheVariants.{Authentication}
-use Rattle.ep_ext.specs.declared.net.ipv6_ext_place.Ipv6ExtPlace.TheVariants.{FinalDestination}
+use Rattle.ep_ext.specs.Slot.{Order, slot_of}
+use Rattle.ep_ext.specs.Value.{Piece, bytes_of, slots, value_of}
+use Rattle.ep_ext.specs.declared.net.ipv6_ext_slot.Ipv6ExtSlot.{Ipv6ExtSlot}
+use Rattle.ep_ext.specs.declared.net.ipv6_ext_slot.Ipv6ExtSlot.TheVariants.{HopByHop, Destination}
+use Rattle.ep_ext.specs.declared.net.ipv6_ext_slot.Ipv6ExtSlot.TheVariants.{Routing, Fragment}
+use Rattle.ep_ext.specs.declared.net.ipv6_ext_slot.Ipv6ExtSlot.TheVariants.{Authentication}
+use Rattle.ep_ext.specs.declared.net.ipv6_ext_slot.Ipv6ExtSlot.TheVariants.{FinalDestination}
 use Rattle.ep_ip.specs.Ipv4 as v4
 use Rattle.ep_ip.specs.Ipv6 as v6
 use Rattle.ep_ipslice.specs.IpSlice.{ip_packet_at, ipv4_fault, ipv6_fault, no_version, with_ipv4}
 use Rattle.ep_ipslice.specs.IpSlice.{with_ipv6}
 use Rattle.ep_ipslice.specs.Ipv4Packet.{ipv4_packet_at}
 use Rattle.ep_ipslice.specs.Ipv6Exts.{Ipv6Exts, is_any_fragmenting, view_order}
-use Rattle.ep_ipslice.specs.Ipv6Packet.{ipv6_packet_at, number_behind}
+use Rattle.ep_ipslice.specs.Ipv6Packet.{ipv6_packet_at, number_after}
 use Rattle.ep_ipslice.specs.Ipv6Walk.{pieces_within}
 use Rattle.ep_ipslice.specs.Packet.{IpPayload, Ipv4Packet, Ipv6Packet, IsIpv6Body, IsIpv6Packet}
 use Rattle.ep_ipslice.specs.Packet.{body_source, ipv4_payload}
@@ -45,8 +45,8 @@ use Rattle.ep_packet.specs.NetSlice.{ip_payload_in}
 use Rattle.ep_packet.specs.PacketView.{ip_payload_of}
 use Rattle.ep_packet.specs.Payload.{Payload, Ether, Ip}
 use Rattle.ep_packet.specs.ReadIpHeaders.{IsIpv6Headers}
-use Rattle.ep_packet.specs.SameHeaders.{AreFieldsOf, AreNetFields, IsPlaced, IsWholeIn}
-use Rattle.ep_packet.specs.SameHeaders.{behind_layers, behind_packet, transport_fields}
+use Rattle.ep_packet.specs.SameHeaders.{AreFieldsOf, AreNetFields, IsInSlots, IsWholeIn}
+use Rattle.ep_packet.specs.SameHeaders.{after_layers, after_packet, transport_fields}
 use Rattle.ep_packet.specs.SliceFault.{offset_by, of_ip as of_ip_fault, of_ipv4, of_ipv6}
 use Rattle.ep_packet.specs.Sliced as slices
 use Rattle.ep_packet.specs.Sliced.{Layers, no_layers, transport_in, with_transport}
@@ -60,39 +60,39 @@ use Rattle.ep_packet.specs.declared.net.net_slice.NetSlice.TheVariants as net
 use Rattle.ep_packet.specs.declared.transport.transport_slice.TransportSlice.{TransportSlice}
 use Rattle.ep_packet.specs.declared.transport.transport_slice.TransportSlice.TheVariants as slice
 use Rattle.ep_tag.specs.Ether.{EtherPayload}
-use Rattle.ep_packet.proofs.Agreement.{PlacedAreViews}
+use Rattle.ep_packet.proofs.Agreement.{SlotsAreViews}
 use Rattle.ep_packet.proofs.HeadersAt.{RowsFound, number_is, parts_are}
 use Rattle.ep_packet.proofs.HeadersOfMessages.{parts_in, parts_of}
 
--- what lower layers promise of packets and of rows of extension headers
+-- the laws of lower layers about packets and rows of extension headers
 pub record PacketLaws : Type 0 where
   pub found : RowsFound
-  pub views : PlacedAreViews
+  pub views : SlotsAreViews
   pub begins : (bytes : List ℕ) (packet : Ipv6Packet) → ipv6_packet_at bytes ≡ Ok packet
       → IsIpv6Packet bytes packet
 
 -- no header has no bytes
-nothing_begins : (place : Ipv6ExtPlace) (header behind : List ℕ) → IsPiece place header
-    → [] ≡ header ++ behind → ⊥
-nothing_begins HopByHop header behind piece is =
-    omega (arith, piece.least, ap length is, length-append header behind)
-nothing_begins Destination header behind piece is =
-    omega (arith, piece.least, ap length is, length-append header behind)
-nothing_begins Routing header behind piece is =
-    omega (arith, piece.least, ap length is, length-append header behind)
-nothing_begins Fragment header behind piece is =
-    omega (arith, piece.whole, ap length is, length-append header behind)
-nothing_begins Authentication header behind piece is =
-    omega (arith, piece.least, ap length is, length-append header behind)
-nothing_begins FinalDestination header behind piece is =
-    omega (arith, piece.least, ap length is, length-append header behind)
+nothing_begins : (position : Ipv6ExtSlot) (header following : List ℕ) → IsPiece position header
+    → [] ≡ header ++ following → ⊥
+nothing_begins HopByHop header following piece is =
+    omega (arith, piece.least, ap length is, length-append header following)
+nothing_begins Destination header following piece is =
+    omega (arith, piece.least, ap length is, length-append header following)
+nothing_begins Routing header following piece is =
+    omega (arith, piece.least, ap length is, length-append header following)
+nothing_begins Fragment header following piece is =
+    omega (arith, piece.whole, ap length is, length-append header following)
+nothing_begins Authentication header following piece is =
+    omega (arith, piece.least, ap length is, length-append header following)
+nothing_begins FinalDestination header following piece is =
+    omega (arith, piece.least, ap length is, length-append header following)
 
 alone : (order : Order) (first : ℕ) (pieces : List Piece) (last : ℕ)
     → Row order [] first pieces last → Chain order first (bytes_of pieces) pieces last []
 alone order first pieces last row = record {
   row = row;
   cut = sym (append-nil (bytes_of pieces));
-  ended = λ place header behind named piece is. nothing_begins place header behind piece is;
+  ended = λ position header following named piece is. nothing_begins position header following piece is;
 }
 
 -- rows of the same bytes are the same
@@ -103,36 +103,36 @@ rows_same found order first p q last end row other same =
     ∙ ap (λ (xs : List ℕ). pieces_within (length xs) order [] first xs) same
     ∙ found order first (bytes_of q) q end [] (alone order first q end other)
 
-no_place : (a b c d e : Bool) (h r g u o : Option Ipv6ExtPlace)
+no_slot : (a b c d e : Bool) (h r g u o : Option Ipv6ExtSlot)
     → (a || (b || (c || (d || (e || false))))) ≡ false →
     (cond a h (cond b r (cond c g (cond d u (cond e o None)))) ≡ None) × (a ≡ false)
-no_place true b c d e h r g u o is = cc
-no_place false true c d e h r g u o is = cc
-no_place false false true d e h r g u o is = cc
-no_place false false false true e h r g u o is = cc
-no_place false false false false true h r g u o is = cc
-no_place false false false false false h r g u o is = (refl, refl)
+no_slot true b c d e h r g u o is = cc
+no_slot false true c d e h r g u o is = cc
+no_slot false false true d e h r g u o is = cc
+no_slot false false false true e h r g u o is = cc
+no_slot false false false false true h r g u o is = cc
+no_slot false false false false false h r g u o is = (refl, refl)
 
-placed_none : (passed : List Ipv6ExtPlace) (last : ℕ) → has_place last ≡ false
-    → (place_of passed last ≡ None) × ((last == 0) ≡ false)
-placed_none passed last is = no_place (last == 0) (last == 43) (last == 44) (last == 51)
+no_slot_taken : (passed : List Ipv6ExtSlot) (last : ℕ) → has_slot last ≡ false
+    → (slot_of passed last ≡ None) × ((last == 0) ≡ false)
+no_slot_taken passed last is = no_slot (last == 0) (last == 43) (last == 44) (last == 51)
     (last == 60) _ _ _ _ _ is
 
-none_named : (place : Ipv6ExtPlace) (o : Option Ipv6ExtPlace) → o ≡ None → o ≡ Some place → ⊥
-none_named place o none is = cc
+none_named : (position : Ipv6ExtSlot) (o : Option Ipv6ExtSlot) → o ≡ None → o ≡ Some position → ⊥
+none_named position o none is = cc
 
-no_fault : (pieces : List Piece) (last : ℕ) (rest : List ℕ) → place_of (places pieces) last ≡ None
-    → (last == 0) ≡ false → fault_of place_of pieces last rest ≡ None
+no_fault : (pieces : List Piece) (last : ℕ) (rest : List ℕ) → slot_of (slots pieces) last ≡ None
+    → (last == 0) ≡ false → fault_of slot_of pieces last rest ≡ None
 no_fault pieces last rest none other = rw (none, other) refl
 
--- the headers of a packet whose extension headers all have a place
-abbrev value_in : (packet : Ipv6Packet) (h : NetHeaders) → IsPlaced packet h → IpHeaders
+-- the headers of a packet whose extension headers all have a slot
+abbrev value_in : (packet : Ipv6Packet) (h : NetHeaders) → IsInSlots packet h → IpHeaders
 value_in packet h placed = ip.Ipv6 (v6.ipv6_header_of packet.header) (value_of placed.pieces)
 
-placed_headers : PacketLaws → (bytes : List ℕ) (packet : Ipv6Packet) (h : NetHeaders)
-    → IsIpv6Packet bytes packet → (placed : IsPlaced packet h)
+headers_in_slots : PacketLaws → (bytes : List ℕ) (packet : Ipv6Packet) (h : NetHeaders)
+    → IsIpv6Packet bytes packet → (placed : IsInSlots packet h)
     → IsIpv6Headers bytes (value_in packet h placed) packet.payload
-placed_headers laws bytes packet h is placed =
+headers_in_slots laws bytes packet h is placed =
     let first : ℕ = v6.next_header_of packet.header in
     let q = laws.views first placed.pieces placed.last placed.row in
     let same : bytes_of placed.pieces ≡ bytes_of is.pieces =
@@ -141,9 +141,9 @@ placed_headers laws bytes packet h is placed =
     rows_same laws.found view_order first q.0 is.pieces placed.last is.last q.1 is.row
     (q.2 ∙ same) in
     let last_same : placed.last ≡ is.last =
-    sym (number_is view_order [] first q.0 placed.last q.1) ∙ ap (number_behind first) seen
+    sym (number_is view_order [] first q.0 placed.last q.1) ∙ ap (number_after first) seen
     ∙ number_is view_order [] first is.pieces is.last is.row in
-    let none = placed_none (places placed.pieces) placed.last (ap has_place last_same ∙ is.ended) in
+    let none = no_slot_taken (slots placed.pieces) placed.last (ap has_slot last_same ∙ is.ended) in
     let parted : is_any_fragmenting is.pieces
     ≡ option_map_or fragments (value_of placed.pieces).fragment false =
     ap is_any_fragmenting (sym seen) ∙ q.3 in
@@ -170,12 +170,12 @@ placed_headers laws bytes packet h is placed =
       chain = record {
         row = placed.row;
         cut = refl;
-        ended = λ place header behind named piece found. none_named place
-            (place_of (places placed.pieces) placed.last) none.0 named;
+        ended = λ position header following named piece found. none_named position
+            (slot_of (slots placed.pieces) placed.last) none.0 named;
       };
       ended = no_fault placed.pieces placed.last payload none.0 none.1;
       value = refl;
-      told = is.fields
+      returned = is.fields
           ∙ (λ i. record {
             ip_number = record { 0 = sym last_same i };
             fragmented = parted i;
@@ -184,14 +184,14 @@ placed_headers laws bytes packet h is placed =
           });
     }
 
--- the layers of headers that tell of the slices in these layers; without an IP packet, this stands
--- behind
-abbrev pub told : Payload → Option NetHeaders → Layers → HeaderLayers
-told below h layers =
+-- the layers of headers that belong to these layers of slices; without an IP packet, this is the
+-- payload
+abbrev pub returned : Payload → Option NetHeaders → Layers → HeaderLayers
+returned below h layers =
     record {
       net = h;
       transport = option_map transport_fields layers.transport;
-      payload = behind_layers layers.net layers.transport below;
+      payload = after_layers layers.net layers.transport below;
     }
 
 -- a packet and the message in it
@@ -203,30 +203,30 @@ layers_are packet n (Ok o) layers is =
     (o, refl, ok_same {E = SliceError} (record { net = Some packet; transport = o }) layers is)
 layers_are packet n (Err e) layers is = absurd (err_ok (offset_by n e) layers is)
 
-joined : (packet : NetSlice) (place : ℕ) (h : IpHeaders) (p : IpPayload) (below : Payload)
-    (o : Option TransportSlice) → behind_packet packet ≡ Ip p →
-    with_message (of_ip h) place p (Ok (option_map parts_of o))
-    ≡ Ok (told below (Some (of_ip h)) (record { net = Some packet; transport = o }))
-joined packet place h p below None behind =
+joined : (packet : NetSlice) (position : ℕ) (h : IpHeaders) (p : IpPayload) (below : Payload)
+    (o : Option TransportSlice) → after_packet packet ≡ Ip p →
+    with_message (of_ip h) position p (Ok (option_map parts_of o))
+    ≡ Ok (returned below (Some (of_ip h)) (record { net = Some packet; transport = o }))
+joined packet position h p below None following =
     ap (λ (x : Payload). Ok (record { net = Some (of_ip h); transport = None; payload = x }))
-    (sym behind)
-joined packet place h p below (Some m) behind = refl
+    (sym following)
+joined packet position h p below (Some m) following = refl
 
 packet_same : (packet : NetSlice) (n found : ℕ) (h : IpHeaders) (p : IpPayload) (below : Payload)
     (headers : Option NetHeaders) (layers : Layers) →
-    ip_payload_in packet ≡ Some p → behind_packet packet ≡ Ip p
+    ip_payload_in packet ≡ Some p → after_packet packet ≡ Ip p
     → with_transport packet n (transport_in p) ≡ Ok layers → headers ≡ Some (of_ip h) →
     IsWholeIn (ip_payload_of layers.net) layers.transport
-    → in_packet found h p ≡ Ok (told below headers layers)
-packet_same packet n found h p below headers layers payload behind is fields whole =
+    → in_packet found h p ≡ Ok (returned below headers layers)
+packet_same packet n found h p below headers layers payload following is fields whole =
     let parts = layers_are packet n (transport_in p) layers is in
     let counts = λ (datagram : List ℕ) (named : parts.0 ≡ Some (slice.Udp datagram)).
     whole p datagram (ap (λ (l : Layers). ip_payload_of l.net) (sym parts.2) ∙ payload)
     (ap (λ (l : Layers). l.transport) (sym parts.2) ∙ named) in
     ap (with_message (of_ip h) (values.packet_len h found - length p.payload) p)
     (parts_in p parts.0 parts.1 counts)
-    ∙ joined packet (values.packet_len h found - length p.payload) h p below parts.0 behind
-    ∙ (λ i. Ok (told below (sym fields i) (parts.2 i)))
+    ∙ joined packet (values.packet_len h found - length p.payload) h p below parts.0 following
+    ∙ (λ i. Ok (returned below (sym fields i) (parts.2 i)))
 
 -- the fields of the packet that the layers have
 fields_in : (packet : NetSlice) (n : ℕ) (r : Result (Option TransportSlice) SliceError)
@@ -241,7 +241,7 @@ ipv4_same : (found : ℕ) (below : Payload) (headers : Option NetHeaders) (layer
     (r : Result Ipv4Packet Ipv4Fault) → slices.ipv4_layers r ≡ Ok layers
     → AreNetFields layers.net headers →
     IsWholeIn (ip_payload_of layers.net) layers.transport
-    → values.ipv4_layers found (with_ipv4_headers r) ≡ Ok (told below headers layers)
+    → values.ipv4_layers found (with_ipv4_headers r) ≡ Ok (returned below headers layers)
 ipv4_same found below headers layers (Ok packet) is are whole =
     let n : ℕ = length packet.header + length (auth_bytes packet.auth) in
     let fields = fields_in (net.Ipv4 packet) n
@@ -256,16 +256,16 @@ ipv6_same : PacketLaws → (found : ℕ) (below : Payload) (headers : Option Net
     (layers : Layers) (bytes : List ℕ) (r : Result Ipv6Packet Ipv6Fault) → ipv6_packet_at bytes ≡ r
     → slices.ipv6_layers r ≡ Ok layers →
     AreNetFields layers.net headers → IsWholeIn (ip_payload_of layers.net) layers.transport
-    → values.ipv6_layers found (ipv6_headers_at bytes) ≡ Ok (told below headers layers)
+    → values.ipv6_layers found (ipv6_headers_at bytes) ≡ Ok (returned below headers layers)
 ipv6_same laws found below headers layers bytes (Ok packet) at is are whole =
     let n : ℕ = length packet.header + length packet.exts.slice in
     let fields = fields_in (net.Ipv6 packet) n
     (transport_in packet.payload) headers layers is are in
-    let placed : IsPlaced packet fields.0 = fields.2 in
+    let placed : IsInSlots packet fields.0 = fields.2 in
     let h : IpHeaders = value_in packet fields.0 placed in
     ap (values.ipv6_layers found)
     (parts_are laws.found bytes h packet.payload
-    (placed_headers laws bytes packet fields.0 (laws.begins bytes packet at) placed))
+    (headers_in_slots laws bytes packet fields.0 (laws.begins bytes packet at) placed))
     ∙ packet_same (net.Ipv6 packet) n found h packet.payload below headers layers refl refl is
     (fields.1 ∙ ap Some placed.fields) whole
 ipv6_same laws found below headers layers bytes (Err e) at is are whole =
@@ -274,24 +274,24 @@ ipv6_same laws found below headers layers bytes (Err e) at is are whole =
 arp_same : (below : Payload) (headers : Option NetHeaders) (layers : Layers)
     (r : Result (List ℕ) LenError) → slices.arp_layers r ≡ Ok layers
     → AreNetFields layers.net headers →
-    values.arp_layers r ≡ Ok (told below headers layers)
+    values.arp_layers r ≡ Ok (returned below headers layers)
 arp_same below headers layers (Ok packet) is are =
     let same : record { net = Some (net.Arp packet); transport = None } ≡ layers =
     ok_same {E = SliceError}
     (record { net = Some (net.Arp packet); transport = None }) layers is in
     let fields = subst (λ (l : Layers). AreNetFields l.net headers) (sym same) are in
-    λ i. Ok (told below (sym (fields.1 ∙ ap Some fields.2) i) (same i))
+    λ i. Ok (returned below (sym (fields.1 ∙ ap Some fields.2) i) (same i))
 arp_same below headers layers (Err e) is are = absurd (err_ok (Len e) layers is)
 
 none_same : (q : EtherPayload) (headers : Option NetHeaders) (layers : Layers)
     → ◌≡◌ {A = Result Layers SliceError} (Ok no_layers) (Ok layers)
     → AreNetFields layers.net headers →
     ◌≡◌ {A = Result HeaderLayers SliceError} (Ok (payload_alone (Ether q)))
-    (Ok (told (Ether q) headers layers))
+    (Ok (returned (Ether q) headers layers))
 none_same q headers layers is are =
     let same : no_layers ≡ layers = ok_same {E = SliceError} no_layers layers is in
     let none : headers ≡ None = subst (λ (l : Layers). AreNetFields l.net headers) (sym same) are in
-    λ i. Ok (told (Ether q) (sym none i) (same i))
+    λ i. Ok (returned (Ether q) (sym none i) (same i))
 
 layer_cases : PacketLaws → (a b c : Bool) (bytes : List ℕ) (q : EtherPayload)
     (headers : Option NetHeaders) (layers : Layers) →
@@ -302,7 +302,7 @@ layer_cases : PacketLaws → (a b c : Bool) (bytes : List ℕ) (q : EtherPayload
     (if a then values.ipv4_layers (length bytes) (ipv4_headers_at bytes)
     else (if b then values.ipv6_layers (length bytes) (ipv6_headers_at bytes)
     else (if c then values.arp_layers (arp.packet_at bytes) else Ok (payload_alone (Ether q)))))
-    ≡ Ok (told (Ether q) headers layers)
+    ≡ Ok (returned (Ether q) headers layers)
 layer_cases laws true b c bytes q headers layers is are whole =
     ipv4_same (length bytes) (Ether q) headers layers (ipv4_packet_at bytes) is are whole
 layer_cases laws false true c bytes q headers layers is are whole =
@@ -317,7 +317,7 @@ layer_cases laws false false false bytes q headers layers is are whole =
 pub layers_same : PacketLaws → (p q : EtherPayload) (headers : Option NetHeaders) (layers : Layers)
     → p.ether_type ≡ q.ether_type → p.payload ≡ q.payload → slices.layers_of p ≡ Ok layers →
     AreNetFields layers.net headers → IsWholeIn (ip_payload_of layers.net) layers.transport
-    → values.layers_of q ≡ Ok (told (Ether q) headers layers)
+    → values.layers_of q ≡ Ok (returned (Ether q) headers layers)
 layers_same laws p q headers layers typed same is are whole =
     let n : ℕ = q.ether_type.0 in
     layer_cases laws (n == slices.ipv4_type) (n == slices.ipv6_type)
@@ -327,15 +327,15 @@ layers_same laws p q headers layers typed same is are whole =
     are whole
 
 -- an IP packet of either version
-ip4_told : (layers : Layers) (r : Result Ipv4Packet Ipv4Fault)
+ip4_agrees : (layers : Layers) (r : Result Ipv4Packet Ipv4Fault)
     → slices.ip_layers (with_ipv4 r) ≡ Ok layers → slices.ipv4_layers r ≡ Ok layers
-ip4_told layers (Ok packet) is = is
-ip4_told layers (Err e) is = absurd (err_ok (of_ip_fault (ipv4_fault e)) layers is)
+ip4_agrees layers (Ok packet) is = is
+ip4_agrees layers (Err e) is = absurd (err_ok (of_ip_fault (ipv4_fault e)) layers is)
 
-ip6_told : (layers : Layers) (r : Result Ipv6Packet Ipv6Fault)
+ip6_agrees : (layers : Layers) (r : Result Ipv6Packet Ipv6Fault)
     → slices.ip_layers (with_ipv6 r) ≡ Ok layers → slices.ipv6_layers r ≡ Ok layers
-ip6_told layers (Ok packet) is = is
-ip6_told layers (Err e) is = absurd (err_ok (of_ip_fault (ipv6_fault e)) layers is)
+ip6_agrees layers (Ok packet) is = is
+ip6_agrees layers (Err e) is = absurd (err_ok (of_ip_fault (ipv6_fault e)) layers is)
 
 of_ip4 : (found : ℕ) (x : HeaderLayers) (r : Result (IpHeaders × IpPayload) Ipv4Fault)
     → values.ipv4_layers found r ≡ Ok x → values.ip_layers found (at.of_ipv4 r) ≡ Ok x
@@ -360,22 +360,22 @@ ip_cases : PacketLaws → (a b c : Bool) (bytes : List ℕ) (below : Payload)
     else (if c then at.of_ipv6 (ipv6_headers_at bytes)
     else Err (slice_error.Content
     (headers_error.Ip (UnsupportedIpVersion (v4.version_of bytes)))))))
-    ≡ Ok (told below headers layers)
+    ≡ Ok (returned below headers layers)
 ip_cases laws true b c bytes below headers layers is are whole = cc
 ip_cases laws false true c bytes below headers layers is are whole =
-    of_ip4 (length bytes) (told below headers layers) (ipv4_headers_at bytes)
+    of_ip4 (length bytes) (returned below headers layers) (ipv4_headers_at bytes)
     (ipv4_same (length bytes) below headers layers (ipv4_packet_at bytes)
-    (ip4_told layers (ipv4_packet_at bytes) is) are whole)
+    (ip4_agrees layers (ipv4_packet_at bytes) is) are whole)
 ip_cases laws false false true bytes below headers layers is are whole =
-    of_ip6 (length bytes) (told below headers layers) (ipv6_headers_at bytes)
+    of_ip6 (length bytes) (returned below headers layers) (ipv6_headers_at bytes)
     (ipv6_same laws (length bytes) below headers layers bytes (ipv6_packet_at bytes) refl
-    (ip6_told layers (ipv6_packet_at bytes) is) are whole)
+    (ip6_agrees layers (ipv6_packet_at bytes) is) are whole)
 ip_cases laws false false false bytes below headers layers is are whole = cc
 
 pub ip_same : PacketLaws → (bytes : List ℕ) (below : Payload) (headers : Option NetHeaders)
     (layers : Layers) → slices.ip_layers (ip_packet_at bytes) ≡ Ok layers →
     AreNetFields layers.net headers → IsWholeIn (ip_payload_of layers.net) layers.transport
-    → values.ip_layers (length bytes) (ip_headers_at bytes) ≡ Ok (told below headers layers)
+    → values.ip_layers (length bytes) (ip_headers_at bytes) ≡ Ok (returned below headers layers)
 ip_same laws bytes below headers layers is are whole =
     ip_cases laws (length bytes == 0) (v4.version_of bytes == 4)
     (v4.version_of bytes == 6) bytes below headers layers is are whole

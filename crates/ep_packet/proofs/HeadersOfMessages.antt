@@ -1,4 +1,4 @@
--- The header of a message, and what stands behind it, beside its slice.
+-- The header of a message and the payload after it agree with its slice.
 use Rattle.std.proofs.Common.{◌≡◌, ◌∙◌, ◌⊎◌, ⊎_elim, ℕ, zero, suc, ◌+◌, ◌*◌, ◌<◌, ◌==◌, ◌&&◌, not, Bool}
 use Rattle.std.proofs.Common.{true, false, if◌then◌else◌, List, length, take, drop, get_or, Option, Some}
 use Rattle.std.proofs.Common.{None, Result, Ok, Err, refl, sym, ap, subst, arith}
@@ -7,7 +7,7 @@ use Rattle.std.specs.Prelude.{nat_lt}
 use Rattle.std.proofs.lemmas.List.{get_or-take, take_all}
 use Rattle.ep_base.specs.declared.err.len_error.LenError.{LenError}
 use Rattle.ep_base.specs.declared.len_source.LenSource.{LenSource}
-use Rattle.ep_base.proofs.Fronts.{err_ok, ok_same}
+use Rattle.ep_base.proofs.Prefixes.{err_ok, ok_same}
 use Rattle.ep_icmp.specs.Icmpv4Fault as icmpv4_fault
 use Rattle.ep_icmp.specs.Icmpv6Fault as icmpv6_fault
 use Rattle.ep_ipslice.specs.Packet.{IpPayload}
@@ -18,7 +18,7 @@ use Rattle.ep_packet.specs.Payload as payload
 use Rattle.ep_packet.specs.Readable.{ReadMessage, message_at, read_as, tcp_fault}
 use Rattle.ep_packet.specs.Readable.ReadMessage.{Icmpv4, Icmpv6, Raw, Tcp, Udp}
 use Rattle.ep_packet.specs.Readable as number
-use Rattle.ep_packet.specs.SameHeaders.{behind_message, transport_fields}
+use Rattle.ep_packet.specs.SameHeaders.{after_message, transport_fields}
 use Rattle.ep_packet.specs.SliceFault.{within}
 use Rattle.ep_packet.specs.Sliced.{result_within, read_transport, transport_in, transport_of}
 use Rattle.ep_packet.specs.declared.err.packet.slice_error.SliceError.{SliceError}
@@ -32,9 +32,9 @@ use Rattle.ep_tcpudp.specs.Udp.{udp_header_of, length_of}
 use Rattle.ep_tcpudp.specs.UdpFault.{header_at, udp_at}
 use Rattle.ep_tcpudp.specs.declared.transport.udp_header.UdpHeader.{UdpHeader}
 
--- the parts of a message's slice
+-- the header and the payload of a message's slice
 abbrev pub parts_of : TransportSlice → TransportHeader × Payload
-parts_of m = (transport_fields m, behind_message m)
+parts_of m = (transport_fields m, after_message m)
 
 -- a datagram whose length field is 0 or counts all of these bytes
 abbrev pub Counts : List ℕ → Type 0
@@ -94,7 +94,7 @@ udp_same bytes m is counts =
     (fields_are bytes) ∙ ap (λ (xs : List ℕ). Ok (Some (parts_of (slice.Udp xs))))
     (sym found.1))
 
--- what a protocol's reader tells of its message
+-- what a protocol's reader returns for its message
 read_alike : {E : Type 0} (message : List ℕ → ReadMessage) (fault : E → SliceError)
     (parts : Result (List ℕ) E → Result MessageParts SliceError) →
     ((x : List ℕ) → parts (Ok x) ≡ Ok (option_map parts_of (transport_of (message x))))
@@ -113,9 +113,9 @@ datagram_same : (bytes : List ℕ) (r : Result (List ℕ) LenError) (m : ReadMes
     → read_as (λ x. Udp x) (λ e. Len e) r ≡ Ok m → CountsAll bytes (transport_of m) →
     udp_parts bytes (header_at bytes) ≡ Ok (option_map parts_of (transport_of m))
 datagram_same bytes (Ok x) m found is counts =
-    let told : Udp x ≡ m = ok_same {E = SliceError} (Udp x) m is in
-    udp_same bytes x found (counts x (sym (ap transport_of told)))
-    ∙ ap (λ (w : ReadMessage). Ok (option_map parts_of (transport_of w))) told
+    let returned : Udp x ≡ m = ok_same {E = SliceError} (Udp x) m is in
+    udp_same bytes x found (counts x (sym (ap transport_of returned)))
+    ∙ ap (λ (w : ReadMessage). Ok (option_map parts_of (transport_of w))) returned
 datagram_same bytes (Err e) m found is counts = absurd (err_ok (Len e) m is)
 
 message_cases : (a b c d : Bool) (bytes : List ℕ) (m : ReadMessage) →
@@ -154,23 +154,23 @@ read_same : (outer : LenSource) (n : ℕ) (bytes : List ℕ) (r : Result ReadMes
     → result_within outer (read_transport r) ≡ Ok o → CountsAll bytes o →
     message_parts n bytes ≡ Ok (option_map parts_of o)
 read_same outer n bytes (Ok m) o found is counts =
-    let told : transport_of m ≡ o = ok_same {E = SliceError} (transport_of m) o is in
-    message_same n bytes m found (subst (CountsAll bytes) (sym told) counts)
-    ∙ ap (λ (w : Option TransportSlice). Ok (option_map parts_of w)) told
+    let returned : transport_of m ≡ o = ok_same {E = SliceError} (transport_of m) o is in
+    message_same n bytes m found (subst (CountsAll bytes) (sym returned) counts)
+    ∙ ap (λ (w : Option TransportSlice). Ok (option_map parts_of w)) returned
 read_same outer n bytes (Err e) o found is counts = absurd (err_ok (within outer e) o is)
 
-part_cases : (part : Bool) (outer : LenSource) (n : ℕ) (bytes : List ℕ) (o : Option TransportSlice)
-    → (if part then Ok None else result_within outer (read_transport (message_at n bytes))) ≡ Ok o
+fragmented_cases : (fragment : Bool) (outer : LenSource) (n : ℕ) (bytes : List ℕ) (o : Option TransportSlice)
+    → (if fragment then Ok None else result_within outer (read_transport (message_at n bytes))) ≡ Ok o
     → CountsAll bytes o →
-    (if part then Ok None else message_parts n bytes) ≡ Ok (option_map parts_of o)
-part_cases true outer n bytes o is counts =
+    (if fragment then Ok None else message_parts n bytes) ≡ Ok (option_map parts_of o)
+fragmented_cases true outer n bytes o is counts =
     ap (λ (w : Option TransportSlice). Ok (option_map parts_of w))
     (ok_same {E = SliceError} None o is)
-part_cases false outer n bytes o is counts =
+fragmented_cases false outer n bytes o is counts =
     read_same outer n bytes (message_at n bytes) o refl is counts
 
--- the parts of the message that an IP payload is are those of its slice
+-- header and payload of the message in an IP payload are those of its slice
 pub parts_in : (p : IpPayload) (o : Option TransportSlice) → transport_in p ≡ Ok o
     → ((datagram : List ℕ) → o ≡ Some (slice.Udp datagram) → Counts p.payload)
     → message_in p ≡ Ok (option_map parts_of o)
-parts_in p o is counts = part_cases p.fragmented p.len_source p.ip_number.0 p.payload o is counts
+parts_in p o is counts = fragmented_cases p.fragmented p.len_source p.ip_number.0 p.payload o is counts

@@ -1,11 +1,11 @@
--- The headers of a packet, as values, beside its slices.
+-- The headers of a packet, as values, agree with its slices.
 use Rattle.std.proofs.Common.{◌≡◌, ◌∙◌, ℕ, List, [], map, Option, Some, None, Result, Ok, Err, refl}
 use Rattle.std.proofs.Common.{sym, ap, subst}
 use Rattle.std.specs.Option.{option_map}
 use Rattle.ep_base.specs.declared.err.layer.Layer.TheVariants.{Ethernet2Header}
 use Rattle.ep_base.specs.declared.err.len_error.LenError.{LenError}
 use Rattle.ep_base.specs.declared.link.ether_type.EtherType.{EtherType}
-use Rattle.ep_base.proofs.Fronts.{err_ok, ok_same}
+use Rattle.ep_base.proofs.Prefixes.{err_ok, ok_same}
 use Rattle.ep_ipslice.specs.IpSlice.{ip_packet_at}
 use Rattle.ep_link.specs.Ethernet.{ethernet_len, payload_of}
 use Rattle.ep_link.specs.declared.link.link_slice.LinkSlice.{LinkSlice}
@@ -14,12 +14,12 @@ use Rattle.ep_packet.specs.HeaderLayers.{HeaderLayers}
 use Rattle.ep_packet.specs.PacketHeaders as values
 use Rattle.ep_packet.specs.PacketHeaders.{Headers, ether_type_headers, ethernet_headers, headers_of}
 use Rattle.ep_packet.specs.PacketHeaders.{headers_tagged, headers_with, ip_packet_headers}
-use Rattle.ep_packet.specs.PacketHeaders.{layers_behind, modified_behind}
+use Rattle.ep_packet.specs.PacketHeaders.{layers_after, modified_after}
 use Rattle.ep_packet.specs.PacketView.{ether_payload_in, ip_payload_of, last_of, link_payload}
-use Rattle.ep_packet.specs.PacketView.{source_behind}
+use Rattle.ep_packet.specs.PacketView.{source_after}
 use Rattle.ep_packet.specs.Payload.{Payload, Empty}
-use Rattle.ep_packet.specs.SameHeaders.{AreHeadersOf, AreNetFields, IsWholeIn, behind_layers}
-use Rattle.ep_packet.specs.SameHeaders.{behind_tags, link_fields, transport_fields}
+use Rattle.ep_packet.specs.SameHeaders.{AreHeadersOf, AreNetFields, IsWholeIn, after_layers}
+use Rattle.ep_packet.specs.SameHeaders.{after_tags, link_fields, transport_fields}
 use Rattle.ep_packet.specs.SliceFault.{later, offset_by}
 use Rattle.ep_packet.specs.Sliced as slices
 use Rattle.ep_packet.specs.Sliced.{Layers, ether_payload, layers_in, no_layers, packet_of}
@@ -31,34 +31,34 @@ use Rattle.ep_packet.specs.declared.err.packet.slice_error.SliceError.TheVariant
 use Rattle.ep_packet.specs.declared.net.net_headers.NetHeaders.{NetHeaders}
 use Rattle.ep_packet.specs.declared.sliced_packet.SlicedPacket.{SlicedPacket}
 use Rattle.ep_tag.specs.Ether.{EtherPayload}
-use Rattle.ep_tag.specs.Front.{whole_at}
+use Rattle.ep_tag.specs.Prefix.{whole_at}
 use Rattle.ep_tag.specs.LinkExt.{fields_of}
 use Rattle.ep_tag.specs.declared.link.link_ext_slice.LinkExtSlice.{LinkExtSlice}
-use Rattle.ep_packet.proofs.HeadersOfLayers.{PacketLaws, ip_same, layers_same, told}
+use Rattle.ep_packet.proofs.HeadersOfLayers.{PacketLaws, ip_same, layers_same, returned}
 use Rattle.ep_packet.proofs.HeadersOfTags.{last_is}
 
--- what is named, with what bounds it behind these tags
-abbrev bounded_behind : List LinkExtSlice → EtherPayload → EtherPayload
-bounded_behind tags p = record p { len_source = source_behind tags }
+-- what is named, with what bounds it after these tags
+abbrev bounded_after : List LinkExtSlice → EtherPayload → EtherPayload
+bounded_after tags p = record p { len_source = source_after tags }
 
-behind_same : PacketLaws → (tags : List LinkExtSlice) (last : Option EtherPayload)
+after_same : PacketLaws → (tags : List LinkExtSlice) (last : Option EtherPayload)
     (headers : Option NetHeaders) (layers : Layers) → layers_in last ≡ Ok layers
     → AreNetFields layers.net headers →
     IsWholeIn (ip_payload_of layers.net) layers.transport
-    → layers_behind tags last
-    ≡ Ok (told (behind_tags tags (option_map (bounded_behind tags) last)) headers layers)
-behind_same laws tags None headers layers is are whole =
+    → layers_after tags last
+    ≡ Ok (returned (after_tags tags (option_map (bounded_after tags) last)) headers layers)
+after_same laws tags None headers layers is are whole =
     let same : no_layers ≡ layers = ok_same {E = SliceError} no_layers layers is in
     let none : headers ≡ None = subst (λ (l : Layers). AreNetFields l.net headers) (sym same) are in
-    λ i. Ok (told (modified_behind (last_of tags)) (sym none i) (same i))
-behind_same laws tags (Some p) headers layers is are whole =
-    layers_same laws p (bounded_behind tags p) headers layers refl refl is are whole
+    λ i. Ok (returned (modified_after (last_of tags)) (sym none i) (same i))
+after_same laws tags (Some p) headers layers is are whole =
+    layers_same laws p (bounded_after tags p) headers layers refl refl is are whole
 
 -- all together
 gathered : (link : Option LinkSlice) (tags : List LinkExtSlice) (layers : Layers)
     (packet : SlicedPacket) (h : Headers) (below : Payload) → packet_of link tags layers ≡ packet →
-    behind_tags tags (ether_payload_in packet) ≡ below → AreHeadersOf packet h
-    → headers_of (link_fields link) tags (told below h.net layers) ≡ h
+    after_tags tags (ether_payload_in packet) ≡ below → AreHeadersOf packet h
+    → headers_of (link_fields link) tags (returned below h.net layers) ≡ h
 gathered link tags layers packet h below same payload are =
     let linked : link_fields link ≡ h.link =
     ap (λ (p : SlicedPacket). link_fields p.link) same ∙ sym are.link in
@@ -67,18 +67,18 @@ gathered link tags layers packet h below same payload are =
     let message : option_map transport_fields layers.transport ≡ h.transport =
     ap (λ (p : SlicedPacket). option_map transport_fields p.transport) same
     ∙ sym are.transport in
-    let tags_are : behind_tags packet.link_exts.items (ether_payload_in packet) ≡ below =
-    ap (λ (p : SlicedPacket). behind_tags p.link_exts.items (ether_payload_in packet))
+    let tags_are : after_tags packet.link_exts.items (ether_payload_in packet) ≡ below =
+    ap (λ (p : SlicedPacket). after_tags p.link_exts.items (ether_payload_in packet))
     (sym same) ∙ payload in
-    let behind : behind_layers layers.net layers.transport below ≡ h.payload =
-    ap (λ (p : SlicedPacket). behind_layers p.net p.transport below) same
-    ∙ ap (behind_layers packet.net packet.transport) (sym tags_are) ∙ sym are.payload in
+    let following : after_layers layers.net layers.transport below ≡ h.payload =
+    ap (λ (p : SlicedPacket). after_layers p.net p.transport below) same
+    ∙ ap (after_layers packet.net packet.transport) (sym tags_are) ∙ sym are.payload in
     λ i. record {
       link = linked i;
       link_exts = tagged i;
       net = h.net;
       transport = message i;
-      payload = behind i;
+      payload = following i;
     }
 
 layers_gathered : PacketLaws
@@ -86,22 +86,22 @@ layers_gathered : PacketLaws
     (packet : SlicedPacket) (h : Headers) → link_payload link ≡ Some p →
     tags_in most_tags p ≡ Ok g → layers_in g.last ≡ r
     → packet_with link g.tags (later g.len r) ≡ Ok packet → AreHeadersOf packet h →
-    headers_with (link_fields link) g.tags (later g.len (layers_behind g.tags g.last)) ≡ Ok h
+    headers_with (link_fields link) g.tags (later g.len (layers_after g.tags g.last)) ≡ Ok h
 layers_gathered laws link p g (Ok layers) packet h linked read at is are =
     let same : packet_of link g.tags layers ≡ packet =
     ok_same {E = SliceError} (packet_of link g.tags layers) packet is in
-    let below : Payload = behind_tags g.tags (option_map (bounded_behind g.tags) g.last) in
-    let named : behind_tags g.tags (ether_payload_in packet) ≡ below =
-    ap (λ (x : SlicedPacket). behind_tags g.tags (ether_payload_in x)) (sym same)
-    ∙ ap (λ (o : Option EtherPayload). behind_tags g.tags
-    (option_map (bounded_behind g.tags) o)) (last_is most_tags link p g linked read) in
+    let below : Payload = after_tags g.tags (option_map (bounded_after g.tags) g.last) in
+    let named : after_tags g.tags (ether_payload_in packet) ≡ below =
+    ap (λ (x : SlicedPacket). after_tags g.tags (ether_payload_in x)) (sym same)
+    ∙ ap (λ (o : Option EtherPayload). after_tags g.tags
+    (option_map (bounded_after g.tags) o)) (last_is most_tags link p g linked read) in
     let fields : AreNetFields layers.net h.net =
     subst (λ (x : SlicedPacket). AreNetFields x.net h.net) (sym same) are.net in
     let whole : IsWholeIn (ip_payload_of layers.net) layers.transport =
     subst (λ (x : SlicedPacket). IsWholeIn (ip_payload_of x.net) x.transport)
     (sym same) are.datagram in
     ap (λ (x : Result HeaderLayers SliceError). headers_with (link_fields link) g.tags
-    (later g.len x)) (behind_same laws g.tags g.last h.net layers at fields whole)
+    (later g.len x)) (after_same laws g.tags g.last h.net layers at fields whole)
     ∙ ap Ok (gathered link g.tags layers packet h below same named are)
 layers_gathered laws link p g (Err e) packet h linked read at is are =
     absurd (err_ok (offset_by g.len e) packet is)
@@ -115,12 +115,12 @@ tags_gathered laws link p (Ok g) packet h linked read is are =
     layers_gathered laws link p g (layers_in g.last) packet h linked read refl is are
 tags_gathered laws link p (Err e) packet h linked read is are = absurd (err_ok e packet is)
 
--- behind a link header
-behind_link : PacketLaws → (link : LinkSlice) (p : EtherPayload) (packet : SlicedPacket)
-    (h : Headers) → link_payload (Some link) ≡ Some p → slices.packet_behind link p ≡ Ok packet
+-- after a link header
+after_link : PacketLaws → (link : LinkSlice) (p : EtherPayload) (packet : SlicedPacket)
+    (h : Headers) → link_payload (Some link) ≡ Some p → slices.packet_after link p ≡ Ok packet
     → AreHeadersOf packet h →
-    values.headers_behind (link_fields (Some link)) p ≡ Ok h
-behind_link laws link p packet h linked is are =
+    values.headers_after (link_fields (Some link)) p ≡ Ok h
+after_link laws link p packet h linked is are =
     tags_gathered laws (Some link) p (tags_in most_tags p) packet h linked refl is are
 
 earlier : {A : Type 0} (n : ℕ) (r : Result A SliceError) (x : A) → later n r ≡ Ok x → r ≡ Ok x
@@ -131,8 +131,8 @@ frame_same : PacketLaws → (r : Result (List ℕ) LenError) (packet : SlicedPac
     → slices.in_frame r ≡ Ok packet → AreHeadersOf packet h → values.in_frame r ≡ Ok h
 frame_same laws (Ok frame) packet h is are =
     ap (later ethernet_len)
-    (behind_link laws (link.Ethernet2 frame) (payload_of frame) packet h refl
-    (earlier ethernet_len (slices.packet_behind (link.Ethernet2 frame) (payload_of frame))
+    (after_link laws (link.Ethernet2 frame) (payload_of frame) packet h refl
+    (earlier ethernet_len (slices.packet_after (link.Ethernet2 frame) (payload_of frame))
     packet is) are)
 frame_same laws (Err e) packet h is are = absurd (err_ok (Len e) packet is)
 
@@ -142,13 +142,13 @@ pub ethernet_same : PacketLaws → (bytes : List ℕ) (packet : SlicedPacket) (h
 ethernet_same laws bytes packet h is are =
     frame_same laws (whole_at Ethernet2Header ethernet_len bytes) packet h is are
 
--- behind an ether type
+-- after an ether type
 pub ether_type_same : PacketLaws
     → (t : EtherType) (bytes : List ℕ) (packet : SlicedPacket) (h : Headers)
     → sliced_ether_type t bytes ≡ Ok packet → AreHeadersOf packet h
     → ether_type_headers t bytes ≡ Ok h
 ether_type_same laws t bytes packet h is are =
-    behind_link laws (link.EtherPayload (ether_payload t bytes))
+    after_link laws (link.EtherPayload (ether_payload t bytes))
     (ether_payload t bytes) packet h refl is are
 
 ip_gathered : PacketLaws → (bytes : List ℕ) (r : Result Layers SliceError) (packet : SlicedPacket)
@@ -158,8 +158,8 @@ ip_gathered : PacketLaws → (bytes : List ℕ) (r : Result Layers SliceError) (
 ip_gathered laws bytes (Ok layers) packet h at is are =
     let same : packet_of None [] layers ≡ packet =
     ok_same {E = SliceError} (packet_of None [] layers) packet is in
-    let named : behind_tags [] (ether_payload_in packet) ≡ Empty =
-    ap (λ (x : SlicedPacket). behind_tags [] (ether_payload_in x)) (sym same) in
+    let named : after_tags [] (ether_payload_in packet) ≡ Empty =
+    ap (λ (x : SlicedPacket). after_tags [] (ether_payload_in x)) (sym same) in
     let fields : AreNetFields layers.net h.net =
     subst (λ (x : SlicedPacket). AreNetFields x.net h.net) (sym same) are.net in
     let whole : IsWholeIn (ip_payload_of layers.net) layers.transport =

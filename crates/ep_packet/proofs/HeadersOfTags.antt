@@ -2,7 +2,7 @@
 use Rattle.std.proofs.Common.{◌≡◌, ◌∙◌, ℕ, zero, suc, ◌+◌, ◌-◌, List, [], ◌∷◌, length, Option, Some}
 use Rattle.std.proofs.Common.{None, Result, Ok, Err, refl, sym, ap, subst, arith}
 use Rattle.std.specs.List.{slice_get}
-use Rattle.ep_base.proofs.Fronts.{err_ok, ok_same}
+use Rattle.ep_base.proofs.Prefixes.{err_ok, ok_same}
 use Rattle.ep_link.specs.declared.link.link_slice.LinkSlice.{LinkSlice}
 use Rattle.ep_packet.specs.PacketView.{last_payload, link_payload, named_by}
 use Rattle.ep_packet.specs.SliceFault.{offset_by}
@@ -10,7 +10,7 @@ use Rattle.ep_packet.specs.Tags.{Tagged, with_tag, from_tag, read_further, tag_a
 use Rattle.ep_packet.specs.Tags.{without_tags}
 use Rattle.ep_packet.specs.declared.err.packet.slice_error.SliceError.{SliceError}
 use Rattle.ep_tag.specs.Ether.{EtherPayload}
-use Rattle.ep_tag.specs.LinkExt.{payload_behind, tag_len}
+use Rattle.ep_tag.specs.LinkExt.{payload_after, tag_len}
 use Rattle.ep_tag.specs.declared.link.link_ext_slice.LinkExtSlice.{LinkExtSlice}
 
 abbrev last_or : LinkExtSlice → List LinkExtSlice → LinkExtSlice
@@ -22,39 +22,39 @@ get_last : (t : LinkExtSlice) (ts : List LinkExtSlice)
 get_last t [] = refl
 get_last t (u ∷ ts) = get_last u ts
 
--- this is named behind tags in a payload
+-- this is named after tags in a payload
 abbrev IsLast : EtherPayload → List LinkExtSlice → Option EtherPayload → Type 0
 IsLast p [] last = last ≡ Some p
-IsLast p (t ∷ ts) last = last ≡ payload_behind (last_or t ts)
+IsLast p (t ∷ ts) last = last ≡ payload_after (last_or t ts)
 
 last_more : (t : LinkExtSlice) (q : EtherPayload) (ts : List LinkExtSlice)
-    (last : Option EtherPayload) → payload_behind t ≡ Some q → IsLast q ts last
-    → last ≡ payload_behind (last_or t ts)
+    (last : Option EtherPayload) → payload_after t ≡ Some q → IsLast q ts last
+    → last ≡ payload_after (last_or t ts)
 last_more t q [] last named is = is ∙ sym named
 last_more t q (u ∷ ts) last named is = is
 
 abbrev Reads : (EtherPayload → Result Tagged SliceError) → Type 0
 Reads read = (p : EtherPayload) (g : Tagged) → read p ≡ Ok g → IsLast p g.tags g.last
 
-last_behind : (t : LinkExtSlice) (p q : EtherPayload) (r : Result Tagged SliceError) (g : Tagged)
-    → payload_behind t ≡ Some q → ((h : Tagged) → r ≡ Ok h → IsLast q h.tags h.last)
+last_after : (t : LinkExtSlice) (p q : EtherPayload) (r : Result Tagged SliceError) (g : Tagged)
+    → payload_after t ≡ Some q → ((h : Tagged) → r ≡ Ok h → IsLast q h.tags h.last)
     → with_tag t r ≡ Ok g →
     IsLast p g.tags g.last
-last_behind t p q (Ok more) g named read is =
+last_after t p q (Ok more) g named read is =
     subst (λ (h : Tagged). IsLast p h.tags h.last)
     (ok_same {E = SliceError}
     (record { tags = t ∷ more.tags; len = tag_len t + more.len; last = more.last }) g is)
     (last_more t q more.tags more.last named (read more refl))
-last_behind t p q (Err e) g named read is = absurd (err_ok (offset_by (tag_len t) e) g is)
+last_after t p q (Err e) g named read is = absurd (err_ok (offset_by (tag_len t) e) g is)
 
 last_further : (read : EtherPayload → Result Tagged SliceError) → Reads read
     → (t : LinkExtSlice) (p : EtherPayload) (o : Option EtherPayload) (g : Tagged)
-    → payload_behind t ≡ o → with_tag t (read_further read o) ≡ Ok g → IsLast p g.tags g.last
+    → payload_after t ≡ o → with_tag t (read_further read o) ≡ Ok g → IsLast p g.tags g.last
 last_further read reads t p None g named is =
     subst (λ (h : Tagged). IsLast p h.tags h.last)
     (ok_same {E = SliceError} (record { tags = t ∷ []; len = tag_len t + 0; last = None }) g is)
     (sym named)
-last_further read reads t p (Some q) g named is = last_behind t p q (read q) g named (reads q) is
+last_further read reads t p (Some q) g named is = last_after t p q (read q) g named (reads q) is
 
 last_from : (read : EtherPayload → Result Tagged SliceError) → Reads read
     → (p : EtherPayload) (r : Result (Option LinkExtSlice) SliceError) (g : Tagged)
@@ -63,7 +63,7 @@ last_from read reads p (Err e) g is = absurd (err_ok e g is)
 last_from read reads p (Ok None) g is =
     subst (λ (h : Tagged). IsLast p h.tags h.last)
     (ok_same {E = SliceError} (without_tags (Some p)) g is) refl
-last_from read reads p (Ok (Some t)) g is = last_further read reads t p (payload_behind t) g refl is
+last_from read reads p (Ok (Some t)) g is = last_further read reads t p (payload_after t) g refl is
 
 read_last : (n : ℕ) → Reads (tags_in n)
 unfolding tags_in
@@ -74,15 +74,15 @@ read_last (suc n) p g is = last_from (tags_in n) (read_last n) p (tag_at p) g is
 one_less : (n : ℕ) → suc n - 1 ≡ n
 one_less n = omega arith
 
-last_told : (header : Option LinkSlice) (p : EtherPayload) (tags : List LinkExtSlice)
+last_agrees : (header : Option LinkSlice) (p : EtherPayload) (tags : List LinkExtSlice)
     (last : Option EtherPayload) → link_payload header ≡ Some p → IsLast p tags last
     → last_payload header tags ≡ last
-last_told header p [] last linked is = linked ∙ sym is
-last_told header p (t ∷ ts) last linked is =
+last_agrees header p [] last linked is = linked ∙ sym is
+last_agrees header p (t ∷ ts) last linked is =
     ap (λ (n : ℕ). named_by header (slice_get (t ∷ ts) n)) (one_less (length ts))
     ∙ ap (named_by header) (get_last t ts) ∙ sym is
 
 -- what was read last is what the tags and the link header name last
 pub last_is : (n : ℕ) (header : Option LinkSlice) (p : EtherPayload) (g : Tagged)
     → link_payload header ≡ Some p → tags_in n p ≡ Ok g → last_payload header g.tags ≡ g.last
-last_is n header p g linked is = last_told header p g.tags g.last linked (read_last n p g is)
+last_is n header p g linked is = last_agrees header p g.tags g.last linked (read_last n p g is)

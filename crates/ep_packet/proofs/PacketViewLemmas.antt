@@ -1,6 +1,6 @@
--- What the tags of a packet tell, one by one.
+-- Views of the tags of a packet, tag by tag.
 use Rattle.std.proofs.Common.{◌≡◌, ◌∙◌, ℕ, ◌||◌, Bool, true, false, List, [], ◌∷◌, ◌++◌, refl, ap}
-use Rattle.ep_packet.specs.PacketView.{is_any_cut, is_cut, vlan_tags}
+use Rattle.ep_packet.specs.PacketView.{any_has_short_len, has_short_len, vlan_tags}
 use Rattle.ep_packet.specs.Tags.{vlan_ids_of}
 use Rattle.ep_tag.specs.Vlan.{vlan_id_of}
 use Rattle.ep_tag.specs.declared.link.link_ext_slice.LinkExtSlice.{LinkExtSlice}
@@ -24,21 +24,21 @@ or_false false b x y = y
 
 -- one tag more
 any_more : (tags : List LinkExtSlice) (t : LinkExtSlice)
-    → is_any_cut (tags ++ t ∷ []) ≡ (is_any_cut tags || is_cut t)
-any_more [] t = or_nothing (is_cut t)
-any_more (u ∷ tags) t = ap (λ (b : Bool). is_cut u || b) (any_more tags t)
-    ∙ or_again (is_cut u) (is_any_cut tags) (is_cut t)
+    → any_has_short_len (tags ++ t ∷ []) ≡ (any_has_short_len tags || has_short_len t)
+any_more [] t = or_nothing (has_short_len t)
+any_more (u ∷ tags) t = ap (λ (b : Bool). has_short_len u || b) (any_more tags t)
+    ∙ or_again (has_short_len u) (any_has_short_len tags) (has_short_len t)
 
-pub uncut_more : (tags : List LinkExtSlice) (t : LinkExtSlice) → is_any_cut tags ≡ false
-    → is_cut t ≡ false → is_any_cut (tags ++ t ∷ []) ≡ false
-uncut_more tags t none here = any_more tags t ∙ or_false (is_any_cut tags) (is_cut t) none here
+pub uncut_more : (tags : List LinkExtSlice) (t : LinkExtSlice) → any_has_short_len tags ≡ false
+    → has_short_len t ≡ false → any_has_short_len (tags ++ t ∷ []) ≡ false
+uncut_more tags t none here = any_more tags t ∙ or_false (any_has_short_len tags) (has_short_len t) none here
 
 -- the first tags, and all
-pub cut_found : (front back : List LinkExtSlice) (t : LinkExtSlice) → is_cut t ≡ true
-    → is_any_cut (front ++ t ∷ back) ≡ true
-cut_found [] back t here = ap (λ (b : Bool). b || is_any_cut back) here
-cut_found (u ∷ front) back t here = ap (λ (b : Bool). is_cut u || b) (cut_found front back t here)
-    ∙ or_true (is_cut u)
+pub cut_found : (prefix back : List LinkExtSlice) (t : LinkExtSlice) → has_short_len t ≡ true
+    → any_has_short_len (prefix ++ t ∷ back) ≡ true
+cut_found [] back t here = ap (λ (b : Bool). b || any_has_short_len back) here
+cut_found (u ∷ prefix) back t here = ap (λ (b : Bool). has_short_len u || b) (cut_found prefix back t here)
+    ∙ or_true (has_short_len u)
 
 pub tags_more : (tags : List LinkExtSlice) (t : LinkExtSlice)
     → vlan_tags (tags ++ t ∷ []) ≡ vlan_tags tags ++ vlan_tags (t ∷ [])

@@ -1,4 +1,4 @@
--- Where the parts of a frame stand in it.
+-- The offsets of the parts of a frame.
 use Rattle.std.proofs.Common.{◌≡◌, ℕ, ◌+◌, ◌*◌, ◌≤◌, ◌==◌, ◌&&◌, not, Bool, true, false, cond, List}
 use Rattle.std.proofs.Common.{[], ◌∷◌, ◌++◌, length, take, drop, Option, Some, None, Result, Ok}
 use Rattle.std.proofs.Common.{Err, IfSome, arith, refl, sym, ap, subst, ◌∙◌, append_assoc}
@@ -9,7 +9,7 @@ use Rattle.std.proofs.lemmas.List.{take-append-drop, append-nil, length-take-le}
 use Rattle.ep_base.specs.declared.err.layer.Layer.{Layer}
 use Rattle.ep_base.specs.declared.err.len_error.LenError.{LenError}
 use Rattle.ep_base.specs.declared.len_source.LenSource.{LenSource}
-use Rattle.ep_base.proofs.Fronts.{guard_ok, ok_same}
+use Rattle.ep_base.proofs.Prefixes.{guard_ok, ok_same}
 use Rattle.ep_ext.specs.Ipv4Exts.{auth_bytes}
 use Rattle.ep_ext.specs.Value.{bytes_of}
 use Rattle.ep_icmp.specs.Icmpv4.{is_timestamp_reply, is_timestamp_request}
@@ -29,8 +29,8 @@ use Rattle.ep_packet.specs.declared.err.packet.slice_error.SliceError.TheVariant
 use Rattle.ep_packet.specs.declared.net.net_slice.NetSlice.TheVariants as net
 use Rattle.ep_packet.specs.declared.transport.transport_slice.TransportSlice.{TransportSlice}
 use Rattle.ep_tag.specs.Ether.{EtherPayload}
-use Rattle.ep_tag.specs.Front.{whole_at}
-use Rattle.ep_tag.specs.LinkExt.{payload_behind, tag_len}
+use Rattle.ep_tag.specs.Prefix.{whole_at}
+use Rattle.ep_tag.specs.LinkExt.{payload_after, tag_len}
 use Rattle.ep_tag.specs.Macsec.{is_unmodified}
 use Rattle.ep_tag.specs.MacsecPayload.{IsMacsec, Macsec, MacsecPayload, Unmodified, Modified}
 use Rattle.ep_tag.specs.MacsecPayload.{named_payload, payload_under}
@@ -85,20 +85,20 @@ at_fits bytes part p at =
       at.here,
     )
 
-at_front : (bytes part sub : List ℕ) (p : ℕ) → IsAt bytes p part
+at_prefix : (bytes part sub : List ℕ) (p : ℕ) → IsAt bytes p part
     → IsAt part 0 sub → IsAt bytes p sub
-at_front bytes part sub p outer inner = let sum : p + 0 ≡ p = omega arith in
+at_prefix bytes part sub p outer inner = let sum : p + 0 ≡ p = omega arith in
     subst (λ (n : ℕ). IsAt bytes n sub) sum (at_in bytes part sub p 0 outer inner)
 
--- a part behind this much of the bytes
-at_parts : (bytes before part after : List ℕ) (place : ℕ) → length before ≡ place
-    → bytes ≡ before ++ part ++ after → IsAt bytes place part
-at_parts bytes before part after place here parts =
+-- a part after so many of the bytes
+at_parts : (bytes before part after : List ℕ) (position : ℕ) → length before ≡ position
+    → bytes ≡ before ++ part ++ after → IsAt bytes position part
+at_parts bytes before part after position here parts =
     record { before = before; after = after; here = here; parts = parts }
 
--- the same place, counted from the front
-pub from_front : (bytes part : List ℕ) (p q : ℕ) → p ≡ q → IsAt bytes p part → IsAt bytes q part
-from_front bytes part p q same at = subst (λ (n : ℕ). IsAt bytes n part) same at
+-- the same offset, as another sum
+pub at_same_position : (bytes part : List ℕ) (p q : ℕ) → p ≡ q → IsAt bytes p part → IsAt bytes q part
+at_same_position bytes part p q same at = subst (λ (n : ℕ). IsAt bytes n part) same at
 
 chosen : {A : Type 0} (P : A → Type 0) (b : Bool) (x y : A) → P x → P y → P (cond b x y)
 chosen P true x y left right = left
@@ -140,7 +140,7 @@ macsec_in bytes macsec is =
       tag = (
         at_parts bytes [] macsec.header (is.payload ++ is.beyond) 0 refl
             (is.parts ∙ append_assoc macsec.header is.payload is.beyond),
-        from_front bytes (macsec_bytes macsec.payload) (length macsec.header)
+        at_same_position bytes (macsec_bytes macsec.payload) (length macsec.header)
             (0 + length macsec.header) (omega arith) inside,
       );
       next = named_in bytes macsec.header macsec.payload inside;
@@ -159,14 +159,14 @@ stand_in bytes header exts payload padding parts = (
       (omega (arith, length-append header exts)) parts,
 )
 
--- the message in a payload that stands in a packet
+-- the message in the payload of a packet
 message_in : (bytes header exts payload : List ℕ) (o : Option TransportSlice)
     → StandAt bytes 0 header exts payload → IfSome o (λ t. IsAt payload 0 (transport_bytes t)) →
     IfSome o (λ t. IsAt bytes (0 + (length header + length exts)) (transport_bytes t))
 message_in bytes header exts payload None stands at = tt
 message_in bytes header exts payload (Some t) stands at =
-    at_front bytes payload (transport_bytes t) (0 + (length header + length exts))
-    (from_front bytes payload _ (0 + (length header + length exts)) (omega arith) stands.2) at
+    at_prefix bytes payload (transport_bytes t) (0 + (length header + length exts))
+    (at_same_position bytes payload _ (0 + (length header + length exts)) (omega arith) stands.2) at
 
 pub layers_in_ipv4 : (bytes : List ℕ) (packet : Ipv4Packet) (o : Option TransportSlice)
     → IsIpv4Packet bytes packet → IfSome o (λ t. IsAt packet.payload 0 (transport_bytes t)) →
@@ -194,15 +194,15 @@ layers_in_ipv6 bytes packet o is at =
       transport = message_in bytes packet.header packet.exts.slice payload o stands at;
     }
 
--- what is read of a message is the front of the bytes, and its fault is there
+-- what is read of a message is a prefix of the bytes, and its fault is at offset 0
 abbrev Reads : {E : Type 0} → List ℕ → (E → SliceError) → Result (List ℕ) E → Type 0
 Reads bytes fault r = MatchResult r (IsAt bytes 0) (λ e. fault_offset (fault e) ≡ 0)
 
 guarded : {E : Type 0} (bytes : List ℕ) (fault : E → SliceError) (b : Bool) (e : E)
     (r : Result (List ℕ) E) → fault_offset (fault e) ≡ 0 → Reads bytes fault r
     → Reads bytes fault (cond b (Err e) r)
-guarded bytes fault true e r front reads = front
-guarded bytes fault false e r front reads = reads
+guarded bytes fault true e r prefix reads = prefix
+guarded bytes fault false e r prefix reads = reads
 
 abbrev of_len : LenError → SliceError
 of_len e = error.Len e
@@ -259,17 +259,17 @@ message_read number bytes =
     (read_in bytes (λ m. Icmpv6 m) of_len (icmpv6_fault.message_at bytes) (λ m at. at)
     (icmpv6_reads bytes)) tt)))
 
--- a fault stays in its place, whatever bounds the payload
-place_within : (outer : LenSource) (e : SliceError) → fault_offset (within outer e) ≡ fault_offset e
-place_within outer (error.Len e) = refl
-place_within outer (error.LinuxSll e) = refl
-place_within outer (error.Macsec e) = refl
-place_within outer (error.Ip e) = refl
-place_within outer (error.Ipv4 e) = refl
-place_within outer (error.Ipv6 e) = refl
-place_within outer (error.Ipv4Exts e) = refl
-place_within outer (error.Ipv6Exts e) = refl
-place_within outer (error.Tcp e) = refl
+-- a fault keeps its offset, whatever bounds the payload
+offset_within : (outer : LenSource) (e : SliceError) → fault_offset (within outer e) ≡ fault_offset e
+offset_within outer (error.Len e) = refl
+offset_within outer (error.LinuxSll e) = refl
+offset_within outer (error.Macsec e) = refl
+offset_within outer (error.Ip e) = refl
+offset_within outer (error.Ipv4 e) = refl
+offset_within outer (error.Ipv6 e) = refl
+offset_within outer (error.Ipv4Exts e) = refl
+offset_within outer (error.Ipv6Exts e) = refl
+offset_within outer (error.Tcp e) = refl
 
 read_of : (bytes : List ℕ) (r : Result ReadMessage SliceError) (e : SliceError) → ReadIn bytes r
     → ◌≡◌ {A = Result (Option TransportSlice) SliceError} (Err e) (read_transport r)
@@ -277,11 +277,11 @@ read_of : (bytes : List ℕ) (r : Result ReadMessage SliceError) (e : SliceError
 read_of bytes (Ok message) e read same = cc
 read_of bytes (Err f) e read same = let is : e ≡ f = cc in ap fault_offset is ∙ read
 
-pub fault_front : (number : ℕ) (bytes : List ℕ) (outer : LenSource) (e told : SliceError)
-    → Err e ≡ read_transport (message_at number bytes) → told ≡ within outer e → fault_offset told
+pub fault_at_start : (number : ℕ) (bytes : List ℕ) (outer : LenSource) (e returned : SliceError)
+    → Err e ≡ read_transport (message_at number bytes) → returned ≡ within outer e → fault_offset returned
     ≡ 0
-fault_front number bytes outer e told same is =
-    ap fault_offset is ∙ place_within outer e ∙ read_of bytes (message_at number bytes) e
+fault_at_start number bytes outer e returned same is =
+    ap fault_offset is ∙ offset_within outer e ∙ read_of bytes (message_at number bytes) e
     (message_read number bytes) same
 
 found_of : (bytes : List ℕ) (r : Result ReadMessage SliceError) (o : Option TransportSlice)
@@ -297,19 +297,19 @@ transport_found number bytes payload o same is =
     subst (λ (xs : List ℕ). MessageIn xs o) is
     (found_of bytes (message_at number bytes) o (message_read number bytes) same)
 
--- a part of a part, at this place from the front
-pub at_later : (frame bytes part : List ℕ) (place p q : ℕ) → place + p ≡ q → IsAt frame place bytes
+-- a part of a part, at this offset in the whole
+pub at_later : (frame bytes part : List ℕ) (position p q : ℕ) → position + p ≡ q → IsAt frame position bytes
     → IsAt bytes p part → IsAt frame q part
-at_later frame bytes part place p q sum at inner =
-    from_front frame part (place + p) q sum (at_in frame bytes part place p at inner)
+at_later frame bytes part position p q sum at inner =
+    at_same_position frame part (position + p) q sum (at_in frame bytes part position p at inner)
 
-pub tag_later : (frame bytes : List ℕ) (place p q : ℕ) (t : LinkExtSlice) → place + p ≡ q
-    → IsAt frame place bytes → IsTagAt bytes p t → IsTagAt frame q t
-tag_later frame bytes place p q (tag.Vlan b) sum at here =
-    at_later frame bytes b place p q sum at here
-tag_later frame bytes place p q (tag.Macsec m) sum at here = (
-  at_later frame bytes m.header place p q sum at here.0,
-  at_later frame bytes (macsec_bytes m.payload) place (p + length m.header) (q + length m.header)
+pub tag_later : (frame bytes : List ℕ) (position p q : ℕ) (t : LinkExtSlice) → position + p ≡ q
+    → IsAt frame position bytes → IsTagAt bytes p t → IsTagAt frame q t
+tag_later frame bytes position p q (tag.Vlan b) sum at here =
+    at_later frame bytes b position p q sum at here
+tag_later frame bytes position p q (tag.Macsec m) sum at here = (
+  at_later frame bytes m.header position p q sum at here.0,
+  at_later frame bytes (macsec_bytes m.payload) position (p + length m.header) (q + length m.header)
       (omega (arith, sum)) at here.1,
 )
 
@@ -323,18 +323,18 @@ tag_moved : (frame : List ℕ) (p q : ℕ) (t : LinkExtSlice) → p ≡ q
     → IsTagAt frame p t → IsTagAt frame q t
 tag_moved frame p q t same at = subst (λ (n : ℕ). IsTagAt frame n t) same at
 
-more_tags : (frame : List ℕ) (place : ℕ) (tags : List LinkExtSlice) (t : LinkExtSlice)
-    → AreTagsAt frame place tags → IsTagAt frame (place + tags_len tags) t
-    → AreTagsAt frame place (tags ++ t ∷ [])
-more_tags frame place [] t are at = (tag_moved frame (place + 0) place t (omega arith) at, tt)
-more_tags frame place (u ∷ tags) t are at = (
+more_tags : (frame : List ℕ) (position : ℕ) (tags : List LinkExtSlice) (t : LinkExtSlice)
+    → AreTagsAt frame position tags → IsTagAt frame (position + tags_len tags) t
+    → AreTagsAt frame position (tags ++ t ∷ [])
+more_tags frame position [] t are at = (tag_moved frame (position + 0) position t (omega arith) at, tt)
+more_tags frame position (u ∷ tags) t are at = (
   are.0,
-  more_tags frame (place + tag_len u) tags t are.1
-      (tag_moved frame (place + (tag_len u + tags_len tags))
-      (place + tag_len u + tags_len tags) t (omega arith) at),
+  more_tags frame (position + tag_len u) tags t are.1
+      (tag_moved frame (position + (tag_len u + tags_len tags))
+      (position + tag_len u + tags_len tags) t (omega arith) at),
 )
 
--- tags that were read, and the rest behind them
+-- tags that were read, and the rest after them
 pub record Passed (bytes : List ℕ) (tags : List LinkExtSlice) (len : ℕ)
     (rest : List ℕ) : Type 0 where
   pub tags_at : AreTagsAt bytes 0 tags
@@ -348,7 +348,7 @@ pub passed_fits : (bytes : List ℕ) (tags : List LinkExtSlice) (len : ℕ) (res
     → Passed bytes tags len rest → len ≤ length bytes
 passed_fits bytes tags len rest passed = omega (arith, at_fits bytes rest len passed.rest_at)
 
--- a tag at the front of the rest is one of them, with what stands behind it
+-- a tag at the start of the rest is one of them, with what follows it
 tags_more : (bytes : List ℕ) (tags more : List LinkExtSlice) (len : ℕ) (rest : List ℕ)
     (t : LinkExtSlice) → Passed bytes tags len rest → TagIn rest t → more ≡ tags ++ t ∷ []
     → AreTagsAt bytes 0 more
@@ -370,7 +370,7 @@ pub passed_more : (bytes : List ℕ) (tags more : List LinkExtSlice) (len n : �
 passed_more bytes tags more len n rest next t passed in_rest pushed counted at = record {
   tags_at = tags_more bytes tags more len rest t passed in_rest pushed;
   len_is = len_more tags more len n t passed.len_is pushed counted;
-  rest_at = from_front bytes next (len + tag_len t) (len + n) (omega (arith, counted))
+  rest_at = at_same_position bytes next (len + tag_len t) (len + n) (omega (arith, counted))
       (at_in bytes rest next len (tag_len t) passed.rest_at at);
 }
 
@@ -380,7 +380,7 @@ tag_found bytes o t at same =
     subst (λ (x : Option LinkExtSlice). IfSome x (λ u. TagIn bytes u)) same at
 
 pub next_at : (bytes : List ℕ) (t : LinkExtSlice) (next : EtherPayload) → TagIn bytes t
-    → payload_behind t ≡ Some next → IsAt bytes (tag_len t) next.payload
+    → payload_after t ≡ Some next → IsAt bytes (tag_len t) next.payload
 next_at bytes t next in_bytes named =
     subst (λ (o : Option EtherPayload). IfSome o (λ q. IsAt bytes (tag_len t) q.payload))
     named in_bytes.next
@@ -393,7 +393,7 @@ ended_with bytes tags len rest passed =
     record {
       tags = passed.tags_at;
       len = passed.len_is;
-      last = from_front bytes rest.payload len (0 + len) (omega arith) passed.rest_at;
+      last = at_same_position bytes rest.payload len (0 + len) (omega arith) passed.rest_at;
     }
 
 pub ended_without : (bytes : List ℕ) (tags more : List LinkExtSlice) (len n : ℕ) (rest : List ℕ)

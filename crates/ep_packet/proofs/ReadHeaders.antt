@@ -1,4 +1,4 @@
--- The headers of the IP packet at the front of bytes.
+-- The headers of the IP packet at the start of bytes.
 use Rattle.std.proofs.Common.{◌≡◌, ℕ, ◌<◌, ◌/◌, ◌==◌, Bool, false, List, [], ◌∷◌, ◌++◌, length}
 use Rattle.std.proofs.Common.{get_or, Option, Some, None, Result, Ok, Err, ⊎_elim, sym, ap, ◌∙◌}
 use Rattle.std.proofs.Common.{subst, append_assoc, arith}
@@ -6,18 +6,18 @@ use Rattle.std.proofs.lemmas.List.{get_or_append_left}
 use Rattle.std.specs.Option.{option_map_or}
 use Rattle.ep_base.specs.declared.len_source.LenSource.{LenSource}
 use Rattle.ep_base.specs.declared.net.ip_number.IpNumber.{IpNumber}
-use Rattle.ep_base.proofs.Fronts.{err_ok, ok_same}
+use Rattle.ep_base.proofs.Prefixes.{err_ok, ok_same}
 use Rattle.ep_ext.specs.Chain.{Chain, Fault, fault_of}
 use Rattle.ep_ext.specs.Fragment.{fragments}
 use Rattle.ep_ext.specs.Ipv4Exts.{auth_bytes}
-use Rattle.ep_ext.specs.Place.{Order, place_of}
+use Rattle.ep_ext.specs.Slot.{Order, slot_of}
 use Rattle.ep_ext.specs.Value.{Piece, value_of}
 use Rattle.ep_ext.specs.declared.net.ipv6_extensions.Ipv6Extensions.{Ipv6Extensions}
 use Rattle.ep_ip.specs.Ipv4 as v4
 use Rattle.ep_ip.specs.Ipv6 as v6
 use Rattle.ep_ip.specs.declared.net.ipv6_header.Ipv6Header.{Ipv6Header}
 use Rattle.ep_ipslice.specs.Ipv4Packet.{ipv4_packet_at}
-use Rattle.ep_ipslice.specs.Ipv6Fault.{IsFaultIn, IsFrontFault, InHeader, InLength, OfHeader}
+use Rattle.ep_ipslice.specs.Ipv6Fault.{IsFaultIn, IsPrefixFault, InHeader, InLength, OfHeader}
 use Rattle.ep_ipslice.specs.Ipv6Fault.{OfLength}
 use Rattle.ep_ipslice.specs.Packet.{IpPayload, Ipv4Packet, IsIpv4Packet, IsIpv6Body}
 use Rattle.ep_ipslice.specs.declared.err.ip.headers_slice_error.HeadersSliceError.{HeadersSliceError}
@@ -31,7 +31,7 @@ use Rattle.ep_packet.specs.declared.net.ip_headers.IpHeaders.TheVariants.{Ipv6}
 abbrev pub Parts : Type 0
 Parts = IpHeaders × IpPayload
 
--- what is read is what stands there, among faults of one kind
+-- what is read is what is there, with faults of one kind
 abbrev pub IsSame : Type 0 → Parts → Parts → Type 0
 IsSame E x y = ◌≡◌ {A = Result Parts E} (Ok x) (Ok y)
 
@@ -41,14 +41,14 @@ IsRefusal E e x = ◌≡◌ {A = Result Parts E} (Err e) (Ok x)
 none_some : (x : Fault) → ◌≡◌ {A = Option Fault} None (Some x) → ⊥
 none_some x h = cc
 
--- the parts of a packet are those of the one that stands there
+-- headers and payload of a packet are those of the one that is there
 pub ipv4_only : (bytes : List ℕ) (packet : Ipv4Packet) (parts : Parts) → parts ≡ ipv4_parts packet
     → ((p : Ipv4Packet) → IsIpv4Packet bytes p
     → ◌≡◌ {A = Result Ipv4Packet Ipv4Fault} (Ok packet) (Ok p)) →
     (headers : IpHeaders) (payload : IpPayload) → IsIpv4Headers bytes headers payload
     → IsSame Ipv4Fault parts (headers, payload)
-ipv4_only bytes packet parts told only headers payload is =
-    ap Ok (told ∙ ap ipv4_parts (ok_same packet is.packet (only is.packet is.begins))
+ipv4_only bytes packet parts returned only headers payload is =
+    ap Ok (returned ∙ ap ipv4_parts (ok_same packet is.packet (only is.packet is.begins))
     ∙ sym is.value)
 
 pub ipv4_never : (bytes : List ℕ) (e : Ipv4Fault)
@@ -58,7 +58,7 @@ pub ipv4_never : (bytes : List ℕ) (e : Ipv4Fault)
     → IsRefusal Ipv4Fault e (headers, payload)
 ipv4_never bytes e only headers payload is = absurd (err_ok e is.packet (only is.packet is.begins))
 
--- where there are no parts, there is no packet
+-- without headers and payload there is no packet
 refused_of : (r : Result Ipv4Packet Ipv4Fault) (e : Ipv4Fault)
     → ◌≡◌ {A = Result Parts Ipv4Fault} (Err e) (with_ipv4_headers r) → r ≡ Err e
 refused_of (Ok packet) e is = absurd (err_ok e (ipv4_parts packet) is)
@@ -69,34 +69,34 @@ pub ipv4_refused : (bytes : List ℕ) (e : Ipv4Fault)
     → ipv4_packet_at bytes ≡ Err e
 ipv4_refused bytes e is = refused_of (ipv4_packet_at bytes) e is
 
--- a fault in front of the extension headers is the first one, whatever their order
-pub front_fault : (order : Order) (bytes : List ℕ) (e : Ipv6Fault) → IsFrontFault bytes e
+-- a fault before the extension headers is the first one, whatever their order
+pub prefix_fault : (order : Order) (bytes : List ℕ) (e : Ipv6Fault) → IsPrefixFault bytes e
     → IsFaultIn order bytes e
-front_fault order bytes e (InHeader fault is error) = OfHeader fault is error
-front_fault order bytes e (InLength header is cut) = OfLength header is cut
+prefix_fault order bytes e (InHeader fault is error) = OfHeader fault is error
+prefix_fault order bytes e (InLength header is cut) = OfLength header is cut
 
 pub chain_same : (first number : ℕ) (body other : List ℕ) (pieces : List Piece) (last : ℕ)
-    (rest : List ℕ) → first ≡ number → body ≡ other → Chain place_of number other pieces last rest →
-    Chain place_of first body pieces last rest
+    (rest : List ℕ) → first ≡ number → body ≡ other → Chain slot_of number other pieces last rest →
+    Chain slot_of first body pieces last rest
 chain_same first number body other pieces last rest named cut chain =
-    subst (λ (n : ℕ). Chain place_of n body pieces last rest) (sym named)
-    (subst (λ (xs : List ℕ). Chain place_of number xs pieces last rest) (sym cut) chain)
+    subst (λ (n : ℕ). Chain slot_of n body pieces last rest) (sym named)
+    (subst (λ (xs : List ℕ). Chain slot_of number xs pieces last rest) (sym cut) chain)
 
 -- a row that ends without a fault isn't refused
 pub never_refused : (pieces : List Piece) (last : ℕ) (rest : List ℕ) (fault : Fault)
-    → fault_of place_of pieces last rest ≡ None
-    → fault_of place_of pieces last rest ≡ Some fault → ⊥
+    → fault_of slot_of pieces last rest ≡ None
+    → fault_of slot_of pieces last rest ≡ Some fault → ⊥
 never_refused pieces last rest fault ended found = none_some fault (sym ended ∙ found)
 
--- headers stand where their header, their body and their extension headers were found
+-- headers are where their header, their body and their extension headers were found
 pub ipv6_found : (bytes : List ℕ) (h : Ipv6Header) (header : List ℕ) (source : LenSource)
     (body : List ℕ) (first : ℕ) (pieces : List Piece) (last : ℕ) (rest : List ℕ)
     (exts : Ipv6Extensions) (number : IpNumber) (fragmented : Bool) (left : List ℕ) →
     h ≡ v6.ipv6_header_of header → IsIpv6Body bytes header source body → first ≡ v6.next_header_of
     header
-    → Chain place_of first body pieces last rest → exts ≡ value_of pieces
+    → Chain slot_of first body pieces last rest → exts ≡ value_of pieces
     → number.0 ≡ last → left ≡ rest →
-    fault_of place_of pieces last rest ≡ None
+    fault_of slot_of pieces last rest ≡ None
     → fragmented ≡ option_map_or fragments exts.fragment false →
     IsIpv6Headers bytes (Ipv6 h exts)
     (record {
@@ -113,11 +113,11 @@ ipv6_found bytes h header source body first pieces last rest exts number fragmen
       pieces = pieces;
       last = last;
       begins = begins;
-      chain = subst (λ (n : ℕ). Chain place_of n body pieces last left) named
-          (subst (λ (xs : List ℕ). Chain place_of first body pieces last xs) (sym left_is) chain);
-      ended = ap (fault_of place_of pieces last) left_is ∙ ended;
+      chain = subst (λ (n : ℕ). Chain slot_of n body pieces last left) named
+          (subst (λ (xs : List ℕ). Chain slot_of first body pieces last xs) (sym left_is) chain);
+      ended = ap (fault_of slot_of pieces last) left_is ∙ ended;
       value = λ i. Ipv6 (fields i) (exts_is i);
-      told = λ i. record {
+      returned = λ i. record {
         ip_number = record { 0 = numbered i };
         fragmented = parted i;
         len_source = source;
@@ -125,7 +125,7 @@ ipv6_found bytes h header source body first pieces last rest exts number fragmen
       };
     }
 
--- what is read of the headers is what stands there
+-- what is read of the headers is what is there
 pub ipv6_only : (bytes : List ℕ) (headers : IpHeaders) (payload : IpPayload)
     (is : IsIpv6Headers bytes headers payload) (h : Ipv6Header) (header : List ℕ)
     (exts : Ipv6Extensions) (number : IpNumber) (fragmented : Bool)
@@ -145,7 +145,7 @@ ipv6_only bytes headers payload is h header exts number fragmented source rest f
     let h_is : h ≡ v6.ipv6_header_of is.header = fields ∙ ap v6.ipv6_header_of same in
     let value : Ipv6 h exts ≡ headers = (λ i. Ipv6 (h_is i) (exts_is i)) ∙ sym is.value in
     let parted_is : fragmented ≡ is_fragmenting headers = parted ∙ ap is_fragmenting value in
-    let told : record
+    let returned : record
     { ip_number = number; fragmented = fragmented; len_source = source; payload = rest }
     ≡ payload =
     (λ i. record {
@@ -153,8 +153,8 @@ ipv6_only bytes headers payload is h header exts number fragmented source rest f
       fragmented = parted_is i;
       len_source = bounded i;
       payload = left i;
-    }) ∙ sym is.told in
-    λ i. Ok (value i, told i)
+    }) ∙ sym is.returned in
+    λ i. Ok (value i, returned i)
 
 first_byte : (bytes header rest : List ℕ) → bytes ≡ header ++ rest → 0 < length header
     → get_or bytes 0 0 ≡ get_or header 0 0
@@ -185,7 +185,7 @@ ipv6_version bytes headers payload is =
 four_six : (n : ℕ) → n ≡ 4 → n ≡ 6 → ⊥
 four_six n four six = omega (arith, four, six)
 
--- the version tells whose headers stand there
+-- the version decides whose headers are there
 pub of_four : (bytes : List ℕ) (headers : IpHeaders) (payload : IpPayload) → v4.version_of bytes ≡ 4
     → IsIpHeaders bytes headers payload → IsIpv4Headers bytes headers payload
 of_four bytes headers payload four either =
@@ -206,7 +206,7 @@ of_neither bytes headers payload four six either =
     ⊎_elim (λ is. four (ipv4_version bytes headers payload is))
     (λ is. six (ipv6_version bytes headers payload is)) either
 
--- the same among faults of both versions
+-- the same with faults of both versions
 pub same_as : {E : Type 0} (x y : Parts) → IsSame E x y → IsSame HeadersSliceError x y
 same_as x y is = ap Ok (ok_same x y is)
 

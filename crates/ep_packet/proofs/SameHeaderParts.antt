@@ -5,8 +5,8 @@ use Rattle.std.specs.Cmp.Lexicographic.{pointwise_decides}
 use Rattle.ep_base.specs.Traits.{EqualIsSame}
 use Rattle.ep_base.proofs.Same.{options_same, two_parts}
 use Rattle.ep_link.specs.contracts.link.link_header.LinkHeaderPartialEq.TheImpl as links
-use Rattle.ep_packet.specs.PacketHeaders.{headers_told}
-use Rattle.ep_packet.specs.Payload.{payload_told}
+use Rattle.ep_packet.specs.PacketHeaders.{headers_parsed}
+use Rattle.ep_packet.specs.Payload.{payload_parsed}
 use Rattle.ep_packet.specs.contracts.net.net_headers.NetHeadersPartialEq.TheImpl as nets
 use Rattle.ep_packet.specs.contracts.packet_headers.PacketHeadersPartialEq.TheImpl as packets
 use Rattle.ep_packet.specs.contracts.payload_slice.PayloadSlicePartialEq.TheImpl as payloads
@@ -17,15 +17,15 @@ use Rattle.ep_tag.specs.contracts.link.link_ext_header.LinkExtHeaderPartialEq.Th
 
 pub headers_same : EqualIsSame links.ghosts.eq → EqualIsSame tags.ghosts.eq
     → EqualIsSame nets.ghosts.eq → EqualIsSame transports.ghosts.eq
-    → ((a b : PayloadSlice) → Decides (payloads.ghosts.eq a b) (payload_told a ≡ payload_told b))
-    → (a b : PacketHeaders) → Decides (packets.ghosts.eq a b) (headers_told a ≡ headers_told b)
+    → ((a b : PayloadSlice) → Decides (payloads.ghosts.eq a b) (payload_parsed a ≡ payload_parsed b))
+    → (a b : PacketHeaders) → Decides (packets.ghosts.eq a b) (headers_parsed a ≡ headers_parsed b)
 headers_same link tag net transport payload a b =
     let last = two_parts (options_same transport a.transport b.transport)
     (payload a.payload b.payload) (λ x y. (x, y)) (λ both. both) in
     let layers = two_parts (options_same net a.net b.net) last (λ x y. (x, y)) (λ both. both) in
-    let behind = two_parts (pointwise_decides tag a.link_exts.items b.link_exts.items) layers
+    let following = two_parts (pointwise_decides tag a.link_exts.items b.link_exts.items) layers
     (λ x y. (x, y)) (λ both. both) in
-    two_parts (options_same link a.link b.link) behind
+    two_parts (options_same link a.link b.link) following
     (λ x y i. record {
       link = x i;
       link_exts = y.0 i;

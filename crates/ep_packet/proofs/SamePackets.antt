@@ -1,4 +1,4 @@
--- Parts of packets that a test of equality finds equal.
+-- Sliced packets that a test of equality finds equal.
 use Rattle.std.specs.Cmp.Lexicographic.{pointwise_decides}
 use Rattle.ep_base.specs.Traits.{EqualIsSame}
 use Rattle.ep_base.proofs.Same.{field, last_field, options_same, record_same}

@@ -1,11 +1,11 @@
--- The parts of a packet together.
+-- The layers of a packet together.
 use Rattle.std.proofs.Common.{◌≡◌, ◌∙◌, ℕ, ◌≤◌, drop, ◌+◌, List, [], ◌∷◌, length, Option, Some}
 use Rattle.std.proofs.Common.{None, Result, Ok, Err, IfOk, IfSome, IsSome, ◌<◌, ◌^◌, arith, refl}
 use Rattle.std.proofs.Common.{sym, ap, subst}
 use Rattle.std.specs.Option.{ok_or}
 use Rattle.std.proofs.lemmas.Bool.{ltb-false}
 use Rattle.ep_base.specs.declared.len_source.LenSource.TheVariants as source
-use Rattle.ep_base.proofs.Fronts.{guard_ok, ok_same}
+use Rattle.ep_base.proofs.Prefixes.{guard_ok, ok_same}
 use Rattle.ep_ext.specs.Ipv4Exts.{auth_bytes}
 use Rattle.ep_link.specs.Sll.{sll_len}
 use Rattle.ep_link.specs.SllFault.{whole_at as sll_at}
@@ -18,7 +18,7 @@ use Rattle.ep_link.specs.declared.link.link_slice.LinkSlice.{LinkSlice}
 use Rattle.ep_packet.specs.Parts.{AreTagsAt, ArePartsOf, IsAt, IsNetAt, LayersIn}
 use Rattle.ep_packet.specs.Parts.{StandAt, TagsIn, headers_len, tags_len, transport_bytes}
 use Rattle.ep_packet.specs.SliceFault.{later, offset_by, fault_offset}
-use Rattle.ep_packet.specs.Sliced.{Layers, layers_in, no_layers, packet_behind, packet_of}
+use Rattle.ep_packet.specs.Sliced.{Layers, layers_in, no_layers, packet_after, packet_of}
 use Rattle.ep_packet.specs.Sliced.{packet_tagged, packet_with}
 use Rattle.ep_packet.specs.Tags.{Tagged, tags_in}
 use Rattle.ep_packet.specs.declared.err.packet.slice_error.SliceError.{SliceError}
@@ -32,16 +32,16 @@ use Rattle.ep_tag.specs.Ether.{EtherPayload}
 use Rattle.ep_tag.specs.LinkExt.{tag_len}
 use Rattle.ep_tag.specs.declared.link.link_ext_slice.LinkExtSlice.{LinkExtSlice}
 
--- the exits of a packet behind a link header
-pub faulty_tags : (link : LinkSlice) (p : EtherPayload) (n : ℕ) (e told : SliceError)
-    → Err e ≡ tags_in 3 p → told ≡ offset_by n e → Err told ≡ later n (packet_behind link p)
-faulty_tags link p n e told same is = ap Err is
+-- the results for a packet after a link header
+pub faulty_tags : (link : LinkSlice) (p : EtherPayload) (n : ℕ) (e returned : SliceError)
+    → Err e ≡ tags_in 3 p → returned ≡ offset_by n e → Err returned ≡ later n (packet_after link p)
+faulty_tags link p n e returned same is = ap Err is
     ∙ ap (λ (r : Result Tagged SliceError). later n (packet_tagged (Some link) r)) same
 
-pub faulty_layers : (link : LinkSlice) (p : EtherPayload) (n : ℕ) (t : Tagged) (e told : SliceError)
-    → Ok t ≡ tags_in 3 p → Err e ≡ layers_in t.last → told ≡ offset_by (n + t.len) e →
-    Err told ≡ later n (packet_behind link p)
-faulty_layers link p n t e told tagged same is =
+pub faulty_layers : (link : LinkSlice) (p : EtherPayload) (n : ℕ) (t : Tagged) (e returned : SliceError)
+    → Ok t ≡ tags_in 3 p → Err e ≡ layers_in t.last → returned ≡ offset_by (n + t.len) e →
+    Err returned ≡ later n (packet_after link p)
+faulty_layers link p n t e returned tagged same is =
     ap Err (is ∙ sym (moved_twice n t.len e))
     ∙ ap (λ (r : Result Layers SliceError). later n
     (packet_with (Some link) t.tags (later t.len r))) same
@@ -49,73 +49,73 @@ faulty_layers link p n t e told tagged same is =
 
 pub whole_packet : (link : LinkSlice) (p : EtherPayload) (n : ℕ) (t : Tagged) (layers : Layers)
     → Ok t ≡ tags_in 3 p → Ok layers ≡ layers_in t.last →
-    Ok (packet_of (Some link) t.tags layers) ≡ later n (packet_behind link p)
+    Ok (packet_of (Some link) t.tags layers) ≡ later n (packet_after link p)
 whole_packet link p n t layers tagged same =
     ap (λ (r : Result Layers SliceError). later n
     (packet_with (Some link) t.tags (later t.len r))) same
     ∙ ap (λ (r : Result Tagged SliceError). later n (packet_tagged (Some link) r)) tagged
 
--- parts of a part, at this place from the front
-stand_later : (frame bytes header exts payload : List ℕ) (place p q : ℕ) → place + p ≡ q
-    → IsAt frame place bytes → StandAt bytes p header exts payload
+-- parts of a part, at this offset in the whole
+stand_later : (frame bytes header exts payload : List ℕ) (position p q : ℕ) → position + p ≡ q
+    → IsAt frame position bytes → StandAt bytes p header exts payload
     → StandAt frame q header exts payload
-stand_later frame bytes header exts payload place p q sum at here = (
-  at_later frame bytes header place p q sum at here.0,
-  at_later frame bytes exts place (p + length header) (q + length header)
+stand_later frame bytes header exts payload position p q sum at here = (
+  at_later frame bytes header position p q sum at here.0,
+  at_later frame bytes exts position (p + length header) (q + length header)
       (omega (arith, sum)) at here.1,
-  at_later frame bytes payload place (p + length header + length exts)
+  at_later frame bytes payload position (p + length header + length exts)
       (q + length header + length exts) (omega (arith, sum)) at here.2,
 )
 
-net_later : (frame bytes : List ℕ) (place p q : ℕ) (packet : NetSlice) → place + p ≡ q
-    → IsAt frame place bytes → IsNetAt bytes p packet → IsNetAt frame q packet
-net_later frame bytes place p q (net.Ipv4 packet) sum at here =
+net_later : (frame bytes : List ℕ) (position p q : ℕ) (packet : NetSlice) → position + p ≡ q
+    → IsAt frame position bytes → IsNetAt bytes p packet → IsNetAt frame q packet
+net_later frame bytes position p q (net.Ipv4 packet) sum at here =
     stand_later frame bytes packet.header (auth_bytes packet.auth)
-    packet.payload place p q sum at here
-net_later frame bytes place p q (net.Ipv6 packet) sum at here =
+    packet.payload position p q sum at here
+net_later frame bytes position p q (net.Ipv6 packet) sum at here =
     stand_later frame bytes packet.header packet.exts.slice
-    packet.payload.payload place p q sum at here
-net_later frame bytes place p q (net.Arp packet) sum at here =
-    at_later frame bytes packet place p q sum at here
+    packet.payload.payload position p q sum at here
+net_later frame bytes position p q (net.Arp packet) sum at here =
+    at_later frame bytes packet position p q sum at here
 
-maybe_net_later : (frame bytes : List ℕ) (place p q : ℕ) (o : Option NetSlice) → place + p ≡ q
-    → IsAt frame place bytes → IfSome o (IsNetAt bytes p) → IfSome o (IsNetAt frame q)
-maybe_net_later frame bytes place p q None sum at here = tt
-maybe_net_later frame bytes place p q (Some packet) sum at here =
-    net_later frame bytes place p q packet sum at here
+maybe_net_later : (frame bytes : List ℕ) (position p q : ℕ) (o : Option NetSlice) → position + p ≡ q
+    → IsAt frame position bytes → IfSome o (IsNetAt bytes p) → IfSome o (IsNetAt frame q)
+maybe_net_later frame bytes position p q None sum at here = tt
+maybe_net_later frame bytes position p q (Some packet) sum at here =
+    net_later frame bytes position p q packet sum at here
 
-transport_later : (frame bytes : List ℕ) (place p q n : ℕ) (o : Option TransportSlice)
-    → place + p ≡ q → IsAt frame place bytes
+transport_later : (frame bytes : List ℕ) (position p q n : ℕ) (o : Option TransportSlice)
+    → position + p ≡ q → IsAt frame position bytes
     → IfSome o (λ m. IsAt bytes (p + n) (transport_bytes m)) →
     IfSome o (λ m. IsAt frame (q + n) (transport_bytes m))
-transport_later frame bytes place p q n None sum at here = tt
-transport_later frame bytes place p q n (Some m) sum at here =
-    at_later frame bytes (transport_bytes m) place (p + n) (q + n) (omega (arith, sum)) at here
+transport_later frame bytes position p q n None sum at here = tt
+transport_later frame bytes position p q n (Some m) sum at here =
+    at_later frame bytes (transport_bytes m) position (p + n) (q + n) (omega (arith, sum)) at here
 
-layers_later : (frame bytes : List ℕ) (place p q : ℕ) (layers : Layers) → place + p ≡ q
-    → IsAt frame place bytes → LayersIn bytes p layers → LayersIn frame q layers
-layers_later frame bytes place p q layers sum at inside = record {
-  net = maybe_net_later frame bytes place p q layers.net sum at inside.net;
-  transport = transport_later frame bytes place p q
+layers_later : (frame bytes : List ℕ) (position p q : ℕ) (layers : Layers) → position + p ≡ q
+    → IsAt frame position bytes → LayersIn bytes p layers → LayersIn frame q layers
+layers_later frame bytes position p q layers sum at inside = record {
+  net = maybe_net_later frame bytes position p q layers.net sum at inside.net;
+  transport = transport_later frame bytes position p q
       (headers_len layers.net) layers.transport sum at inside.transport;
 }
 
-tags_later : (frame bytes : List ℕ) (place p q : ℕ) (tags : List LinkExtSlice) → place + p ≡ q
-    → IsAt frame place bytes → AreTagsAt bytes p tags → AreTagsAt frame q tags
-tags_later frame bytes place p q [] sum at here = tt
-tags_later frame bytes place p q (t ∷ tags) sum at here = (
-  tag_later frame bytes place p q t sum at here.0,
-  tags_later frame bytes place (p + tag_len t)
+tags_later : (frame bytes : List ℕ) (position p q : ℕ) (tags : List LinkExtSlice) → position + p ≡ q
+    → IsAt frame position bytes → AreTagsAt bytes p tags → AreTagsAt frame q tags
+tags_later frame bytes position p q [] sum at here = tt
+tags_later frame bytes position p q (t ∷ tags) sum at here = (
+  tag_later frame bytes position p q t sum at here.0,
+  tags_later frame bytes position (p + tag_len t)
       (q + tag_len t) tags (omega (arith, sum)) at here.1,
 )
 
--- the parts of a payload, where the payload stands in a frame
-pub parts_later : (frame bytes : List ℕ) (place : ℕ) (packet : SlicedPacket)
-    → IsAt frame place bytes → ArePartsOf bytes 0 packet → ArePartsOf frame place packet
-parts_later frame bytes place packet at are = record {
-  tags = tags_later frame bytes place 0 place packet.link_exts.items (omega arith) at are.tags;
-  layers = layers_later frame bytes place (0 + tags_len packet.link_exts.items)
-      (place + tags_len packet.link_exts.items)
+-- the parts of a payload, at the offset of the payload in a frame
+pub parts_later : (frame bytes : List ℕ) (position : ℕ) (packet : SlicedPacket)
+    → IsAt frame position bytes → ArePartsOf bytes 0 packet → ArePartsOf frame position packet
+parts_later frame bytes position packet at are = record {
+  tags = tags_later frame bytes position 0 position packet.link_exts.items (omega arith) at are.tags;
+  layers = layers_later frame bytes position (0 + tags_len packet.link_exts.items)
+      (position + tags_len packet.link_exts.items)
       (record { net = packet.net; transport = packet.transport }) (omega arith) at are.layers;
 }
 
@@ -137,29 +137,29 @@ named_of None e same = let no : ◌≡◌ {A = Result Layers SliceError} (Err e)
 named_of (Some q) e same = refl
 
 -- the layers in what an ether type names, if it was named
-abbrev LayersBehind : Option EtherPayload → Layers → Type 0
-LayersBehind None layers = layers ≡ no_layers
-LayersBehind (Some q) layers = LayersIn q.payload 0 layers
+abbrev LayersAfter : Option EtherPayload → Layers → Type 0
+LayersAfter None layers = layers ≡ no_layers
+LayersAfter (Some q) layers = LayersIn q.payload 0 layers
 
-layers_behind : (bytes : List ℕ) (n place : ℕ) (o : Option EtherPayload) (layers : Layers)
-    → n ≡ place → IfSome o (λ q. IsAt bytes n q.payload) → LayersBehind o layers
-    → LayersIn bytes place layers
-layers_behind bytes n place None layers same at none =
-    subst (LayersIn bytes place) (sym none) (record { net = tt; transport = tt })
-layers_behind bytes n place (Some q) layers same at inside =
-    layers_later bytes q.payload n 0 place layers (omega (arith, same)) at inside
+layers_after : (bytes : List ℕ) (n position : ℕ) (o : Option EtherPayload) (layers : Layers)
+    → n ≡ position → IfSome o (λ q. IsAt bytes n q.payload) → LayersAfter o layers
+    → LayersIn bytes position layers
+layers_after bytes n position None layers same at none =
+    subst (LayersIn bytes position) (sym none) (record { net = tt; transport = tt })
+layers_after bytes n position (Some q) layers same at inside =
+    layers_later bytes q.payload n 0 position layers (omega (arith, same)) at inside
 
 -- the parts of a payload, with the layers in what the last ether type names
 pub parts_with : (bytes : List ℕ) (link : Option LinkSlice) (t : Tagged) (layers : Layers)
-    → TagsIn bytes 0 t → LayersBehind t.last layers
+    → TagsIn bytes 0 t → LayersAfter t.last layers
     → ArePartsOf bytes 0 (packet_of link t.tags layers)
 parts_with bytes link t layers tags inside =
     record {
       tags = tags.tags;
-      layers = layers_behind bytes (0 + t.len) (0 + tags_len t.tags) t.last layers (omega (arith, tags.len)) tags.last inside;
+      layers = layers_after bytes (0 + t.len) (0 + tags_len t.tags) t.last layers (omega (arith, tags.len)) tags.last inside;
     }
 
--- a fault of the layers, moved by what stands in front of them, lies within the bytes
+-- a fault of the layers, moved by the bytes before them, is within the bytes
 pub layer_fits : (bytes : List ℕ) (n : ℕ) (t : Tagged) (e : SliceError) → TagsIn bytes 0 t
     → IfSome t.last (λ q. (m : ℕ) → length q.payload + m < 2 ^ 64 → fault_offset e + m < 2 ^ 64)
     → IsSome t.last →
@@ -167,7 +167,7 @@ pub layer_fits : (bytes : List ℕ) (n : ℕ) (t : Tagged) (e : SliceError) → 
 layer_fits bytes n t e tags fits some room =
     layer_fits_at bytes n t.len t.last e tags.last fits some room
 
--- what the last ether type names begins where the tags end
+-- what the last ether type names starts where the tags end
 named_at_end : (bytes : List ℕ) (t : Tagged) (q : EtherPayload) → t.last ≡ Some q
     → TagsIn bytes 0 t → t.len + length q.payload ≤ length bytes
 named_at_end bytes t q named tags =
@@ -192,20 +192,20 @@ named_fits bytes n t q e named tags fits room =
 
 -- and the layers in it
 pub parts_named : (bytes : List ℕ) (link : Option LinkSlice) (t : Tagged) (q : EtherPayload)
-    (layers told : Layers) → t.last ≡ Some q → TagsIn bytes 0 t → layers ≡ told
-    → LayersIn q.payload 0 told → ArePartsOf bytes 0 (packet_of link t.tags layers)
-parts_named bytes link t q layers told named tags same inside =
+    (layers returned : Layers) → t.last ≡ Some q → TagsIn bytes 0 t → layers ≡ returned
+    → LayersIn q.payload 0 returned → ArePartsOf bytes 0 (packet_of link t.tags layers)
+parts_named bytes link t q layers returned named tags same inside =
     parts_with bytes link t layers tags
-    (subst (λ (o : Option EtherPayload). LayersBehind o layers) (sym named)
+    (subst (λ (o : Option EtherPayload). LayersAfter o layers) (sym named)
     (subst (λ (ls : Layers). LayersIn q.payload 0 ls) (sym same) inside))
 
-pub parts_in_frame : (frame bytes : List ℕ) (place : ℕ) (r : Result SlicedPacket SliceError)
-    → IsAt frame place bytes → IfOk r (λ packet. ArePartsOf bytes 0 packet)
-    → IfOk r (λ packet. ArePartsOf frame place packet)
-parts_in_frame frame bytes place (Ok packet) at are = parts_later frame bytes place packet at are
-parts_in_frame frame bytes place (Err e) at are = tt
+pub parts_in_frame : (frame bytes : List ℕ) (position : ℕ) (r : Result SlicedPacket SliceError)
+    → IsAt frame position bytes → IfOk r (λ packet. ArePartsOf bytes 0 packet)
+    → IfOk r (λ packet. ArePartsOf frame position packet)
+parts_in_frame frame bytes position (Ok packet) at are = parts_later frame bytes position packet at are
+parts_in_frame frame bytes position (Err e) at are = tt
 
--- the header of a cooked capture's packet begins all of its bytes
+-- a cooked capture's packet is all of its bytes, and they hold its header
 pub sll_whole : (bytes packet : List ℕ) → Ok packet ≡ sll_at bytes
     → (packet ≡ bytes) × (sll_len ≤ length bytes)
 sll_whole bytes packet same =

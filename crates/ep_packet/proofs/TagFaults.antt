@@ -5,7 +5,7 @@ use Rattle.std.proofs.Common.{[], ◌∷◌, length, Option, Some, None, Result,
 use Rattle.std.proofs.Common.{arith, refl, sym, ap, subst}
 use Rattle.std.specs.Prelude.{nat_lt}
 use Rattle.std.proofs.lemmas.Bool.{ltb-true}
-use Rattle.ep_base.proofs.Fronts.{err_same}
+use Rattle.ep_base.proofs.Prefixes.{err_same}
 use Rattle.ep_base.specs.LenError.{too_few_bytes}
 use Rattle.ep_base.specs.declared.err.layer.Layer.TheVariants.{VlanHeader}
 use Rattle.ep_base.specs.declared.err.len_error.LenError.{LenError}
@@ -20,8 +20,8 @@ use Rattle.ep_packet.specs.declared.err.packet.slice_error.SliceError.{SliceErro
 use Rattle.ep_packet.proofs.FaultLemmas.{moved_nothing, moved_twice}
 use Rattle.ep_packet.proofs.TaggedLaws.{MacsecIsRead, tag_read}
 use Rattle.ep_tag.specs.Ether.{EtherPayload}
-use Rattle.ep_tag.specs.Front.{whole_at}
-use Rattle.ep_tag.specs.LinkExt.{payload_behind, tag_len}
+use Rattle.ep_tag.specs.Prefix.{whole_at}
+use Rattle.ep_tag.specs.LinkExt.{payload_after, tag_len}
 use Rattle.ep_tag.specs.MacsecPayload.{Macsec, macsec_at}
 use Rattle.ep_tag.specs.Vlan.{vlan_len}
 use Rattle.ep_tag.specs.declared.err.macsec.header_error.HeaderError.{HeaderError}
@@ -58,7 +58,7 @@ tag_faulty : (p : EtherPayload) (e : SliceError) → tag_at p ≡ Err e → IsTa
 tag_faulty p e is =
     faulty_by (is_vlan_type p.ether_type) (is_macsec_type p.ether_type) p e refl refl is
 
--- fewer than n whole tags, and one behind them with a fault
+-- fewer than n whole tags, and one after them with a fault
 pub record AreTagsToFault (n : ℕ) (p : EtherPayload) (e : SliceError) : Type 0 where
   pub tags : List LinkExtSlice
   pub next : EtherPayload
@@ -71,16 +71,16 @@ pub record AreTagsToFault (n : ℕ) (p : EtherPayload) (e : SliceError) : Type 0
 abbrev IsFirst : ℕ → Type 0
 IsFirst n = (p : EtherPayload) (e : SliceError) → tags_in n p ≡ Err e → AreTagsToFault n p e
 
--- behind a tag, an Err is of what was read there
-behind_err : (t : LinkExtSlice) (r : Result Tagged SliceError) (e : SliceError)
+-- after a tag, an Err is that of what was read there
+err_after : (t : LinkExtSlice) (r : Result Tagged SliceError) (e : SliceError)
     → with_tag t r ≡ Err e
     → (more : SliceError) × (r ≡ Err more) × (e ≡ offset_by (tag_len t) more)
-behind_err t (Ok more) e is = cc
-behind_err t (Err x) e is = (x, refl, sym (err_same {A = Tagged} _ _ is))
+err_after t (Ok more) e is = cc
+err_after t (Err x) e is = (x, refl, sym (err_same {A = Tagged} _ _ is))
 
 one_more : (n : ℕ) (p : EtherPayload) (t : LinkExtSlice) (o : Option EtherPayload)
     (e more : SliceError) → MacsecIsRead → IsFirst n → tag_at p ≡ Ok (Some t)
-    → payload_behind t ≡ o → read_further (tags_in n) o ≡ Err more
+    → payload_after t ≡ o → read_further (tags_in n) o ≡ Err more
     → e ≡ offset_by (tag_len t) more → AreTagsToFault (suc n) p e
 one_more n p t None e more law first read named is error = cc
 one_more n p t (Some q) e more law first read named is error =
@@ -115,8 +115,8 @@ from_tag_first law n p (Err x) e first read is = record {
 }
 from_tag_first law n p (Ok None) e first read is = cc
 from_tag_first law n p (Ok (Some t)) e first read is =
-    let behind = behind_err t (read_further (tags_in n) (payload_behind t)) e is in
-    one_more n p t (payload_behind t) e behind.0 law first read refl behind.1 behind.2
+    let following = err_after t (read_further (tags_in n) (payload_after t)) e is in
+    one_more n p t (payload_after t) e following.0 law first read refl following.1 following.2
 
 pub tags_first : MacsecIsRead → (n : ℕ) → IsFirst n
 unfolding tags_in

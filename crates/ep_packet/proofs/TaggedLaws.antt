@@ -1,11 +1,11 @@
--- The tags that are read are those that stand there.
+-- The tags that are read are those that are there.
 use Rattle.std.proofs.Common.{◌≡◌, ℕ, zero, suc, ◌+◌, ◌<◌, ◌≤◌, ◌||◌, Bool, true, false, cond, List}
 use Rattle.std.proofs.Common.{[], ◌∷◌, length, Option, Some, None, Result, Ok, Err, IfSome}
 use Rattle.std.proofs.Common.{MatchOption, arith, refl, sym, ap, subst, ◌∙◌}
 use Rattle.std.proofs.lemmas.Bool.{le-ltb}
 use Rattle.ep_base.specs.declared.err.layer.Layer.TheVariants.{VlanHeader}
 use Rattle.ep_base.specs.declared.err.len_error.LenError.{LenError}
-use Rattle.ep_base.proofs.Fronts.{ok_same}
+use Rattle.ep_base.proofs.Prefixes.{ok_same}
 use Rattle.ep_packet.specs.IsTagged.{AreTags, IsTag, IsTagged}
 use Rattle.ep_packet.specs.Parts.{tags_len}
 use Rattle.ep_packet.specs.Tags.{Tagged, with_tag, from_tag, is_macsec_type, is_vlan_type}
@@ -14,8 +14,8 @@ use Rattle.ep_packet.specs.Tags.{names_tag, read_further, tag_at, tags_in, witho
 use Rattle.ep_packet.specs.declared.err.packet.slice_error.SliceError.{SliceError}
 use Rattle.ep_packet.proofs.PartsLemmas.{whole_is}
 use Rattle.ep_tag.specs.Ether.{EtherPayload}
-use Rattle.ep_tag.specs.Front.{whole_at}
-use Rattle.ep_tag.specs.LinkExt.{payload_behind, tag_len}
+use Rattle.ep_tag.specs.Prefix.{whole_at}
+use Rattle.ep_tag.specs.LinkExt.{payload_after, tag_len}
 use Rattle.ep_tag.specs.MacsecPayload.{IsMacsec, Macsec, macsec_at}
 use Rattle.ep_tag.specs.Vlan.{vlan_len}
 use Rattle.ep_base.specs.declared.err.slice_error.SliceError.{SliceError as HeaderSliceError}
@@ -30,7 +30,7 @@ pub record MacsecIsRead : Type 0 where
   pub only : (bytes : List ℕ) (macsec : Macsec) → IsMacsec bytes macsec
       → macsec_at bytes ≡ Ok macsec
 
--- what is read of a payload: a tag that stands there, or none where none is named
+-- what is read of a payload: a tag that is there, or none where none is named
 abbrev pub IsRead : EtherPayload → Option LinkExtSlice → Type 0
 IsRead p None = names_tag p.ether_type ≡ false
 IsRead p (Some t) = IsTag p t
@@ -88,15 +88,15 @@ none_only : (p : EtherPayload) → names_tag p.ether_type ≡ false → tag_at p
 none_only p none = let both = neither (is_vlan_type p.ether_type)
     (is_macsec_type p.ether_type) none in rw (both.0, both.1) refl
 
--- behind a result that is Ok there is an Ok
-behind_ok : (t : LinkExtSlice) (r : Result Tagged SliceError) (all : Tagged) → with_tag t r ≡ Ok
+-- after a tag, an Ok is that of what was read there
+ok_after : (t : LinkExtSlice) (r : Result Tagged SliceError) (all : Tagged) → with_tag t r ≡ Ok
     all →
     (more : Tagged) × (r ≡ Ok more)
     × (all ≡ record { tags = t ∷ more.tags; len = tag_len t + more.len; last = more.last })
-behind_ok t (Ok more) all e = (more, refl, cc)
-behind_ok t (Err x) all e = cc
+ok_after t (Ok more) all e = (more, refl, cc)
+ok_after t (Err x) all e = cc
 
--- what is read stands there
+-- what is read is there
 pub record Stands (n : ℕ) (p : EtherPayload) (t : Tagged) : Type 0 where
   pub tagged : IsTagged n p t.tags t.last
   pub len : t.len ≡ tags_len t.tags
@@ -124,12 +124,12 @@ stands_full p =
       len = refl;
     }
 
-stands_behind : (n : ℕ) (p : EtherPayload) (t : LinkExtSlice) (o : Option EtherPayload)
-    (more : Tagged) → IsTag p t → payload_behind t ≡ o →
+tagged_after : (n : ℕ) (p : EtherPayload) (t : LinkExtSlice) (o : Option EtherPayload)
+    (more : Tagged) → IsTag p t → payload_after t ≡ o →
     MatchOption o ((more.tags ≡ []) × (more.last ≡ None) × (more.len ≡ 0))
     (λ next. Stands n next more) →
     Stands (suc n) p (record { tags = t ∷ more.tags; len = tag_len t + more.len; last = more.last })
-stands_behind n p t None more is named at = record {
+tagged_after n p t None more is named at = record {
   tagged = record {
     few = rw at.0 (omega arith);
     are = (is, rw named (at.0, at.1));
@@ -137,7 +137,7 @@ stands_behind n p t None more is named at = record {
   };
   len = rw (at.0, at.2) refl;
 }
-stands_behind n p t (Some next) more is named at = record {
+tagged_after n p t (Some next) more is named at = record {
   tagged = record {
     few = let few = at.tagged.few in omega (arith, few);
     are = (is, rw named at.tagged.are);
@@ -154,9 +154,9 @@ from_tag_found law n p (Ok None) t sound read e =
     let same : without_tags (Some p) ≡ t = cc in
     subst (Stands (suc n) p) same (stands_none (suc n) p (tag_read law p None read))
 from_tag_found law n p (Ok (Some g)) t sound read e =
-    let found = behind_ok g (read_further (tags_in n) (payload_behind g)) t e in
-    let stands = stands_behind n p g (payload_behind g) found.0 (tag_read law p (Some g) read) refl
-    (further_found n (payload_behind g) found.0 sound found.1) in
+    let found = ok_after g (read_further (tags_in n) (payload_after g)) t e in
+    let stands = tagged_after n p g (payload_after g) found.0 (tag_read law p (Some g) read) refl
+    (further_found n (payload_after g) found.0 sound found.1) in
     subst (Stands (suc n) p) (sym found.2) stands
 
 pub tags_found : MacsecIsRead → (n : ℕ) → Sound n
@@ -165,7 +165,7 @@ tags_found law zero p t e = let same : without_tags (Some p) ≡ t = cc in
     subst (Stands 0 p) same (stands_full p)
 tags_found law (suc n) p t e = from_tag_found law n p (tag_at p) t (tags_found law n) refl e
 
--- what stands there is read
+-- what is there is read
 untagged_only : (n : ℕ) (p : EtherPayload) (last : Option EtherPayload) → IsTagged n p [] last
     → tags_in n p ≡ Ok (record { tags = []; len = 0; last = last })
 unfolding tags_in
@@ -196,5 +196,5 @@ tags_only law [] n last p is = untagged_only n p last is
 tags_only law (t ∷ tags) zero last p is = absurd (omega (arith, is.few))
 tags_only law (t ∷ tags) (suc n) last p is =
     ap (from_tag (tags_in n) p) (tag_only law p t is.are.0)
-    ∙ ap (with_tag t) (further_only n (payload_behind t) tags last (tags_only law tags n last)
+    ∙ ap (with_tag t) (further_only n (payload_after t) tags last (tags_only law tags n last)
     (omega (arith, is.few)) (λ less. is.ends (omega arith)) is.are.1)

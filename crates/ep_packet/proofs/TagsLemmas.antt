@@ -1,4 +1,4 @@
--- Tags read one behind the other.
+-- Tags read one after the other.
 use Rattle.std.proofs.Common.{◌≡◌, ℕ, suc, ◌+◌, List, [], ◌∷◌, ◌++◌, Option, Some, None, Result, Ok}
 use Rattle.std.proofs.Common.{Err, arith, refl, sym, ap, ◌∙◌, append_assoc, append-nil}
 use Rattle.ep_packet.specs.SliceFault.{offset_by}
@@ -7,10 +7,10 @@ use Rattle.ep_packet.specs.Tags.{without_tags}
 use Rattle.ep_packet.specs.declared.err.packet.slice_error.SliceError.{SliceError}
 use Rattle.ep_packet.proofs.FaultLemmas.{moved_nothing, moved_twice}
 use Rattle.ep_tag.specs.Ether.{EtherPayload}
-use Rattle.ep_tag.specs.LinkExt.{payload_behind, tag_len}
+use Rattle.ep_tag.specs.LinkExt.{payload_after, tag_len}
 use Rattle.ep_tag.specs.declared.link.link_ext_slice.LinkExtSlice.{LinkExtSlice}
 
--- tags that were read, of so many bytes, and what was read behind them
+-- tags that were read, of so many bytes, and what was read after them
 abbrev pub joined : List LinkExtSlice → ℕ → Result Tagged SliceError → Result Tagged SliceError
 joined tags len (Ok t) = Ok (record { tags = tags ++ t.tags; len = len + t.len; last = t.last })
 joined tags len (Err e) = Err (offset_by len e)
@@ -20,16 +20,16 @@ joined_nothing (Ok t) = let sum : 0 + t.len ≡ t.len = omega arith in
     ap (λ (n : ℕ). Ok (record { tags = t.tags; len = n; last = t.last })) sum
 joined_nothing (Err e) = ap Err (moved_nothing e)
 
-pub joined_behind : (tags : List LinkExtSlice) (len : ℕ) (tag : LinkExtSlice)
+pub joined_after : (tags : List LinkExtSlice) (len : ℕ) (tag : LinkExtSlice)
     (r : Result Tagged SliceError) →
     joined tags len (with_tag tag r) ≡ joined (tags ++ tag ∷ []) (len + tag_len tag) r
-joined_behind tags len tag (Ok t) =
+joined_after tags len tag (Ok t) =
     let sum : len + (tag_len tag + t.len) ≡ len + tag_len tag + t.len = omega arith in
     ap (λ (n : ℕ). Ok (record { tags = tags ++ tag ∷ t.tags; len = n; last = t.last })) sum
     ∙ ap (λ (ts : List LinkExtSlice). Ok
     (record { tags = ts; len = len + tag_len tag + t.len; last = t.last }))
     (sym (append_assoc tags (tag ∷ []) t.tags))
-joined_behind tags len tag (Err e) = ap Err (moved_twice len (tag_len tag) e)
+joined_after tags len tag (Err e) = ap Err (moved_twice len (tag_len tag) e)
 
 tags_turn : (n : ℕ) (p : EtherPayload) (r : Result (Option LinkExtSlice) SliceError) → tag_at p ≡ r
     → tags_in (suc n) p ≡ from_tag (tags_in n) p r
@@ -49,7 +49,7 @@ joined_untagged tags len last =
     ∙ ap (λ (ts : List LinkExtSlice). Ok (record { tags = ts; len = len; last = last }))
     (append-nil tags)
 
--- the exits of the loop, where k + 1 tags may still come, and its turn
+-- the ends of the loop, where k + 1 tags may still follow, and its next turn
 pub ends_untagged : (all : Result Tagged SliceError) (tags : List LinkExtSlice) (len k n : ℕ)
     (p : EtherPayload) → all ≡ joined tags len (tags_in n p) → n ≡ suc k → tag_at p ≡ Ok None →
     Ok (record { tags = tags; len = len; last = Some p }) ≡ all
@@ -69,11 +69,11 @@ pub goes_on : (all : Result Tagged SliceError) (tags : List LinkExtSlice) (len k
     (p : EtherPayload) (tag : LinkExtSlice) → all ≡ joined tags len (tags_in n p) → n ≡ suc k →
     tag_at p ≡ Ok (Some tag)
     → all ≡ joined (tags ++ tag ∷ []) (len + tag_len tag)
-    (read_further (tags_in k) (payload_behind tag))
+    (read_further (tags_in k) (payload_after tag))
 goes_on all tags len k n p tag so_far more found =
     so_far ∙ ap (λ (m : ℕ). joined tags len (tags_in m p)) more
     ∙ ap (joined tags len) (tags_turn k p (Ok (Some tag)) found)
-    ∙ joined_behind tags len tag (read_further (tags_in k) (payload_behind tag))
+    ∙ joined_after tags len tag (read_further (tags_in k) (payload_after tag))
 
 pub ends_full : (all : Result Tagged SliceError) (tags : List LinkExtSlice) (len n : ℕ)
     (p : EtherPayload) → all ≡ joined tags len (tags_in n p) → n ≡ 0 →
@@ -86,7 +86,7 @@ ends_full all tags len n p so_far none =
 pub goes_on_some : (all : Result Tagged SliceError) (tags more_tags : List LinkExtSlice)
     (len tag_bytes k n : ℕ) (p : EtherPayload) (tag : LinkExtSlice) (next : EtherPayload) →
     all ≡ joined tags len (tags_in n p) → n ≡ suc k → tag_at p ≡ Ok (Some tag) →
-    more_tags ≡ tags ++ tag ∷ [] → tag_bytes ≡ tag_len tag → payload_behind tag ≡ Some next
+    more_tags ≡ tags ++ tag ∷ [] → tag_bytes ≡ tag_len tag → payload_after tag ≡ Some next
     → all ≡ joined more_tags (len + tag_bytes) (tags_in k next)
 goes_on_some all tags more_tags len tag_bytes k n p tag next so_far more
     found pushed counted named =
@@ -97,7 +97,7 @@ goes_on_some all tags more_tags len tag_bytes k n p tag next so_far more
 pub goes_on_none : (all : Result Tagged SliceError) (tags more_tags : List LinkExtSlice)
     (len tag_bytes k n : ℕ) (p : EtherPayload) (tag : LinkExtSlice) →
     all ≡ joined tags len (tags_in n p) → n ≡ suc k → tag_at p ≡ Ok (Some tag) →
-    more_tags ≡ tags ++ tag ∷ [] → tag_bytes ≡ tag_len tag → payload_behind tag ≡ None
+    more_tags ≡ tags ++ tag ∷ [] → tag_bytes ≡ tag_len tag → payload_after tag ≡ None
     → Ok (record { tags = more_tags; len = len + tag_bytes; last = None }) ≡ all
 goes_on_none all tags more_tags len tag_bytes k n p tag so_far more found pushed counted named =
     rw (pushed, counted)

@@ -1,4 +1,4 @@
--- Frames from outside, at which laws state the definitions' values (IEEE 802.3, 802.1Q and 802.1AE;
+-- Literal frames, at which laws state the definitions' values (IEEE 802.3, 802.1Q and 802.1AE;
 -- RFC 768, 791, 826 and 8200).
 use Rattle.std.specs.Prelude.{ℕ, false, List, [], ◌∷◌, ◌++◌, Option, None}
 use Rattle.ep_base.specs.declared.err.layer.Layer.{Layer}
@@ -24,12 +24,12 @@ frame_addresses = 2 ∷ 0 ∷ 0 ∷ 0 ∷ 0 ∷ 2 ∷ 2 ∷ 0 ∷ 0 ∷ 0 ∷ 0 
 abbrev pub udp_message : List ℕ
 udp_message = 0 ∷ 1 ∷ 0 ∷ 2 ∷ 0 ∷ 8 ∷ 0 ∷ 0 ∷ []
 
--- the IPv4 header of an uncut message of eight bytes with this number, from 10.0.0.1 to 10.0.0.2
+-- the IPv4 header before a whole message of eight bytes with this number, from 10.0.0.1 to 10.0.0.2
 abbrev pub ipv4_header_before : ℕ → List ℕ
 ipv4_header_before number = 0x45 ∷ 0 ∷ 0 ∷ 28 ∷ 0 ∷ 7 ∷ 0 ∷ 0 ∷ 64 ∷ number ∷ 0 ∷ 0 ∷ 10 ∷ 0 ∷ 0 ∷
     1 ∷ 10 ∷ 0 ∷ 0 ∷ 2 ∷ []
 
--- that of UDP
+-- the same header with the number of UDP
 abbrev pub ipv4_header : List ℕ
 ipv4_header = ipv4_header_before 17
 
@@ -39,7 +39,7 @@ ipv4_packet = record { header = ipv4_header; auth = None; payload = udp_message 
 abbrev pub ipv4_addresses : Addresses
 ipv4_addresses = V4 (10 ∷ 0 ∷ 0 ∷ 1 ∷ []) (10 ∷ 0 ∷ 0 ∷ 2 ∷ [])
 
--- that of eight bytes of one from byte 24 on, identification 0102, more fragments
+-- the IPv4 header of a fragment of eight bytes at byte 24, identification 0x0102, more fragments
 abbrev pub ipv4_fragment_header : List ℕ
 ipv4_fragment_header = 0x45 ∷ 0 ∷ 0 ∷ 28 ∷ 1 ∷ 2 ∷ 0x20 ∷ 3 ∷ 64 ∷ 17 ∷ 0 ∷ 0 ∷ 10 ∷ 0 ∷ 0 ∷
     1 ∷ 10 ∷ 0 ∷ 0 ∷ 2 ∷ []
@@ -47,13 +47,13 @@ ipv4_fragment_header = 0x45 ∷ 0 ∷ 0 ∷ 28 ∷ 1 ∷ 2 ∷ 0x20 ∷ 3 ∷ 64
 abbrev pub eight_bytes : List ℕ
 eight_bytes = 1 ∷ 2 ∷ 3 ∷ 4 ∷ 5 ∷ 6 ∷ 7 ∷ 8 ∷ []
 
--- a VLAN tag with identifier 5 in front of the uncut message
+-- a VLAN tag with identifier 5 before the whole message
 abbrev pub whole_frame : List ℕ
 whole_frame = frame_addresses ++ 0x81 ∷ 0 ∷ 0 ∷ 5 ∷ 8 ∷ 0 ∷ [] ++ ipv4_header ++ udp_message
 
--- tags with identifiers 5, of priority 1, and 9 in front of the part
-abbrev pub cut_frame : List ℕ
-cut_frame = frame_addresses ++ 0x88 ∷ 0xa8 ∷ 0x20 ∷ 5 ∷ 0x81 ∷ 0 ∷ 0 ∷ 9 ∷ 8 ∷ 0 ∷ []
+-- tags with identifiers 5, of priority 1, and 9 before the fragment
+abbrev pub fragment_frame : List ℕ
+fragment_frame = frame_addresses ++ 0x88 ∷ 0xa8 ∷ 0x20 ∷ 5 ∷ 0x81 ∷ 0 ∷ 0 ∷ 9 ∷ 8 ∷ 0 ∷ []
     ++ ipv4_fragment_header ++ eight_bytes
 
 abbrev pub ipv6_source : List ℕ
@@ -62,28 +62,28 @@ ipv6_source = 0xfd ∷ 0 ∷ 0 ∷ 0 ∷ 0 ∷ 0 ∷ 0 ∷ 0 ∷ 0 ∷ 0 ∷ 0 �
 abbrev pub ipv6_destination : List ℕ
 ipv6_destination = 0xfd ∷ 0 ∷ 0 ∷ 0 ∷ 0 ∷ 0 ∷ 0 ∷ 0 ∷ 0 ∷ 0 ∷ 0 ∷ 0 ∷ 0 ∷ 0 ∷ 0 ∷ 2 ∷ []
 
--- an IPv6 header with this payload length, and a fragment header behind it
+-- an IPv6 header with this payload length, which names a fragment header
 abbrev pub ipv6_header : ℕ → List ℕ
 ipv6_header payload_len = 0x60 ∷ 0 ∷ 0 ∷ 0 ∷ 0 ∷ payload_len ∷ 44 ∷ 64 ∷
     ipv6_source ++ ipv6_destination
 
--- fragment headers: of a message that isn't cut, with another fragment header behind it; and of a
--- part from byte 8 on, identification 01020304, more fragments
+-- fragment headers: of a datagram that isn't fragmented, before another fragment header; and of a
+-- fragment at byte 8, identification 0x01020304, more fragments
 abbrev pub atomic_fragment : List ℕ
 atomic_fragment = 44 ∷ 0 ∷ 0 ∷ 0 ∷ 0 ∷ 0 ∷ 0 ∷ 7 ∷ []
 
 abbrev pub second_fragment : List ℕ
 second_fragment = 17 ∷ 0 ∷ 0 ∷ 9 ∷ 1 ∷ 2 ∷ 3 ∷ 4 ∷ []
 
-abbrev pub ipv6_cut_frame : List ℕ
-ipv6_cut_frame = frame_addresses ++ 0x86 ∷ 0xdd ∷ [] ++ ipv6_header 16
+abbrev pub ipv6_fragment_frame : List ℕ
+ipv6_fragment_frame = frame_addresses ++ 0x86 ∷ 0xdd ∷ [] ++ ipv6_header 16
     ++ second_fragment ++ eight_bytes
 
 abbrev pub ipv6_other_frame : List ℕ
 ipv6_other_frame = frame_addresses ++ 0x86 ∷ 0xdd ∷ [] ++ ipv6_header 24 ++ atomic_fragment
     ++ second_fragment ++ eight_bytes
 
--- VLAN tags with identifiers 4 to 1, each in front of the one before
+-- VLAN tags with identifiers 4 to 1, each before the one that is defined above it
 abbrev pub tag_4 : List ℕ
 tag_4 = 0 ∷ 4 ∷ 8 ∷ 0 ∷ []
 
@@ -96,7 +96,7 @@ tag_2 = 0 ∷ 2 ∷ 0x91 ∷ 0 ∷ tag_3
 abbrev pub tag_1 : List ℕ
 tag_1 = 0 ∷ 1 ∷ 0x88 ∷ 0xa8 ∷ tag_2
 
--- a VLAN tag in front of IPv4 as a value, with this identifier
+-- a VLAN tag before IPv4 as a value, with this identifier
 abbrev pub tag_header : ℕ → SingleVlanHeader
 tag_header id = record {
   pcp = 0;
@@ -105,29 +105,29 @@ tag_header id = record {
   ether_type = record { 0 = 0x800 };
 }
 
--- bytes behind the ether type of a VLAN tag
+-- bytes after the ether type of a VLAN tag
 abbrev pub vlan_named : List ℕ → EtherPayload
 vlan_named bytes =
     record { ether_type = record { 0 = 0x8100 }; len_source = Slice; payload = bytes }
 
--- frames that end within a header: of IPv4 behind a VLAN tag, of ARP behind a MACsec header, of UDP
--- behind an authentication header (RFC 4302), of ICMPv6 behind hop-by-hop options (RFC 8200), and of
+-- frames that end within a header: of IPv4 after a VLAN tag, of ARP after a MACsec header, of UDP
+-- after an authentication header (RFC 4302), of ICMPv6 after hop-by-hop options (RFC 8200), and of
 -- TCP within its options (RFC 9293)
-abbrev pub cut_behind_tag : List ℕ
-cut_behind_tag = frame_addresses ++ 0x81 ∷ 0 ∷ 0 ∷ 5 ∷ 8 ∷ 0 ∷
+abbrev pub cut_after_tag : List ℕ
+cut_after_tag = frame_addresses ++ 0x81 ∷ 0 ∷ 0 ∷ 5 ∷ 8 ∷ 0 ∷
     0x45 ∷ 0 ∷ 0 ∷ 28 ∷ 0 ∷ 7 ∷ 0 ∷ 0 ∷ 64 ∷ 17 ∷ []
 
-abbrev pub cut_behind_macsec : List ℕ
-cut_behind_macsec = frame_addresses ++ 0x88 ∷ 0xe5 ∷ 0 ∷ 0 ∷ 0 ∷ 0 ∷ 0 ∷ 1 ∷ 8 ∷ 6 ∷
+abbrev pub cut_after_macsec : List ℕ
+cut_after_macsec = frame_addresses ++ 0x88 ∷ 0xe5 ∷ 0 ∷ 0 ∷ 0 ∷ 0 ∷ 0 ∷ 1 ∷ 8 ∷ 6 ∷
     0 ∷ 1 ∷ 8 ∷ 0 ∷ 6 ∷ 4 ∷ []
 
-abbrev pub cut_behind_auth : List ℕ
-cut_behind_auth = frame_addresses ++ 8 ∷ 0 ∷
+abbrev pub cut_after_auth : List ℕ
+cut_after_auth = frame_addresses ++ 8 ∷ 0 ∷
     0x45 ∷ 0 ∷ 0 ∷ 36 ∷ 0 ∷ 7 ∷ 0 ∷ 0 ∷ 64 ∷ 51 ∷ 0 ∷ 0 ∷ 10 ∷ 0 ∷ 0 ∷ 1 ∷ 10 ∷ 0 ∷ 0 ∷ 2 ∷
     17 ∷ 1 ∷ 0 ∷ 0 ∷ 0 ∷ 0 ∷ 0 ∷ 9 ∷ 0 ∷ 0 ∷ 0 ∷ 1 ∷ 0 ∷ 1 ∷ 0 ∷ 2 ∷ []
 
-abbrev pub cut_behind_options : List ℕ
-cut_behind_options = frame_addresses ++ 0x86 ∷ 0xdd ∷
+abbrev pub cut_after_options : List ℕ
+cut_after_options = frame_addresses ++ 0x86 ∷ 0xdd ∷
     0x60 ∷ 0 ∷ 0 ∷ 0 ∷ 0 ∷ 12 ∷ 0 ∷ 64 ∷ ipv6_source ++ ipv6_destination ++
     58 ∷ 0 ∷ 1 ∷ 4 ∷ 0 ∷ 0 ∷ 0 ∷ 0 ∷ 128 ∷ 0 ∷ 0 ∷ 0 ∷ []
 
@@ -137,8 +137,8 @@ cut_in_options = frame_addresses ++ 8 ∷ 0 ∷
     0 ∷ 1 ∷ 0 ∷ 2 ∷ 0 ∷ 0 ∷ 0 ∷ 0 ∷ 0 ∷ 0 ∷ 0 ∷ 0 ∷ 0x60 ∷ 2 ∷ 0 ∷ 0 ∷ 0 ∷ 0 ∷ 0 ∷ 0 ∷ 2 ∷ 4 ∷ []
 
 -- a layer at this offset needs so many bytes, and fewer are there, by this length
-abbrev pub wants : Layer → ℕ → ℕ → LenSource → ℕ → SliceError
-wants layer required found source offset = Len (record {
+abbrev pub missing_bytes : Layer → ℕ → ℕ → LenSource → ℕ → SliceError
+missing_bytes layer required found source offset = Len (record {
   required_len = required;
   len = found;
   len_source = source;
@@ -150,7 +150,7 @@ wants layer required found source offset = Len (record {
 abbrev pub cooked_header : List ℕ → List ℕ
 cooked_header protocol = 0 ∷ 0 ∷ 0 ∷ 1 ∷ 0 ∷ 6 ∷ 1 ∷ 2 ∷ 3 ∷ 4 ∷ 5 ∷ 6 ∷ 0 ∷ 0 ∷ protocol
 
--- the uncut message behind it
+-- the whole message after it
 abbrev pub cooked_packet : List ℕ
 cooked_packet = cooked_header (8 ∷ 0 ∷ []) ++ ipv4_header ++ udp_message
 

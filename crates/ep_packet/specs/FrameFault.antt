@@ -1,5 +1,5 @@
--- Why a frame is refused: the first fault in the order of its layers. It tells in which layer it
--- is, what that layer needs and what is there, by which length field, and at which offset of the
+-- Why a frame is refused: the first fault in the order of its layers. It has the layer, how many
+-- bytes that layer needs and how many are there, by which length field, and the offset in the
 -- frame.
 use Rattle.std.specs.Prelude.{◌≡◌, ◌<◌, ◌≤◌, ◌+◌, ◌-◌, ℕ, true, false, List, length, Option}
 use Rattle.std.specs.Prelude.{Some, Result, Ok, Err}
@@ -8,7 +8,7 @@ use Rattle.ep_base.specs.declared.err.layer.Layer.TheVariants.{Ethernet2Header, 
 use Rattle.ep_base.specs.declared.err.len_error.LenError.{LenError}
 use Rattle.ep_base.specs.declared.err.slice_error.SliceError.{SliceError as HeaderSliceError}
 use Rattle.ep_base.specs.declared.link.ether_type.EtherType.{EtherType}
-use Rattle.ep_ext.specs.Place.{Order, place_of}
+use Rattle.ep_ext.specs.Slot.{Order, slot_of}
 use Rattle.ep_icmp.specs.Icmpv4Fault as icmpv4_fault
 use Rattle.ep_icmp.specs.Icmpv6Fault as icmpv6_fault
 use Rattle.ep_ipslice.specs.IpSlice.{IsIpFault, ip_packet_at, payload_of as ip_payload_of}
@@ -52,7 +52,7 @@ use Rattle.ep_tcpudp.specs.TcpFault.{segment_at}
 use Rattle.ep_tcpudp.specs.UdpFault as udp_fault
 use Rattle.ep_tcpudp.specs.declared.err.tcp.header_error.HeaderError.{HeaderError as TcpFault}
 
--- the ether type names a tag, and the tag at the front of the payload isn't whole or breaks its
+-- the ether type names a tag, and the tag at the start of the payload isn't whole or breaks its
 -- format
 pub data IsTagFault (p : EtherPayload) (e : SliceError) : Type 0 where
   OfVlan : is_vlan_type p.ether_type ≡ true → length p.payload < vlan_len
@@ -61,8 +61,8 @@ pub data IsTagFault (p : EtherPayload) (e : SliceError) : Type 0 where
       → is_macsec_type p.ether_type ≡ true → macsec_at p.payload ≡ Err fault
       → e ≡ of_macsec fault → IsTagFault p e
 
--- what the message of a view and the header of a value want of the bytes of an IP payload: of UDP
--- alone these differ, since a header alone doesn't ask for what its length field counts
+-- the fault of an IP payload in which a message (of a view) or its header (as a value) is read:
+-- these differ for UDP alone, since the header doesn't need the bytes that its length field counts
 pub data IsMessageFault (udp_at : List ℕ → Result (List ℕ) LenError) (n : ℕ) (bytes : List ℕ)
     (e : SliceError) : Type 0 where
   OfIcmpv4 : (fault : LenError) → n ≡ number.icmpv4 → icmpv4_fault.message_at bytes ≡ Err fault
@@ -74,8 +74,8 @@ pub data IsMessageFault (udp_at : List ℕ → Result (List ℕ) LenError) (n : 
   OfIcmpv6 : (fault : LenError) → n ≡ number.icmpv6 → icmpv6_fault.message_at bytes ≡ Err fault
       → e ≡ Len fault → IsMessageFault udp_at n bytes e
 
--- an IP payload behind so many bytes of headers is an uncut message with a fault, which its length
--- bounds
+-- an IP payload after so many bytes of headers is no fragment, and its message has a fault, which
+-- the payload's length bounds
 pub record IsPayloadFault (udp_at : List ℕ → Result (List ℕ) LenError) (headers_len : ℕ)
     (p : IpPayload) (e : SliceError) : Type 0 where
   pub fault : SliceError
@@ -84,7 +84,7 @@ pub record IsPayloadFault (udp_at : List ℕ → Result (List ℕ) LenError) (he
   pub error : e ≡ offset_by headers_len (within p.len_source fault)
 
 -- the packet of the network layer that an ether type names isn't whole or breaks its format, where
--- extension headers of IPv6 stand in this order
+-- extension headers of IPv6 are in this order
 pub data IsNetFault (order : Order) (t : EtherType) (bytes : List ℕ) (e : SliceError) : Type 0 where
   OfIpv4 : (fault : Ipv4Fault) → t.0 ≡ ipv4_type → ipv4_packet_at bytes ≡ Err fault
       → e ≡ of_ipv4 fault → IsNetFault order t bytes e
@@ -103,13 +103,13 @@ pub data IsLayersFault (t : EtherType) (bytes : List ℕ) (e : SliceError) : Typ
       → IsPayloadFault udp_fault.udp_at (headers_len (Some (net.Ipv6 packet))) packet.payload e
       → IsLayersFault t bytes e
 
--- how many bytes of headers an IP payload has in front of it, if the packet has so many in all
+-- how many bytes of headers are before the payload of an IP packet that starts these bytes
 abbrev pub values_len : IpHeaders → List ℕ → IpPayload → ℕ
 values_len headers bytes p = packet_len headers (length bytes) - length p.payload
 
 -- the same, as headers are read as values
 pub data IsHeaderLayersFault (t : EtherType) (bytes : List ℕ) (e : SliceError) : Type 0 where
-  InNet : IsNetFault place_of t bytes e → IsHeaderLayersFault t bytes e
+  InNet : IsNetFault slot_of t bytes e → IsHeaderLayersFault t bytes e
   InIpv4 : (headers : IpHeaders) (p : IpPayload) → t.0 ≡ ipv4_type
       → ipv4_headers_at bytes ≡ Ok (headers, p)
       → IsPayloadFault udp_fault.header_at (values_len headers bytes p) p e
@@ -119,25 +119,25 @@ pub data IsHeaderLayersFault (t : EtherType) (bytes : List ℕ) (e : SliceError)
       → IsPayloadFault udp_fault.header_at (values_len headers bytes p) p e
       → IsHeaderLayersFault t bytes e
 
--- the first fault of what an ether type names: of a tag behind whole ones, or of the layers behind
+-- the first fault of what an ether type names: of a tag after whole ones, or of the layers after
 -- all tags
-pub data IsFaultBehind (IsLayers : EtherType → List ℕ → SliceError → Type 0) (p : EtherPayload)
+pub data IsFaultAfter (IsLayers : EtherType → List ℕ → SliceError → Type 0) (p : EtherPayload)
     (e : SliceError) : Type 0 where
   InTag : (tags : List LinkExtSlice) (q : EtherPayload) (fault : SliceError)
       → length tags < most_tags → AreTags p tags (Some q) → IsTagFault q fault
-      → e ≡ offset_by (tags_len tags) fault → IsFaultBehind IsLayers p e
+      → e ≡ offset_by (tags_len tags) fault → IsFaultAfter IsLayers p e
   InLayers : (tags : List LinkExtSlice) (q : EtherPayload) (fault : SliceError)
       → IsTagged most_tags p tags (Some q) → IsLayers q.ether_type q.payload fault
-      → e ≡ offset_by (tags_len tags) fault → IsFaultBehind IsLayers p e
+      → e ≡ offset_by (tags_len tags) fault → IsFaultAfter IsLayers p e
 
--- the first fault of an Ethernet II frame: of its header, or of what stands behind it
+-- the first fault of an Ethernet II frame: of its header, or of what follows it
 pub data IsFrameFaultIn (IsLayers : EtherType → List ℕ → SliceError → Type 0) (frame : List ℕ)
     (e : SliceError) : Type 0 where
   InHeader : length frame < ethernet_len
       → e ≡ Len (too_few_bytes Ethernet2Header ethernet_len (length frame))
       → IsFrameFaultIn IsLayers frame e
-  Behind : (fault : SliceError) → ethernet_len ≤ length frame
-      → IsFaultBehind IsLayers (payload_of frame) fault → e ≡ offset_by ethernet_len fault
+  Following : (fault : SliceError) → ethernet_len ≤ length frame
+      → IsFaultAfter IsLayers (payload_of frame) fault → e ≡ offset_by ethernet_len fault
       → IsFrameFaultIn IsLayers frame e
 
 -- as views and as values are read
@@ -151,16 +151,16 @@ IsFrameHeadersFault = IsFrameFaultIn IsHeaderLayersFault
 pub data IsCookedFault (packet : List ℕ) (e : SliceError) : Type 0 where
   InHeader : (fault : HeaderSliceError SllFault) → sll_fault.whole_at packet ≡ Err fault
       → e ≡ of_linux_sll fault → IsCookedFault packet e
-  Behind : (p : EtherPayload) (fault : SliceError) → sll_fault.whole_at packet ≡ Ok packet
-      → sll.named_payload (sll.payload_of packet) ≡ Some p → IsFaultBehind IsLayersFault p fault
+  Following : (p : EtherPayload) (fault : SliceError) → sll_fault.whole_at packet ≡ Ok packet
+      → sll.named_payload (sll.payload_of packet) ≡ Some p → IsFaultAfter IsLayersFault p fault
       → e ≡ offset_by sll_len fault → IsCookedFault packet e
 
--- the first fault of bytes behind an ether type, as views and as values are read
+-- the first fault of bytes after an ether type, as views and as values are read
 abbrev pub IsEtherTypeFault : EtherType → List ℕ → SliceError → Type 0
-IsEtherTypeFault t bytes = IsFaultBehind IsLayersFault (ether_payload t bytes)
+IsEtherTypeFault t bytes = IsFaultAfter IsLayersFault (ether_payload t bytes)
 
 abbrev pub IsEtherTypeHeadersFault : EtherType → List ℕ → SliceError → Type 0
-IsEtherTypeHeadersFault t bytes = IsFaultBehind IsHeaderLayersFault (ether_payload t bytes)
+IsEtherTypeHeadersFault t bytes = IsFaultAfter IsHeaderLayersFault (ether_payload t bytes)
 
 -- the first fault of an IP packet of either version and of the message in it
 pub data IsIpPacketFault (bytes : List ℕ) (e : SliceError) : Type 0 where

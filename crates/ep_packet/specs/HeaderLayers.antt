@@ -1,4 +1,4 @@
--- The headers of the network and the transport layer, and what stands behind them.
+-- The headers of the network and the transport layer, and the payload after them.
 use Rattle.std.specs.Prelude.{ℕ, ◌+◌, ◌-◌, ◌==◌, ◌&&◌, nat_lt, if◌then◌else◌, List, length, drop}
 use Rattle.std.specs.Prelude.{Option, Some, None, Result, Ok, Err}
 use Rattle.ep_base.specs.declared.err.len_error.LenError.{LenError}
@@ -40,7 +40,7 @@ pub record HeaderLayers : Type 0 where
   pub transport : Option TransportHeader
   pub payload : Payload
 
--- a transport header, and the bytes behind it as a payload of its protocol
+-- a transport header, and the bytes after it as a payload of its protocol
 abbrev pub MessageParts : Type 0
 MessageParts = Option (TransportHeader × Payload)
 
@@ -58,7 +58,7 @@ abbrev pub tcp_parts : Result (List ℕ) (HeaderSliceError HeaderError)
 tcp_parts (Ok m) = Ok (Some (transport.Tcp (tcp.tcp_header_of m), Tcp (tcp.payload_of m)))
 tcp_parts (Err e) = Err (number.tcp_fault e)
 
--- of UDP the header alone is looked at, and all that stands behind it is payload
+-- of UDP the header alone is read, and all bytes after it are payload
 abbrev pub udp_parts : List ℕ → Result (List ℕ) LenError → Result MessageParts SliceError
 udp_parts bytes (Ok header) = Ok (Some (
   transport.Udp (udp.udp_header_of header),
@@ -80,7 +80,7 @@ message_parts n bytes =
     else (if n == number.udp then udp_parts bytes (udp_fault.header_at bytes)
     else (if n == number.icmpv6 then icmpv6_parts (icmpv6_fault.message_at bytes) else Ok None)))
 
--- that of the message that an IP payload is: none where it is a part of one
+-- that of the message in an IP payload: none if the payload is a fragment
 abbrev pub message_in : IpPayload → Result MessageParts SliceError
 message_in p = if p.fragmented then Ok None else message_parts p.ip_number.0 p.payload
 
@@ -90,18 +90,17 @@ packet_len (ip.Ipv4 h e) found = h.total_len
 packet_len (ip.Ipv6 h e) found = if (h.payload_length == 0) && nat_lt 40 found then found
     else 40 + h.payload_length
 
--- headers of the network layer, and the message that stands so many bytes further on. The payload
--- is that of the message, or of the packet where it is a part of a message or of a number that
--- isn't read.
+-- headers of the network layer, and the message at this offset. The payload is that of the message,
+-- or of the packet if that is a fragment or of a number that isn't read.
 abbrev pub with_message : NetHeaders → ℕ → IpPayload → Result MessageParts SliceError
     → Result HeaderLayers SliceError
-with_message headers place p (Ok None) =
+with_message headers position p (Ok None) =
     Ok (record { net = Some headers; transport = None; payload = Ip p })
-with_message headers place p (Ok (Some m)) =
+with_message headers position p (Ok (Some m)) =
     Ok (record { net = Some headers; transport = Some m.0; payload = m.1 })
-with_message headers place p (Err e) = Err (offset_by place (within p.len_source e))
+with_message headers position p (Err e) = Err (offset_by position (within p.len_source e))
 
--- in the IP packet at the front of so many bytes, which ends where its payload ends
+-- in the IP packet at the start of so many bytes, which ends where its payload ends
 abbrev pub in_packet : ℕ → IpHeaders → IpPayload → Result HeaderLayers SliceError
 in_packet found headers p =
     with_message (of_ip headers) (packet_len headers found - length p.payload) p (message_in p)
@@ -116,7 +115,7 @@ abbrev pub ipv6_layers : ℕ → Result (IpHeaders × IpPayload) Ipv6Fault
 ipv6_layers found (Ok parts) = in_packet found parts.0 parts.1
 ipv6_layers found (Err e) = Err (of_ipv6 e)
 
--- a fault of IP headers among those of all layers
+-- a fault of IP headers as one of all layers
 abbrev pub of_headers : HeadersSliceError → SliceError
 of_headers (slice_error.Len e) = error.Len e
 of_headers (slice_error.Content (headers_error.Ip e)) = error.Ip e

@@ -1,4 +1,4 @@
--- What an error of writing IP headers tells.
+-- The cases of an error of writing IP headers.
 use Rattle.std.specs.Prelude.{Bool, true, false, Option, Some, None}
 use Rattle.ep_ext.specs.declared.err.ipv4_exts.exts_walk_error.ExtsWalkError as ipv4
 use Rattle.ep_ext.specs.declared.err.ipv6_exts.exts_walk_error.ExtsWalkError as ipv6
@@ -7,7 +7,7 @@ use Rattle.ep_packet.specs.declared.err.ip.headers_write_error.HeadersWriteError
 use Rattle.ep_packet.specs.declared.err.ip.headers_write_error.HeadersWriteError.TheVariants.{Ipv4Exts}
 use Rattle.ep_packet.specs.declared.err.ip.headers_write_error.HeadersWriteError.TheVariants.{Ipv6Exts}
 
--- memory was missing
+-- out of memory
 abbrev pub is_memory : HeadersWriteError → Bool
 is_memory Memory = true
 is_memory (Ipv4Exts e) = false

@@ -32,7 +32,7 @@ is_arp (Arp packet) = true
 abbrev pub is_ip : NetHeaders → Bool
 is_ip headers = is_ipv4 headers || is_ipv6 headers
 
--- the headers of one kind, where they are
+-- the headers, if they are of this kind
 abbrev pub ipv4_in : NetHeaders → Option (Ipv4Header × Ipv4Extensions)
 ipv4_in (Ipv4 h e) = Some (h, e)
 ipv4_in (Ipv6 h e) = None

@@ -1,4 +1,4 @@
--- The headers of a frame, or of what stands in it, and what stands behind them.
+-- The headers of a frame, or of a packet in one, and the payload after them.
 use Rattle.std.specs.Prelude.{ℕ, List, [], ◌∷◌, length, Option, Some, None, Result, Ok, Err, map}
 use Rattle.ep_base.specs.declared.err.layer.Layer.TheVariants.{Ethernet2Header}
 use Rattle.ep_base.specs.declared.err.len_error.LenError.{LenError}
@@ -9,8 +9,8 @@ use Rattle.ep_link.specs.declared.link.link_header.LinkHeader.{LinkHeader}
 use Rattle.ep_link.specs.declared.link.link_header.LinkHeader.TheVariants.{Ethernet2}
 use Rattle.ep_packet.specs.HeaderLayers.{HeaderLayers, ip_layers, layers_of, payload_alone}
 use Rattle.ep_packet.specs.IpHeadersAt.{ip_headers_at}
-use Rattle.ep_packet.specs.PacketView.{last_of, source_behind}
-use Rattle.ep_packet.specs.Payload.{Payload, Empty, MacsecMod, payload_told}
+use Rattle.ep_packet.specs.PacketView.{last_of, source_after}
+use Rattle.ep_packet.specs.Payload.{Payload, Empty, MacsecMod, payload_parsed}
 use Rattle.ep_packet.specs.SliceFault.{later}
 use Rattle.ep_packet.specs.Tags.{Tagged, most_tags, tags_in}
 use Rattle.ep_packet.specs.declared.err.packet.slice_error.SliceError.{SliceError}
@@ -19,7 +19,7 @@ use Rattle.ep_packet.specs.declared.net.net_headers.NetHeaders.{NetHeaders}
 use Rattle.ep_packet.specs.declared.packet_headers.PacketHeaders.{PacketHeaders}
 use Rattle.ep_packet.specs.declared.transport.transport_header.TransportHeader.{TransportHeader}
 use Rattle.ep_tag.specs.Ether.{EtherPayload}
-use Rattle.ep_tag.specs.Front.{whole_at}
+use Rattle.ep_tag.specs.Prefix.{whole_at}
 use Rattle.ep_tag.specs.LinkExt.{fields_of}
 use Rattle.ep_tag.specs.MacsecPayload.{MacsecPayload, Modified, Unmodified}
 use Rattle.ep_tag.specs.declared.link.link_ext_header.LinkExtHeader.{LinkExtHeader}
@@ -37,35 +37,35 @@ pub record Headers : Type 0 where
   pub transport : Option TransportHeader
   pub payload : Payload
 
--- what headers with a payload that is lent tell
-abbrev pub headers_told : PacketHeaders → Headers
-headers_told h = record {
+-- the value of headers with a borrowed payload
+abbrev pub headers_parsed : PacketHeaders → Headers
+headers_parsed h = record {
   link = h.link;
   link_exts = h.link_exts.items;
   net = h.net;
   transport = h.transport;
-  payload = payload_told h.payload;
+  payload = payload_parsed h.payload;
 }
 
-abbrev pub result_told : Result PacketHeaders SliceError → Result Headers SliceError
-result_told (Ok h) = Ok (headers_told h)
-result_told (Err e) = Err e
+abbrev pub result_parsed : Result PacketHeaders SliceError → Result Headers SliceError
+result_parsed (Ok h) = Ok (headers_parsed h)
+result_parsed (Err e) = Err e
 
--- the payload of a MACsec header that was changed
+-- the modified payload of a MACsec header
 abbrev pub modified_payload : MacsecPayload → Payload
 modified_payload (Unmodified p) = Empty
 modified_payload (Modified bytes) = MacsecMod bytes
 
-abbrev pub modified_behind : Option LinkExtSlice → Payload
-modified_behind None = Empty
-modified_behind (Some (Vlan bytes)) = Empty
-modified_behind (Some (Macsec m)) = modified_payload m.payload
+abbrev pub modified_after : Option LinkExtSlice → Payload
+modified_after None = Empty
+modified_after (Some (Vlan bytes)) = Empty
+modified_after (Some (Macsec m)) = modified_payload m.payload
 
--- the layers behind tags. Their short lengths bound what the last ether type names; where none
--- names anything, the payload is that of the modified MACsec header.
-abbrev pub layers_behind : List LinkExtSlice → Option EtherPayload → Result HeaderLayers SliceError
-layers_behind tags None = Ok (payload_alone (modified_behind (last_of tags)))
-layers_behind tags (Some p) = layers_of (record p { len_source = source_behind tags })
+-- the layers after tags. The tags' short lengths bound what the last ether type names; if there is
+-- no such ether type, the payload is the modified one of the last MACsec header.
+abbrev pub layers_after : List LinkExtSlice → Option EtherPayload → Result HeaderLayers SliceError
+layers_after tags None = Ok (payload_alone (modified_after (last_of tags)))
+layers_after tags (Some p) = layers_of (record p { len_source = source_after tags })
 
 -- all headers together
 abbrev pub headers_of : Option LinkHeader → List LinkExtSlice → HeaderLayers → Headers
@@ -83,25 +83,25 @@ headers_with link tags (Ok layers) = Ok (headers_of link tags layers)
 headers_with link tags (Err e) = Err e
 
 abbrev pub headers_tagged : Option LinkHeader → Result Tagged SliceError → Result Headers SliceError
-headers_tagged link (Ok t) = headers_with link t.tags (later t.len (layers_behind t.tags t.last))
+headers_tagged link (Ok t) = headers_with link t.tags (later t.len (layers_after t.tags t.last))
 headers_tagged link (Err e) = Err e
 
--- the headers of what an ether type names, behind this link header
-abbrev pub headers_behind : Option LinkHeader → EtherPayload → Result Headers SliceError
-headers_behind link p = headers_tagged link (tags_in most_tags p)
+-- the headers of what an ether type names, after this link header
+abbrev pub headers_after : Option LinkHeader → EtherPayload → Result Headers SliceError
+headers_after link p = headers_tagged link (tags_in most_tags p)
 
 abbrev pub in_frame : Result (List ℕ) LenError → Result Headers SliceError
 in_frame (Ok frame) = later ethernet_len
-    (headers_behind (Some (Ethernet2 (ethernet_header_of frame))) (payload_of frame))
+    (headers_after (Some (Ethernet2 (ethernet_header_of frame))) (payload_of frame))
 in_frame (Err e) = Err (Len e)
 
--- those of an Ethernet II frame, or the first fault with its place in the frame
+-- those of an Ethernet II frame, or the first fault with its offset in the frame
 abbrev pub ethernet_headers : List ℕ → Result Headers SliceError
 ethernet_headers frame = in_frame (whole_at Ethernet2Header ethernet_len frame)
 
--- those of the bytes behind an ether type
+-- those of the bytes after an ether type
 abbrev pub ether_type_headers : EtherType → List ℕ → Result Headers SliceError
-ether_type_headers t bytes = headers_behind None
+ether_type_headers t bytes = headers_after None
     (record { ether_type = t; len_source = Slice; payload = bytes })
 
 -- those of an IP packet of either version

@@ -1,4 +1,4 @@
--- What the parts of a packet tell of one another.
+-- Views of a sliced packet: the payloads that its headers name, and its VLAN tags.
 use Rattle.std.specs.Prelude.{ℕ, ◌-◌, ◌==◌, ◌||◌, Bool, true, false, if◌then◌else◌, List, [], ◌∷◌}
 use Rattle.std.specs.Prelude.{length, Option, Some, None, is_some}
 use Rattle.std.specs.List.{slice_get}
@@ -23,12 +23,12 @@ use Rattle.ep_tag.specs.declared.link.vlan_slice.VlanSlice.TheVariants.{SingleVl
 -- what the ether type of a link header names, if there is one
 abbrev pub link_payload : Option LinkSlice → Option EtherPayload
 link_payload None = None
-link_payload (Some header) = link.payload_behind header
+link_payload (Some header) = link.payload_after header
 
 -- what the last of the ether types names: that of the last tag, or without one the link header's
 abbrev pub named_by : Option LinkSlice → Option LinkExtSlice → Option EtherPayload
 named_by header None = link_payload header
-named_by header (Some t) = tag.payload_behind t
+named_by header (Some t) = tag.payload_after t
 
 -- the last of the tags
 abbrev pub last_of : List LinkExtSlice → Option LinkExtSlice
@@ -37,26 +37,26 @@ last_of tags = slice_get tags (length tags - 1)
 abbrev pub last_payload : Option LinkSlice → List LinkExtSlice → Option EtherPayload
 last_payload header tags = named_by header (last_of tags)
 
--- a MACsec header with a short length above 0 bounds what stands behind it
-abbrev pub is_cut : LinkExtSlice → Bool
-is_cut (Vlan bytes) = false
-is_cut (Macsec m) = if short_len_of m.header == 0 then false else true
+-- a MACsec header with a short length above 0 bounds the bytes after it
+abbrev pub has_short_len : LinkExtSlice → Bool
+has_short_len (Vlan bytes) = false
+has_short_len (Macsec m) = if short_len_of m.header == 0 then false else true
 
-abbrev pub is_any_cut : List LinkExtSlice → Bool
-is_any_cut [] = false
-is_any_cut (t ∷ tags) = is_cut t || is_any_cut tags
+abbrev pub any_has_short_len : List LinkExtSlice → Bool
+any_has_short_len [] = false
+any_has_short_len (t ∷ tags) = has_short_len t || any_has_short_len tags
 
-abbrev pub source_behind : List LinkExtSlice → LenSource
-source_behind tags = if is_any_cut tags then source.MacsecShortLength else source.Slice
+abbrev pub source_after : List LinkExtSlice → LenSource
+source_after tags = if any_has_short_len tags then source.MacsecShortLength else source.Slice
 
 -- what the last ether type names, and what bounds it
 abbrev pub ether_payload_in : SlicedPacket → Option EtherPayload
 ether_payload_in packet =
     option_map (λ (p : EtherPayload). record p
-    { len_source = source_behind packet.link_exts.items })
+    { len_source = source_after packet.link_exts.items })
     (last_payload packet.link packet.link_exts.items)
 
--- the last ether type, where nothing behind it was looked into
+-- the last ether type, if nothing after it was parsed
 abbrev pub payload_ether_type_in : SlicedPacket → Option EtherType
 payload_ether_type_in packet = if is_some packet.net then None
     else option_map (λ (p : EtherPayload). p.ether_type)
@@ -66,9 +66,9 @@ abbrev pub ip_payload_of : Option NetSlice → Option IpPayload
 ip_payload_of None = None
 ip_payload_of (Some packet) = ip_payload_in packet
 
-abbrev pub is_part : Option IpPayload → Bool
-is_part None = false
-is_part (Some p) = p.fragmented
+abbrev pub is_fragment : Option IpPayload → Bool
+is_fragment None = false
+is_fragment (Some p) = p.fragmented
 
 -- the VLAN tags, the outer one first
 abbrev pub vlan_tags : List LinkExtSlice → List (List ℕ)

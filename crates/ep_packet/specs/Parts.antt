@@ -1,4 +1,4 @@
--- Where the parts of a frame stand in it.
+-- The offsets in a frame of its parts: tags, headers and payloads.
 use Rattle.std.specs.Prelude.{◌≡◌, ℕ, ◌+◌, ⊤, List, [], ◌∷◌, ◌++◌, length, Option, Some, None}
 use Rattle.std.specs.Prelude.{IfSome}
 use Rattle.ep_ext.specs.Ipv4Exts.{auth_bytes}
@@ -10,51 +10,51 @@ use Rattle.ep_packet.specs.declared.sliced_packet.SlicedPacket.{SlicedPacket}
 use Rattle.ep_packet.specs.declared.transport.transport_slice.TransportSlice.{TransportSlice}
 use Rattle.ep_packet.specs.declared.transport.transport_slice.TransportSlice.TheVariants as transport
 use Rattle.ep_tag.specs.Ether.{EtherPayload}
-use Rattle.ep_tag.specs.LinkExt.{payload_behind, tag_len}
+use Rattle.ep_tag.specs.LinkExt.{payload_after, tag_len}
 use Rattle.ep_tag.specs.MacsecPayload.{MacsecPayload, Unmodified, Modified}
 use Rattle.ep_tag.specs.declared.link.link_ext_slice.LinkExtSlice.{LinkExtSlice}
 use Rattle.ep_tag.specs.declared.link.link_ext_slice.LinkExtSlice.TheVariants as tag
 
--- the part is the bytes from this place on, as far as it is long
-pub record IsAt (bytes : List ℕ) (place : ℕ) (part : List ℕ) : Type 0 where
+-- the part is in the bytes at this offset
+pub record IsAt (bytes : List ℕ) (position : ℕ) (part : List ℕ) : Type 0 where
   pub before : List ℕ
   pub after : List ℕ
-  pub here : length before ≡ place
+  pub here : length before ≡ position
   pub parts : bytes ≡ before ++ part ++ after
 
 abbrev pub macsec_bytes : MacsecPayload → List ℕ
 macsec_bytes (Unmodified p) = p.payload
 macsec_bytes (Modified bytes) = bytes
 
--- a VLAN tag with all that follows it, or a MACsec header and its payload
+-- a VLAN tag with all bytes after it, or a MACsec header and its payload
 abbrev pub IsTagAt : List ℕ → ℕ → LinkExtSlice → Type 0
-IsTagAt frame place (tag.Vlan bytes) = IsAt frame place bytes
-IsTagAt frame place (tag.Macsec macsec) = IsAt frame place macsec.header
-    × IsAt frame (place + length macsec.header) (macsec_bytes macsec.payload)
+IsTagAt frame position (tag.Vlan bytes) = IsAt frame position bytes
+IsTagAt frame position (tag.Macsec macsec) = IsAt frame position macsec.header
+    × IsAt frame (position + length macsec.header) (macsec_bytes macsec.payload)
 
--- each tag stands where the one in front of it ends
+-- each tag starts where the one before it ends
 abbrev pub AreTagsAt : List ℕ → ℕ → List LinkExtSlice → Type 0
-AreTagsAt frame place [] = ⊤
-AreTagsAt frame place (t ∷ tags) = IsTagAt frame place t × AreTagsAt frame (place + tag_len t) tags
+AreTagsAt frame position [] = ⊤
+AreTagsAt frame position (t ∷ tags) = IsTagAt frame position t × AreTagsAt frame (position + tag_len t) tags
 
 abbrev pub tags_len : List LinkExtSlice → ℕ
 tags_len [] = 0
 tags_len (t ∷ tags) = tag_len t + tags_len tags
 
--- header, extension headers and payload one behind the other
+-- header, extension headers and payload one after the other
 abbrev pub StandAt : List ℕ → ℕ → List ℕ → List ℕ → List ℕ → Type 0
-StandAt frame place header exts payload =
-    IsAt frame place header × IsAt frame (place + length header) exts
-    × IsAt frame (place + length header + length exts) payload
+StandAt frame position header exts payload =
+    IsAt frame position header × IsAt frame (position + length header) exts
+    × IsAt frame (position + length header + length exts) payload
 
 abbrev pub IsNetAt : List ℕ → ℕ → NetSlice → Type 0
-IsNetAt frame place (net.Ipv4 packet) =
-    StandAt frame place packet.header (auth_bytes packet.auth) packet.payload
-IsNetAt frame place (net.Ipv6 packet) =
-    StandAt frame place packet.header packet.exts.slice packet.payload.payload
-IsNetAt frame place (net.Arp packet) = IsAt frame place packet
+IsNetAt frame position (net.Ipv4 packet) =
+    StandAt frame position packet.header (auth_bytes packet.auth) packet.payload
+IsNetAt frame position (net.Ipv6 packet) =
+    StandAt frame position packet.header packet.exts.slice packet.payload.payload
+IsNetAt frame position (net.Arp packet) = IsAt frame position packet
 
--- the bytes in front of a packet's payload
+-- the number of bytes before a packet's payload
 abbrev pub headers_len : Option NetSlice → ℕ
 headers_len None = 0
 headers_len (Some (net.Ipv4 packet)) = length packet.header + length (auth_bytes packet.auth)
@@ -68,25 +68,25 @@ transport_bytes (transport.Tcp m) = m
 transport_bytes (transport.Icmpv4 m) = m
 transport_bytes (transport.Icmpv6 m) = m
 
--- network layer and transport layer from a place on
-pub record LayersIn (frame : List ℕ) (place : ℕ) (layers : Layers) : Type 0 where
-  pub net : IfSome layers.net (IsNetAt frame place)
+-- network layer and transport layer, from this offset on
+pub record LayersIn (frame : List ℕ) (position : ℕ) (layers : Layers) : Type 0 where
+  pub net : IfSome layers.net (IsNetAt frame position)
   pub transport : IfSome layers.transport
-      (λ message. IsAt frame (place + headers_len layers.net) (transport_bytes message))
+      (λ message. IsAt frame (position + headers_len layers.net) (transport_bytes message))
 
--- a tag at the front of some bytes, and what stands behind it
+-- a tag at the start of some bytes, and what follows it
 pub record TagIn (bytes : List ℕ) (t : LinkExtSlice) : Type 0 where
   pub tag : IsTagAt bytes 0 t
-  pub next : IfSome (payload_behind t) (λ next. IsAt bytes (tag_len t) next.payload)
+  pub next : IfSome (payload_after t) (λ next. IsAt bytes (tag_len t) next.payload)
 
--- the tags from a place on, and what stands behind them
-pub record TagsIn (frame : List ℕ) (place : ℕ) (t : Tagged) : Type 0 where
-  pub tags : AreTagsAt frame place t.tags
+-- the tags from this offset on, and what follows them
+pub record TagsIn (frame : List ℕ) (position : ℕ) (t : Tagged) : Type 0 where
+  pub tags : AreTagsAt frame position t.tags
   pub len : t.len ≡ tags_len t.tags
-  pub last : IfSome t.last (λ q. IsAt frame (place + t.len) q.payload)
+  pub last : IfSome t.last (λ q. IsAt frame (position + t.len) q.payload)
 
--- every part of a packet is the frame from its place on; this is where its tags begin
-pub record ArePartsOf (frame : List ℕ) (place : ℕ) (packet : SlicedPacket) : Type 0 where
-  pub tags : AreTagsAt frame place packet.link_exts.items
-  pub layers : LayersIn frame (place + tags_len packet.link_exts.items)
+-- every part of a packet is at its offset in the frame; the tags start at this one
+pub record ArePartsOf (frame : List ℕ) (position : ℕ) (packet : SlicedPacket) : Type 0 where
+  pub tags : AreTagsAt frame position packet.link_exts.items
+  pub layers : LayersIn frame (position + tags_len packet.link_exts.items)
       (record { net = packet.net; transport = packet.transport })

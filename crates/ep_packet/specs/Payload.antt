@@ -1,4 +1,4 @@
--- What stands behind the headers of a packet.
+-- The payload after the headers of a packet.
 use Rattle.std.specs.Prelude.{ℕ, List, [], ◌∷◌, ◌++◌, pos}
 use Rattle.std.specs.Hash as fed
 use Rattle.ep_ipslice.specs.Compared.{hashed_as as ip_hashed_as, ordered_as as ip_ordered_as}
@@ -9,8 +9,8 @@ use Rattle.ep_tag.specs.Ether.{EtherPayload}
 use Rattle.ep_tag.specs.EtherOrder.{hashed_as as ether_hashed_as}
 use Rattle.ep_tag.specs.EtherOrder.{ordered_as as ether_ordered_as}
 
--- nothing that is known; bytes that an ether type names; bytes that MACsec changed; bytes of an IP
--- packet; and those of a message of each protocol that is read
+-- no bytes; bytes that an ether type names; bytes that MACsec modified; the payload of an IP
+-- packet; and that of a message of each protocol that is read
 pub data Payload : Type 0 where
   Empty : Payload
   Ether : EtherPayload → Payload
@@ -21,16 +21,16 @@ pub data Payload : Type 0 where
   Icmpv4 : List ℕ → Payload
   Icmpv6 : List ℕ → Payload
 
--- what a payload that is lent tells
-abbrev pub payload_told : PayloadSlice → Payload
-payload_told slice.Empty = Empty
-payload_told (slice.Ether p) = Ether p
-payload_told (slice.MacsecMod bytes) = MacsecMod bytes.now
-payload_told (slice.Ip p) = Ip p
-payload_told (slice.Udp bytes) = Udp bytes.now
-payload_told (slice.Tcp bytes) = Tcp bytes.now
-payload_told (slice.Icmpv4 bytes) = Icmpv4 bytes.now
-payload_told (slice.Icmpv6 bytes) = Icmpv6 bytes.now
+-- the value of a borrowed payload
+abbrev pub payload_parsed : PayloadSlice → Payload
+payload_parsed slice.Empty = Empty
+payload_parsed (slice.Ether p) = Ether p
+payload_parsed (slice.MacsecMod bytes) = MacsecMod bytes.now
+payload_parsed (slice.Ip p) = Ip p
+payload_parsed (slice.Udp bytes) = Udp bytes.now
+payload_parsed (slice.Tcp bytes) = Tcp bytes.now
+payload_parsed (slice.Icmpv4 bytes) = Icmpv4 bytes.now
+payload_parsed (slice.Icmpv6 bytes) = Icmpv6 bytes.now
 
 abbrev pub bytes_of : Payload → List ℕ
 bytes_of Empty = []
@@ -42,7 +42,7 @@ bytes_of (Tcp bytes) = bytes
 bytes_of (Icmpv4 bytes) = bytes
 bytes_of (Icmpv6 bytes) = bytes
 
--- the place of the kind among the variants, and then all of the payload, which tells payloads apart
+-- the index of the variant, and then all of the payload, so that different payloads differ
 abbrev pub ordered_as : Payload → List ℕ
 ordered_as Empty = 0 ∷ []
 ordered_as (Ether p) = 1 ∷ ether_ordered_as p
@@ -53,11 +53,11 @@ ordered_as (Tcp bytes) = 5 ∷ bytes
 ordered_as (Icmpv4 bytes) = 6 ∷ bytes
 ordered_as (Icmpv6 bytes) = 7 ∷ bytes
 
--- the place of the kind among the variants, and bytes with their number
+-- the index of the variant, and bytes with their number
 abbrev pub bytes_hashed_as : ℕ → List ℕ → fed.HashWrites
-bytes_hashed_as place bytes = fed.isize (pos place) ++ fed.slice fed.u8 bytes
+bytes_hashed_as position bytes = fed.isize (pos position) ++ fed.slice fed.u8 bytes
 
--- what a hasher is fed: the place of the kind, and then all of the payload
+-- what a hasher is fed: the index of the variant, and then all of the payload
 abbrev pub hashed_as : Payload → fed.HashWrites
 hashed_as Empty = fed.isize (pos 0)
 hashed_as (Ether p) = fed.isize (pos 1) ++ ether_hashed_as p

@@ -1,8 +1,8 @@
--- The headers of the IP packet at the front of bytes, and its payload (RFC 791; RFC 8200).
+-- The headers of the IP packet at the start of bytes, and its payload (RFC 791; RFC 8200).
 use Rattle.std.specs.Prelude.{◌≡◌, ◌⊎◌, ℕ, List, None}
 use Rattle.ep_base.specs.declared.len_source.LenSource.{LenSource}
 use Rattle.ep_ext.specs.Chain.{Chain, fault_of}
-use Rattle.ep_ext.specs.Place.{place_of}
+use Rattle.ep_ext.specs.Slot.{slot_of}
 use Rattle.ep_ext.specs.Value.{Piece, value_of}
 use Rattle.ep_ip.specs.Ipv6 as v6
 use Rattle.ep_ipslice.specs.IpFault.{headers_fault}
@@ -14,15 +14,14 @@ use Rattle.ep_packet.specs.IpHeaders.{ipv4_parts, is_fragmenting}
 use Rattle.ep_packet.specs.declared.net.ip_headers.IpHeaders.{IpHeaders}
 use Rattle.ep_packet.specs.declared.net.ip_headers.IpHeaders.TheVariants.{Ipv6}
 
--- the bytes begin with an IPv4 packet that has these headers and this payload
+-- the bytes start with an IPv4 packet that has these headers and this payload
 pub record IsIpv4Headers (bytes : List ℕ) (headers : IpHeaders) (payload : IpPayload) : Type 0 where
   pub packet : Ipv4Packet
   pub begins : IsIpv4Packet bytes packet
   pub value : (headers, payload) ≡ ipv4_parts packet
 
--- the bytes begin with an IPv6 header, and what its payload length gives it are extension headers
--- in a row, each at a place of its own, and the payload, which is of the number that the row names
--- last
+-- the bytes start with an IPv6 header, and its payload length counts extension headers in a row,
+-- each in a slot of its own, and the payload, which is of the number that the row names last
 pub record IsIpv6Headers (bytes : List ℕ) (headers : IpHeaders) (payload : IpPayload) : Type 0 where
   pub header : List ℕ
   pub source : LenSource
@@ -30,10 +29,10 @@ pub record IsIpv6Headers (bytes : List ℕ) (headers : IpHeaders) (payload : IpP
   pub pieces : List Piece
   pub last : ℕ
   pub begins : IsIpv6Body bytes header source body
-  pub chain : Chain place_of (v6.next_header_of header) body pieces last payload.payload
-  pub ended : fault_of place_of pieces last payload.payload ≡ None
+  pub chain : Chain slot_of (v6.next_header_of header) body pieces last payload.payload
+  pub ended : fault_of slot_of pieces last payload.payload ≡ None
   pub value : headers ≡ Ipv6 (v6.ipv6_header_of header) (value_of pieces)
-  pub told : payload ≡ record {
+  pub returned : payload ≡ record {
     ip_number = record { 0 = last };
     fragmented = is_fragmenting headers;
     len_source = source;
@@ -45,8 +44,8 @@ abbrev pub IsIpHeaders : List ℕ → IpHeaders → IpPayload → Type 0
 IsIpHeaders bytes headers payload = IsIpv4Headers bytes headers payload
     ⊎ IsIpv6Headers bytes headers payload
 
--- the first fault of the headers of a packet is that of the packet, where extension headers of IPv6
--- stand at places of their own
+-- the first fault of the headers of a packet is that of the packet, where each extension header of
+-- IPv6 is in a slot of its own
 abbrev pub IsIpHeadersFault : List ℕ → HeadersSliceError → Type 0
-IsIpHeadersFault bytes e = (fault : SliceError) × IsIpFaultIn place_of bytes fault
+IsIpHeadersFault bytes e = (fault : SliceError) × IsIpFaultIn slot_of bytes fault
     × (e ≡ headers_fault fault)

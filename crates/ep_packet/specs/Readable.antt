@@ -35,7 +35,7 @@ pub data ReadMessage : Type 0 where
   Icmpv6 : List ℕ → ReadMessage
   Raw : List ℕ → ReadMessage
 
--- what is read of bytes, or the fault among those of all layers
+-- what is read of bytes, or the fault as one of all layers
 abbrev pub read_as : {E : Type 0} → (List ℕ → ReadMessage) → (E → SliceError) → Result (List ℕ) E
     → Result ReadMessage SliceError
 read_as message fault (Ok bytes) = Ok (message bytes)
@@ -45,8 +45,8 @@ abbrev pub tcp_fault : HeaderSliceError HeaderError → SliceError
 tcp_fault (tcp_error.Len e) = slice_error.Len e
 tcp_fault (tcp_error.Content e) = slice_error.Tcp e
 
--- the message that bytes with this number are, or why they are none; nothing is asked of messages
--- with other numbers
+-- the message that bytes with this number are, or why they are none; with any other number all
+-- bytes are a message
 abbrev pub message_at : ℕ → List ℕ → Result ReadMessage SliceError
 message_at number bytes =
     if number == icmpv4 then read_as (λ m. Icmpv4 m) (λ e. slice_error.Len e)
@@ -59,7 +59,7 @@ message_at number bytes =
 abbrev pub is_readable : ℕ → List ℕ → Bool
 is_readable number bytes = is_ok (message_at number bytes)
 
--- the message that the code tells
+-- the message that the code returns
 abbrev pub as_read : Message → ReadMessage
 as_read (message.Icmpv4 bytes) = Icmpv4 bytes
 as_read (message.Tcp bytes) = Tcp bytes

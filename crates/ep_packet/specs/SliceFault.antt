@@ -1,4 +1,4 @@
--- Why a packet is refused, and where: the faults of each layer among those of all.
+-- Why a packet is refused, and at which offset: the faults of each layer as those of all layers.
 use Rattle.std.specs.Prelude.{ℕ, ◌+◌, ◌<◌, ◌^◌, Result, Ok, Err}
 use Rattle.ep_base.specs.LenError as len_error
 use Rattle.ep_base.specs.declared.len_source.LenSource.{LenSource}
@@ -44,7 +44,7 @@ of_ip (ip.IpHeaders (headers.Ip e)) = Ip e
 of_ip (ip.IpHeaders (headers.Ipv4Ext e)) = Ipv4Exts e
 of_ip (ip.IpHeaders (headers.Ipv6Ext e)) = Ipv6Exts e
 
--- the place of the layer that wants bytes; a fault of the content names no place
+-- the offset of the layer that has too few bytes; a fault of the content has none, here 0
 abbrev pub fault_offset : SliceError → ℕ
 fault_offset (Len e) = e.layer_start_offset
 fault_offset (LinuxSll e) = 0
@@ -56,12 +56,12 @@ fault_offset (Ipv4Exts e) = 0
 fault_offset (Ipv6Exts e) = 0
 fault_offset (Tcp e) = 0
 
--- the place n bytes further on fits a `usize`
+-- the offset n bytes later fits a `usize`
 abbrev pub CanMove : SliceError → ℕ → Type 0
 CanMove e n = fault_offset e + n < 2 ^ 64
 
--- seen from n bytes earlier, a want of bytes is n bytes further on, and a fault of the content is
--- the same
+-- counted from n bytes earlier, the offset of a layer with too few bytes is n greater, and a fault
+-- of the content is the same
 abbrev pub offset_by : ℕ → SliceError → SliceError
 offset_by n (Len e) = Len (len_error.offset_by e n)
 offset_by n (LinuxSll e) = LinuxSll e
@@ -73,17 +73,17 @@ offset_by n (Ipv4Exts e) = Ipv4Exts e
 offset_by n (Ipv6Exts e) = Ipv6Exts e
 offset_by n (Tcp e) = Tcp e
 
--- what was read n bytes further on
+-- the result of reading n bytes later
 abbrev pub later : {A : Type 0} → ℕ → Result A SliceError → Result A SliceError
 later n (Ok x) = Ok x
 later n (Err e) = Err (offset_by n e)
 
--- what bounds an IP payload bounds what stands in it, where nothing nearer does
+-- what bounds an IP payload bounds what is in it, unless an inner length does
 abbrev pub bounded_by : LenSource → LenSource → LenSource
 bounded_by outer source.Slice = outer
 bounded_by outer own = own
 
--- a fault in an IP payload of which this is what bounds it
+-- a fault in an IP payload that this length bounds
 abbrev pub within : LenSource → SliceError → SliceError
 within outer (Len e) = Len (record e { len_source = bounded_by outer e.len_source })
 within outer (LinuxSll e) = LinuxSll e

@@ -1,4 +1,4 @@
--- A frame, or what stands in it, cut into its parts.
+-- A frame, or a packet in one, sliced into its layers.
 use Rattle.std.specs.Prelude.{◌≡◌, ℕ, ◌+◌, ◌==◌, if◌then◌else◌, List, [], length, Option, Some}
 use Rattle.std.specs.Prelude.{None, Result, Ok, Err}
 use Rattle.ep_base.specs.declared.err.layer.Layer.TheVariants.{Ethernet2Header}
@@ -39,10 +39,10 @@ use Rattle.ep_packet.specs.declared.sliced_packet.SlicedPacket.{SlicedPacket}
 use Rattle.ep_packet.specs.declared.transport.transport_slice.TransportSlice.{TransportSlice}
 use Rattle.ep_packet.specs.declared.transport.transport_slice.TransportSlice.TheVariants as transport
 use Rattle.ep_tag.specs.Ether.{EtherPayload}
-use Rattle.ep_tag.specs.Front.{whole_at}
+use Rattle.ep_tag.specs.Prefix.{whole_at}
 use Rattle.ep_tag.specs.declared.link.link_ext_slice.LinkExtSlice.{LinkExtSlice}
 
--- the ether types of the protocols that are looked into
+-- the ether types of the protocols that are parsed
 abbrev pub ipv4_type : ℕ
 ipv4_type = 0x0800
 
@@ -65,13 +65,13 @@ abbrev pub read_transport : Result ReadMessage SliceError
 read_transport (Ok message) = Ok (transport_of message)
 read_transport (Err e) = Err e
 
--- what stands in an IP payload, of which this is what bounds it
+-- what is in an IP payload that this length bounds
 abbrev pub result_within : LenSource → Result (Option TransportSlice) SliceError
     → Result (Option TransportSlice) SliceError
 result_within outer (Ok message) = Ok message
 result_within outer (Err e) = Err (within outer e)
 
--- the message that an IP payload is: none where it is a part of one
+-- the message in an IP payload: none if the payload is a fragment
 abbrev pub transport_in : IpPayload → Result (Option TransportSlice) SliceError
 transport_in p = if p.fragmented then Ok None
     else result_within p.len_source (read_transport (message_at p.ip_number.0 p.payload))
@@ -84,7 +84,7 @@ pub record Layers : Type 0 where
 abbrev pub no_layers : Layers
 no_layers = record { net = None; transport = None }
 
--- a packet and the message that stands so many bytes further on
+-- a packet and the message after so many bytes of headers
 abbrev pub with_transport : NetSlice → ℕ → Result (Option TransportSlice) SliceError
     → Result Layers SliceError
 with_transport packet headers_len (Ok message) =
@@ -124,12 +124,12 @@ layers_of p =
     else (if p.ether_type.0 == arp_type then arp_layers (arp.packet_at p.payload)
     else Ok no_layers))
 
--- the layers behind the tags: none where nothing is named there
+-- the layers after the tags: none if nothing is named there
 abbrev pub layers_in : Option EtherPayload → Result Layers SliceError
 layers_in None = Ok no_layers
 layers_in (Some p) = layers_of p
 
--- all parts together
+-- link header, tags and layers together
 abbrev pub packet_of : Option LinkSlice → List LinkExtSlice → Layers → SlicedPacket
 packet_of link tags layers =
     record {
@@ -149,57 +149,57 @@ abbrev pub packet_tagged : Option LinkSlice → Result Tagged SliceError
 packet_tagged link (Ok t) = packet_with link t.tags (later t.len (layers_in t.last))
 packet_tagged link (Err e) = Err e
 
--- the parts of what an ether type names, behind this link header
-abbrev pub packet_behind : LinkSlice → EtherPayload → Result SlicedPacket SliceError
-packet_behind link p = packet_tagged (Some link) (tags_in most_tags p)
+-- the layers of what an ether type names, after this link header
+abbrev pub packet_after : LinkSlice → EtherPayload → Result SlicedPacket SliceError
+packet_after link p = packet_tagged (Some link) (tags_in most_tags p)
 
 abbrev pub in_frame : Result (List ℕ) LenError → Result SlicedPacket SliceError
-in_frame (Ok frame) = later ethernet_len (packet_behind (link.Ethernet2 frame) (payload_of frame))
+in_frame (Ok frame) = later ethernet_len (packet_after (link.Ethernet2 frame) (payload_of frame))
 in_frame (Err e) = Err (Len e)
 
--- the parts of an Ethernet II frame, or the first fault with its place in the frame
+-- the layers of an Ethernet II frame, or the first fault with its offset in the frame
 abbrev pub sliced_ethernet : List ℕ → Result SlicedPacket SliceError
 sliced_ethernet frame = in_frame (whole_at Ethernet2Header ethernet_len frame)
 
 abbrev pub in_linux_sll : List ℕ → Option EtherPayload → Result SlicedPacket SliceError
 in_linux_sll bytes None = Ok (packet_of (Some (link.LinuxSll bytes)) [] no_layers)
-in_linux_sll bytes (Some p) = later sll_len (packet_behind (link.LinuxSll bytes) p)
+in_linux_sll bytes (Some p) = later sll_len (packet_after (link.LinuxSll bytes) p)
 
 abbrev pub in_cooked : Result (List ℕ) (HeaderSliceError SllFault) → Result SlicedPacket SliceError
 in_cooked (Ok bytes) = in_linux_sll bytes (sll.named_payload (sll.payload_of bytes))
 in_cooked (Err e) = Err (of_linux_sll e)
 
--- those of a packet of a Linux cooked capture, whose payload is looked into where its protocol is
--- an ether type
+-- those of a packet of a Linux cooked capture, whose payload is parsed if its protocol is an ether
+-- type
 abbrev pub sliced_linux_sll : List ℕ → Result SlicedPacket SliceError
 sliced_linux_sll bytes = in_cooked (sll_fault.whole_at bytes)
 
--- bytes behind an ether type
+-- bytes after an ether type
 abbrev pub ether_payload : EtherType → List ℕ → EtherPayload
 ether_payload t bytes = record { ether_type = t; len_source = source.Slice; payload = bytes }
 
--- their parts
+-- their layers
 abbrev pub sliced_ether_type : EtherType → List ℕ → Result SlicedPacket SliceError
-sliced_ether_type t bytes = packet_behind (link.EtherPayload (ether_payload t bytes))
+sliced_ether_type t bytes = packet_after (link.EtherPayload (ether_payload t bytes))
     (ether_payload t bytes)
 
 -- those of an IP packet of either version
 abbrev pub sliced_ip : List ℕ → Result SlicedPacket SliceError
 sliced_ip bytes = packet_with None [] (ip_layers (ip_packet_at bytes))
 
--- the bytes begin with an IP packet, and the layers are the packet and the message that its payload
+-- the bytes start with an IP packet, and the layers are the packet and the message that its payload
 -- is
 pub record AreIpLayers (bytes : List ℕ) (layers : Layers) : Type 0 where
   pub packet : IpSlice
   pub begins : IsIpPacket bytes packet
   pub message : ip_layers (Ok packet) ≡ Ok layers
 
--- nothing in the place of a link header, no tags, and these layers
+-- no link header, no tags, and these layers
 abbrev pub IsSlicedIp : List ℕ → SlicedPacket → Type 0
 IsSlicedIp bytes packet = (layers : Layers) × AreIpLayers bytes layers
     × (packet ≡ packet_of None [] layers)
 
--- the tags that stand in a payload, and the layers in what the last of them names
+-- the tags in a payload, and the layers in what the last of them names
 pub record IsSliced (p : EtherPayload) (packet : SlicedPacket) : Type 0 where
   pub last : Option EtherPayload
   pub tagged : IsTagged most_tags p packet.link_exts.items last

@@ -1,5 +1,5 @@
--- The tags behind a link header: VLAN tags (IEEE 802.1Q, section 9) and MACsec headers (IEEE
--- 802.1AE, clause 9), each named by the ether type in front of it.
+-- The tags after a link header: VLAN tags (IEEE 802.1Q, section 9) and MACsec headers (IEEE
+-- 802.1AE, clause 9), each named by the ether type before it.
 use Rattle.std.specs.Prelude.{ℕ, zero, suc, ◌+◌, ◌||◌, ◌==◌, Bool, if◌then◌else◌, List, [], ◌∷◌}
 use Rattle.std.specs.Prelude.{Option, Some, None, Result, Ok, Err}
 use Rattle.ep_base.specs.declared.err.layer.Layer.TheVariants.{VlanHeader}
@@ -9,8 +9,8 @@ use Rattle.ep_packet.specs.SliceFault.{offset_by, of_macsec}
 use Rattle.ep_packet.specs.declared.err.packet.slice_error.SliceError.{SliceError}
 use Rattle.ep_packet.specs.declared.err.packet.slice_error.SliceError.TheVariants.{Len}
 use Rattle.ep_tag.specs.Ether.{EtherPayload}
-use Rattle.ep_tag.specs.Front.{whole_at}
-use Rattle.ep_tag.specs.LinkExt.{payload_behind, tag_len}
+use Rattle.ep_tag.specs.Prefix.{whole_at}
+use Rattle.ep_tag.specs.LinkExt.{payload_after, tag_len}
 use Rattle.ep_tag.specs.MacsecPayload.{Macsec, macsec_at}
 use Rattle.ep_tag.specs.Vlan.{vlan_id_of, vlan_len}
 use Rattle.ep_base.specs.declared.err.slice_error.SliceError.{SliceError as HeaderSliceError}
@@ -36,7 +36,7 @@ abbrev pub macsec_tag : Result Macsec (HeaderSliceError HeaderError)
 macsec_tag (Ok macsec) = Ok (Some (tag.Macsec macsec))
 macsec_tag (Err e) = Err (of_macsec e)
 
--- the tag at the front of a payload, if the ether type names one, or what is wrong with it
+-- the tag at the start of a payload, if the ether type names one, or what is wrong with it
 abbrev pub tag_at : EtherPayload → Result (Option LinkExtSlice) SliceError
 tag_at p =
     if is_vlan_type p.ether_type then vlan_tag (whole_at VlanHeader vlan_len p.payload)
@@ -52,7 +52,7 @@ pub record Tagged : Type 0 where
 abbrev pub without_tags : Option EtherPayload → Tagged
 without_tags last = record { tags = []; len = 0; last = last }
 
--- a tag and what was read behind it
+-- a tag and what was read after it
 abbrev pub with_tag : LinkExtSlice → Result Tagged SliceError → Result Tagged SliceError
 with_tag t (Ok more) =
     Ok (record { tags = t ∷ more.tags; len = tag_len t + more.len; last = more.last })
@@ -67,9 +67,9 @@ abbrev pub from_tag : (EtherPayload → Result Tagged SliceError) → EtherPaylo
     → Result (Option LinkExtSlice) SliceError → Result Tagged SliceError
 from_tag read p (Err e) = Err e
 from_tag read p (Ok None) = Ok (without_tags (Some p))
-from_tag read p (Ok (Some t)) = with_tag t (read_further read (payload_behind t))
+from_tag read p (Ok (Some t)) = with_tag t (read_further read (payload_after t))
 
--- the tags in front of a payload, n at most, or the first fault
+-- the tags at the start of a payload, n at most, or the first fault
 unfoldable pub tags_in : ℕ → EtherPayload → Result Tagged SliceError
 tags_in zero p = Ok (without_tags (Some p))
 tags_in (suc n) p = from_tag (tags_in n) p (tag_at p)

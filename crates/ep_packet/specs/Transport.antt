@@ -48,8 +48,8 @@ transport_len (Icmpv4 h) = icmpv4.header_len h.icmp_type
 transport_len (Icmpv6 h) = 8
 
 -- its bytes
-abbrev pub transport_spelling : TransportHeader → List ℕ
-transport_spelling (Udp h) = udp.spelling h
-transport_spelling (Tcp h) = tcp.spelling h
-transport_spelling (Icmpv4 h) = icmpv4.spelling h
-transport_spelling (Icmpv6 h) = icmpv6.spelling h
+abbrev pub transport_encoding : TransportHeader → List ℕ
+transport_encoding (Udp h) = udp.encoding h
+transport_encoding (Tcp h) = tcp.encoding h
+transport_encoding (Icmpv4 h) = icmpv4.encoding h
+transport_encoding (Icmpv6 h) = icmpv6.encoding h

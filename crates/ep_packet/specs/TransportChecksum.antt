@@ -21,7 +21,7 @@ use Rattle.ep_tcpudp.specs.Tcp.{header_len}
 use Rattle.ep_tcpudp.specs.TcpChecksum as tcp
 use Rattle.ep_tcpudp.specs.UdpChecksum as udp
 
--- a payload that is too long, among the faults over IPv4
+-- a payload that is too long, as one of the faults over IPv4
 abbrev pub or_payload_len : Result TransportHeader (ValueTooBigError ℕ)
     → Result TransportHeader TransportChecksumError
 or_payload_len (Ok h) = Ok h

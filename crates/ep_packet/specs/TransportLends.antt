@@ -1,4 +1,4 @@
--- What a transport header ends as, where a `&mut` to the header of its protocol was returned.
+-- The final value of a transport header, after a `&mut` to the header of its protocol was returned.
 use Rattle.std.specs.Prelude.{Option}
 use Rattle.std.specs.Borrow.{Fml, LendsIf, MutBor}
 use Rattle.ep_icmp.specs.contracts.transport.icmpv4_header.Icmpv4Header.{the_row as icmpv4_row}

@@ -1,6 +1,6 @@
-//! Where a message came from and went to.
+//! The source and the destination address of a packet.
 
-/// The addresses of a packet of either IP version. Their bytes stand as in the IP header.
+/// The addresses of a packet of either IP version, with their bytes in the order of the IP header.
 #[derive(Clone, Copy, Debug, PartialEq, Eq, Hash)]
 pub enum Addresses {
     /// Over IPv4.

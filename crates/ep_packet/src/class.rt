@@ -1,9 +1,9 @@
-//! What a frame is to its reader.
+//! The class of a frame: a whole message, a fragment, something else, or refused.
 ghost use Rattle.std.specs.Prelude.{◌≡◌};
 ghost use Rattle.ep_ipslice.specs.Packet.{fragment_fields};
-ghost use Rattle.ep_packet.specs.Class.{IdentificationFits, PartFits, as_class, class_of};
-ghost use Rattle.ep_packet.specs.Class.{fragment_class, ipv4_addresses, ipv6_addresses, net_told};
-ghost use Rattle.ep_packet.specs.Class.{packet_told, whole_told};
+ghost use Rattle.ep_packet.specs.Class.{IdentificationFits, ClassFits, as_class, class_of};
+ghost use Rattle.ep_packet.specs.Class.{fragment_class, ipv4_addresses, ipv6_addresses, net_class};
+ghost use Rattle.ep_packet.specs.Class.{packet_parsed, whole_class};
 ghost use Rattle.ep_packet.specs.Tags.{vlan_ids_of};
 ghost use Rattle.ep_packet.specs.declared.net.net_slice.NetSlice.TheVariants as net;
 
@@ -16,55 +16,56 @@ use ep_ipslice::laws::{extensions_of_a_packet, ipv4_fragment_fields, ipv6_fragme
 use ep_ipslice::{IpPayloadSlice, Ipv4Slice, Ipv6Slice};
 use ep_tag::VlanId;
 
-/// What a frame, or a packet that was sliced, is to its reader.
+/// The class of a frame, or of a sliced packet.
 #[derive(Clone, Debug, PartialEq, Eq, Drop)]
 pub enum Class<'a> {
-    /// An uncut message that can be read.
+    /// A message in a datagram that isn't fragmented. It can be read.
     Whole(WholeMessage<'a>),
-    /// A part of a message.
-    Cut(CutMessage<'a>),
-    /// Nothing that is looked into.
+    /// A fragment of an IP datagram.
+    Cut(IpFragment<'a>),
+    /// Anything else, such as an ARP packet or an unknown ether type.
     Other,
-    /// Bytes that break a format.
+    /// A frame that [`SlicedPacket::from_ethernet`] refuses.
     Refused,
 }
 
-/// An uncut message, and where it came from and went to.
+/// The message in a datagram that isn't fragmented, and its addresses.
 #[derive(Clone, Debug, PartialEq, Eq, Drop)]
 pub struct WholeMessage<'a> {
-    /// Where it came from and went to.
+    /// The source and the destination of the datagram.
     pub addresses: Addresses,
-    /// The number of its protocol.
+    /// The IP number of its protocol.
     pub ip_number: IpNumber,
     /// All bytes of the message, also those after the length that a UDP header states.
     pub bytes: &'a [u8],
-    /// The same as it is read.
+    /// The message as its protocol reads it.
     pub message: Message<'a>,
 }
 
-/// A part of a message. Parts of one message share VLAN tags, addresses, identification and number,
-/// and with no part of another (RFC 791, section 3.2). Over IPv6 they do so here, too: RFC 8200,
-/// section 4.5, leaves the number out and takes that of the first part.
+/// A fragment, with what identifies its datagram: fragments belong to one datagram exactly if they
+/// have the same VLAN tags, addresses, identification and IP number (RFC 791, section 3.2). Over
+/// IPv6 the number counts here, too: RFC 8200, section 4.5, leaves it out and takes that of the
+/// first fragment.
 #[derive(Clone, Debug, PartialEq, Eq, Drop)]
-pub struct CutMessage<'a> {
+pub struct IpFragment<'a> {
     /// The identifiers of the VLAN tags, the outer one first.
     pub vlan_ids: ArrayVec<VlanId, 3>,
-    /// Where the message came from and went to.
+    /// The source and the destination of the datagram.
     pub addresses: Addresses,
-    /// The identification, over IPv4 of 16 bits.
+    /// The identification, of 16 bits over IPv4.
     pub identification: u32,
-    /// The part itself.
-    pub part: Part<'a>,
+    /// The offset and the bytes of the fragment.
+    pub fragment: SlicedFragment<'a>,
 }
 
-/// The bytes of a part of a message, and where they stand in it.
+/// The bytes of a fragment, and their offset in the payload of the datagram.
 #[derive(Clone, Copy, Debug, PartialEq, Eq)]
-pub struct Part<'a> {
-    /// The number of the message's protocol.
+pub struct SlicedFragment<'a> {
+    /// The IP number of the datagram's payload.
     pub ip_number: IpNumber,
-    /// The offset of the bytes in the message, in units of 8 bytes.
+    /// The offset of the bytes in the payload of the datagram, in units of 8 bytes.
     pub offset: IpFragOffset,
-    /// Whether other parts follow.
+    /// Whether more fragments follow.
     pub more_fragments: bool,
     /// The bytes.
     pub bytes: &'a [u8],
@@ -74,7 +75,7 @@ impl<'a> Class<'a> {
     /// The class of an Ethernet II frame: refused where [`SlicedPacket::from_ethernet`] refuses it.
     pub fn from_ethernet(frame: &'a [u8]) -> Class<'a>
         ensures class { as_class result ≡ class_of frame.now }
-        ensures fits { PartFits result }
+        ensures fits { ClassFits result }
     {
         match SlicedPacket::from_ethernet(frame) {
             Ok(packet) => packet.class(),
@@ -84,17 +85,16 @@ impl<'a> Class<'a> {
 }
 
 impl<'a> SlicedPacket<'a> {
-    /// What the packet is to its reader: an uncut message or a part of one where it is an IP
-    /// packet, else something other. A part is what the IPv4 header or the first fragment header
-    /// over IPv6 tells to be one; behind a fragment header that doesn't, where another one does,
-    /// stands something other.
+    /// The class of the packet: of an IP packet a whole message or a fragment, of any other packet
+    /// [`Class::Other`]. It is a fragment if the IPv4 header says so, or the first fragment header
+    /// over IPv6. If only a later fragment header says so, it is [`Class::Other`].
     #[inline(always)]
     pub fn class(&self) -> Class<'a>
-        ensures class { as_class result ≡ packet_told self.now }
-        // The identification of a part over IPv4 has 16 bits.
-        ensures fits { PartFits result }
+        ensures class { as_class result ≡ packet_parsed self.now }
+        // The identification of a fragment over IPv4 has 16 bits.
+        ensures fits { ClassFits result }
     {
-        // It and what it calls are always inlined, so that nobody moves a whole class.
+        // It and the functions that it calls are always inlined, so that no class is moved.
         match &self.net {
             Some(NetSlice::Ipv4(packet)) => self.ipv4_class(packet),
             Some(NetSlice::Ipv6(packet)) => self.ipv6_class(packet),
@@ -104,9 +104,9 @@ impl<'a> SlicedPacket<'a> {
 
     #[inline(always)]
     fn ipv4_class(&self, packet: &Ipv4Slice<'a>) -> Class<'a>
-        ensures class { as_class result ≡ net_told (vlan_ids_of self.now.link_exts.items)
+        ensures class { as_class result ≡ net_class (vlan_ids_of self.now.link_exts.items)
             (Some (net.Ipv4 packet.now)) self.now.transport }
-        ensures fits { PartFits result }
+        ensures fits { ClassFits result }
     {
         let addresses = Addresses::V4 {
             source: packet.header().source(),
@@ -116,7 +116,7 @@ impl<'a> SlicedPacket<'a> {
             return self.whole(addresses, packet.payload());
         }
         let (identification, offset, more_fragments) = ipv4_fragment_fields(packet);
-        self.part(
+        self.fragment(
             addresses,
             packet.payload(),
             (identification.into(), offset, more_fragments),
@@ -125,9 +125,9 @@ impl<'a> SlicedPacket<'a> {
 
     #[inline(always)]
     fn ipv6_class(&self, packet: &Ipv6Slice<'a>) -> Class<'a>
-        ensures class { as_class result ≡ net_told (vlan_ids_of self.now.link_exts.items)
+        ensures class { as_class result ≡ net_class (vlan_ids_of self.now.link_exts.items)
             (Some (net.Ipv6 packet.now)) self.now.transport }
-        ensures fits { PartFits result }
+        ensures fits { ClassFits result }
     {
         let addresses = Addresses::V6 {
             source: packet.header().source(),
@@ -139,16 +139,16 @@ impl<'a> SlicedPacket<'a> {
         extensions_of_a_packet();
         let _extensions = packet.extensions();
         match ipv6_fragment_fields(packet) {
-            Some(fields) => self.part(addresses, packet.payload(), fields),
+            Some(fields) => self.fragment(addresses, packet.payload(), fields),
             None => Class::Other,
         }
     }
 
-    // The message that a payload is.
+    // The class of a payload that isn't fragmented.
     #[inline(always)]
     fn whole(&self, addresses: Addresses, payload: &IpPayloadSlice<'a>) -> Class<'a>
-        ensures class { as_class result ≡ whole_told addresses payload.now self.now.transport }
-        ensures fits { PartFits result }
+        ensures class { as_class result ≡ whole_class addresses payload.now self.now.transport }
+        ensures fits { ClassFits result }
     {
         traits::types_are_plain_data();
         let transport = match &self.transport {
@@ -163,10 +163,10 @@ impl<'a> SlicedPacket<'a> {
         })
     }
 
-    // The part of a message that a payload is, if these fields tell of one: identification, offset,
-    // and whether more fragments follow.
+    // The class of a payload with these fields: identification, offset, and whether more fragments
+    // follow. It is a fragment, unless the offset is 0 and no more follow.
     #[inline(always)]
-    fn part(
+    fn fragment(
         &self,
         addresses: Addresses,
         payload: &IpPayloadSlice<'a>,
@@ -175,17 +175,17 @@ impl<'a> SlicedPacket<'a> {
         requires { IdentificationFits addresses fields.0 }
         ensures class { as_class result ≡ fragment_class
             (vlan_ids_of self.now.link_exts.items) addresses payload.now (fragment_fields fields) }
-        ensures fits { PartFits result }
+        ensures fits { ClassFits result }
     {
         let (identification, offset, more_fragments) = fields;
         if !more_fragments && offset.value() == 0 {
             return Class::Other;
         }
-        Class::Cut(CutMessage {
+        Class::Cut(IpFragment {
             vlan_ids: self.vlan_ids(),
             addresses,
             identification,
-            part: Part {
+            fragment: SlicedFragment {
                 ip_number: payload.ip_number,
                 offset,
                 more_fragments,

@@ -8,6 +8,6 @@ pub mod same_headers;
 pub mod sliced;
 pub mod traits;
 
-pub use faults::{offsets_by_hand, refusals_are_first_faults};
+pub use faults::{offsets_at_literals, refusals_are_first_faults};
 pub use headers::{ipv6_headers_agree_with_view, ipv6_headers_at_a_literal};
-pub use readable::{messages_by_hand, readable_messages};
+pub use readable::{messages_at_literals, readable_messages};

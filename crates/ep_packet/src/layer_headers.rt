@@ -1,11 +1,11 @@
-//! The headers of the network and the transport layer, behind the tags.
+//! The headers of the network and the transport layer, after the tags.
 ghost use Rattle.std.specs.Prelude.{◌≡◌, ◌≤◌, ◌<◌, ◌+◌, ◌^◌, ℕ, length, IfErr, IfOk, Ok, Err};
 ghost use Rattle.ep_packet.specs.HeaderLayers.{HeaderLayers, in_packet, ip_layers, ipv4_layers};
 ghost use Rattle.ep_packet.specs.HeaderLayers.{ipv6_layers, layers_of, message_in, message_parts};
 ghost use Rattle.ep_packet.specs.HeaderLayers.{of_headers, packet_len};
 ghost use Rattle.ep_packet.specs.IpHeadersAt.{ip_headers_at, ipv4_headers_at, ipv6_headers_at};
-ghost use Rattle.ep_packet.specs.Payload.{payload_told};
-ghost use Rattle.ep_packet.specs.PayloadParts.{parts_told};
+ghost use Rattle.ep_packet.specs.Payload.{payload_parsed};
+ghost use Rattle.ep_packet.specs.PayloadParts.{parts_parsed};
 ghost use Rattle.ep_packet.specs.ReadIpHeaders.{IsIpHeaders};
 ghost use Rattle.ep_packet.specs.SliceFault.{fault_offset};
 
@@ -20,7 +20,7 @@ use ep_tag::EtherPayloadSlice;
 use ep_tcpudp::{TcpSlice, UdpHeader, UdpHeaderSlice};
 use std::marker::Model;
 
-/// The headers of the network layer, of the message in it, and what stands behind them.
+/// The headers of the network layer and of the message in it, and the payload after them.
 #[derive(Drop)]
 pub(crate) struct LayerHeaders<'a> {
     pub net: Option<NetHeaders>,
@@ -32,7 +32,7 @@ impl<'a> Model for LayerHeaders<'a> {
     ghost Value = { HeaderLayers };
 
     ghost view = { λ layers. record
-        { net = layers.net; transport = layers.transport; payload = payload_told layers.payload } };
+        { net = layers.net; transport = layers.transport; payload = payload_parsed layers.payload } };
 }
 
 impl<'a> LayerHeaders<'a> {
@@ -41,7 +41,7 @@ impl<'a> LayerHeaders<'a> {
         payload: EtherPayloadSlice<'a>,
     ) -> Result<LayerHeaders<'a>, SliceError>
         ensures layers { result ≡ layers_of payload.entry }
-        ensures place { IfErr result (λ e. (n : ℕ) → length payload.entry.payload + n < 2 ^ 64
+        ensures offset { IfErr result (λ e. (n : ℕ) → length payload.entry.payload + n < 2 ^ 64
             → fault_offset e + n < 2 ^ 64) }
     {
         match payload.ether_type {
@@ -65,7 +65,7 @@ impl<'a> LayerHeaders<'a> {
 
     fn from_ipv4(slice: &'a [u8]) -> Result<LayerHeaders<'a>, SliceError>
         ensures layers { result ≡ ipv4_layers (length slice.now) (ipv4_headers_at slice.now) }
-        ensures place { IfErr result (λ e. (n : ℕ) → length slice.now + n < 2 ^ 64
+        ensures offset { IfErr result (λ e. (n : ℕ) → length slice.now + n < 2 ^ 64
             → fault_offset e + n < 2 ^ 64) }
     {
         laws::faults_can_be_moved();
@@ -77,7 +77,7 @@ impl<'a> LayerHeaders<'a> {
 
     fn from_ipv6(slice: &'a [u8]) -> Result<LayerHeaders<'a>, SliceError>
         ensures layers { result ≡ ipv6_layers (length slice.now) (ipv6_headers_at slice.now) }
-        ensures place { IfErr result (λ e. (n : ℕ) → length slice.now + n < 2 ^ 64
+        ensures offset { IfErr result (λ e. (n : ℕ) → length slice.now + n < 2 ^ 64
             → fault_offset e + n < 2 ^ 64) }
     {
         laws::faults_can_be_moved();
@@ -97,7 +97,7 @@ impl<'a> LayerHeaders<'a> {
         }
     }
 
-    // These IP headers, which begin the slice, and what their payload is.
+    // The layers of a slice that starts with these IP headers, where this is their payload.
     fn in_packet(
         headers: IpHeaders,
         payload: IpPayloadSlice<'a>,
@@ -105,9 +105,9 @@ impl<'a> LayerHeaders<'a> {
     ) -> Result<LayerHeaders<'a>, SliceError>
         requires { IsIpHeaders slice.now headers payload }
         ensures layers { result ≡ in_packet (length slice.now) headers payload.entry }
-        ensures place { IfErr result (λ e. fault_offset e ≤ length slice.now) }
+        ensures offset { IfErr result (λ e. fault_offset e ≤ length slice.now) }
     {
-        let place = packet_len(&headers, slice.len()) - payload.payload.len();
+        let position = packet_len(&headers, slice.len()) - payload.payload.len();
         match message_in(&payload) {
             Ok(Some((transport, payload))) => Ok(LayerHeaders {
                 net: Some(NetHeaders::from(headers)),
@@ -121,13 +121,14 @@ impl<'a> LayerHeaders<'a> {
             }),
             Err(error) => {
                 let error = slice_fault::within(error, payload.len_source);
-                Err(slice_fault::moved(error, place))
+                Err(slice_fault::moved(error, position))
             }
         }
     }
 }
 
-// How many of so many bytes the packet takes.
+// The number of bytes that the packet takes, by its length field. If an IPv6 payload length is 0
+// and bytes follow the header, it takes all `found` bytes.
 fn packet_len(headers: &IpHeaders, found: usize) -> usize
     ensures { result ≡ packet_len headers.now found }
 {
@@ -143,13 +144,13 @@ fn packet_len(headers: &IpHeaders, found: usize) -> usize
     }
 }
 
-// The header of the message that the payload is and what stands behind it, unless it is a part of
-// one or its protocol is another.
+// The header of the message in the payload, and the bytes after it. None if the payload is a
+// fragment or of a protocol that isn't read.
 fn message_in<'a>(
     payload: &IpPayloadSlice<'a>,
 ) -> Result<Option<(TransportHeader, PayloadSlice<'a>)>, SliceError>
-    ensures message { parts_told result ≡ message_in payload.now }
-    ensures place { IfErr result (λ e. fault_offset e ≡ 0) }
+    ensures message { parts_parsed result ≡ message_in payload.now }
+    ensures offset { IfErr result (λ e. fault_offset e ≡ 0) }
 {
     if payload.fragmented {
         return Ok(None);
@@ -161,8 +162,8 @@ fn read_message(
     ip_number: IpNumber,
     payload: &[u8],
 ) -> Result<Option<(TransportHeader, PayloadSlice<'_>)>, SliceError>
-    ensures message { parts_told result ≡ message_parts ip_number.0 payload.now }
-    ensures place { IfErr result (λ e. fault_offset e ≡ 0) }
+    ensures message { parts_parsed result ≡ message_parts ip_number.0 payload.now }
+    ensures offset { IfErr result (λ e. fault_offset e ≡ 0) }
 {
     match ip_number {
         IpNumber::ICMP => match Icmpv4Slice::from_slice(payload) {
@@ -197,7 +198,7 @@ fn read_message(
     }
 }
 
-// A fault of IP headers among those of all layers.
+// An error of IP headers as one of all layers.
 fn of_headers(error: HeadersSliceError) -> SliceError
     ensures { result ≡ of_headers error }
 {

@@ -36,11 +36,11 @@ impl<'a> Model for LayerSlices<'a> {
 }
 
 impl<'a> LayerSlices<'a> {
-    /// The layer that an ARP packet is.
+    /// An ARP packet, which is the only layer.
     pub(crate) fn from_arp(slice: &'a [u8]) -> Result<LayerSlices<'a>, SliceError>
         ensures layers { result ≡ arp_layers (packet_at slice.now) }
         ensures parts { IfOk result (λ layers. LayersIn slice.now 0 layers) }
-        ensures place { IfErr result (λ e. (n : ℕ) → length slice.now + n < 2 ^ 64
+        ensures offset { IfErr result (λ e. (n : ℕ) → length slice.now + n < 2 ^ 64
             → fault_offset e + n < 2 ^ 64) }
     {
         match ArpPacketSlice::from_slice(slice) {
@@ -56,7 +56,7 @@ impl<'a> LayerSlices<'a> {
     pub(crate) fn from_ipv4(slice: &'a [u8]) -> Result<LayerSlices<'a>, SliceError>
         ensures layers { result ≡ ipv4_layers (ipv4_packet_at slice.now) }
         ensures parts { IfOk result (λ layers. LayersIn slice.now 0 layers) }
-        ensures place { IfErr result (λ e. (n : ℕ) → length slice.now + n < 2 ^ 64
+        ensures offset { IfErr result (λ e. (n : ℕ) → length slice.now + n < 2 ^ 64
             → fault_offset e + n < 2 ^ 64) }
     {
         laws::faults_can_be_moved();
@@ -70,7 +70,7 @@ impl<'a> LayerSlices<'a> {
     pub(crate) fn from_ipv6(slice: &'a [u8]) -> Result<LayerSlices<'a>, SliceError>
         ensures layers { result ≡ ipv6_layers (ipv6_packet_at slice.now) }
         ensures parts { IfOk result (λ layers. LayersIn slice.now 0 layers) }
-        ensures place { IfErr result (λ e. (n : ℕ) → length slice.now + n < 2 ^ 64
+        ensures offset { IfErr result (λ e. (n : ℕ) → length slice.now + n < 2 ^ 64
             → fault_offset e + n < 2 ^ 64) }
     {
         laws::faults_can_be_moved();
@@ -86,7 +86,7 @@ impl<'a> LayerSlices<'a> {
         ensures found { IfOk result (λ layers. AreIpLayers slice.now layers) }
         ensures only { (layers : Layers) → AreIpLayers slice.now layers → result ≡ Ok layers }
         ensures parts { IfOk result (λ layers. LayersIn slice.now 0 layers) }
-        ensures place { IfErr result (λ e. (n : ℕ) → length slice.now + n < 2 ^ 64
+        ensures offset { IfErr result (λ e. (n : ℕ) → length slice.now + n < 2 ^ 64
             → fault_offset e + n < 2 ^ 64) }
     {
         laws::faults_can_be_moved();
@@ -101,7 +101,7 @@ impl<'a> LayerSlices<'a> {
         requires { IsIpv4Packet slice.now packet }
         ensures layers { result ≡ in_ipv4 packet.entry }
         ensures parts { IfOk result (λ layers. LayersIn slice.now 0 layers) }
-        ensures place { IfErr result (λ e. (n : ℕ) → length slice.now + n < 2 ^ 64
+        ensures offset { IfErr result (λ e. (n : ℕ) → length slice.now + n < 2 ^ 64
             → fault_offset e + n < 2 ^ 64) }
     {
         let transport = match transport_in(packet.payload()) {
@@ -120,7 +120,7 @@ impl<'a> LayerSlices<'a> {
         requires { IsIpv6Packet slice.now packet }
         ensures layers { result ≡ in_ipv6 packet.entry }
         ensures parts { IfOk result (λ layers. LayersIn slice.now 0 layers) }
-        ensures place { IfErr result (λ e. (n : ℕ) → length slice.now + n < 2 ^ 64
+        ensures offset { IfErr result (λ e. (n : ℕ) → length slice.now + n < 2 ^ 64
             → fault_offset e + n < 2 ^ 64) }
     {
         let transport = match transport_in(packet.payload()) {
@@ -136,7 +136,7 @@ impl<'a> LayerSlices<'a> {
     }
 }
 
-// How many bytes stand in front of the payload.
+// The number of bytes before the payload.
 fn ipv4_headers_len(packet: &Ipv4Slice<'_>) -> usize
     ensures { result ≡ length packet.now.header + length (auth_bytes packet.now.auth) }
 {
@@ -153,13 +153,13 @@ fn ipv6_headers_len(packet: &Ipv6Slice<'_>) -> usize
     packet.header().slice().len() + packet.extensions().slice().len()
 }
 
-// The message that the payload is, unless it is a part of one or its protocol is another.
+// The message in the payload. None if the payload is a fragment or of a protocol that isn't read.
 #[inline(always)]
 fn transport_in<'a>(payload: &IpPayloadSlice<'a>) -> Result<Option<TransportSlice<'a>>, SliceError>
     ensures message { result ≡ transport_in payload.now }
     ensures parts { IfOk result
         (λ o. IfSome o (λ message. IsAt payload.now.payload 0 (transport_bytes message))) }
-    ensures place { IfErr result (λ e. fault_offset e ≡ 0) }
+    ensures offset { IfErr result (λ e. fault_offset e ≡ 0) }
 {
     if payload.fragmented {
         return Ok(None);
@@ -170,7 +170,7 @@ fn transport_in<'a>(payload: &IpPayloadSlice<'a>) -> Result<Option<TransportSlic
     }
 }
 
-/// The message that bytes with this number are, if its protocol is known.
+/// The message that bytes with this IP number are, if its protocol is known.
 #[inline(always)]
 pub(crate) fn read_transport(
     ip_number: IpNumber,

@@ -1,4 +1,5 @@
-//! Packets of any of the protocols: what their layers have in common.
+//! Packets as slices and as headers, over all layers, and the class of a packet: a whole message, a
+//! fragment, something else, or refused.
 #![tactic(auto)]
 
 mod addresses;
@@ -17,7 +18,7 @@ mod tagged_slice;
 mod transport;
 
 pub use addresses::Addresses;
-pub use class::{Class, CutMessage, Part, WholeMessage};
+pub use class::{Class, IpFragment, SlicedFragment, WholeMessage};
 pub use message::{Message, read_message};
 pub use net::{IpHeader, IpHeaders, NetHeaders, NetSlice};
 pub use packet_headers::PacketHeaders;

@@ -1,6 +1,6 @@
-//! Messages that are read.
+//! Messages of the transport layer.
 ghost use Rattle.std.specs.Prelude.{◌≡◌};
-ghost use Rattle.ep_packet.specs.Class.{message_told};
+ghost use Rattle.ep_packet.specs.Class.{transport_message};
 ghost use Rattle.ep_packet.specs.Readable.{as_answer, as_read, message_at};
 
 use crate::TransportSlice;
@@ -26,10 +26,10 @@ pub enum Message<'m> {
     Raw(&'m [u8]),
 }
 
-/// Reads a message with this number, whichever IP version it came over: 1, 6, 17 and 58 as ICMPv4,
-/// TCP, UDP and ICMPv6, any other as it is.
+/// Reads a message with this IP number, whichever IP version it came over: 1, 6, 17 and 58 as
+/// ICMPv4, TCP, UDP and ICMPv6, any other as [`Message::Raw`].
 ///
-/// The error is that of the protocol's slice, with offsets counted from the front of the message.
+/// The error is that of the protocol's slice, with offsets counted from the start of the message.
 pub fn read_message(ip_number: IpNumber, message: &[u8]) -> Result<Message<'_>, SliceError>
     ensures { as_answer result ≡ message_at ip_number.0 message.now }
 {
@@ -42,7 +42,7 @@ pub fn read_message(ip_number: IpNumber, message: &[u8]) -> Result<Message<'_>, 
 /// A message as it was sliced, or all its bytes where nothing is known of its protocol.
 #[inline(always)]
 pub(crate) fn message_of<'m>(transport: Option<TransportSlice<'m>>, bytes: &'m [u8]) -> Message<'m>
-    ensures { as_read result ≡ message_told bytes.now transport.entry }
+    ensures { as_read result ≡ transport_message bytes.now transport.entry }
 {
     match transport {
         Some(TransportSlice::Icmpv4(message)) => Message::Icmpv4(message),

@@ -1,4 +1,4 @@
-//! What the protocols of the network layer have in common.
+//! Headers and packets of the network layer: IP of either version, or ARP.
 
 mod ip_headers;
 mod net_headers;

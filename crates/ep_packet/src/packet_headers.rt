@@ -3,10 +3,10 @@ ghost use Rattle.std.specs.Option.{option_map};
 ghost use Rattle.ep_packet.specs.FrameFault.{IsEtherTypeHeadersFault, IsFrameHeadersFault};
 ghost use Rattle.ep_packet.specs.FrameFault.{IsIpPacketHeadersFault};
 ghost use Rattle.ep_packet.specs.PacketHeaders.{Headers, ether_type_headers, ethernet_headers};
-ghost use Rattle.ep_packet.specs.PacketHeaders.{headers_behind, ids_in, ip_packet_headers};
-ghost use Rattle.ep_packet.specs.PacketHeaders.{layers_behind, modified_behind, result_told};
+ghost use Rattle.ep_packet.specs.PacketHeaders.{headers_after, ids_in, ip_packet_headers};
+ghost use Rattle.ep_packet.specs.PacketHeaders.{layers_after, modified_after, result_parsed};
 ghost use Rattle.ep_packet.specs.PacketHeaders.{vlan_headers, vlan_header_of};
-ghost use Rattle.ep_packet.specs.Payload.{payload_told};
+ghost use Rattle.ep_packet.specs.Payload.{payload_parsed};
 ghost use Rattle.ep_packet.specs.SameHeaders.{AreHeadersOf};
 ghost use Rattle.ep_packet.specs.Sliced.{sliced_ether_type, sliced_ethernet, sliced_ip};
 ghost use Rattle.ep_packet.specs.SliceFault.{later, fault_offset};
@@ -16,7 +16,7 @@ ghost use Rattle.ep_tag.specs.LinkExt.{fields_of};
 use crate::err::packet::SliceError;
 use crate::laws::refusals_are_first_faults;
 use crate::layer_headers::LayerHeaders;
-use crate::tagged_slice::{TaggedSlice, source_behind};
+use crate::tagged_slice::{TaggedSlice, source_after};
 use crate::{NetHeaders, PayloadSlice, TransportHeader, slice_fault};
 use arrayvec::ArrayVec;
 use ep_base::{EtherType, LenSource};
@@ -27,78 +27,78 @@ use ep_tag::{
     SingleVlanHeader, VlanHeader, VlanId,
 };
 
-/// The headers of a packet, as values, and what stands behind the last of them, borrowed.
+/// The headers of a packet, as values, and the payload after the last of them, borrowed.
 #[derive(Clone, Debug, PartialEq, Eq, Drop)]
 pub struct PacketHeaders<'a> {
     /// The link header.
     pub link: Option<LinkHeader>,
-    /// The VLAN tags and MACsec headers behind it, in their order.
+    /// The VLAN tags and MACsec headers after it, in their order.
     pub link_exts: ArrayVec<LinkExtHeader, 3>,
     /// The headers of the network layer, with extension headers.
     pub net: Option<NetHeaders>,
     /// The header of the transport layer.
     pub transport: Option<TransportHeader>,
-    /// What stands behind the last header that was read.
+    /// The payload after the last header that was read.
     pub payload: PayloadSlice<'a>,
 }
 
 impl<'a> PacketHeaders<'a> {
-    /// The greatest number of tags behind a link header.
+    /// The greatest number of tags after a link header.
     pub const LINK_EXTS_CAP: usize = 3;
 
     /// The headers of an Ethernet II frame (RFC 894; IEEE 802.3, clause 3).
     ///
-    /// They are those of the layers that `SlicedPacket::from_ethernet` slices, but for two: the
-    /// length field of UDP is ignored, so that all of an IP payload behind the header is
-    /// payload; and extension headers of IPv6 that an `Ipv6Extensions` doesn't take end the
-    /// headers, so that the IP payload begins with them.
+    /// They are those of the layers that `SlicedPacket::from_ethernet` slices, with two
+    /// differences: the length field of UDP is ignored, so that all bytes of the IP payload after
+    /// the UDP header are payload; and the headers end before an extension header of IPv6 that an
+    /// `Ipv6Extensions` doesn't take, so that the IP payload starts with that header.
     ///
-    /// Refused is the first layer that isn't whole or breaks its format, with the error of that
-    /// layer. The offset of an error counts from the front of the frame; what a header wants
-    /// within an IP payload has the source of that payload's length.
+    /// The error is that of the first layer that isn't whole or breaks its format. Its offset
+    /// counts in bytes from the start of the frame. If a header in an IP payload has too few bytes,
+    /// the error names the source of that payload's length.
     pub fn from_ethernet_slice(slice: &'a [u8]) -> Result<PacketHeaders<'a>, SliceError>
-        // A refusal is the first fault.
+        // An error is that of the first fault.
         ensures first { IfErr result (λ e. IsFrameHeadersFault slice.now e) }
-        ensures exact { result_told result ≡ ethernet_headers slice.now }
-        // The headers of the slices, where their own headers and payloads are all the frame's.
+        ensures exact { result_parsed result ≡ ethernet_headers slice.now }
+        // The result agrees with the slices: it is the headers that belong to the sliced packet.
         ensures agrees { (packet : SlicedPacket) (headers : Headers)
             → sliced_ethernet slice.now ≡ Ok packet
-            → AreHeadersOf packet headers → result_told result ≡ Ok headers }
+            → AreHeadersOf packet headers → result_parsed result ≡ Ok headers }
     {
         laws::rows_are_found();
-        laws::placed_rows_are_views();
+        laws::rows_in_slots_are_views();
         laws::ipv6_packet_found_is_there();
         refusals_are_first_faults();
         Self::in_frame(slice)
     }
 
     fn in_frame(slice: &'a [u8]) -> Result<PacketHeaders<'a>, SliceError>
-        ensures { result_told result ≡ ethernet_headers slice.now }
+        ensures { result_parsed result ≡ ethernet_headers slice.now }
     {
         let frame = match Ethernet2Slice::from_slice_without_fcs(slice) {
             Ok(frame) => frame,
             Err(error) => return Err(SliceError::Len(error)),
         };
         let link = LinkHeader::Ethernet2(frame.to_header());
-        Self::behind_link(Some(link), frame.payload(), Ethernet2Header::LEN)
+        Self::after_link(Some(link), frame.payload(), Ethernet2Header::LEN)
     }
 
-    /// The headers of the bytes behind an ether type, without a link header. The errors are as
+    /// The headers of the bytes after an ether type, without a link header. The errors are as
     /// those of [`PacketHeaders::from_ethernet_slice`].
     pub fn from_ether_type(
         ether_type: EtherType,
         slice: &'a [u8],
     ) -> Result<PacketHeaders<'a>, SliceError>
-        // A refusal is the first fault.
+        // An error is that of the first fault.
         ensures first { IfErr result (λ e. IsEtherTypeHeadersFault ether_type slice.now e) }
-        ensures exact { result_told result ≡ ether_type_headers ether_type slice.now }
-        // The headers of the slices, as above.
+        ensures exact { result_parsed result ≡ ether_type_headers ether_type slice.now }
+        // The result agrees with the slices, as above.
         ensures agrees { (packet : SlicedPacket) (headers : Headers)
             → sliced_ether_type ether_type slice.now ≡ Ok packet
-            → AreHeadersOf packet headers → result_told result ≡ Ok headers }
+            → AreHeadersOf packet headers → result_parsed result ≡ Ok headers }
     {
         laws::rows_are_found();
-        laws::placed_rows_are_views();
+        laws::rows_in_slots_are_views();
         laws::ipv6_packet_found_is_there();
         refusals_are_first_faults();
         let payload = EtherPayloadSlice {
@@ -106,29 +106,29 @@ impl<'a> PacketHeaders<'a> {
             len_source: LenSource::Slice,
             payload: slice,
         };
-        Self::behind_link(None, payload, 0)
+        Self::after_link(None, payload, 0)
     }
 
-    /// The headers of an IP packet of the version that its first half byte tells, without a link
-    /// header. The errors are as those of [`PacketHeaders::from_ethernet_slice`].
+    /// The headers of an IP packet of the version in the upper half of its first byte, without a
+    /// link header. The errors are as those of [`PacketHeaders::from_ethernet_slice`].
     pub fn from_ip_slice(slice: &'a [u8]) -> Result<PacketHeaders<'a>, SliceError>
-        // A refusal is the first fault.
+        // An error is that of the first fault.
         ensures first { IfErr result (λ e. IsIpPacketHeadersFault slice.now e) }
-        ensures exact { result_told result ≡ ip_packet_headers slice.now }
-        // The headers of the slices, as above.
+        ensures exact { result_parsed result ≡ ip_packet_headers slice.now }
+        // The result agrees with the slices, as above.
         ensures agrees { (packet : SlicedPacket) (headers : Headers)
             → sliced_ip slice.now ≡ Ok packet
-            → AreHeadersOf packet headers → result_told result ≡ Ok headers }
+            → AreHeadersOf packet headers → result_parsed result ≡ Ok headers }
     {
         laws::rows_are_found();
-        laws::placed_rows_are_views();
+        laws::rows_in_slots_are_views();
         laws::ipv6_packet_found_is_there();
         refusals_are_first_faults();
         Self::in_ip_packet(slice)
     }
 
     fn in_ip_packet(slice: &'a [u8]) -> Result<PacketHeaders<'a>, SliceError>
-        ensures { result_told result ≡ ip_packet_headers slice.now }
+        ensures { result_parsed result ≡ ip_packet_headers slice.now }
     {
         match LayerHeaders::from_ip(slice) {
             Ok(layers) => Ok(PacketHeaders {
@@ -142,14 +142,14 @@ impl<'a> PacketHeaders<'a> {
         }
     }
 
-    // The headers of what an ether type names, `link_len` bytes behind the front.
-    fn behind_link(
+    // The headers of what an ether type names, after `link_len` bytes of a link header.
+    fn after_link(
         link: Option<LinkHeader>,
         payload: EtherPayloadSlice<'a>,
         link_len: usize,
     ) -> Result<PacketHeaders<'a>, SliceError>
         requires { link_len + length payload.payload < 2 ^ 64 }
-        ensures { result_told result ≡ later link_len (headers_behind link payload.entry) }
+        ensures { result_parsed result ≡ later link_len (headers_after link payload.entry) }
     {
         let tagged = match TaggedSlice::from_ether_payload(payload) {
             Ok(tagged) => tagged,
@@ -158,7 +158,7 @@ impl<'a> PacketHeaders<'a> {
         let len = tagged.len;
         let last = tagged.last;
         let tags = tagged.tags;
-        let layers = match layers_behind(&tags, last) {
+        let layers = match layers_after(&tags, last) {
             Ok(layers) => layers,
             Err(error) => return Err(slice_fault::moved(error, link_len + len)),
         };
@@ -171,7 +171,7 @@ impl<'a> PacketHeaders<'a> {
         })
     }
 
-    /// The first two VLAN tags, or the one that there is; MACsec headers may stand between them.
+    /// The first two VLAN tags, or the only one; MACsec headers may be between them.
     pub fn vlan(&self) -> Option<VlanHeader>
         ensures { result ≡ vlan_header_of (vlan_headers self.now.link_exts.items) }
     {
@@ -209,33 +209,33 @@ impl<'a> PacketHeaders<'a> {
     }
 }
 
-// The layers in what the last ether type behind the tags names, or the payload that a modified
-// MACsec header has.
-fn layers_behind<'a>(
+// The layers in what the last ether type after the tags names, or the modified payload of a MACsec
+// header.
+fn layers_after<'a>(
     tags: &ArrayVec<LinkExtSlice<'a>, 3>,
     last: Option<EtherPayloadSlice<'a>>,
 ) -> Result<LayerHeaders<'a>, SliceError>
-    ensures layers { result ≡ layers_behind tags.now.items last.entry }
-    ensures place { IfErr result
+    ensures layers { result ≡ layers_after tags.now.items last.entry }
+    ensures offset { IfErr result
         (λ e. IfSome last.entry (λ q. (n : ℕ) → length q.payload + n < 2 ^ 64
         → fault_offset e + n < 2 ^ 64)) }
 {
     match last {
         Some(payload) => LayerHeaders::from_ether_payload(EtherPayloadSlice {
-            len_source: source_behind(tags),
+            len_source: source_after(tags),
             ..payload
         }),
         None => Ok(LayerHeaders {
             net: None,
             transport: None,
-            payload: modified_behind(tags.as_slice().last()),
+            payload: modified_after(tags.as_slice().last()),
         }),
     }
 }
 
-// The payload of a MACsec header that was changed.
-fn modified_behind<'a>(tag: Option<&LinkExtSlice<'a>>) -> PayloadSlice<'a>
-    ensures { payload_told result ≡ modified_behind (option_map (λ t. t.now) tag.entry) }
+// The modified payload of a MACsec header.
+fn modified_after<'a>(tag: Option<&LinkExtSlice<'a>>) -> PayloadSlice<'a>
+    ensures { payload_parsed result ≡ modified_after (option_map (λ t. t.now) tag.entry) }
 {
     match tag {
         Some(LinkExtSlice::Macsec(macsec)) => match &macsec.payload {
@@ -257,7 +257,7 @@ fn headers_of(tags: &ArrayVec<LinkExtSlice<'_>, 3>) -> ArrayVec<LinkExtHeader, 3
     headers
 }
 
-// The tag again: to clone it is a call that could fail.
+// A copy of the tag. A call of `clone` could fail, this can't.
 fn same_tag(tag: &SingleVlanHeader) -> SingleVlanHeader
     ensures { result ≡ tag.now }
 {

@@ -1,34 +1,34 @@
 ghost use Rattle.std.specs.Prelude.{◌≡◌};
-ghost use Rattle.ep_packet.specs.Payload.{bytes_of, payload_told};
+ghost use Rattle.ep_packet.specs.Payload.{bytes_of, payload_parsed};
 
 use ep_ipslice::IpPayloadSlice;
 use ep_tag::EtherPayloadSlice;
 
-/// What stands behind the headers of a packet, borrowed.
+/// The payload after the headers of a packet, borrowed.
 #[derive(Clone, Debug, PartialEq, Eq, PartialOrd, Ord, Hash, Drop)]
 pub enum PayloadSlice<'a> {
-    /// None, as of an ARP packet.
+    /// No bytes, as after an ARP packet.
     Empty,
     /// Bytes that an ether type names.
     Ether(EtherPayloadSlice<'a>),
-    /// Bytes that MACsec encrypted or changed.
+    /// Bytes that MACsec encrypted or modified.
     MacsecMod(&'a [u8]),
-    /// The payload of an IP packet, of which no transport header was read.
+    /// The payload of an IP packet in which no transport header was read.
     Ip(IpPayloadSlice<'a>),
-    /// The bytes behind a UDP header.
+    /// The bytes after a UDP header.
     Udp(&'a [u8]),
-    /// The bytes behind a TCP header and its options.
+    /// The bytes after a TCP header and its options.
     Tcp(&'a [u8]),
-    /// The bytes behind an ICMPv4 header, which is longer than eight bytes in timestamp messages.
+    /// The bytes after an ICMPv4 header, which has 20 bytes in timestamp messages, else 8.
     Icmpv4(&'a [u8]),
-    /// The bytes behind an ICMPv6 header.
+    /// The bytes after an ICMPv6 header.
     Icmpv6(&'a [u8]),
 }
 
 impl<'a> PayloadSlice<'a> {
     /// The bytes.
     pub fn slice(&self) -> &'a [u8]
-        ensures { result.now ≡ bytes_of (payload_told self.now) }
+        ensures { result.now ≡ bytes_of (payload_parsed self.now) }
     {
         match self {
             PayloadSlice::Empty => &[],

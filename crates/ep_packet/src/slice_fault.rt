@@ -1,4 +1,4 @@
-//! The faults of each layer among those of all, and seen from a slice that begins earlier.
+//! The errors of each layer as those of all layers, with offsets from an earlier start.
 ghost use Rattle.std.specs.Prelude.{◌≡◌};
 ghost use Rattle.ep_packet.specs.Readable.{tcp_fault};
 ghost use Rattle.ep_packet.specs.SliceFault.{CanMove, bounded_by, offset_by, of_ip, of_ipv4};
@@ -71,7 +71,7 @@ pub(crate) fn of_tcp(error: tcp::HeaderSliceError) -> SliceError
     }
 }
 
-/// The same fault of what starts `offset` bytes further on.
+/// The same error of a layer that starts `offset` bytes later.
 pub(crate) fn moved(error: SliceError, offset: usize) -> SliceError
     requires { CanMove error offset }
     ensures { result ≡ offset_by offset error }
@@ -82,7 +82,7 @@ pub(crate) fn moved(error: SliceError, offset: usize) -> SliceError
     }
 }
 
-/// The same fault in an IP payload that `source` bounds.
+/// The same error in an IP payload that `source` bounds.
 pub(crate) fn within(error: SliceError, source: LenSource) -> SliceError
     ensures { result ≡ within source error }
 {

@@ -5,16 +5,16 @@ ghost use Rattle.ep_link.specs.Ethernet.{ethernet_len, payload_of};
 ghost use Rattle.ep_link.specs.Sll.{sll_len};
 ghost use Rattle.ep_link.specs.SllPayload.{named_payload, payload_of as sll_payload_of};
 ghost use Rattle.ep_link.specs.declared.link.link_slice.LinkSlice.TheVariants as link_slice;
-ghost use Rattle.ep_packet.specs.Class.{class_of, class_told};
+ghost use Rattle.ep_packet.specs.Class.{class_of, sliced_class};
 ghost use Rattle.ep_packet.specs.Class.Class.{Refused};
 ghost use Rattle.ep_packet.specs.FrameFault.{IsCookedFault, IsEtherTypeFault, IsFrameFault};
 ghost use Rattle.ep_packet.specs.FrameFault.{IsIpPacketFault};
-ghost use Rattle.ep_packet.specs.PacketView.{ether_payload_in, ip_payload_of, is_part};
+ghost use Rattle.ep_packet.specs.PacketView.{ether_payload_in, ip_payload_of, is_fragment};
 ghost use Rattle.ep_packet.specs.PacketView.{last_payload, payload_ether_type_in, vlan_slice_of};
 ghost use Rattle.ep_packet.specs.PacketView.{vlan_tags};
 ghost use Rattle.ep_packet.specs.Parts.{ArePartsOf};
 ghost use Rattle.ep_packet.specs.SliceFault.{later};
-ghost use Rattle.ep_packet.specs.Sliced.{IsSliced, IsSlicedIp, ether_payload, packet_behind};
+ghost use Rattle.ep_packet.specs.Sliced.{IsSliced, IsSlicedIp, ether_payload, packet_after};
 ghost use Rattle.ep_packet.specs.Sliced.{sliced_ether_type, sliced_ethernet, sliced_ip};
 ghost use Rattle.ep_packet.specs.Sliced.{sliced_linux_sll};
 ghost use Rattle.ep_packet.specs.Tags.{vlan_ids_of};
@@ -22,7 +22,7 @@ ghost use Rattle.ep_packet.specs.Tags.{vlan_ids_of};
 use crate::err::packet::SliceError;
 use crate::laws::refusals_are_first_faults;
 use crate::layer_slices::LayerSlices;
-use crate::tagged_slice::{TaggedSlice, source_behind};
+use crate::tagged_slice::{TaggedSlice, source_after};
 use crate::{NetSlice, TransportSlice, slice_fault};
 use arrayvec::ArrayVec;
 use ep_base::{EtherType, LenSource};
@@ -33,12 +33,12 @@ use ep_tag::{
     DoubleVlanSlice, EtherPayloadSlice, LinkExtSlice, SingleVlanSlice, VlanId, VlanSlice,
 };
 
-/// The parts of a packet, each borrowed from where it stands in the packet's bytes.
+/// The layers of a packet, each borrowed from the packet's bytes.
 #[derive(Clone, Debug, PartialEq, Eq, Drop)]
 pub struct SlicedPacket<'a> {
-    /// The link header with all that follows it, or what stands in its place.
+    /// The link header with all bytes after it, or without one an ether type and its payload.
     pub link: Option<LinkSlice<'a>>,
-    /// The VLAN tags and MACsec headers behind it, in their order.
+    /// The VLAN tags and MACsec headers after it, in their order.
     pub link_exts: ArrayVec<LinkExtSlice<'a>, 3>,
     /// The packet of the network layer, with its extension headers.
     pub net: Option<NetSlice<'a>>,
@@ -47,31 +47,31 @@ pub struct SlicedPacket<'a> {
 }
 
 impl<'a> SlicedPacket<'a> {
-    /// The greatest number of tags behind a link header.
+    /// The greatest number of tags after a link header.
     pub const LINK_EXTS_CAP: usize = 3;
 
-    /// The parts of an Ethernet II frame (RFC 894; IEEE 802.3, clause 3).
+    /// The layers of an Ethernet II frame (RFC 894; IEEE 802.3, clause 3).
     ///
-    /// Behind the link header stand up to three tags; a fourth is payload that is not read,
-    /// and so is a modified MACsec payload. IPv4, IPv6 and ARP packets are sliced, and the message
-    /// in an IP packet that is no fragment: ICMP, TCP and UDP.
+    /// Up to three tags follow the link header. A fourth one is payload that isn't read, and so is
+    /// a modified MACsec payload. IPv4, IPv6 and ARP packets are sliced, and so is an ICMP, TCP or
+    /// UDP message in an IP packet that is no fragment.
     ///
-    /// Refused is the first layer that isn't whole or breaks its format, with the error of that
-    /// layer. The offset of an error counts from the front of the frame; what a header or
-    /// message wants within an IP payload has the source of that payload's length.
+    /// The error is that of the first layer that isn't whole or breaks its format. Its offset
+    /// counts in bytes from the start of the frame. If a header or a message in an IP payload has
+    /// too few bytes, the error names the source of that payload's length.
     pub fn from_ethernet(slice: &'a [u8]) -> Result<SlicedPacket<'a>, SliceError>
-        // Tags and layers that are taken stand behind the link header, and no others could.
+        // The tags and layers in the result are those after the link header.
         ensures found { IfOk result (λ packet. IsSliced (payload_of slice.now) packet) }
-        // What stands there is taken.
+        // The packet with the tags and layers there is the result.
         ensures only { (packet : SlicedPacket) → ethernet_len ≤ length slice.now
             → packet.link ≡ Some (link_slice.Ethernet2 slice.now)
             → IsSliced (payload_of slice.now) packet → result ≡ Ok packet }
-        // Each part is the frame from its place on.
+        // Each part of the packet is at its offset in the frame.
         ensures parts { IfOk result (λ packet. ArePartsOf slice.now ethernet_len packet) }
-        // A frame is refused exactly where its class is, and else the parts tell the class.
+        // A frame is refused exactly if its class is `Refused`; else the packet has the class.
         ensures refused { IsErr result ↔ (class_of slice.now ≡ Refused) }
-        ensures class { class_told result ≡ class_of slice.now }
-        // A refusal is the first fault, with its place in the frame.
+        ensures class { sliced_class result ≡ class_of slice.now }
+        // An error is that of the first fault, with its offset in the frame.
         ensures first { IfErr result (λ e. IsFrameFault slice.now e) }
         ensures exact { result ≡ sliced_ethernet slice.now }
     {
@@ -82,20 +82,20 @@ impl<'a> SlicedPacket<'a> {
             Err(error) => return Err(SliceError::Len(error)),
         };
         let payload = frame.payload();
-        Self::behind_link(LinkSlice::Ethernet2(frame), payload, Ethernet2Header::LEN)
+        Self::after_link(LinkSlice::Ethernet2(frame), payload, Ethernet2Header::LEN)
     }
 
-    /// The parts of a packet of a Linux cooked capture (libpcap's page on LINKTYPE_LINUX_SLL),
-    /// whose payload is looked into as that of [`SlicedPacket::from_ethernet`] where its protocol
-    /// is an ether type. The errors are of the same kind.
+    /// The layers of a packet of a Linux cooked capture (libpcap's page on LINKTYPE_LINUX_SLL). If
+    /// its protocol is an ether type, its payload is sliced as that of
+    /// [`SlicedPacket::from_ethernet`]. The errors are of the same kind.
     pub fn from_linux_sll(slice: &'a [u8]) -> Result<SlicedPacket<'a>, SliceError>
-        // Tags and layers that are taken stand behind the header, where its protocol is an ether
+        // The tags and layers in the result are those after the header, if its protocol is an ether
         // type.
         ensures found { IfOk result
             (λ packet. IfSome (named_payload (sll_payload_of slice.now)) (λ p. IsSliced p packet)) }
-        // Each part is the packet from its place on.
+        // Each part of the packet is at its offset in the slice.
         ensures parts { IfOk result (λ packet. ArePartsOf slice.now sll_len packet) }
-        // A refusal is the first fault.
+        // An error is that of the first fault.
         ensures first { IfErr result (λ e. IsCookedFault slice.now e) }
         ensures exact { result ≡ sliced_linux_sll slice.now }
     {
@@ -107,7 +107,7 @@ impl<'a> SlicedPacket<'a> {
         };
         match EtherPayloadSlice::try_from(packet.payload()) {
             Ok(payload) => {
-                Self::behind_link(LinkSlice::LinuxSll(packet), payload, LinuxSllHeader::LEN)
+                Self::after_link(LinkSlice::LinuxSll(packet), payload, LinuxSllHeader::LEN)
             }
             Err(()) => Ok(SlicedPacket {
                 link: Some(LinkSlice::LinuxSll(packet)),
@@ -118,22 +118,22 @@ impl<'a> SlicedPacket<'a> {
         }
     }
 
-    /// The parts of the bytes behind an ether type, which stand in the place of a link header. The
-    /// errors are as those of [`SlicedPacket::from_ethernet`].
+    /// The layers of the bytes after an ether type. `link` of the result has both. The errors are
+    /// as those of [`SlicedPacket::from_ethernet`].
     pub fn from_ether_type(
         ether_type: EtherType,
         slice: &'a [u8],
     ) -> Result<SlicedPacket<'a>, SliceError>
-        // Tags and layers that are taken stand in the slice, and no others could.
+        // The tags and layers in the result are those in the slice.
         ensures found { IfOk result
             (λ packet. IsSliced (ether_payload ether_type slice.now) packet) }
-        // What stands there is taken.
+        // The packet with the tags and layers there is the result.
         ensures only { (packet : SlicedPacket)
             → packet.link ≡ Some (link_slice.EtherPayload (ether_payload ether_type slice.now))
             → IsSliced (ether_payload ether_type slice.now) packet → result ≡ Ok packet }
-        // Each part is the slice from its place on.
+        // Each part of the packet is at its offset in the slice.
         ensures parts { IfOk result (λ packet. ArePartsOf slice.now 0 packet) }
-        // A refusal is the first fault.
+        // An error is that of the first fault.
         ensures first { IfErr result (λ e. IsEtherTypeFault ether_type slice.now e) }
         ensures exact { result ≡ sliced_ether_type ether_type slice.now }
     {
@@ -149,19 +149,19 @@ impl<'a> SlicedPacket<'a> {
             len_source: LenSource::Slice,
             payload: slice,
         };
-        Self::behind_link(LinkSlice::EtherPayload(link), payload, 0)
+        Self::after_link(LinkSlice::EtherPayload(link), payload, 0)
     }
 
-    /// The parts of an IP packet of the version that its first half byte tells. Nothing stands in
-    /// the place of a link header. The errors are as those of [`SlicedPacket::from_ethernet`].
+    /// The layers of an IP packet of the version in the upper half of its first byte. `link` of the
+    /// result is `None`. The errors are as those of [`SlicedPacket::from_ethernet`].
     pub fn from_ip(slice: &'a [u8]) -> Result<SlicedPacket<'a>, SliceError>
-        // The slice begins with the packet that is taken.
+        // The slice starts with the packet in the result.
         ensures found { IfOk result (λ packet. IsSlicedIp slice.now packet) }
-        // A packet that it begins with is taken.
+        // A packet that it starts with is the result.
         ensures only { (packet : SlicedPacket) → IsSlicedIp slice.now packet → result ≡ Ok packet }
-        // Each part is the slice from its place on.
+        // Each part of the packet is at its offset in the slice.
         ensures parts { IfOk result (λ packet. ArePartsOf slice.now 0 packet) }
-        // A refusal is the first fault.
+        // An error is that of the first fault.
         ensures first { IfErr result (λ e. IsIpPacketFault slice.now e) }
         ensures exact { result ≡ sliced_ip slice.now }
     {
@@ -177,9 +177,8 @@ impl<'a> SlicedPacket<'a> {
         }
     }
 
-    /// The ether type of what was not looked into: the last one, where there is no packet of the
-    /// network layer. None behind a modified MACsec payload, and where there was none from the
-    /// beginning.
+    /// The ether type of a payload that wasn't parsed: the last one, if there is no packet of the
+    /// network layer. `None` for a modified MACsec payload, and if the packet has no ether type.
     pub fn payload_ether_type(&self) -> Option<EtherType>
         ensures { result ≡ payload_ether_type_in self.now }
     {
@@ -192,14 +191,14 @@ impl<'a> SlicedPacket<'a> {
         }
     }
 
-    /// What the last ether type names, also where it was looked into. It is bounded by a MACsec
-    /// header's short length where one of the tags has one.
+    /// What the last ether type names, also if it was parsed. It is bounded by a MACsec header's
+    /// short length if one of the tags has one.
     pub fn ether_payload(&self) -> Option<EtherPayloadSlice<'a>>
         ensures { result ≡ ether_payload_in self.now }
     {
         match self.last_payload() {
             Some(payload) => Some(EtherPayloadSlice {
-                len_source: source_behind(&self.link_exts),
+                len_source: source_after(&self.link_exts),
                 ..payload
             }),
             None => None,
@@ -229,9 +228,9 @@ impl<'a> SlicedPacket<'a> {
         }
     }
 
-    /// Whether the payload of an IP packet is a part of a message.
+    /// Whether the payload of an IP packet is a fragment.
     pub fn is_ip_payload_fragmented(&self) -> bool
-        ensures { result ≡ is_part (ip_payload_of self.now.net) }
+        ensures { result ≡ is_fragment (ip_payload_of self.now.net) }
     {
         match self.ip_payload() {
             Some(payload) => payload.fragmented,
@@ -239,7 +238,7 @@ impl<'a> SlicedPacket<'a> {
         }
     }
 
-    /// The first two VLAN tags, or the one that there is; MACsec headers may stand between them.
+    /// The first two VLAN tags, or the only one; MACsec headers may be between them.
     pub fn vlan(&self) -> Option<VlanSlice<'a>>
         ensures { result ≡ vlan_slice_of (vlan_tags self.now.link_exts.items) }
     {
@@ -276,21 +275,21 @@ impl<'a> SlicedPacket<'a> {
         ids
     }
 
-    // The parts of what an ether type names, `link_len` bytes behind the front.
-    fn behind_link(
+    // The layers of what an ether type names, after `link_len` bytes of a link header.
+    fn after_link(
         link: LinkSlice<'a>,
         payload: EtherPayloadSlice<'a>,
         link_len: usize,
     ) -> Result<SlicedPacket<'a>, SliceError>
         requires { link_len + length payload.payload < 2 ^ 64 }
-        ensures exact { result ≡ later link_len (packet_behind link.entry payload.entry) }
+        ensures exact { result ≡ later link_len (packet_after link.entry payload.entry) }
         ensures parts { IfOk result (λ packet. ArePartsOf payload.entry.payload 0 packet) }
     {
         let tagged = match TaggedSlice::from_ether_payload(payload) {
             Ok(tagged) => tagged,
             Err(error) => return Err(slice_fault::moved(error, link_len)),
         };
-        // Each answer is made where it is returned: where they meet, all their parts are moved.
+        // Each result is built where it is returned: to join the branches would move all fields.
         if let Some(last) = &tagged.last {
             let offset = link_len + tagged.len;
             match last.ether_type {
@@ -339,7 +338,7 @@ impl<'a> SlicedPacket<'a> {
     }
 }
 
-// The tag again: to clone a value with a model is a call that could fail.
+// A copy of the tag. A call of `clone` of a value with a model could fail, this can't.
 fn same_tag<'a>(tag: &SingleVlanSlice<'a>) -> SingleVlanSlice<'a>
     ensures { result ≡ tag.now }
 {

@@ -1,6 +1,6 @@
-//! The tags in front of a payload.
+//! The tags before a payload.
 ghost use Rattle.std.specs.Prelude.{◌≡◌, ◌≤◌, length, IfErr, IfOk, IfSome};
-ghost use Rattle.ep_packet.specs.PacketView.{is_cut, source_behind};
+ghost use Rattle.ep_packet.specs.PacketView.{has_short_len, source_after};
 ghost use Rattle.ep_packet.specs.Parts.{TagIn, TagsIn};
 ghost use Rattle.ep_packet.specs.SliceFault.{fault_offset};
 ghost use Rattle.ep_packet.specs.Tags.{Tagged, most_tags, tag_at, tags_in};
@@ -12,7 +12,7 @@ use ep_base::{EtherType, LenSource};
 use ep_tag::{EtherPayloadSlice, LinkExtSlice, MacsecSlice, SingleVlanSlice};
 use std::marker::Model;
 
-/// The tags in front of a payload, the length of all in bytes, and what the last ether type names.
+/// The tags before a payload, the length of all in bytes, and what the last ether type names.
 #[derive(Drop)]
 pub(crate) struct TaggedSlice<'a> {
     pub tags: ArrayVec<LinkExtSlice<'a>, 3>,
@@ -27,13 +27,13 @@ impl<'a> Model for TaggedSlice<'a> {
 }
 
 impl<'a> TaggedSlice<'a> {
-    /// The tags in front of `payload`, three at most.
+    /// The tags at the start of `payload`, three at most.
     pub(crate) fn from_ether_payload(
         payload: EtherPayloadSlice<'a>,
     ) -> Result<TaggedSlice<'a>, SliceError>
         ensures tags { result ≡ tags_in most_tags payload.entry }
         ensures parts { IfOk result (λ t. TagsIn payload.entry.payload 0 t) }
-        ensures place { IfErr result (λ e. fault_offset e ≤ length payload.entry.payload) }
+        ensures offset { IfErr result (λ e. fault_offset e ≤ length payload.entry.payload) }
     {
         let mut tags = ArrayVec::new();
         let mut len = 0;
@@ -76,7 +76,7 @@ impl<'a> TaggedSlice<'a> {
 fn tag_of<'a>(payload: &EtherPayloadSlice<'a>) -> Result<Option<LinkExtSlice<'a>>, SliceError>
     ensures tag { result ≡ tag_at payload.now }
     ensures parts { IfOk result (λ o. IfSome o (λ t. TagIn payload.now.payload t)) }
-    ensures place { IfErr result (λ e. fault_offset e ≡ 0) }
+    ensures offset { IfErr result (λ e. fault_offset e ≡ 0) }
 {
     match payload.ether_type {
         EtherType::VLAN_TAGGED_FRAME
@@ -95,21 +95,21 @@ fn tag_of<'a>(payload: &EtherPayloadSlice<'a>) -> Result<Option<LinkExtSlice<'a>
     }
 }
 
-/// What bounds the bytes behind the tags: a MACsec header's short length, if one has it.
-pub(crate) fn source_behind(tags: &ArrayVec<LinkExtSlice<'_>, 3>) -> LenSource
-    ensures { result ≡ source_behind tags.now.items }
+/// What bounds the bytes after the tags: a MACsec header's short length, if one has it.
+pub(crate) fn source_after(tags: &ArrayVec<LinkExtSlice<'_>, 3>) -> LenSource
+    ensures { result ≡ source_after tags.now.items }
 {
     for tag in tags.as_slice() {
-        if is_cut(tag) {
+        if has_short_len(tag) {
             return LenSource::MacsecShortLength;
         }
     }
     LenSource::Slice
 }
 
-// A MACsec header with a short length.
-fn is_cut(tag: &LinkExtSlice<'_>) -> bool
-    ensures { result ≡ is_cut tag.now }
+// Whether it is a MACsec header with a short length above 0.
+fn has_short_len(tag: &LinkExtSlice<'_>) -> bool
+    ensures { result ≡ has_short_len tag.now }
 {
     match tag {
         LinkExtSlice::Vlan(_) => false,

@@ -1,4 +1,4 @@
-//! What the transport protocols have in common.
+//! Headers and messages of the transport layer.
 
 mod transport_header;
 mod transport_slice;

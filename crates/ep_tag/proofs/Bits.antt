@@ -13,7 +13,7 @@ and-63 n = and_mask n 6
 pub and-4095 : (n : ℕ) → bit_and n 4095 ≡ n % 2 ^ 12
 and-4095 n = and_mask n 12
 
--- the test of a flag, which stands in the number a at its own worth
+-- the test of a flag, which is one bit of the number a
 flag : (a q w : ℕ) → a ≡ (q % 2) * suc w → eqb a 0 ≡ not (eqb (q % 2) 1)
 flag a q w e = grind (arith, nat_tests)
 

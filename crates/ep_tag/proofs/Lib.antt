@@ -1,8 +1,8 @@
 mod Bits
-mod Front
-mod MacsecFront
+mod Prefix
+mod MacsecPrefix
 mod MacsecRead
-mod MacsecSpelling
+mod MacsecEncoding
 mod Numbers
 mod SameHeaders
-mod VlanSpelling
+mod VlanEncoding

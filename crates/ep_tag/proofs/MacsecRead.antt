@@ -1,4 +1,4 @@
--- A MACsec header and its payload at the front of bytes.
+-- A MACsec header and its payload at the start of bytes.
 use Rattle.std.proofs.Common.{◌≡◌, ℕ, ◌<◌, ◌≤◌, ◌==◌, nat_lt, Bool, true, false, cond, List, []}
 use Rattle.std.proofs.Common.{◌++◌, length, take, drop, Result, Ok, Err, IfOk, arith, refl, sym, ap}
 use Rattle.std.proofs.Common.{subst, ◌∙◌, length-append, append_assoc}
@@ -9,10 +9,10 @@ use Rattle.ep_base.specs.declared.err.slice_error.SliceError.{SliceError}
 use Rattle.ep_tag.specs.declared.err.macsec.header_error.HeaderError.{HeaderError}
 use Rattle.ep_tag.specs.Macsec.{header_len_of, short_len_of}
 use Rattle.ep_tag.specs.MacsecFault.{header_at}
-use Rattle.ep_tag.specs.MacsecPayload.{IsMacsec, Macsec, bytes_under, macsec_at, macsec_behind}
+use Rattle.ep_tag.specs.MacsecPayload.{IsMacsec, Macsec, bytes_under, macsec_at, macsec_after}
 use Rattle.ep_tag.specs.MacsecPayload.{macsec_with, payload_len_of, payload_under}
-use Rattle.ep_base.proofs.Fronts.{guard_ok, guard_through, ok_same}
-use Rattle.ep_tag.proofs.MacsecFront.{header_again, header_takes}
+use Rattle.ep_base.proofs.Prefixes.{guard_ok, guard_through, ok_same}
+use Rattle.ep_tag.proofs.MacsecPrefix.{header_again, header_takes}
 
 positive : (n : ℕ) → (n == 0) ≡ false → 0 < n
 positive n h = grind (arith, nat_tests)
@@ -38,20 +38,20 @@ with_found : (bytes header : List ℕ) (m : Macsec) → header_at bytes ≡ Ok h
     → macsec_with header (drop (length header) bytes) ≡ Ok m → IsMacsec bytes m
 with_found bytes header m e f =
     let rest = drop (length header) bytes in
-    let front = header_takes bytes header e in
+    let prefix = header_takes bytes header e in
     let enough = guard_ok (nat_lt (length rest) (payload_len_of header)) _ _ _ f in
     let fits : payload_len_of header ≤ length rest =
     ltb-false (length rest) (payload_len_of header) enough.0 in
     let cut = cut_found header rest (short_len_of header == 0) refl fits in
     let n = header_len_of bytes in
-    let size : length header ≡ n = ap length front.1 ∙ length-take-le n bytes front.2 in
+    let size : length header ≡ n = ap length prefix.1 ∙ length-take-le n bytes prefix.2 in
     let same : bytes ≡ header ++ rest =
-    sym (ap (λ h. h ++ rest) front.1 ∙ ap (λ k. take n bytes ++ drop k bytes) size
+    sym (ap (λ h. h ++ rest) prefix.1 ∙ ap (λ k. take n bytes ++ drop k bytes) size
     ∙ take-append-drop n bytes) in
     let inside : IsMacsec bytes
     (record { header = header; payload = payload_under header (bytes_under header rest) }) =
     record {
-      is-header = front.0;
+      is-header = prefix.0;
       payload = bytes_under header rest;
       beyond = cut.0;
       parts = same ∙ ap (λ xs. header ++ xs) cut.1
@@ -62,13 +62,13 @@ with_found bytes header m e f =
     } in
     subst (IsMacsec bytes) (ok_same _ _ enough.1) inside
 
-behind_found : (bytes : List ℕ) (r : Result (List ℕ) (SliceError HeaderError)) (m : Macsec)
-    → header_at bytes ≡ r → macsec_behind bytes r ≡ Ok m → IsMacsec bytes m
-behind_found bytes (Ok header) m e f = with_found bytes header m e f
-behind_found bytes (Err x) m e f = cc
+macsec_after_found : (bytes : List ℕ) (r : Result (List ℕ) (SliceError HeaderError)) (m : Macsec)
+    → header_at bytes ≡ r → macsec_after bytes r ≡ Ok m → IsMacsec bytes m
+macsec_after_found bytes (Ok header) m e f = with_found bytes header m e f
+macsec_after_found bytes (Err x) m e f = cc
 
 macsec_takes : (bytes : List ℕ) (m : Macsec) → macsec_at bytes ≡ Ok m → IsMacsec bytes m
-macsec_takes bytes m e = behind_found bytes (header_at bytes) m refl e
+macsec_takes bytes m e = macsec_after_found bytes (header_at bytes) m refl e
 
 pub macsec_found : (bytes : List ℕ) (r : Result Macsec (SliceError HeaderError))
     → r ≡ macsec_at bytes → IfOk r (λ m. IsMacsec bytes m)
@@ -89,7 +89,7 @@ cut_only header payload beyond false zero_is all size =
     let both = length-append payload beyond in
     (take_at payload beyond (payload_len_of header) len, omega arith)
 
--- a header and payload that stand at the front are read
+-- a header and payload at the start of the bytes are read
 pub macsec_only : (bytes : List ℕ) (m : Macsec) → IsMacsec bytes m → macsec_at bytes ≡ Ok m
 macsec_only bytes m is =
     let rest = is.payload ++ is.beyond in
@@ -100,7 +100,7 @@ macsec_only bytes m is =
     drop_at m.header rest (length m.header) refl in
     let fits : nat_lt (length rest) (payload_len_of m.header) ≡ false =
     le-ltb (length rest) (payload_len_of m.header) cut.1 in
-    ap macsec_at same ∙ ap (macsec_behind (m.header ++ rest))
+    ap macsec_at same ∙ ap (macsec_after (m.header ++ rest))
     (header_again m.header rest is.is-header) ∙ ap (macsec_with m.header) back
     ∙ guard_through (nat_lt (length rest) (payload_len_of m.header)) _
     (Ok (record {

@@ -1,4 +1,4 @@
--- Numbers against the bytes that spell them.
+-- Numbers against the bytes that encode them.
 use Rattle.std.proofs.Common.{◌≡◌, ℕ, zero, suc, ◌+◌, ◌*◌, ◌/◌, ◌%◌, ◌^◌, ◌<◌, cond, eqb, arith}
 use Rattle.std.proofs.Common.{◌∙◌}
 use Rattle.ep_base.proofs.Numbers.{digits_of}
@@ -8,7 +8,7 @@ worth_below zero w h = omega arith
 worth_below (suc zero) w h = omega arith
 worth_below (suc (suc m)) w h = absurd (omega (arith, h))
 
--- a flag at its worth is its bit times the worth
+-- a flag with its weight is its bit times the weight
 pub worth_of : (n w : ℕ) → cond (eqb (n % 2) 1) w 0 ≡ n % 2 * w
 worth_of n w = worth_below (n % 2) w (omega arith)
 

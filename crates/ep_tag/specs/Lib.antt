@@ -1,7 +1,7 @@
 pub mod Ether
 pub mod EtherHash
 pub mod EtherOrder
-pub mod Front
+pub mod Prefix
 pub mod LinkExt
 pub mod Macsec
 pub mod MacsecFault

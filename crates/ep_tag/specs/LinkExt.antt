@@ -1,4 +1,4 @@
--- A tag: a VLAN tag or a MACsec header, and what stands behind it.
+-- A tag: a VLAN tag or a MACsec header, and what follows it.
 use Rattle.std.specs.Prelude.{ℕ, List, length, Option, Some}
 use Rattle.ep_base.specs.declared.link.ether_type.EtherType.{EtherType}
 use Rattle.ep_tag.specs.declared.link.link_ext_header.LinkExtHeader.{LinkExtHeader}
@@ -21,16 +21,16 @@ fields_of (tag.Vlan bytes) = header.Vlan (vlan.single_vlan_header_of bytes)
 fields_of (tag.Macsec m) = header.Macsec (macsec.macsec_header_of m.header)
 
 -- what the tag's own ether type names, where it has one
-abbrev pub payload_behind : LinkExtSlice → Option EtherPayload
-payload_behind (tag.Vlan bytes) = Some (vlan.payload_of bytes)
-payload_behind (tag.Macsec m) = named_payload m.payload
+abbrev pub payload_after : LinkExtSlice → Option EtherPayload
+payload_after (tag.Vlan bytes) = Some (vlan.payload_of bytes)
+payload_after (tag.Macsec m) = named_payload m.payload
 
 -- the bytes of a tag with these fields
-abbrev pub tag_spelling : LinkExtHeader → List ℕ
-tag_spelling (header.Vlan h) = vlan.spelling h
-tag_spelling (header.Macsec h) = macsec.spelling h
+abbrev pub tag_encoding : LinkExtHeader → List ℕ
+tag_encoding (header.Vlan h) = vlan.encoding h
+tag_encoding (header.Macsec h) = macsec.encoding h
 
--- the ether type of what stands behind a tag with these fields, where it has one
+-- the ether type of what follows a tag with these fields, where it has one
 abbrev pub next_type_in : LinkExtHeader → Option EtherType
 next_type_in (header.Vlan h) = Some h.ether_type
 next_type_in (header.Macsec h) = macsec.next_type_in h.ptype

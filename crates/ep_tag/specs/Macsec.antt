@@ -1,4 +1,4 @@
--- The MACsec header (IEEE 802.1AE, clause 9) and the payload behind it.
+-- The MACsec header (IEEE 802.1AE, clause 9) and the payload after it.
 use Rattle.std.specs.Prelude.{◌≡◌, ◌≤◌, ◌<◌, ℕ, ◌+◌, ◌-◌, ◌%◌, ◌^◌, ◌&&◌, ◌==◌, not, Bool, false}
 use Rattle.std.specs.Prelude.{if◌then◌else◌, List, [], ◌∷◌, ◌++◌, length, slice_index, slice_set}
 use Rattle.std.specs.Prelude.{Option, Some, None, is_some, ⊤}
@@ -9,7 +9,7 @@ use Rattle.ep_tag.specs.declared.link.macsec_header.MacsecHeader.{MacsecHeader}
 use Rattle.ep_tag.specs.declared.link.macsec_p_type.MacsecPType.{MacsecPType}
 use Rattle.ep_tag.specs.declared.link.macsec_p_type.MacsecPType.TheVariants as ptype
 use Rattle.ep_tag.specs.Ether.{ether_type_at}
-use Rattle.ep_base.specs.Fronts.{IsReadAs}
+use Rattle.ep_base.specs.Prefixes.{IsReadAs}
 
 -- bit k of the first byte, the lowest being bit 0
 abbrev pub bit_of : List ℕ → ℕ → Bool
@@ -23,7 +23,7 @@ version_of header = bit_of header 7
 abbrev pub endstation_id_of : List ℕ → Bool
 endstation_id_of header = bit_of header 6
 
--- a secure channel identifier stands behind the packet number
+-- a secure channel identifier follows the packet number
 abbrev pub has_sci : List ℕ → Bool
 has_sci header = bit_of header 5
 
@@ -35,7 +35,7 @@ scb_of header = bit_of header 4
 abbrev pub is_encrypted : List ℕ → Bool
 is_encrypted header = bit_of header 3
 
--- the payload is not what was handed to MACsec: it was encrypted, or its length changed
+-- the payload is not what was given to MACsec: it was encrypted, or its length changed
 abbrev pub is_changed : List ℕ → Bool
 is_changed header = bit_of header 2
 
@@ -94,7 +94,7 @@ pub record IsMacsecHeader (header : List ℕ) : Type 0 where
   pub room : has_no_room header ≡ false
   pub whole : length header ≡ header_len_of header
 
--- the fields that a header's bytes spell
+-- the fields that a header's bytes encode
 abbrev pub macsec_header_of : List ℕ → MacsecHeader
 macsec_header_of header = record {
   ptype = ptype_of header;
@@ -106,24 +106,24 @@ macsec_header_of header = record {
   sci = sci_of header;
 }
 
--- the bits for encrypted and changed, each at its worth
+-- the bits for encrypted and changed, each with its weight
 abbrev pub ptype_bits : MacsecPType → ℕ
 ptype_bits (ptype.Unmodified t) = 0
 ptype_bits ptype.Modified = 2 ^ 2
 ptype_bits ptype.Encrypted = 2 ^ 3 + 2 ^ 2
 ptype_bits ptype.EncryptedUnmodified = 2 ^ 3
 
-abbrev pub ptype_spelling : MacsecPType → List ℕ
-ptype_spelling (ptype.Unmodified t) = to_be_bytes w16 t.0
-ptype_spelling ptype.Modified = []
-ptype_spelling ptype.Encrypted = []
-ptype_spelling ptype.EncryptedUnmodified = []
+abbrev pub ptype_encoding : MacsecPType → List ℕ
+ptype_encoding (ptype.Unmodified t) = to_be_bytes w16 t.0
+ptype_encoding ptype.Modified = []
+ptype_encoding ptype.Encrypted = []
+ptype_encoding ptype.EncryptedUnmodified = []
 
-abbrev pub sci_spelling : Option ℕ → List ℕ
-sci_spelling (Some sci) = to_be_bytes w64 sci
-sci_spelling None = []
+abbrev pub sci_encoding : Option ℕ → List ℕ
+sci_encoding (Some sci) = to_be_bytes w64 sci
+sci_encoding None = []
 
--- a flag at its worth
+-- a flag with its weight
 abbrev pub worth : Bool → ℕ → ℕ
 worth b n = if b then n else 0
 
@@ -132,23 +132,23 @@ first_byte h =
     worth h.endstation_id (2 ^ 6) + worth (is_some h.sci) (2 ^ 5) + worth h.scb
     (2 ^ 4) + ptype_bits h.ptype + h.an
 
--- the bytes of a header; the two bits in front of the short length are unused and 0
-abbrev pub spelling : MacsecHeader → List ℕ
-spelling h = first_byte h ∷ h.short_len ∷
-    (to_be_bytes w32 h.packet_nr ++ sci_spelling h.sci ++ ptype_spelling h.ptype)
+-- the bytes of a header; the two bits before the short length are unused and 0
+abbrev pub encoding : MacsecHeader → List ℕ
+encoding h = first_byte h ∷ h.short_len ∷
+    (to_be_bytes w32 h.packet_nr ++ sci_encoding h.sci ++ ptype_encoding h.ptype)
 
 -- the bytes with the two unused bits as 0
 abbrev pub with_unused_bits_zero : List ℕ → List ℕ
 with_unused_bits_zero header = slice_set header 1 (slice_index header 1 % 2 ^ 6)
 
--- in front of the rest stands a header with these fields, which spell it again but for the unused
--- bits
+-- the bytes are a header with these fields, which encode it again but for the unused bits, and
+-- the rest
 abbrev pub IsRead : List ℕ → MacsecHeader → List ℕ → Type 0
-IsRead = IsReadAs IsMacsecHeader macsec_header_of spelling with_unused_bits_zero
+IsRead = IsReadAs IsMacsecHeader macsec_header_of encoding with_unused_bits_zero
 
 -- the fields leave room for the ether type: an unmodified payload has no short length of 1
 abbrev pub HasRoom : MacsecHeader → Type 0
-HasRoom h = has_no_room (spelling h) ≡ false
+HasRoom h = has_no_room (encoding h) ≡ false
 
 -- the ranges of the fields
 abbrev pub SciFits : Option ℕ → Type 0
@@ -168,7 +168,7 @@ pub record Fits (h : MacsecHeader) : Type 0 where
   pub sci : SciFits h.sci
   pub ether_type : TypeFits h.ptype
 
--- the ether type of what stands behind a header of this kind
+-- the ether type of what follows a header of this kind
 abbrev pub next_type_in : MacsecPType → Option EtherType
 next_type_in (ptype.Unmodified t) = Some t
 next_type_in ptype.Modified = None

@@ -10,7 +10,7 @@ use Rattle.ep_base.specs.LenError.{too_few_bytes}
 use Rattle.ep_base.specs.Refusals.{unless_refused}
 use Rattle.ep_tag.specs.Macsec.{has_no_room, header_len_of, version_of}
 
--- the header at the front of the bytes, or the first fault: 6 bytes, version, room for the ether
+-- the header at the start of the bytes, or the first fault: 6 bytes, version, room for the ether
 -- type, whole header
 abbrev pub header_at : List ℕ → Result (List ℕ) (SliceError HeaderError)
 header_at bytes = unless_refused (

@@ -1,4 +1,4 @@
--- What a MACsec header makes of the bytes behind it (IEEE 802.1AE, clause 9).
+-- What a MACsec header makes of the bytes after it (IEEE 802.1AE, clause 9).
 use Rattle.std.specs.Prelude.{◌≡◌, ◌<◌, ℕ, ◌+◌, ◌-◌, ◌==◌, nat_lt, if◌then◌else◌, List, [], ◌++◌}
 use Rattle.std.specs.Prelude.{length, take, drop, Option, Some, None, Result, Ok, Err}
 use Rattle.ep_base.specs.declared.err.layer.Layer.TheVariants.{MacsecPacket}
@@ -41,7 +41,7 @@ payload_under header bytes =
     })
     else Modified bytes
 
--- header and payload stand at the front of the bytes; a short length above 0 says how long the
+-- the bytes start with header and payload; a short length above 0 says how long the
 -- payload is, and without it the payload is all that follows
 pub record IsMacsec (bytes : List ℕ) (macsec : Macsec) : Type 0 where
   pub is-header : IsMacsecHeader macsec.header
@@ -52,12 +52,12 @@ pub record IsMacsec (bytes : List ℕ) (macsec : Macsec) : Type 0 where
   pub size : 0 < short_len_of macsec.header → length payload ≡ payload_len_of macsec.header
   pub kind : macsec.payload ≡ payload_under macsec.header payload
 
--- the payload's bytes among those behind the header
+-- the payload's bytes among those after the header
 abbrev pub bytes_under : List ℕ → List ℕ → List ℕ
 bytes_under header rest = if short_len_of header == 0 then rest
     else take (payload_len_of header) rest
 
--- a header and what it makes of the bytes behind it, or a want of bytes
+-- a header and what it makes of the bytes after it, or an error of too few bytes
 abbrev pub macsec_with : List ℕ → List ℕ → Result Macsec (SliceError HeaderError)
 macsec_with header rest =
     if nat_lt (length rest) (payload_len_of header)
@@ -65,14 +65,14 @@ macsec_with header rest =
     (length header + length rest)))
     else Ok (record { header = header; payload = payload_under header (bytes_under header rest) })
 
-abbrev pub macsec_behind : List ℕ → Result (List ℕ) (SliceError HeaderError)
+abbrev pub macsec_after : List ℕ → Result (List ℕ) (SliceError HeaderError)
     → Result Macsec (SliceError HeaderError)
-macsec_behind bytes (Ok header) = macsec_with header (drop (length header) bytes)
-macsec_behind bytes (Err e) = Err e
+macsec_after bytes (Ok header) = macsec_with header (drop (length header) bytes)
+macsec_after bytes (Err e) = Err e
 
--- header and payload at the front of the bytes, or the first fault
+-- header and payload at the start of the bytes, or the first fault
 abbrev pub macsec_at : List ℕ → Result Macsec (SliceError HeaderError)
-macsec_at bytes = macsec_behind bytes (header_at bytes)
+macsec_at bytes = macsec_after bytes (header_at bytes)
 
 -- what the header's ether type names, where it has one
 abbrev pub named_payload : MacsecPayload → Option EtherPayload

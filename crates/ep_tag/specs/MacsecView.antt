@@ -3,6 +3,6 @@ use Rattle.ep_tag.specs.declared.link.macsec_payload_slice.MacsecPayloadSlice.{M
 use Rattle.ep_tag.specs.declared.link.macsec_payload_slice.MacsecPayloadSlice.TheVariants as slice
 use Rattle.ep_tag.specs.MacsecPayload.{MacsecPayload, Unmodified, Modified}
 
-abbrev pub payload_told : MacsecPayloadSlice → MacsecPayload
-payload_told (slice.Unmodified p) = Unmodified p
-payload_told (slice.Modified bytes) = Modified bytes.now
+abbrev pub payload_parsed : MacsecPayloadSlice → MacsecPayload
+payload_parsed (slice.Unmodified p) = Unmodified p
+payload_parsed (slice.Modified bytes) = Modified bytes.now

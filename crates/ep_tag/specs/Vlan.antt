@@ -1,5 +1,5 @@
--- The VLAN tag behind the ether type that names it (IEEE 802.1Q, section 9.6): its bytes, and each
--- field by its place in them.
+-- The VLAN tag after the ether type that names it (IEEE 802.1Q, section 9.6): its bytes, and each
+-- field by its offset in them.
 use Rattle.std.specs.Prelude.{ℕ, ◌+◌, ◌*◌, ◌/◌, ◌%◌, ◌^◌, ◌<◌, ◌≤◌, ◌==◌, Bool, false}
 use Rattle.std.specs.Prelude.{if◌then◌else◌, List, ◌++◌, drop}
 use Rattle.std.specs.Int.{w16, bit_at, to_be_bytes}
@@ -7,7 +7,7 @@ use Rattle.ep_base.specs.Bytes.{num}
 use Rattle.ep_base.specs.declared.len_source.LenSource.TheVariants.{Slice}
 use Rattle.ep_base.specs.declared.link.ether_type.EtherType.{EtherType}
 use Rattle.ep_tag.specs.Ether.{EtherPayload, ether_type_at}
-use Rattle.ep_base.specs.Fronts.{IsOfLength, IsReadAs}
+use Rattle.ep_base.specs.Prefixes.{IsOfLength, IsReadAs}
 use Rattle.ep_tag.specs.declared.link.single_vlan_header.SingleVlanHeader.{SingleVlanHeader}
 use Rattle.ep_tag.specs.declared.link.double_vlan_header.DoubleVlanHeader.{DoubleVlanHeader}
 
@@ -18,7 +18,7 @@ vlan_len = 4
 abbrev pub pcp_of : List ℕ → ℕ
 pcp_of tag = num tag 0 1 / 2 ^ 5
 
--- whether the frame may be dropped first, the bit behind the priority
+-- whether the frame may be dropped first, the bit after the priority
 abbrev pub drop_eligible_of : List ℕ → Bool
 drop_eligible_of tag = bit_at (num tag 0 1) 4 == 1
 
@@ -30,7 +30,7 @@ vlan_id_of tag = num tag 0 2 % 2 ^ 12
 abbrev pub next_type_of : List ℕ → EtherType
 next_type_of tag = ether_type_at tag 2
 
--- the fields that the first four bytes spell
+-- the fields that the first four bytes encode
 abbrev pub single_vlan_header_of : List ℕ → SingleVlanHeader
 single_vlan_header_of tag = record {
   pcp = pcp_of tag;
@@ -45,23 +45,23 @@ default_header =
     record { pcp = 0; drop_eligible_indicator = false; vlan_id = 0; ether_type = record { 0 = 0 } }
 
 -- the bytes of a header
-abbrev pub spelling : SingleVlanHeader → List ℕ
-spelling h =
+abbrev pub encoding : SingleVlanHeader → List ℕ
+encoding h =
     to_be_bytes w16 (h.pcp * 2 ^ 13 + (if h.drop_eligible_indicator then 2 ^ 12 else 0) + h.vlan_id)
     ++ to_be_bytes w16 h.ether_type.0
 
--- what stands behind a tag, under the tag's ether type
+-- what follows a tag, under the tag's ether type
 abbrev pub payload_of : List ℕ → EtherPayload
 payload_of tag =
     record { ether_type = next_type_of tag; len_source = Slice; payload = drop vlan_len tag }
 
--- in front of the rest stands a tag with these fields, which spell it again
+-- the bytes are a tag with these fields, which encode it again, and the rest
 abbrev pub IsRead : List ℕ → SingleVlanHeader → List ℕ → Type 0
-IsRead = IsReadAs (IsOfLength vlan_len) single_vlan_header_of spelling (λ front. front)
+IsRead = IsReadAs (IsOfLength vlan_len) single_vlan_header_of encoding (λ prefix. prefix)
 
 -- two tags, the outer one first
-abbrev pub double_spelling : DoubleVlanHeader → List ℕ
-double_spelling h = spelling h.outer ++ spelling h.inner
+abbrev pub double_encoding : DoubleVlanHeader → List ℕ
+double_encoding h = encoding h.outer ++ encoding h.inner
 
 -- the ranges of the fields
 pub record Fits (h : SingleVlanHeader) : Type 0 where

@@ -1,4 +1,4 @@
--- One VLAN tag or two, one behind the other (IEEE 802.1Q, section 9.6).
+-- One VLAN tag or two, one after the other (IEEE 802.1Q, section 9.6).
 use Rattle.std.specs.Prelude.{ℕ, List}
 use Rattle.ep_base.specs.declared.link.ether_type.EtherType.{EtherType}
 use Rattle.ep_tag.specs.declared.link.vlan_header.VlanHeader.{VlanHeader}
@@ -6,12 +6,12 @@ use Rattle.ep_tag.specs.declared.link.vlan_header.VlanHeader.TheVariants as head
 use Rattle.ep_tag.specs.declared.link.vlan_slice.VlanSlice.{VlanSlice}
 use Rattle.ep_tag.specs.declared.link.vlan_slice.VlanSlice.TheVariants as slice
 use Rattle.ep_tag.specs.Ether.{EtherPayload}
-use Rattle.ep_tag.specs.Vlan.{double_spelling, single_vlan_header_of, payload_of, spelling}
+use Rattle.ep_tag.specs.Vlan.{double_encoding, single_vlan_header_of, payload_of, encoding}
 
 -- the bytes of the tags, the outer one first
-abbrev pub tags_spelling : VlanHeader → List ℕ
-tags_spelling (header.Single h) = spelling h
-tags_spelling (header.Double h) = double_spelling h
+abbrev pub tags_encoding : VlanHeader → List ℕ
+tags_encoding (header.Single h) = encoding h
+tags_encoding (header.Double h) = double_encoding h
 
 -- the ether type of what follows the last tag
 abbrev pub last_type_in : VlanHeader → EtherType

@@ -1,4 +1,4 @@
-//! Tags, and what stands behind them.
+//! Tags, and what follows them.
 
 mod double_vlan_header;
 mod double_vlan_slice;

@@ -13,7 +13,7 @@ use Rattle.ep_tcpudp.specs.declared.transport.tcp_option_read_error.TcpOptionRea
 use Rattle.ep_tcpudp.specs.declared.transport.tcp_option_read_error.TcpOptionReadError.TheVariants.{UnexpectedEndOfSlice}
 use Rattle.ep_tcpudp.specs.declared.transport.tcp_option_read_error.TcpOptionReadError.TheVariants.{UnexpectedSize}
 use Rattle.ep_tcpudp.specs.declared.transport.tcp_option_read_error.TcpOptionReadError.TheVariants.{UnknownId}
-use Rattle.ep_base.proofs.Fronts.{err_same}
+use Rattle.ep_base.proofs.Prefixes.{err_same}
 use Rattle.ep_tcpudp.proofs.Guards.{by_test}
 
 -- ---- the sizes of selective acknowledgements

@@ -1,4 +1,4 @@
--- The items of options are the elements that they spell, and the fault that ends them.
+-- The items of options are the elements that they encode, and the fault that ends them.
 use Rattle.std.proofs.Common.{◌≡◌, inl, inr, ⊎_elim, ℕ, zero, suc, ◌≤◌, true, false, eqb, List, []}
 use Rattle.std.proofs.Common.{◌∷◌, ◌++◌, length, drop, map, Option, Some, None, Result, Ok, Err}
 use Rattle.std.proofs.Common.{arith, sym, refl, ap, ◌∙◌, append_assoc}
@@ -7,7 +7,7 @@ use Rattle.std.proofs.lemmas.List.{append-nil, length-drop}
 use Rattle.std.proofs.lemmas.List.Concat.{flat_map-cons}
 use Rattle.std.proofs.lemmas.Simd.{map-map}
 use Rattle.ep_base.specs.Bytes.{IsBytes}
-use Rattle.ep_tcpudp.specs.Elements.{AreItems, EndsAs, IsFault, ItemsAreSpelled, NoOtherItems}
+use Rattle.ep_tcpudp.specs.Elements.{AreItems, EndsAs, IsFault, ItemsAreEncoded, NoOtherItems}
 use Rattle.ep_tcpudp.specs.Elements.{items_and}
 use Rattle.ep_tcpudp.specs.Options.{kind_at, size_at, element_at, element_bytes, elements_bytes}
 use Rattle.ep_tcpudp.specs.Options.{is_end, items_of, packed_element, FitsElements}
@@ -23,30 +23,30 @@ use Rattle.ep_tcpudp.proofs.Words.{drop_fits}
 abbrev pub Item : Type 0
 Item = Result TcpOptionElement TcpOptionReadError
 
--- ---- each list is spelled
+-- ---- each list is encoded
 
 why_end : (bytes : List ℕ) → is_end bytes ≡ true → EndsAs None bytes
 why_end [] h = inl refl
 why_end (x ∷ xs) h = let none = eqb-true x 0 (sym (end-cons x xs) ∙ h) in
     inr (xs, ap (λ n. n ∷ xs) none)
 
-none_spelled : (bytes : List ℕ) → is_end bytes ≡ true → AreItems bytes (items_of bytes)
-none_spelled bytes h = record {
+none_encoded : (bytes : List ℕ) → is_end bytes ≡ true → AreItems bytes (items_of bytes)
+none_encoded bytes h = record {
   elements = [];
   fault = None;
   rest = bytes;
-  begins = record { spelled = refl; fits = tt; packed = refl };
+  begins = record { encoded = refl; fits = tt; packed = refl };
   ends = why_end bytes h;
   all = items-end bytes h;
 }
 
-fault_spelled : (bytes : List ℕ) (f : TcpOptionReadError) → IsFault bytes f
+fault_encoded : (bytes : List ℕ) (f : TcpOptionReadError) → IsFault bytes f
     → items_of bytes ≡ Err f ∷ [] → AreItems bytes (items_of bytes)
-fault_spelled bytes f fault is = record {
+fault_encoded bytes f fault is = record {
   elements = [];
   fault = Some f;
   rest = bytes;
-  begins = record { spelled = refl; fits = tt; packed = refl };
+  begins = record { encoded = refl; fits = tt; packed = refl };
   ends = fault;
   all = is;
 }
@@ -56,16 +56,16 @@ items_and-cons : (x : TcpOptionElement) (xs : List TcpOptionElement)
 items_and-cons x xs None = refl
 items_and-cons x xs (Some f) = refl
 
-more_spelled : (bytes : List ℕ) (x : TcpOptionElement) → IsRead bytes x
+more_encoded : (bytes : List ℕ) (x : TcpOptionElement) → IsRead bytes x
     → AreItems (drop (size_at bytes) bytes) (items_of (drop (size_at bytes) bytes))
     → items_of bytes ≡ Ok x ∷ items_of (drop (size_at bytes) bytes)
     → AreItems bytes (items_of bytes)
-more_spelled bytes x read more is = record {
+more_encoded bytes x read more is = record {
   elements = x ∷ more.elements;
   fault = more.fault;
   rest = more.rest;
   begins = record {
-    spelled = read.spelled ∙ ap (λ (xs : List ℕ). element_bytes x ++ xs) more.begins.spelled
+    encoded = read.encoded ∙ ap (λ (xs : List ℕ). element_bytes x ++ xs) more.begins.encoded
         ∙ sym (append_assoc (element_bytes x) (elements_bytes more.elements) more.rest)
         ∙ ap (λ (xs : List ℕ). xs ++ more.rest) (sym (flat_map-cons element_bytes x more.elements));
     fits = (read.fits, more.begins.fits);
@@ -79,32 +79,32 @@ more_spelled bytes x read more is = record {
 no_end_kind : (bytes : List ℕ) → is_end bytes ≡ false → eqb (kind_at bytes) 0 ≡ false
 no_end_kind bytes h = (or_parts _ _ h).1
 
-one_spelled : (bytes : List ℕ) (item : Item) → item ≡ element_at bytes
+one_encoded : (bytes : List ℕ) (item : Item) → item ≡ element_at bytes
     → IsBytes bytes → is_end bytes ≡ false
     → ((x : TcpOptionElement) → element_at bytes ≡ Ok x
     → AreItems (drop (size_at bytes) bytes) (items_of (drop (size_at bytes) bytes)))
     → AreItems bytes (items_of bytes)
-one_spelled bytes (Ok x) e fits goes more =
+one_encoded bytes (Ok x) e fits goes more =
     let read = element_read bytes x fits (some_left bytes goes) (sym e) in
-    more_spelled bytes x read (more x (sym e)) (items-step bytes goes ∙ rw (← e) refl)
-one_spelled bytes (Err f) e fits goes more =
-    fault_spelled bytes f (element_fault bytes f (no_end_kind bytes goes) (sym e))
+    more_encoded bytes x read (more x (sym e)) (items-step bytes goes ∙ rw (← e) refl)
+one_encoded bytes (Err f) e fits goes more =
+    fault_encoded bytes f (element_fault bytes f (no_end_kind bytes goes) (sym e))
     (items-step bytes goes ∙ rw (← e, items-none) refl)
 
-spelled_within : (n : ℕ) (bytes : List ℕ) → length bytes ≤ n → IsBytes bytes
+encoded_within : (n : ℕ) (bytes : List ℕ) → length bytes ≤ n → IsBytes bytes
     → AreItems bytes (items_of bytes)
-spelled_within zero [] h fits = none_spelled [] refl
-spelled_within zero (x ∷ xs) h fits = absurd (omega arith)
-spelled_within (suc n) bytes h fits =
-    ⊎_elim (λ (ends : is_end bytes ≡ true). none_spelled bytes ends)
-    (λ (goes : is_end bytes ≡ false). one_spelled bytes (element_at bytes) refl fits goes
+encoded_within zero [] h fits = none_encoded [] refl
+encoded_within zero (x ∷ xs) h fits = absurd (omega arith)
+encoded_within (suc n) bytes h fits =
+    ⊎_elim (λ (ends : is_end bytes ≡ true). none_encoded bytes ends)
+    (λ (goes : is_end bytes ≡ false). one_encoded bytes (element_at bytes) refl fits goes
     (λ x e. let size = element_size bytes x e in let some = some_left bytes goes in
-    spelled_within n (drop (size_at bytes) bytes) (omega (arith, length-drop (size_at bytes) bytes))
+    encoded_within n (drop (size_at bytes) bytes) (omega (arith, length-drop (size_at bytes) bytes))
     (drop_fits (size_at bytes) bytes fits)))
     (cases_Bool (is_end bytes))
 
-pub items_spelled : ItemsAreSpelled
-items_spelled bytes fits = spelled_within (length bytes) bytes (omega arith) fits
+pub items_encoded : ItemsAreEncoded
+items_encoded bytes fits = encoded_within (length bytes) bytes (omega arith) fits
 
 -- ---- and in one way
 
@@ -121,10 +121,10 @@ read_again (x ∷ elements) rest fits =
 abbrev pub oks : List TcpOptionElement → List Item
 oks elements = map (λ (x : TcpOptionElement). Ok x) elements
 
-in_front : (elements : List TcpOptionElement) → map packed_element elements ≡ elements
+elements_first : (elements : List TcpOptionElement) → map packed_element elements ≡ elements
     → ◌≡◌ {A = List Item} (map (λ (x : TcpOptionElement). Ok (packed_element x)) elements)
     (oks elements)
-in_front elements packed = sym (map-map (λ (x : TcpOptionElement). Ok x) packed_element elements)
+elements_first elements packed = sym (map-map (λ (x : TcpOptionElement). Ok x) packed_element elements)
     ∙ ap (λ (xs : List TcpOptionElement). map (λ (x : TcpOptionElement). Ok x) xs) packed
 
 not_end : (bytes : List ℕ) → (kind_at bytes ≡ 0 → ⊥) → is_end bytes ≡ false
@@ -134,7 +134,7 @@ not_end (x ∷ xs) h = end-cons x xs ∙ ne_eqb x 0 h
 nothing_more : (rest : List ℕ) → EndsAs None rest → items_of rest ≡ []
 nothing_more rest ends =
     ⊎_elim (λ (none : rest ≡ []). ap items_of none ∙ items-none)
-    (λ (last : (behind : List ℕ) × (rest ≡ 0 ∷ behind)). ap items_of last.1
+    (λ (last : (after : List ℕ) × (rest ≡ 0 ∷ after)). ap items_of last.1
     ∙ items-end (0 ∷ last.0) (end-cons 0 last.0))
     ends
 
@@ -151,6 +151,6 @@ ended elements (Some f) rest ends = rw (fault_more rest f ends) refl
 pub no_other : NoOtherItems
 no_other bytes items are =
     let begins = are.begins in
-    are.all ∙ sym (ap items_of begins.spelled ∙ read_again are.elements are.rest begins.fits
-    ∙ ap (λ (xs : List Item). xs ++ items_of are.rest) (in_front are.elements begins.packed)
+    are.all ∙ sym (ap items_of begins.encoded ∙ read_again are.elements are.rest begins.fits
+    ∙ ap (λ (xs : List Item). xs ++ items_of are.rest) (elements_first are.elements begins.packed)
     ∙ ended are.elements are.fault are.rest are.ends)

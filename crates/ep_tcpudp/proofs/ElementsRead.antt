@@ -1,4 +1,4 @@
--- An element that is read is spelled by the bytes that it is read from.
+-- An element that is parsed is encoded by the bytes that it is parsed from.
 use Rattle.std.proofs.Common.{◌≡◌, ⊎_elim, ℕ, ◌+◌, ◌<◌, ◌≤◌, true, false, eqb, List, [], ◌∷◌, ◌++◌}
 use Rattle.std.proofs.Common.{length, drop, Option, Some, None, Ok, arith, sym, refl, ap, ◌∙◌}
 use Rattle.std.proofs.Common.{subst, append_assoc}
@@ -15,22 +15,22 @@ use Rattle.ep_tcpudp.specs.declared.transport.tcp_option_element.TcpOptionElemen
 use Rattle.ep_tcpudp.specs.declared.transport.tcp_option_element.TcpOptionElement.TheVariants.{SelectiveAcknowledgementPermitted}
 use Rattle.ep_tcpudp.specs.declared.transport.tcp_option_element.TcpOptionElement.TheVariants.{SelectiveAcknowledgement}
 use Rattle.ep_tcpudp.specs.declared.transport.tcp_option_element.TcpOptionElement.TheVariants.{Timestamp}
-use Rattle.ep_base.proofs.Fronts.{guard_ok, ok_same}
+use Rattle.ep_base.proofs.Prefixes.{guard_ok, ok_same}
 use Rattle.ep_tcpudp.proofs.Guards.{by_test}
-use Rattle.ep_tcpudp.proofs.Words.{byte_front, half_front, word_front, half_small, word_small}
+use Rattle.ep_tcpudp.proofs.Words.{byte_prefix, half_prefix, word_prefix, half_small, word_small}
 
--- an element as it is read from the front of bytes
+-- an element as it is parsed from the start of bytes
 pub record IsRead (bytes : List ℕ) (element : TcpOptionElement) : Type 0 where
-  pub spelled : bytes ≡ element_bytes element ++ drop (size_at bytes) bytes
+  pub encoded : bytes ≡ element_bytes element ++ drop (size_at bytes) bytes
   pub fits : FitsElement element
   pub packed : packed_element element ≡ element
 
--- kind and size stand in front
+-- kind and size come first
 kind_and_size : (kind size : ℕ) (bytes : List ℕ) → 2 ≤ length bytes → kind_at bytes ≡ kind
     → num bytes 1 1 ≡ size → bytes ≡ kind ∷ size ∷ drop 2 bytes
 kind_and_size kind size bytes two is_kind is_size =
-    byte_front 0 1 bytes (omega arith) refl
-    ∙ ap (λ (xs : List ℕ). kind_at bytes ∷ xs) (byte_front 1 2 bytes (omega arith) refl)
+    byte_prefix 0 1 bytes (omega arith) refl
+    ∙ ap (λ (xs : List ℕ). kind_at bytes ∷ xs) (byte_prefix 1 2 bytes (omega arith) refl)
     ∙ rw (is_kind, is_size) refl
 
 -- the size of an option that isn't a no-operation is its second byte
@@ -40,7 +40,7 @@ second_size kind size bytes is_kind other is_size = rw (is_kind, other) is_size
 
 noop_read : (bytes : List ℕ) → 1 ≤ length bytes → kind_at bytes ≡ 1 → IsRead bytes Noop
 noop_read bytes one is_kind = record {
-  spelled = byte_front 0 1 bytes one refl ∙ rw is_kind refl;
+  encoded = byte_prefix 0 1 bytes one refl ∙ rw is_kind refl;
   fits = tt;
   packed = refl;
 }
@@ -48,8 +48,8 @@ noop_read bytes one is_kind = record {
 maximum_read : (bytes : List ℕ) → IsBytes bytes → 4 ≤ length bytes → kind_at bytes ≡ 2
     → num bytes 1 1 ≡ 4 → IsRead bytes (MaximumSegmentSize (num bytes 2 2))
 maximum_read bytes fits least is_kind is_size = record {
-  spelled = kind_and_size 2 4 bytes (omega arith) is_kind is_size
-      ∙ ap (λ (xs : List ℕ). 2 ∷ 4 ∷ xs) (half_front 2 4 bytes least refl fits)
+  encoded = kind_and_size 2 4 bytes (omega arith) is_kind is_size
+      ∙ ap (λ (xs : List ℕ). 2 ∷ 4 ∷ xs) (half_prefix 2 4 bytes least refl fits)
       ∙ rw (second_size 2 4 bytes is_kind refl is_size) refl;
   fits = half_small 2 bytes fits;
   packed = refl;
@@ -58,8 +58,8 @@ maximum_read bytes fits least is_kind is_size = record {
 scale_read : (bytes : List ℕ) → IsBytes bytes → 3 ≤ length bytes → kind_at bytes ≡ 3
     → num bytes 1 1 ≡ 3 → IsRead bytes (WindowScale (num bytes 2 1))
 scale_read bytes fits least is_kind is_size = record {
-  spelled = kind_and_size 3 3 bytes (omega arith) is_kind is_size
-      ∙ ap (λ (xs : List ℕ). 3 ∷ 3 ∷ xs) (byte_front 2 3 bytes least refl)
+  encoded = kind_and_size 3 3 bytes (omega arith) is_kind is_size
+      ∙ ap (λ (xs : List ℕ). 3 ∷ 3 ∷ xs) (byte_prefix 2 3 bytes least refl)
       ∙ rw (second_size 3 3 bytes is_kind refl is_size) refl;
   fits = fits 2;
   packed = refl;
@@ -68,19 +68,19 @@ scale_read bytes fits least is_kind is_size = record {
 permitted_read : (bytes : List ℕ) → 2 ≤ length bytes → kind_at bytes ≡ 4 → num bytes 1 1 ≡ 2
     → IsRead bytes SelectiveAcknowledgementPermitted
 permitted_read bytes least is_kind is_size = record {
-  spelled = kind_and_size 4 2 bytes (omega arith) is_kind is_size
+  encoded = kind_and_size 4 2 bytes (omega arith) is_kind is_size
       ∙ rw (second_size 4 2 bytes is_kind refl is_size) refl;
   fits = tt;
   packed = refl;
 }
 
 -- two words in a row are a block
-block_front : (p q : ℕ) (bytes : List ℕ) → IsBytes bytes → p + 8 ≤ length bytes → p + 8 ≡ q
+block_prefix : (p q : ℕ) (bytes : List ℕ) → IsBytes bytes → p + 8 ≤ length bytes → p + 8 ≡ q
     → drop p bytes ≡ block_bytes (block_at bytes p) ++ drop q bytes
-block_front p q bytes fits least e =
-    word_front p (p + 4) bytes (omega arith) refl fits
+block_prefix p q bytes fits least e =
+    word_prefix p (p + 4) bytes (omega arith) refl fits
     ∙ ap (λ (xs : List ℕ). to_be_bytes w32 (num bytes p 4) ++ xs)
-    (word_front (p + 4) q bytes (omega arith) (omega arith) fits)
+    (word_prefix (p + 4) q bytes (omega arith) (omega arith) fits)
     ∙ sym (append_assoc (to_be_bytes w32 (num bytes p 4))
     (to_be_bytes w32 (num bytes (p + 4) 4)) (drop q bytes))
 
@@ -90,14 +90,14 @@ block_small p bytes fits = (word_small p bytes fits, word_small (p + 4) bytes fi
 timestamp_read : (bytes : List ℕ) → IsBytes bytes → 10 ≤ length bytes → kind_at bytes ≡ 8
     → num bytes 1 1 ≡ 10 → IsRead bytes (Timestamp (num bytes 2 4) (num bytes 6 4))
 timestamp_read bytes fits least is_kind is_size = record {
-  spelled = kind_and_size 8 10 bytes (omega arith) is_kind is_size
-      ∙ ap (λ (xs : List ℕ). 8 ∷ 10 ∷ xs) (block_front 2 10 bytes fits least refl)
+  encoded = kind_and_size 8 10 bytes (omega arith) is_kind is_size
+      ∙ ap (λ (xs : List ℕ). 8 ∷ 10 ∷ xs) (block_prefix 2 10 bytes fits least refl)
       ∙ rw (second_size 8 10 bytes is_kind refl is_size) refl;
   fits = block_small 2 bytes fits;
   packed = refl;
 }
 
--- the blocks behind the first, in an option of one of the four sizes
+-- the blocks after the first, in an option of one of the four sizes
 Acknowledged : List ℕ → List (Option (ℕ × ℕ)) → Type 0
 Acknowledged bytes blocks = IsRead bytes (SelectiveAcknowledgement (block_at bytes 2) blocks)
 
@@ -105,8 +105,8 @@ one_block : (bytes : List ℕ) → IsBytes bytes → 10 ≤ length bytes → kin
     → num bytes 1 1 ≡ 10 → Acknowledged bytes (None ∷ None ∷ None ∷ [])
 unfolding Acknowledged
 one_block bytes fits least is_kind is_size = record {
-  spelled = kind_and_size 5 10 bytes (omega arith) is_kind is_size
-      ∙ ap (λ (xs : List ℕ). 5 ∷ 10 ∷ xs) (block_front 2 10 bytes fits least refl)
+  encoded = kind_and_size 5 10 bytes (omega arith) is_kind is_size
+      ∙ ap (λ (xs : List ℕ). 5 ∷ 10 ∷ xs) (block_prefix 2 10 bytes fits least refl)
       ∙ rw (second_size 5 10 bytes is_kind refl is_size) refl;
   fits = (block_small 2 bytes fits, refl, (tt, (tt, (tt, tt))));
   packed = refl;
@@ -117,10 +117,10 @@ two_blocks : (bytes : List ℕ) → IsBytes bytes → 18 ≤ length bytes
     → Acknowledged bytes (Some (block_at bytes 10) ∷ None ∷ None ∷ [])
 unfolding Acknowledged
 two_blocks bytes fits least is_kind is_size = record {
-  spelled = kind_and_size 5 18 bytes (omega arith) is_kind is_size
-      ∙ ap (λ (xs : List ℕ). 5 ∷ 18 ∷ xs) (block_front 2 10 bytes fits (omega arith) refl)
+  encoded = kind_and_size 5 18 bytes (omega arith) is_kind is_size
+      ∙ ap (λ (xs : List ℕ). 5 ∷ 18 ∷ xs) (block_prefix 2 10 bytes fits (omega arith) refl)
       ∙ ap (λ (xs : List ℕ). 5 ∷ 18 ∷ (block_bytes (block_at bytes 2) ++ xs))
-      (block_front 10 18 bytes fits (omega arith) refl)
+      (block_prefix 10 18 bytes fits (omega arith) refl)
       ∙ rw (second_size 5 18 bytes is_kind refl is_size) refl;
   fits = (block_small 2 bytes fits, refl, (block_small 10 bytes fits, (tt, (tt, tt))));
   packed = refl;
@@ -131,13 +131,13 @@ three_blocks : (bytes : List ℕ) → IsBytes bytes → 26 ≤ length bytes
     → Acknowledged bytes (Some (block_at bytes 10) ∷ Some (block_at bytes 18) ∷ None ∷ [])
 unfolding Acknowledged
 three_blocks bytes fits least is_kind is_size = record {
-  spelled = kind_and_size 5 26 bytes (omega arith) is_kind is_size
-      ∙ ap (λ (xs : List ℕ). 5 ∷ 26 ∷ xs) (block_front 2 10 bytes fits (omega arith) refl)
+  encoded = kind_and_size 5 26 bytes (omega arith) is_kind is_size
+      ∙ ap (λ (xs : List ℕ). 5 ∷ 26 ∷ xs) (block_prefix 2 10 bytes fits (omega arith) refl)
       ∙ ap (λ (xs : List ℕ). 5 ∷ 26 ∷ (block_bytes (block_at bytes 2) ++ xs))
-      (block_front 10 18 bytes fits (omega arith) refl)
+      (block_prefix 10 18 bytes fits (omega arith) refl)
       ∙ ap (λ (xs : List ℕ). 5 ∷ 26 ∷
       (block_bytes (block_at bytes 2) ++ (block_bytes (block_at bytes 10) ++ xs)))
-      (block_front 18 26 bytes fits (omega arith) refl)
+      (block_prefix 18 26 bytes fits (omega arith) refl)
       ∙ rw (second_size 5 26 bytes is_kind refl is_size) refl;
   fits = (
     block_small 2 bytes fits,
@@ -153,17 +153,17 @@ four_blocks : (bytes : List ℕ) → IsBytes bytes → 34 ≤ length bytes
     Some (block_at bytes 26) ∷ [])
 unfolding Acknowledged
 four_blocks bytes fits least is_kind is_size = record {
-  spelled = kind_and_size 5 34 bytes (omega arith) is_kind is_size
-      ∙ ap (λ (xs : List ℕ). 5 ∷ 34 ∷ xs) (block_front 2 10 bytes fits (omega arith) refl)
+  encoded = kind_and_size 5 34 bytes (omega arith) is_kind is_size
+      ∙ ap (λ (xs : List ℕ). 5 ∷ 34 ∷ xs) (block_prefix 2 10 bytes fits (omega arith) refl)
       ∙ ap (λ (xs : List ℕ). 5 ∷ 34 ∷ (block_bytes (block_at bytes 2) ++ xs))
-      (block_front 10 18 bytes fits (omega arith) refl)
+      (block_prefix 10 18 bytes fits (omega arith) refl)
       ∙ ap (λ (xs : List ℕ). 5 ∷ 34 ∷
       (block_bytes (block_at bytes 2) ++ (block_bytes (block_at bytes 10) ++ xs)))
-      (block_front 18 26 bytes fits (omega arith) refl)
+      (block_prefix 18 26 bytes fits (omega arith) refl)
       ∙ ap (λ (xs : List ℕ). 5 ∷ 34 ∷
       (block_bytes (block_at bytes 2)
       ++ (block_bytes (block_at bytes 10) ++ (block_bytes (block_at bytes 18) ++ xs))))
-      (block_front 26 34 bytes fits (omega arith) refl)
+      (block_prefix 26 34 bytes fits (omega arith) refl)
       ∙ rw (second_size 5 34 bytes is_kind refl is_size) refl;
   fits = (
     block_small 2 bytes fits,

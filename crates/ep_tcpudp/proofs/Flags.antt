@@ -3,7 +3,7 @@ use Rattle.std.proofs.Common.{◌≡◌, ℕ, suc, ◌*◌, ◌/◌, ◌%◌, �
 use Rattle.std.proofs.lemmas.Nat.Bits.{and_pow}
 use Rattle.std.proofs.lemmas.Bool.Decides.{nat_tests}
 
--- the test of a flag, which stands in the number a at its own worth
+-- the test of a flag, which is in the number a with its value
 flag_set : (a q w : ℕ) → a ≡ (q % 2) * suc w → not (eqb a 0) ≡ eqb (q % 2) 1
 flag_set a q w e = grind (arith, nat_tests)
 

@@ -8,9 +8,9 @@ pub mod OptionsBytes
 pub mod OptionsItems
 pub mod SameValues
 pub mod Sealed
-pub mod TcpFront
-pub mod TcpSpelling
+pub mod TcpPrefix
+pub mod TcpEncoding
 pub mod TcpSums
-pub mod UdpFront
-pub mod UdpSpelling
+pub mod UdpPrefix
+pub mod UdpEncoding
 pub mod Words

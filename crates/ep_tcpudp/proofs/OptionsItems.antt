@@ -13,7 +13,7 @@ use Rattle.ep_tcpudp.specs.Options.{items_within}
 use Rattle.ep_tcpudp.specs.Options.{items_of, rest_at}
 use Rattle.ep_tcpudp.specs.declared.transport.tcp_option_element.TcpOptionElement.{TcpOptionElement}
 use Rattle.ep_tcpudp.specs.declared.transport.tcp_option_read_error.TcpOptionReadError.{TcpOptionReadError}
-use Rattle.ep_base.proofs.Fronts.{guard_ok}
+use Rattle.ep_base.proofs.Prefixes.{guard_ok}
 use Rattle.ep_tcpudp.proofs.Guards.{by_test}
 
 of_size-ok : {A : Type 0} (size : ℕ) (bytes : List ℕ) (value x : A)
@@ -110,7 +110,7 @@ within_step n bytes size goes =
     (within_enough n (length (rest_after (element_at bytes) bytes))
     (rest_after (element_at bytes) bytes) (omega arith) (omega arith)))
 
--- the item at the front, and those of what is left
+-- the first item, and those of what is left
 pub items-step : (bytes : List ℕ) → is_end bytes ≡ false
     → items_of bytes ≡ element_at bytes ∷ items_of (rest_after (element_at bytes) bytes)
 items-step bytes goes =
@@ -121,12 +121,12 @@ items-step bytes goes =
 pub items-none : items_of [] ≡ []
 items-none = items-end [] refl
 
--- what a slice has behind its last byte
-pub nothing_behind : (xs : List ℕ) → take (length xs - length xs) (drop (length xs) xs) ≡ []
-nothing_behind xs = take_rest xs (length xs) ∙ drop_all (length xs) xs (omega arith)
+-- what a slice has after its last byte
+pub nothing_after : (xs : List ℕ) → take (length xs - length xs) (drop (length xs) xs) ≡ []
+nothing_after xs = take_rest xs (length xs) ∙ drop_all (length xs) xs (omega arith)
 
-pub none_behind : (xs : List ℕ) → items_of (take (length xs - length xs) (drop (length xs) xs)) ≡ []
-none_behind xs = ap items_of (nothing_behind xs) ∙ items-none
+pub none_after : (xs : List ℕ) → items_of (take (length xs - length xs) (drop (length xs) xs)) ≡ []
+none_after xs = ap items_of (nothing_after xs) ∙ items-none
 
 -- what the code does at an element and at a fault
 pub step_ok : (bytes xs : List ℕ) (element : TcpOptionElement) (size : ℕ) (ends : Bool) → xs ≡ bytes
@@ -143,7 +143,7 @@ pub step_err : (bytes xs : List ℕ) (fault : TcpOptionReadError) (ends : Bool) 
     items_of (take (length xs - length xs) (drop (length xs) xs))
 step_err bytes xs fault ends view is goes item =
     let step = items-step xs (sym is ∙ goes) in
-    ap items_of (sym view) ∙ step ∙ rw (← item, items-none, none_behind xs) refl
+    ap items_of (sym view) ∙ step ∙ rw (← item, items-none, none_after xs) refl
 
 pub rest_ok : (bytes xs : List ℕ) (element : TcpOptionElement) (size : ℕ) (ends : Bool) → xs ≡ bytes
     → ends ≡ is_end xs → ends ≡ false

@@ -10,28 +10,28 @@ use Rattle.ep_tcpudp.specs.TcpChecksum as tcp_checksum
 use Rattle.ep_tcpudp.specs.TcpChecksum.{SealedTcpSumsToAllOnes, SealedSegmentSumsToAllOnes}
 use Rattle.ep_tcpudp.specs.TcpChecksum.{segment_checksum}
 use Rattle.ep_tcpudp.specs.declared.transport.tcp_header.TcpHeader.{TcpHeader}
-use Rattle.ep_tcpudp.specs.Udp.{spelling}
+use Rattle.ep_tcpudp.specs.Udp.{encoding}
 use Rattle.ep_tcpudp.proofs.TcpSums.{segment_around}
 use Rattle.ep_tcpudp.specs.UdpChecksum.{SealedUdpSumsToAllOnes, right_checksum}
 use Rattle.ep_tcpudp.specs.declared.transport.udp_header.UdpHeader.{UdpHeader}
 
--- the six bytes in front of the checksum
-front_of : List ℕ → UdpHeader → List ℕ
-front_of pseudo h =
+-- the six bytes before the checksum
+prefix_of : List ℕ → UdpHeader → List ℕ
+prefix_of pseudo h =
     pseudo ++ (to_be_bytes w16 h.source_port ++ to_be_bytes w16 h.destination_port
     ++ to_be_bytes w16 h.length)
 
--- where the checksum stands
+-- where the checksum is
 around : (pseudo payload : List ℕ) (h : UdpHeader) (c : ℕ)
-    → pseudo ++ spelling (record h { checksum = c }) ++ payload ≡ front_of pseudo h
+    → pseudo ++ encoding (record h { checksum = c }) ++ payload ≡ prefix_of pseudo h
     ++ (to_be_bytes w16 c ++ payload)
-unfolding front_of
+unfolding prefix_of
 around pseudo payload h c = simp append_assoc
 
-even_front : (pseudo : List ℕ) (h : UdpHeader) → length pseudo % 2 ≡ 0
-    → length (front_of pseudo h) % 2 ≡ 0
-unfolding front_of
-even_front pseudo h even =
+even_prefix : (pseudo : List ℕ) (h : UdpHeader) → length pseudo % 2 ≡ 0
+    → length (prefix_of pseudo h) % 2 ≡ 0
+unfolding prefix_of
+even_prefix pseudo h even =
     omega (
       arith,
       length-append pseudo
@@ -41,12 +41,12 @@ even_front pseudo h even =
 
 pub sealed_udp : NoZeroSumsToAllOnes → SealedUdpSumsToAllOnes
 sealed_udp sums pseudo payload h even =
-    let all = sums (front_of pseudo h) payload (even_front pseudo h even) in
+    let all = sums (prefix_of pseudo h) payload (even_prefix pseudo h even) in
     rw (around pseudo payload h (right_checksum pseudo h payload), around pseudo payload h 0) all
 
--- the sixteen bytes in front of TCP's checksum, and what stands behind it
-tcp_front : List ℕ → TcpHeader → List ℕ
-tcp_front pseudo h =
+-- the sixteen bytes before TCP's checksum, and what follows it
+tcp_prefix : List ℕ → TcpHeader → List ℕ
+tcp_prefix pseudo h =
     pseudo ++ (to_be_bytes w16 h.source_port ++ to_be_bytes w16 h.destination_port
     ++ to_be_bytes w32 h.sequence_number
     ++ to_be_bytes w32 h.acknowledgment_number ++ (data_offset h * 16 + flag h.ns 1) ∷ flags h ∷
@@ -56,14 +56,14 @@ tcp_rest : TcpHeader → List ℕ → List ℕ
 tcp_rest h payload = to_be_bytes w16 h.urgent_pointer ++ (h.options ++ payload)
 
 tcp_around : (pseudo payload : List ℕ) (h : TcpHeader) (c : ℕ)
-    → pseudo ++ tcp.spelling (record h { checksum = c }) ++ payload ≡ tcp_front pseudo h
+    → pseudo ++ tcp.encoding (record h { checksum = c }) ++ payload ≡ tcp_prefix pseudo h
     ++ (to_be_bytes w16 c ++ tcp_rest h payload)
-unfolding tcp_front tcp_rest
+unfolding tcp_prefix tcp_rest
 tcp_around pseudo payload h c = simp append_assoc
 
 even_tcp : (pseudo : List ℕ) (h : TcpHeader) → length pseudo % 2 ≡ 0
-    → length (tcp_front pseudo h) % 2 ≡ 0
-unfolding tcp_front
+    → length (tcp_prefix pseudo h) % 2 ≡ 0
+unfolding tcp_prefix
 even_tcp pseudo h even =
     omega (
       arith,
@@ -75,7 +75,7 @@ even_tcp pseudo h even =
 
 pub sealed_tcp : ChecksumSumsToAllOnes → SealedTcpSumsToAllOnes
 sealed_tcp sums pseudo payload h even words =
-    let all = sums (tcp_front pseudo h) (tcp_rest h payload) (even_tcp pseudo h even) in
+    let all = sums (tcp_prefix pseudo h) (tcp_rest h payload) (even_tcp pseudo h even) in
     rw (
       tcp_around pseudo payload h (tcp_checksum.right_checksum pseudo h payload),
       tcp_around

@@ -1,4 +1,4 @@
--- The sums of segments, added piece by piece.
+-- The sums of segments, added part by part.
 use Rattle.std.proofs.Common.{◌≡◌, ℕ, ◌%◌, ◌≤◌, List, ◌++◌, length, take, drop, arith, ap, ◌∙◌}
 use Rattle.std.proofs.Common.{length-append, append_assoc}
 use Rattle.std.proofs.lemmas.List.{length-take-le, take-append-le, drop-append-le, length-drop}
@@ -7,38 +7,38 @@ use Rattle.ep_base.specs.MessageSum.{with_word}
 use Rattle.ep_base.specs.Sum.{AddsText, fold, total}
 use Rattle.ep_tcpudp.specs.TcpChecksum.{with_checksum}
 
--- a segment behind its pseudo header, with the checksum as a word in it
-pub segment_around : (front segment : List ℕ) (value : ℕ)
-    → with_word (front ++ take 16 segment) value (drop 18 segment) ≡ front
+-- a segment after its pseudo header, with the checksum as a word in it
+pub segment_around : (prefix segment : List ℕ) (value : ℕ)
+    → with_word (prefix ++ take 16 segment) value (drop 18 segment) ≡ prefix
     ++ with_checksum segment value
-segment_around front segment value = simp append_assoc
+segment_around prefix segment value = simp append_assoc
 
--- a payload is added behind a header
-pub header_added : (sum last : ℕ) (front header payload : List ℕ)
-    → length front % 2 ≡ 0 → 18 ≤ length header
-    → length header % 2 ≡ 0 → sum ≡ fold (total (front ++ with_checksum header 0))
+-- a payload is added after a header
+pub header_added : (sum last : ℕ) (prefix header payload : List ℕ)
+    → length prefix % 2 ≡ 0 → 18 ≤ length header
+    → length header % 2 ≡ 0 → sum ≡ fold (total (prefix ++ with_checksum header 0))
     → AddsText sum payload last
-    → last ≡ fold (total (front ++ with_checksum (header ++ payload) 0))
-header_added sum last front header payload even least words sums adds =
+    → last ≡ fold (total (prefix ++ with_checksum (header ++ payload) 0))
+header_added sum last prefix header payload even least words sums adds =
     let size = length-take-le 16 header (omega arith) in
     let rest = length-drop 18 header in
     let around = length-append (take 16 header) (to_be_bytes w16 0) in
     let whole = length-append (take 16 header ++ to_be_bytes w16 0) (drop 18 header) in
-    let all = length-append front (with_checksum header 0) in
-    adds (front ++ with_checksum header 0) (omega arith) sums
+    let all = length-append prefix (with_checksum header 0) in
+    adds (prefix ++ with_checksum header 0) (omega arith) sums
     ∙ ap (λ (text : List ℕ). fold (total text))
     (rw (take-append-le 16 header payload (omega arith), drop-append-le 18 header payload least)
     (simp append_assoc))
 
--- so it is behind the two parts of a header
-pub parts_added : (sum last : ℕ) (front fixed options payload header : List ℕ)
-    → length front % 2 ≡ 0 → length fixed ≡ 20 → length options % 4 ≡ 0
-    → fixed ++ options ≡ header → sum ≡ fold (total (front ++ fixed ++ options))
+-- so it is after the two parts of a header, its fixed fields and its options
+pub parts_added : (sum last : ℕ) (prefix fixed options payload header : List ℕ)
+    → length prefix % 2 ≡ 0 → length fixed ≡ 20 → length options % 4 ≡ 0
+    → fixed ++ options ≡ header → sum ≡ fold (total (prefix ++ fixed ++ options))
     → AddsText sum payload last
-    → last ≡ fold (total (front ++ header ++ payload))
-parts_added sum last front fixed options payload header even size words is sums adds =
-    let both = length-append front fixed in
-    let all = length-append (front ++ fixed) options in
-    adds (front ++ fixed ++ options) (omega arith) sums
+    → last ≡ fold (total (prefix ++ header ++ payload))
+parts_added sum last prefix fixed options payload header even size words is sums adds =
+    let both = length-append prefix fixed in
+    let all = length-append (prefix ++ fixed) options in
+    adds (prefix ++ fixed ++ options) (omega arith) sums
     ∙ ap (λ (xs : List ℕ). fold (total (xs ++ payload)))
-    (append_assoc front fixed options ∙ ap (λ (xs : List ℕ). front ++ xs) is)
+    (append_assoc prefix fixed options ∙ ap (λ (xs : List ℕ). prefix ++ xs) is)

@@ -24,21 +24,21 @@ word_cells p xs fits =
     ∙ (λ i. get_or xs p 0 ∷ get_or xs (p + 1) 0 ∷ get_or xs (second i) 0
     ∷ get_or xs (third i) 0 ∷ [])
 
--- a byte in a list, and what stands behind it
-pub byte_front : (p q : ℕ) (xs : List ℕ) → p < length xs → p + 1 ≡ q
+-- a byte in a list, and what follows it
+pub byte_prefix : (p q : ℕ) (xs : List ℕ) → p < length xs → p + 1 ≡ q
     → drop p xs ≡ get_or xs p 0 ∷ drop q xs
-byte_front p q xs h e = drop_more xs p 0 h ∙ ap (λ n. get_or xs p 0 ∷ drop n xs) e
+byte_prefix p q xs h e = drop_more xs p 0 h ∙ ap (λ n. get_or xs p 0 ∷ drop n xs) e
 
--- two bytes in a list, as a number, and what stands behind them; and four
-pub half_front : (p q : ℕ) (xs : List ℕ) → p + 2 ≤ length xs → p + 2 ≡ q → IsBytes xs
+-- two bytes in a list, as a number, and what follows them; and four
+pub half_prefix : (p q : ℕ) (xs : List ℕ) → p + 2 ≤ length xs → p + 2 ≡ q → IsBytes xs
     → drop p xs ≡ to_be_bytes w16 (num xs p 2) ++ drop q xs
-half_front p q xs h e fits =
+half_prefix p q xs h e fits =
     drop-cells 2 p xs h ∙ ap (λ (ys : List ℕ). ys ++ drop (p + 2) xs) (sym (half_cells p xs fits))
     ∙ ap (λ n. to_be_bytes w16 (num xs p 2) ++ drop n xs) e
 
-pub word_front : (p q : ℕ) (xs : List ℕ) → p + 4 ≤ length xs → p + 4 ≡ q → IsBytes xs
+pub word_prefix : (p q : ℕ) (xs : List ℕ) → p + 4 ≤ length xs → p + 4 ≡ q → IsBytes xs
     → drop p xs ≡ to_be_bytes w32 (num xs p 4) ++ drop q xs
-word_front p q xs h e fits =
+word_prefix p q xs h e fits =
     drop-cells 4 p xs h ∙ ap (λ (ys : List ℕ). ys ++ drop (p + 4) xs) (sym (word_cells p xs fits))
     ∙ ap (λ n. to_be_bytes w32 (num xs p 4) ++ drop n xs) e
 
@@ -49,6 +49,6 @@ half_small p xs fits = omega (arith, fits p, fits (p + 1))
 pub word_small : (p : ℕ) (xs : List ℕ) → IsBytes xs → num xs p 4 < 2 ^ 32
 word_small p xs fits = omega (arith, fits p, fits (p + 1), fits (p + 2), fits (p + 3))
 
--- and what stays below 256 from some place on
+-- and the bytes from some index on stay below 256
 pub drop_fits : (n : ℕ) (xs : List ℕ) → IsBytes xs → IsBytes (drop n xs)
 drop_fits n xs fits i = omega (arith, get_or-drop n xs i 0, fits (n + i))

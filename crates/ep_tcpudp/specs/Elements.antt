@@ -12,11 +12,11 @@ use Rattle.ep_tcpudp.specs.declared.transport.tcp_option_read_error.TcpOptionRea
 use Rattle.ep_tcpudp.specs.declared.transport.tcp_option_read_error.TcpOptionReadError.TheVariants.{UnexpectedSize}
 use Rattle.ep_tcpudp.specs.declared.transport.tcp_option_read_error.TcpOptionReadError.TheVariants.{UnknownId}
 
--- the bytes are these elements, one behind the other, and then the rest. Each number fits its
--- bytes, and of a selective acknowledgement the blocks that are there stand in front.
+-- the bytes are these elements, one after the other, and then the rest. Each number fits its bytes,
+-- and of a selective acknowledgement the blocks that are there come first.
 pub record Elements (bytes : List ℕ) (elements : List TcpOptionElement)
     (rest : List ℕ) : Type 0 where
-  pub spelled : bytes ≡ elements_bytes elements ++ rest
+  pub encoded : bytes ≡ elements_bytes elements ++ rest
   pub fits : FitsElements elements
   pub packed : map packed_element elements ≡ elements
 
@@ -30,7 +30,7 @@ HasOneSize kind size =
 abbrev pub IsSizeOfBlocks : ℕ → Type 0
 IsSizeOfBlocks size = (blocks : ℕ) × ((1 ≤ blocks) × (blocks ≤ 4) × (size ≡ 2 + 8 * blocks))
 
--- the option of this kind at the front of the bytes needs so many: those of its one size; a
+-- the option of this kind at the start of the bytes needs so many: those of its one size; a
 -- selective acknowledgement needs kind and size, and where they are there, as many as the size says
 abbrev pub Needs : List ℕ → (kind needed : ℕ) → Type 0
 Needs bytes kind needed =
@@ -38,14 +38,14 @@ Needs bytes kind needed =
     ⊎ ((kind ≡ 5) × (((length bytes < 2) × (needed ≡ 2))
     ⊎ ((2 ≤ length bytes) × (num bytes 1 1 ≡ needed) × IsSizeOfBlocks needed)))
 
--- the option of this kind at the front of the bytes has none of its kind's sizes: its bytes are
+-- the option of this kind at the start of the bytes has none of its kind's sizes: its bytes are
 -- there by the one size that it should have, or of a selective acknowledgement kind and size are
 abbrev pub HasOtherSize : List ℕ → (kind size : ℕ) → Type 0
 HasOtherSize bytes kind size =
     ((right : ℕ) × (HasOneSize kind right × (right ≤ length bytes) × (size ≢ right)))
     ⊎ ((kind ≡ 5) × (2 ≤ length bytes) × ¬ IsSizeOfBlocks size)
 
--- what is wrong with the option at the front of the bytes
+-- what is wrong with the option at the start of the bytes
 abbrev pub IsFault : List ℕ → TcpOptionReadError → Type 0
 IsFault bytes (UnexpectedEndOfSlice kind needed left) =
     (kind_at bytes ≡ kind) × Needs bytes kind needed × (length bytes ≡ left) × (left < needed)
@@ -55,19 +55,19 @@ IsFault bytes (UnknownId kind) =
     (kind_at bytes ≡ kind) × (kind ≢ 0) × (kind ≢ 1) × (kind ≢ 2) × (kind ≢ 3) × (kind ≢ 4)
     × (kind ≢ 5) × (kind ≢ 8)
 
--- why a list of options ends in front of these bytes: none are left, or the first is the option
--- that ends the list; or the option there has this fault
+-- why a list of options ends before these bytes: none are left, or the first is the option that
+-- ends the list; or the option there has this fault
 abbrev pub EndsAs : Option TcpOptionReadError → List ℕ → Type 0
-EndsAs None rest = (rest ≡ []) ⊎ ((behind : List ℕ) × (rest ≡ 0 ∷ behind))
+EndsAs None rest = (rest ≡ []) ⊎ ((after : List ℕ) × (rest ≡ 0 ∷ after))
 EndsAs (Some fault) rest = IsFault rest fault
 
--- the elements of a list that ends so, and behind them the fault if there is one
+-- the elements of a list that ends so, and after them the fault if there is one
 abbrev pub items_and : List TcpOptionElement → Option TcpOptionReadError
     → List (Result TcpOptionElement TcpOptionReadError)
 items_and elements None = map (λ element. Ok element) elements
 items_and elements (Some fault) = map (λ element. Ok element) elements ++ Err fault ∷ []
 
--- these items are what the bytes of options spell, up to the end of the list
+-- these items are what the bytes of options encode, up to the end of the list
 pub record AreItems (bytes : List ℕ)
     (items : List (Result TcpOptionElement TcpOptionReadError)) : Type 0 where
   pub elements : List TcpOptionElement
@@ -77,9 +77,9 @@ pub record AreItems (bytes : List ℕ)
   pub ends : EndsAs fault rest
   pub all : items ≡ items_and elements fault
 
--- all bytes spell the items that they are read as
-abbrev pub ItemsAreSpelled : Type 0
-ItemsAreSpelled = (bytes : List ℕ) → IsBytes bytes → AreItems bytes (items_of bytes)
+-- all bytes encode the items that they are parsed as
+abbrev pub ItemsAreEncoded : Type 0
+ItemsAreEncoded = (bytes : List ℕ) → IsBytes bytes → AreItems bytes (items_of bytes)
 
 -- and no others
 abbrev pub NoOtherItems : Type 0

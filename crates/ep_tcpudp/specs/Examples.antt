@@ -1,13 +1,13 @@
--- Messages from outside, at which laws state the definitions' values.
+-- Literal messages, at which laws state the definitions' values.
 use Rattle.std.specs.Prelude.{ℕ, List, [], ◌∷◌, ◌++◌, replicate}
 
 -- the payload 1 to 8
 abbrev pub one_to_eight : List ℕ
 one_to_eight = 1 ∷ 2 ∷ 3 ∷ 4 ∷ 5 ∷ 6 ∷ 7 ∷ 8 ∷ []
 
--- a UDP header from port 1 to port 2 in front of it, over IPv4 with the checksum dbb4
-abbrev pub udp_front : List ℕ
-udp_front = 0 ∷ 1 ∷ 0 ∷ 2 ∷ 0 ∷ 16 ∷ 219 ∷ 180 ∷ []
+-- a UDP header from port 1 to port 2 before it, over IPv4 with the checksum dbb4
+abbrev pub udp_prefix : List ℕ
+udp_prefix = 0 ∷ 1 ∷ 0 ∷ 2 ∷ 0 ∷ 16 ∷ 219 ∷ 180 ∷ []
 
 -- the addresses 10.0.0.1 and 10.0.0.2, fd00::1 and fd00::2
 abbrev pub source_v4 : List ℕ
@@ -35,13 +35,13 @@ reserved_segment = 0 ∷ 1 ∷ 0 ∷ 2 ∷ 0 ∷ 0 ∷ 0 ∷ 3 ∷ 0 ∷ 0 ∷ 0
 
 -- a header with each field its own number, one word of options, the flags ns, cwr, ack and fin, and
 -- the reserved bits set
-abbrev pub tcp_front : List ℕ
-tcp_front = 0 ∷ 1 ∷ 0 ∷ 2 ∷ 0 ∷ 0 ∷ 0 ∷ 3 ∷ 0 ∷ 0 ∷ 0 ∷ 4 ∷ 111 ∷ 145 ∷ 0 ∷ 5 ∷ 0 ∷ 6 ∷
+abbrev pub tcp_prefix : List ℕ
+tcp_prefix = 0 ∷ 1 ∷ 0 ∷ 2 ∷ 0 ∷ 0 ∷ 0 ∷ 3 ∷ 0 ∷ 0 ∷ 0 ∷ 4 ∷ 111 ∷ 145 ∷ 0 ∷ 5 ∷ 0 ∷ 6 ∷
     0 ∷ 7 ∷ 1 ∷ 1 ∷ 1 ∷ 0 ∷ []
 
 -- the same with them 0
-abbrev pub tcp_front_as_written : List ℕ
-tcp_front_as_written = 0 ∷ 1 ∷ 0 ∷ 2 ∷ 0 ∷ 0 ∷ 0 ∷ 3 ∷ 0 ∷ 0 ∷ 0 ∷ 4 ∷ 97 ∷ 145 ∷ 0 ∷ 5 ∷ 0 ∷ 6 ∷
+abbrev pub tcp_prefix_as_written : List ℕ
+tcp_prefix_as_written = 0 ∷ 1 ∷ 0 ∷ 2 ∷ 0 ∷ 0 ∷ 0 ∷ 3 ∷ 0 ∷ 0 ∷ 0 ∷ 4 ∷ 97 ∷ 145 ∷ 0 ∷ 5 ∷ 0 ∷ 6 ∷
     0 ∷ 7 ∷ 1 ∷ 1 ∷ 1 ∷ 0 ∷ []
 
 -- options of a first segment: size 1460, selective acknowledgements, timestamps, a no-operation,

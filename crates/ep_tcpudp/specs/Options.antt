@@ -1,4 +1,4 @@
--- The list of options in a TCP header: which bytes spell which element. End, no-operation and
+-- The list of options in a TCP header: which bytes encode which element. End, no-operation and
 -- maximum segment size: RFC 9293, section 3.2; window scale and timestamps: RFC 7323, sections 2.2
 -- and 3.2; selective acknowledgement: RFC 2018, sections 2 and 3.
 use Rattle.std.specs.Prelude.{◌≡◌, ◌<◌, ⊤, map, ℕ, zero, suc, ◌+◌, ◌-◌, ◌^◌, min, nat_lt, ◌==◌}
@@ -23,7 +23,7 @@ use Rattle.ep_tcpudp.specs.declared.transport.tcp_option_read_error.TcpOptionRea
 use Rattle.ep_tcpudp.specs.declared.transport.tcp_option_write_error.TcpOptionWriteError.{TcpOptionWriteError}
 use Rattle.ep_tcpudp.specs.declared.transport.tcp_option_write_error.TcpOptionWriteError.TheVariants.{NotEnoughSpace}
 
--- a block of bytes that arrived: the number of its first byte, and of the byte behind its last one
+-- a block of bytes that arrived: the number of its first byte, and of the byte after its last one
 abbrev pub block_bytes : ℕ × ℕ → List ℕ
 block_bytes block = to_be_bytes w32 block.0 ++ to_be_bytes w32 block.1
 
@@ -48,31 +48,31 @@ abbrev pub elements_bytes : List TcpOptionElement → List ℕ
 elements_bytes elements = flat_map element_bytes elements
 
 -- the options that elements are, filled up with 0; more than 40 bytes are refused with their
--- number. (No error can name a number above the greatest `usize`, which stands in its place.)
+-- number. (A number above the greatest `usize` is reported as the greatest `usize`.)
 abbrev pub options_of_elements : List TcpOptionElement → Result (List ℕ) TcpOptionWriteError
 options_of_elements elements =
     if nat_lt 40 (length (elements_bytes elements))
     then Err (NotEnoughSpace (min (length (elements_bytes elements)) (2 ^ 64 - 1))) else
     Ok (whole_options (elements_bytes elements))
 
--- blocks with those that are there in front
+-- blocks, with those that are there first
 abbrev pub packed_blocks : List (Option (ℕ × ℕ)) → List (Option (ℕ × ℕ))
 packed_blocks (None ∷ None ∷ c ∷ []) = c ∷ None ∷ None ∷ []
 packed_blocks (None ∷ Some b ∷ c ∷ []) = Some b ∷ c ∷ None ∷ []
 packed_blocks (Some a ∷ None ∷ c ∷ []) = Some a ∷ c ∷ None ∷ []
 packed_blocks blocks = blocks
 
--- an element as it is read: of the blocks behind the first, those that are there stand in front
+-- an element as it is read: of the blocks after the first, those that are there come first
 abbrev pub packed_element : TcpOptionElement → TcpOptionElement
 packed_element (SelectiveAcknowledgement first rest) =
     SelectiveAcknowledgement first (packed_blocks rest)
 packed_element element = element
 
--- the kind of the option at the front
+-- the kind of the option at the start
 abbrev pub kind_at : List ℕ → ℕ
 kind_at bytes = num bytes 0 1
 
--- the size of the option at the front in bytes: its second byte, but for a no-operation, which has
+-- the size of the option at the start in bytes: its second byte, but for a no-operation, which has
 -- none
 abbrev pub size_at : List ℕ → ℕ
 size_at bytes = if kind_at bytes == 1 then 1 else num bytes 1 1
@@ -83,7 +83,7 @@ of_size size bytes = unless_refused (
     (nat_lt (length bytes) size, UnexpectedEndOfSlice (kind_at bytes) size (length bytes))
     ∷ (not (num bytes 1 1 == size), UnexpectedSize (kind_at bytes) (num bytes 1 1)) ∷ [])
 
--- the block at place p
+-- the block at offset p
 abbrev pub block_at : List ℕ → ℕ → ℕ × ℕ
 block_at bytes p = (num bytes p 4, num bytes (p + 4) 4)
 
@@ -91,7 +91,7 @@ block_at bytes p = (num bytes p 4, num bytes (p + 4) 4)
 abbrev pub block_within : ℕ → List ℕ → ℕ → Option (ℕ × ℕ)
 block_within size bytes p = if nat_lt p size then Some (block_at bytes p) else None
 
--- the blocks of a selective acknowledgement behind the first
+-- the blocks of a selective acknowledgement after the first
 abbrev pub blocks_at : List ℕ → List (Option (ℕ × ℕ))
 blocks_at bytes = block_within (num bytes 1 1) bytes 10 ∷ block_within (num bytes 1 1) bytes 18 ∷
     block_within (num bytes 1 1) bytes 26 ∷ []
@@ -110,7 +110,7 @@ acknowledgement_at bytes = unless_refused (
     )
     ∷ []) (SelectiveAcknowledgement (block_at bytes 2) (blocks_at bytes))
 
--- the element at the front of bytes that don't begin with the end of the list, or its fault
+-- the element at the start of bytes that don't begin with the end of the list, or its fault
 abbrev pub element_at : List ℕ → Result TcpOptionElement TcpOptionReadError
 element_at bytes =
     if kind_at bytes == 1 then Ok Noop else (
@@ -125,7 +125,7 @@ element_at bytes =
 abbrev pub is_end : List ℕ → Bool
 is_end bytes = (length bytes == 0) || (kind_at bytes == 0)
 
--- what is left behind the element at the front, and behind a fault nothing
+-- what is left after the element at the start, and nothing after a fault
 abbrev pub rest_after : Result TcpOptionElement TcpOptionReadError → List ℕ → List ℕ
 rest_after (Ok element) bytes = drop (size_at bytes) bytes
 rest_after (Err fault) bytes = []
@@ -157,8 +157,7 @@ abbrev pub FitsBlocks : List (Option (ℕ × ℕ)) → Type 0
 FitsBlocks [] = ⊤
 FitsBlocks (block ∷ blocks) = FitsBlock block × FitsBlocks blocks
 
--- the numbers of an element fit their bytes, and behind the first block stand three that may be
--- there
+-- the numbers of an element fit their bytes, and after the first block come three that may be there
 abbrev pub FitsElement : TcpOptionElement → Type 0
 FitsElement Noop = ⊤
 FitsElement (MaximumSegmentSize size) = size < 2 ^ 16
@@ -172,7 +171,7 @@ abbrev pub FitsElements : List TcpOptionElement → Type 0
 FitsElements [] = ⊤
 FitsElements (element ∷ elements) = FitsElement element × FitsElements elements
 
--- what elements were written as is read as these elements, blocks in front
+-- what elements were written as is read as these elements, with the blocks that are there first
 abbrev pub ElementsComeBack : Type 0
 ElementsComeBack = (elements : List TcpOptionElement) → FitsElements elements
     → items_of (whole_options (elements_bytes elements))

@@ -1,11 +1,11 @@
--- The TCP header (RFC 9293, section 3.1): its bytes, and each field by its place in them. The flag
+-- The TCP header (RFC 9293, section 3.1): its bytes, and each field by its offset in them. The flag
 -- ns is that of RFC 3540, ece and cwr those of RFC 3168, section 6.1.
 use Rattle.std.specs.Prelude.{◌≡◌, ◌<◌, ◌≤◌, ℕ, ◌+◌, ◌*◌, ◌/◌, ◌%◌, ◌^◌, Bool, false, ◌==◌}
 use Rattle.std.specs.Prelude.{if◌then◌else◌, List, [], ◌∷◌, ◌++◌, length, slice_index, slice_range}
 use Rattle.std.specs.Prelude.{slice_set, take, drop}
 use Rattle.std.specs.Int.{w16, w32, to_be_bytes, bit_at}
 use Rattle.ep_base.specs.Bytes.{num}
-use Rattle.ep_base.specs.Fronts.{IsReadAs}
+use Rattle.ep_base.specs.Prefixes.{IsReadAs}
 use Rattle.ep_tcpudp.specs.TcpOptions.{IsTcpOptions}
 use Rattle.ep_tcpudp.specs.declared.transport.tcp_header.TcpHeader.{TcpHeader}
 
@@ -25,7 +25,7 @@ acknowledgment_number_of bytes = num bytes 8 4
 abbrev pub data_offset_of : List ℕ → ℕ
 data_offset_of bytes = num bytes 12 1 / 16
 
--- the flags; between the data offset and ns stand three reserved bits
+-- the flags; between the data offset and ns are three reserved bits
 abbrev pub ns_of : List ℕ → Bool
 ns_of bytes = bit_at (num bytes 12 1) 0 == 1
 
@@ -67,23 +67,23 @@ pub record IsTcpHeader (bytes : List ℕ) : Type 0 where
   pub minimum : 5 ≤ data_offset_of bytes
   pub whole : length bytes ≡ 4 * data_offset_of bytes
 
--- the bytes begin with a whole header
+-- the bytes start with a whole header
 pub record ReadableTcp (bytes : List ℕ) : Type 0 where
   pub minimum : 5 ≤ data_offset_of bytes
   pub header : 4 * data_offset_of bytes ≤ length bytes
 
--- the header in front of a segment, and the payload behind it
+-- the header at the start of a segment, and the payload after it
 abbrev pub header_bytes : List ℕ → List ℕ
 header_bytes bytes = take (4 * data_offset_of bytes) bytes
 
 abbrev pub payload_of : List ℕ → List ℕ
 payload_of bytes = drop (4 * data_offset_of bytes) bytes
 
--- the options of a segment, behind the 20 bytes of the fixed fields
+-- the options of a segment, after the 20 bytes of the fixed fields
 abbrev pub options_of : List ℕ → List ℕ
 options_of bytes = slice_range bytes 20 (4 * data_offset_of bytes)
 
--- the fields that these bytes spell
+-- the fields that these bytes encode
 abbrev pub tcp_header_of : List ℕ → TcpHeader
 tcp_header_of bytes = record {
   source_port = source_port_of bytes;
@@ -145,23 +145,23 @@ flags h =
     4 + flag h.syn 2 + flag h.fin 1
 
 -- the bytes of a header
-abbrev pub spelling : TcpHeader → List ℕ
-spelling h =
+abbrev pub encoding : TcpHeader → List ℕ
+encoding h =
     to_be_bytes w16 h.source_port ++ to_be_bytes w16 h.destination_port
     ++ to_be_bytes w32 h.sequence_number
     ++ to_be_bytes w32 h.acknowledgment_number ++ (data_offset h * 16 + flag h.ns 1) ∷ flags h ∷
     to_be_bytes w16 h.window_size
     ++ to_be_bytes w16 h.checksum ++ to_be_bytes w16 h.urgent_pointer ++ h.options
 
--- the bytes with the three reserved bits, behind the data offset, as 0
+-- the bytes with the three reserved bits, after the data offset, as 0
 abbrev pub with_reserved_bits_zero : List ℕ → List ℕ
 with_reserved_bits_zero bytes = slice_set bytes 12
     (slice_index bytes 12 / 16 * 16 + slice_index bytes 12 % 2)
 
--- in front of the rest stood a header, with these fields; written again it is the same, but for the
--- reserved bits
+-- the bytes are a header with these fields, and then the rest; written again the header is the
+-- same, but for the reserved bits
 abbrev pub IsRead : List ℕ → TcpHeader → List ℕ → Type 0
-IsRead = IsReadAs IsTcpHeader tcp_header_of spelling with_reserved_bits_zero
+IsRead = IsReadAs IsTcpHeader tcp_header_of encoding with_reserved_bits_zero
 
 -- the ranges of the fields
 pub record Fits (h : TcpHeader) : Type 0 where

@@ -1,4 +1,4 @@
--- Why bytes begin with no TCP header (RFC 9293, section 3.1).
+-- Why bytes start with no TCP header (RFC 9293, section 3.1).
 use Rattle.std.specs.Prelude.{ℕ, ◌*◌, List, length, take, nat_lt, Result, ◌∷◌, []}
 use Rattle.ep_base.specs.LenError.{too_few_bytes}
 use Rattle.ep_base.specs.Refusals.{unless_refused}
@@ -9,7 +9,7 @@ use Rattle.ep_base.specs.declared.err.slice_error.SliceError.TheVariants.{Len, C
 use Rattle.ep_tcpudp.specs.declared.err.tcp.header_error.HeaderError.{HeaderError}
 use Rattle.ep_tcpudp.specs.Tcp.{data_offset_of}
 
--- what is made of the length of the header at the front of the bytes, or the first fault
+-- what is made of the length of the header at the start of the bytes, or the first fault
 abbrev pub with_header_at : {A : Type 0} → List ℕ → A → Result A (SliceError HeaderError)
 with_header_at bytes = unless_refused (
     (nat_lt (length bytes) 20, Len (too_few_bytes TcpHeader 20 (length bytes)))
@@ -20,10 +20,10 @@ with_header_at bytes = unless_refused (
     )
     ∷ [])
 
--- the header at the front of the bytes, or the first fault
+-- the header at the start of the bytes, or the first fault
 abbrev pub header_at : List ℕ → Result (List ℕ) (SliceError HeaderError)
 header_at bytes = with_header_at bytes (take (4 * data_offset_of bytes) bytes)
 
--- all the bytes where a header stands in front of them, or the first fault
+-- all the bytes where they start with a header, or the first fault
 abbrev pub segment_at : List ℕ → Result (List ℕ) (SliceError HeaderError)
 segment_at bytes = with_header_at bytes bytes

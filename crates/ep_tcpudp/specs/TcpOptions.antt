@@ -1,5 +1,5 @@
 -- The options of a TCP header (RFC 9293, section 3.1): what the data offset, in words of 4 bytes
--- from 5 to 15, leaves behind the 20 bytes of the fixed fields.
+-- from 5 to 15, leaves after the 20 bytes of the fixed fields.
 use Rattle.std.specs.Prelude.{◌≡◌, ℕ, ◌-◌, ◌%◌, ◌≤◌, nat_lt, if◌then◌else◌, List, ◌++◌, length}
 use Rattle.std.specs.Prelude.{replicate, Result, Ok, Err}
 use Rattle.ep_tcpudp.specs.declared.transport.tcp_option_write_error.TcpOptionWriteError.{TcpOptionWriteError}

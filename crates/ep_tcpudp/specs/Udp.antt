@@ -1,9 +1,9 @@
--- UDP (RFC 768): the bytes of the header, each field by its place in them, and the whole datagram.
+-- UDP (RFC 768): the bytes of the header, each field by its offset in them, and the whole datagram.
 use Rattle.std.specs.Prelude.{◌≡◌, ◌⊎◌, ℕ, ◌+◌, ◌^◌, ◌<◌, ◌≤◌, ◌==◌, if◌then◌else◌, List, ◌++◌}
 use Rattle.std.specs.Prelude.{length, take}
 use Rattle.std.specs.Int.{w16, to_be_bytes}
 use Rattle.ep_base.specs.Bytes.{num}
-use Rattle.ep_base.specs.Fronts.{IsReadAs}
+use Rattle.ep_base.specs.Prefixes.{IsReadAs}
 use Rattle.ep_tcpudp.specs.declared.transport.udp_header.UdpHeader.{UdpHeader}
 
 abbrev pub source_port_of : List ℕ → ℕ
@@ -23,7 +23,7 @@ checksum_of bytes = num bytes 6 2
 pub record IsUdpHeader (bytes : List ℕ) : Type 0 where
   pub whole : length bytes ≡ 8
 
--- the fields that these bytes spell
+-- the fields that these bytes encode
 abbrev pub udp_header_of : List ℕ → UdpHeader
 udp_header_of bytes = record {
   source_port = source_port_of bytes;
@@ -33,13 +33,13 @@ udp_header_of bytes = record {
 }
 
 -- the bytes of a header
-abbrev pub spelling : UdpHeader → List ℕ
-spelling h = to_be_bytes w16 h.source_port ++ to_be_bytes w16 h.destination_port
+abbrev pub encoding : UdpHeader → List ℕ
+encoding h = to_be_bytes w16 h.source_port ++ to_be_bytes w16 h.destination_port
     ++ to_be_bytes w16 h.length ++ to_be_bytes w16 h.checksum
 
--- the header h is read at the front of the bytes, and rest stands behind it
+-- the header h is read at the start of the bytes, and rest follows it
 abbrev pub IsRead : List ℕ → UdpHeader → List ℕ → Type 0
-IsRead = IsReadAs IsUdpHeader udp_header_of spelling (λ front. front)
+IsRead = IsReadAs IsUdpHeader udp_header_of encoding (λ prefix. prefix)
 
 -- the ranges of the fields
 pub record Fits (h : UdpHeader) : Type 0 where
@@ -63,11 +63,11 @@ pub record ReadableUdp (bytes : List ℕ) : Type 0 where
   pub header : 8 ≤ length bytes
   pub covers : (length_of bytes ≡ 0) ⊎ ((8 ≤ length_of bytes) × (length_of bytes ≤ length bytes))
 
--- the datagram at the front of the bytes: as many as the length field says, and all where it is 0
+-- the datagram at the start of the bytes: as many as the length field says, and all where it is 0
 abbrev pub summed_udp : List ℕ → List ℕ
 summed_udp bytes = if length_of bytes == 0 then bytes else take (length_of bytes) bytes
 
--- the bytes are a datagram, with nothing behind it
+-- the bytes are a datagram, with nothing after it
 pub record IsUdp (bytes : List ℕ) : Type 0 where
   pub header : 8 ≤ length bytes
   pub covers : (length_of bytes ≡ 0) ⊎ (length_of bytes ≡ length bytes)

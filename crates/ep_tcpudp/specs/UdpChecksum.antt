@@ -2,14 +2,14 @@
 use Rattle.std.specs.Prelude.{◌≡◌, ℕ, ◌%◌, List, ◌++◌, length, IsTrue}
 use Rattle.ep_base.specs.Sum.{all_ones, checksum, no_zero}
 use Rattle.ep_ip.specs.Pseudo.{pseudo_v4, pseudo_v6}
-use Rattle.ep_tcpudp.specs.Udp.{spelling, unchecked_header}
+use Rattle.ep_tcpudp.specs.Udp.{encoding, unchecked_header}
 use Rattle.ep_tcpudp.specs.declared.transport.udp_header.UdpHeader.{UdpHeader}
 
--- the checksum behind this pseudo header: of it, the header with its checksum as 0, and the
--- payload. In the place of 0, which says that there is none, stands ffff.
+-- the checksum with this pseudo header: over it, the header with its checksum as 0, and the
+-- payload. Instead of 0, which says that there is none, it is ffff.
 abbrev pub right_checksum : (pseudo : List ℕ) → UdpHeader → (payload : List ℕ) → ℕ
 right_checksum pseudo h payload =
-    no_zero (checksum (pseudo ++ spelling (record h { checksum = 0 }) ++ payload))
+    no_zero (checksum (pseudo ++ encoding (record h { checksum = 0 }) ++ payload))
 
 -- over IPv4 and over IPv6, between these addresses; the pseudo header has the length that the
 -- header has
@@ -37,5 +37,5 @@ sealed_v6 source_port destination_port source destination payload =
 -- a pseudo header, a header with the right checksum and its payload sum to all ones
 abbrev pub SealedUdpSumsToAllOnes : Type 0
 SealedUdpSumsToAllOnes = (pseudo payload : List ℕ) (h : UdpHeader) → length pseudo % 2 ≡ 0
-    → IsTrue (all_ones (pseudo ++ spelling (record h { checksum = right_checksum pseudo h payload })
+    → IsTrue (all_ones (pseudo ++ encoding (record h { checksum = right_checksum pseudo h payload })
     ++ payload))

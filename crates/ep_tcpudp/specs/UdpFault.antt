@@ -1,4 +1,4 @@
--- Why bytes begin with no UDP header, or with no datagram (RFC 768).
+-- Why bytes start with no UDP header, or with no datagram (RFC 768).
 use Rattle.std.specs.Prelude.{ℕ, ◌==◌, ◌&&◌, not, nat_lt, if◌then◌else◌, List, [], ◌∷◌, length}
 use Rattle.std.specs.Prelude.{take, Result, Ok, Err}
 use Rattle.ep_base.specs.LenError.{too_few_bytes}
@@ -8,16 +8,16 @@ use Rattle.ep_base.specs.declared.err.len_error.LenError.{LenError}
 use Rattle.ep_base.specs.declared.len_source.LenSource.TheVariants.{UdpHeaderLen}
 use Rattle.ep_tcpudp.specs.Udp.{length_of, summed_udp}
 
--- the length field has no room for the header
+-- the length field is less than the length of the header
 abbrev pub no_header : ℕ → LenError
 no_header stated = record (too_few_bytes UdpHeader 8 stated) { len_source = UdpHeaderLen }
 
--- the header at the front of the bytes, or the want of bytes
+-- the header at the start of the bytes, or that bytes are missing
 abbrev pub header_at : List ℕ → Result (List ℕ) LenError
 header_at bytes = if nat_lt (length bytes) 8 then Err (too_few_bytes UdpHeader 8 (length bytes))
     else Ok (take 8 bytes)
 
--- the datagram at the front of the bytes, or the first fault
+-- the datagram at the start of the bytes, or the first fault
 abbrev pub udp_at : List ℕ → Result (List ℕ) LenError
 udp_at bytes = unless_refused (
     (nat_lt (length bytes) 8, too_few_bytes UdpHeader 8 (length bytes))

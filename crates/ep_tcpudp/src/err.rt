@@ -1,3 +1,3 @@
-//! Why bytes begin with no TCP header. (UDP's only fault is a `LenError`.)
+//! Why bytes start with no TCP header. (UDP's only fault is a `LenError`.)
 
 pub mod tcp;

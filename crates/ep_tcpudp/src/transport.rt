@@ -1,7 +1,6 @@
 //! TCP and UDP: headers as values, and views of the bytes of messages.
 
 mod limit;
-mod part;
 mod tcp_header;
 mod tcp_header_slice;
 pub mod tcp_option;
@@ -16,6 +15,7 @@ mod udp_header;
 mod udp_header_slice;
 mod udp_slice;
 mod udp_view;
+mod view_kind;
 
 pub use tcp_header::TcpHeader;
 pub use tcp_header_slice::TcpHeaderSlice;

@@ -1,10 +1,50 @@
 -- for the crates above, beside what is proved of each function
+pub mod AcceptedOutcomes
+pub mod Clash
+pub mod Complete
+pub mod Disjoint
+pub mod Found
+pub mod FrameTags
+pub mod ListElements
+pub mod OutcomeLemmas
+pub mod Push
+pub mod Retaining
+pub mod Rooms
 pub use Rattle.ep_base.proofs.Same
-pub use Rattle.ep_build.proofs.FrameTags
-pub use Rattle.ep_fragments.proofs.Clash
-pub use Rattle.ep_fragments.proofs.Complete
-pub use Rattle.ep_fragments.proofs.Disjoint
-pub use Rattle.ep_fragments.proofs.Found
-pub use Rattle.ep_fragments.proofs.Members
-pub use Rattle.ep_fragments.proofs.OutcomeLemmas
-pub use Rattle.ep_fragments.proofs.Push
+mod Accepted
+mod AcceptedLists
+mod Added
+mod AppendIp
+mod BufferSlots
+mod BuiltFrames
+mod BuiltPackets
+mod BuiltSums
+mod CallLemmas
+mod FrameClass
+mod FramedIpv4
+mod FramedIpv6
+mod Halving
+mod HasBytesLemmas
+mod JoinedDatagrams
+mod Joining
+mod Kept
+mod KeptMemory
+mod Lengths
+mod LinkedExts
+mod Literals
+mod OpenAtLiterals
+mod OpenCount
+mod Ordered
+mod ReassemblyRooms
+mod Returned
+mod Runs
+mod SameBuffers
+mod SameCalls
+mod Sharing
+mod StoredOrder
+mod TimestampLemmas
+mod ViewedRows
+mod Waiting
+mod WholeMessageLemmas
+mod Written
+mod WrittenOver

@@ -1,10 +1,12 @@
-//! Network packets, sliced without copying them, read as values and written: every name of the
-//! crates that this one stands on, at one place; and what is made of several packets.
+//! Network packets, sliced without copying them, read as values and written, and reassembled from
+//! fragments: every name of the library in one crate.
 #![tactic(auto)]
 
 pub mod checksum;
+pub mod defrag;
 pub mod err;
 pub mod laws;
+mod packet_builder;
 
 pub use ep_base::EtherType;
 pub use ep_base::IpDscp;
@@ -20,16 +22,10 @@ pub use ep_base::Ipv6FlowLabel;
 pub use ep_base::LenSource;
 pub use ep_base::ether_type;
 pub use ep_base::ip_number;
-pub use ep_build::LastStep;
-pub use ep_build::LinkStep;
-pub use ep_build::PacketBuilder;
-pub use ep_build::PacketBuilderStep;
-pub use ep_build::TransportStep;
-pub use ep_defrag::defrag;
 pub use ep_ext::IpAuthHeader;
 pub use ep_ext::IpAuthHeaderSlice;
 pub use ep_ext::Ipv4Extensions;
-pub use ep_ext::Ipv6ExtPlace;
+pub use ep_ext::Ipv6ExtSlot;
 pub use ep_ext::Ipv6Extensions;
 pub use ep_ext::Ipv6FragmentHeader;
 pub use ep_ext::Ipv6FragmentHeaderSlice;
@@ -77,15 +73,15 @@ pub use ep_link::LinuxSllProtocolType;
 pub use ep_link::LinuxSllSlice;
 pub use ep_packet::Addresses;
 pub use ep_packet::Class;
-pub use ep_packet::CutMessage;
+pub use ep_packet::IpFragment;
 pub use ep_packet::IpHeader;
 pub use ep_packet::IpHeaders;
 pub use ep_packet::Message;
 pub use ep_packet::NetHeaders;
 pub use ep_packet::NetSlice;
 pub use ep_packet::PacketHeaders;
-pub use ep_packet::Part;
 pub use ep_packet::PayloadSlice;
+pub use ep_packet::SlicedFragment;
 pub use ep_packet::SlicedPacket;
 pub use ep_packet::TransportHeader;
 pub use ep_packet::TransportSlice;
@@ -122,3 +118,8 @@ pub use ep_tcpudp::UdpHeader;
 pub use ep_tcpudp::UdpHeaderSlice;
 pub use ep_tcpudp::UdpSlice;
 pub use ep_tcpudp::tcp_option;
+pub use packet_builder::LastStep;
+pub use packet_builder::LinkStep;
+pub use packet_builder::PacketBuilder;
+pub use packet_builder::PacketBuilderStep;
+pub use packet_builder::TransportStep;

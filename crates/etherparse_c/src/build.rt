@@ -6,9 +6,9 @@ ghost use Rattle.etherparse_structs.specs.Plan.{bytes_in, wrong_in};
 use etherparse_structs::{EpBuilt, EpPlan, build_packet};
 use std::alloc::Global;
 
-/// Builds the packet of a plan with this payload, at the front of the output.
+/// Builds the packet of a plan with this payload, at the start of the output.
 ///
-/// The status is 0 where it is built, 1 where the output has no room for its length, 2 where there
+/// The status is 0 where it is built, 1 where the output is shorter than the packet, 2 where there
 /// is no memory, and 3 where a field of the plan, or the payload, is refused. Where it isn't 0 the
 /// output is as it was.
 #[unsafe(no_mangle)]

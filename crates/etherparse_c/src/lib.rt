@@ -1,5 +1,5 @@
-//! The calls of `etherparse` for C: bytes come as a pointer and a length, and what is told of them
-//! goes out as a struct of numbers.
+//! The calls of `etherparse` for C: bytes are passed as a pointer and a length, and results are
+//! returned as structs of numbers.
 #![tactic(auto)]
 
 mod build;

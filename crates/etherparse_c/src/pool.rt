@@ -1,7 +1,7 @@
-//! Messages that come in parts.
+//! The reassembly of datagrams from their fragments.
 ghost use Rattle.std.specs.Prelude.{◌≡◌, ◌<◌, ◌⊎◌, true, false, Option, Some, None, length};
-ghost use Rattle.etherparse.specs.defrag.OpenMessages.{IsOpenCount};
-ghost use Rattle.etherparse.specs.defrag.PoolCalls.{Lists, fault_in, no_lists, retained_from};
+ghost use Rattle.etherparse.specs.OpenReassemblies.{IsOpenCount};
+ghost use Rattle.etherparse.specs.PoolCalls.{Lists, fault_in, no_lists, retained_from};
 ghost use Rattle.etherparse.specs.packet.Class.{class_of};
 ghost use Rattle.etherparse.specs.packet.Sliced.{sliced_ethernet};
 ghost use Rattle.etherparse_structs.specs.FramePool.{IsAnswered, Kept, added, completed, kept_of};
@@ -11,7 +11,7 @@ ghost use Rattle.etherparse_structs.specs.Pool.{IsPool, Keeps};
 use etherparse_structs::{EpAdded, EpPool};
 use std::alloc::Global;
 
-/// Opens a pool with no message.
+/// Opens a pool without fragments.
 ///
 /// The result is 0 where it is open, 2 where there is no memory, and 4 where it was open before.
 /// Where it isn't 0 nothing is changed.
@@ -27,15 +27,16 @@ pub extern "C" fn ep_pool_new(alloc: Global, pool: &mut EpPool) -> u32
     pool.begin(alloc)
 }
 
-/// Takes an Ethernet II frame, which came at this time on this channel. Messages of other channels
-/// are other messages.
+/// Takes an Ethernet II frame, which came at this time on this channel. Fragments of different
+/// channels belong to different datagrams.
 ///
-/// The status is 5 where a message is complete with it: then it stands at the front of the output.
-/// It is 1 where the message has no room: then the pool keeps it until `ep_pool_take` hands it out.
-/// It is 0 where no message is complete, since the frame is no part of one, or its message waits
-/// for others. It is 2 where there is no memory for the part, and 3 where the frame or the part is
-/// refused: then all messages are as they were, but that of a part of refusal 4 is dropped. It is 4
-/// where the pool isn't open or keeps a message: then nothing is changed.
+/// The status is 5 where a message is complete with it: then the output starts with the message. It
+/// is 1 where the output is shorter than the message: then the pool keeps it until `ep_pool_take`
+/// returns it. It is 0 where no message is complete, since the frame is no fragment, or its
+/// datagram waits for others. It is 2 where there is no memory for the fragment, and 3 where the
+/// frame or the fragment is refused: then all reassemblies are as they were, but that of a fragment
+/// of refusal 4 is dropped. It is 4 where the pool isn't open or keeps a message: then nothing is
+/// changed.
 #[unsafe(no_mangle)]
 pub extern "C" fn ep_pool_add(
     alloc: Global,
@@ -58,10 +59,10 @@ pub extern "C" fn ep_pool_add(
     pool.add(alloc, frame, time, channel, output)
 }
 
-/// Hands out the message that a pool keeps.
+/// Returns the message that a pool keeps.
 ///
-/// The status is 5 where it stands at the front of the output, 1 where it has no room, and 4 where
-/// the pool isn't open or keeps none.
+/// The status is 5 where the output starts with it, 1 where the output is shorter than the message,
+/// and 4 where the pool isn't open or keeps none.
 #[unsafe(no_mangle)]
 pub extern "C" fn ep_pool_take(alloc: Global, pool: &mut EpPool, output: &mut [u8]) -> EpAdded
     requires { IsPool pool.old }
@@ -78,8 +79,8 @@ pub extern "C" fn ep_pool_take(alloc: Global, pool: &mut EpPool, output: &mut [u
     pool.take(alloc, output)
 }
 
-/// Drops the messages whose last part came before this time. The result is 0, or 4 where the pool
-/// isn't open.
+/// Drops the reassemblies whose last fragment came before this time. The result is 0, or 4 where
+/// the pool isn't open.
 #[unsafe(no_mangle)]
 pub extern "C" fn ep_pool_forget_before(alloc: Global, pool: &mut EpPool, time: u64) -> u32
     requires { IsPool pool.old }
@@ -92,7 +93,7 @@ pub extern "C" fn ep_pool_forget_before(alloc: Global, pool: &mut EpPool, time: 
     pool.forget_before(alloc, time)
 }
 
-/// How many messages are on their way, 0 where the pool isn't open. One that is complete isn't
+/// How many datagrams are not complete, 0 where the pool isn't open. A complete message isn't
 /// counted.
 #[unsafe(no_mangle)]
 pub extern "C" fn ep_pool_open(alloc: Global, pool: &mut EpPool) -> usize

@@ -4,39 +4,39 @@ ghost use Rattle.etherparse.specs.link.Ethernet.{ethernet_len};
 ghost use Rattle.etherparse.specs.link.Sll.{sll_len};
 ghost use Rattle.etherparse.specs.packet.Parts.{ArePartsOf};
 ghost use Rattle.etherparse.specs.packet.Sliced.{sliced_ethernet, sliced_ip, sliced_linux_sll};
-ghost use Rattle.etherparse_structs.specs.Packet.{told};
+ghost use Rattle.etherparse_structs.specs.Packet.{reported};
 
 use etherparse::SlicedPacket;
-use etherparse_structs::{EpPacket, told};
+use etherparse_structs::{EpPacket, reported};
 
-/// Tells the parts of an Ethernet II frame, or why it is refused.
+/// Gives the parts of an Ethernet II frame, or why it is refused.
 #[unsafe(no_mangle)]
 pub extern "C" fn ep_slice_ethernet(bytes: &[u8]) -> EpPacket
-    ensures exact { result ≡ told ethernet_len (sliced_ethernet bytes.now) }
-    // Each part is the frame from its place on.
+    ensures exact { result ≡ reported ethernet_len (sliced_ethernet bytes.now) }
+    // Each part is the frame from its offset on.
     ensures parts { IfOk (sliced_ethernet bytes.now)
         (λ packet. ArePartsOf bytes.now ethernet_len packet) }
 {
-    told(bytes, 14, SlicedPacket::from_ethernet(bytes))
+    reported(bytes, 14, SlicedPacket::from_ethernet(bytes))
 }
 
-/// Tells the parts of a packet of a Linux cooked capture, or why it is refused.
+/// Gives the parts of a packet of a Linux cooked capture, or why it is refused.
 #[unsafe(no_mangle)]
 pub extern "C" fn ep_slice_linux_sll(bytes: &[u8]) -> EpPacket
-    ensures exact { result ≡ told sll_len (sliced_linux_sll bytes.now) }
-    // Each part is the packet from its place on.
+    ensures exact { result ≡ reported sll_len (sliced_linux_sll bytes.now) }
+    // Each part is the packet from its offset on.
     ensures parts { IfOk (sliced_linux_sll bytes.now)
         (λ packet. ArePartsOf bytes.now sll_len packet) }
 {
-    told(bytes, 16, SlicedPacket::from_linux_sll(bytes))
+    reported(bytes, 16, SlicedPacket::from_linux_sll(bytes))
 }
 
-/// Tells the parts of an IP packet of either version, or why it is refused.
+/// Gives the parts of an IP packet of either version, or why it is refused.
 #[unsafe(no_mangle)]
 pub extern "C" fn ep_slice_ip(bytes: &[u8]) -> EpPacket
-    ensures exact { result ≡ told 0 (sliced_ip bytes.now) }
-    // Each part is the packet from its place on.
+    ensures exact { result ≡ reported 0 (sliced_ip bytes.now) }
+    // Each part is the packet from its offset on.
     ensures parts { IfOk (sliced_ip bytes.now) (λ packet. ArePartsOf bytes.now 0 packet) }
 {
-    told(bytes, 0, SlicedPacket::from_ip(bytes))
+    reported(bytes, 0, SlicedPacket::from_ip(bytes))
 }

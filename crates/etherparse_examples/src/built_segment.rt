@@ -4,8 +4,8 @@ use etherparse::{PacketBuilder, TcpOptionElement};
 use std::alloc::Global;
 
 /// The frame of the first segment of a connection from port 1 to port 80. Its options offer segments of 1460
-/// bytes and a window scale of 7. Lengths, numbers and checksums are the builder's.
-/// It has no contract: what the program prints is compared with what is stored.
+/// bytes and a window scale of 7. The builder sets lengths, numbers and checksums. It has no contract: what
+/// the program prints is compared with what is stored.
 pub fn first_segment(alloc: Global, sequence_number: u32) -> anyhow::Result<Vec<u8>> {
     let options = [
         TcpOptionElement::MaximumSegmentSize(1460),

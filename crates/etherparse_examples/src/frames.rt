@@ -1,6 +1,6 @@
-//! The frames and packets that the examples are shown, put together by hand from the layouts of the RFCs: Ethernet II
-//! from 02:00:00:00:00:01 to 02:00:00:00:00:02, IPv4 from 10.0.0.1 to 10.0.0.2, IPv6 from fd00::1 to fd00::2, and
-//! right checksums.
+//! The frames and packets that the examples read, put together by hand from the layouts of the RFCs: Ethernet II from
+//! 02:00:00:00:00:01 to 02:00:00:00:00:02, IPv4 from 10.0.0.1 to 10.0.0.2, IPv6 from fd00::1 to fd00::2, and right
+//! checksums.
 
 /// Ethernet II; IPv4 of 36 bytes, identification 7, 64 hops left; UDP from port 1 to port 2; the bytes 1 to 8.
 pub const UDP_OVER_IPV4: &[u8] = b"\
@@ -25,7 +25,8 @@ pub const LAST_FRAGMENT: &[u8] = b"\
     \x0a\x00\x00\x01\x0a\x00\x00\x02\
     \x01\x02\x03\x04\x05\x06\x07\x08";
 
-/// Ethernet II; IPv6 with 20 bytes behind its header, 64 hops left; TCP from port 1 to port 2, alone.
+/// Ethernet II; IPv6 with 20 bytes after its header, 64 hops left; TCP from port 1 to port 2,
+/// alone.
 pub const TCP_OVER_IPV6: &[u8] = b"\
     \x02\x00\x00\x00\x00\x02\x02\x00\x00\x00\x00\x01\x86\xdd\
     \x60\x00\x00\x00\x00\x14\x06\x40\
@@ -34,7 +35,8 @@ pub const TCP_OVER_IPV6: &[u8] = b"\
     \x00\x01\x00\x02\x00\x00\x00\x03\x00\x00\x00\x00\x50\x02\x04\x00\
     \xb1\xd8\x00\x00";
 
-/// Ethernet II to all; a VLAN tag with identifier 5; ARP: 10.0.0.1 asks for 10.0.0.2 (RFC 826).
+/// Ethernet II to all; a VLAN tag with identifier 5; ARP: 10.0.0.1 requests the address of 10.0.0.2
+/// (RFC 826).
 pub const TAGGED_ARP: &[u8] = b"\
     \xff\xff\xff\xff\xff\xff\x02\x00\x00\x00\x00\x01\x81\x00\
     \x00\x05\x08\x06\
@@ -43,9 +45,9 @@ pub const TAGGED_ARP: &[u8] = b"\
     \x00\x00\x00\x00\x00\x00\x0a\x00\x00\x02";
 
 /// IPv6; hop-by-hop options and destination options of four padding bytes each (RFC 8200, section 4.2); a
-/// fragment header of a message that is in one part, 7; a TCP segment with the options of RFC 9293, section
-/// 3.2, RFC 2018 and RFC 7323: maximum segment size 1460, selective acknowledgement permitted, timestamps 1
-/// and 0, nothing, window scale 7.
+/// fragment header, identification 7, of a datagram in one fragment; a TCP segment with the options of RFC
+/// 9293, section 3.2, RFC 2018 and RFC 7323: maximum segment size 1460, selective acknowledgement
+/// permitted, timestamps 1 and 0, nothing, window scale 7.
 pub const SYN_WITH_EXTENSIONS: &[u8] = b"\
     \x60\x00\x00\x00\x00\x40\x00\x40\
     \xfd\x00\x00\x00\x00\x00\x00\x00\x00\x00\x00\x00\x00\x00\x00\x01\

@@ -20,7 +20,7 @@ fn main(rt: HostRuntime) -> anyhow::Result<()> {
     print_built(&rt)?;
     println!(rt; "A message in fragments:")?;
     let frames = [(0, frames::LAST_FRAGMENT), (1, frames::FIRST_FRAGMENT)];
-    fragments::print_messages(&rt, rt.alloc(), &frames)?;
+    fragments::print_datagrams(&rt, rt.alloc(), &frames)?;
     Ok(())
 }
 
@@ -35,7 +35,7 @@ fn print_frames(rt: &HostRuntime) -> anyhow::Result<()> {
         frames::TCP_OVER_IPV6,
         frames::TAGGED_ARP,
     ] {
-        sliced_frame::print_parts(rt, frame)?;
+        sliced_frame::print_layers(rt, frame)?;
     }
     Ok(())
 }
@@ -43,7 +43,7 @@ fn print_frames(rt: &HostRuntime) -> anyhow::Result<()> {
 // Headers as values, and what is written of them.
 fn print_values(rt: &HostRuntime) -> anyhow::Result<()> {
     println!(rt; "Headers as values:")?;
-    if let Some(bytes) = owned_headers::handed_on(rt.alloc(), &frames::UDP_OVER_IPV4[14..])? {
+    if let Some(bytes) = owned_headers::forwarded(rt.alloc(), &frames::UDP_OVER_IPV4[14..])? {
         print_hex(rt, bytes.as_slice())?;
     }
     println!(rt; "VLAN tags and ARP:")?;

@@ -3,10 +3,10 @@
 use etherparse::{IpHeaders, NetHeaders, PacketHeaders};
 use std::alloc::Global;
 
-/// What a router hands on of an IP packet: the same with one hop less, and of IPv4 with the checksum of the
-/// new header. `None`, where no hop is left.
-/// It has no contract: what the program prints is compared with what is stored.
-pub fn handed_on(alloc: Global, packet: &[u8]) -> anyhow::Result<Option<Vec<u8>>> {
+/// What a router forwards of an IP packet: the same with one hop less, and of IPv4 with the checksum of the
+/// new header. `None`, where no hop is left. It has no contract: what the program prints is compared with
+/// what is stored.
+pub fn forwarded(alloc: Global, packet: &[u8]) -> anyhow::Result<Option<Vec<u8>>> {
     let PacketHeaders {
         net,
         transport,

@@ -6,7 +6,7 @@ use std::net::{Ipv4Addr, Ipv6Addr};
 
 /// Prints what a frame brings. The parts of the packet are views of its bytes: nothing is copied.
 /// It has no contract: what the program prints is compared with what is stored.
-pub fn print_parts(rt: &impl Print, frame: &[u8]) -> anyhow::Result<()> {
+pub fn print_layers(rt: &impl Print, frame: &[u8]) -> anyhow::Result<()> {
     let packet = SlicedPacket::from_ethernet(frame)?;
     if let Some(net) = &packet.net {
         print_net(rt, net)?;

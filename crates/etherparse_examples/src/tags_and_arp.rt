@@ -13,8 +13,8 @@ pub fn print_tags(rt: &impl Print, frame: &[u8]) -> anyhow::Result<()> {
     Ok(())
 }
 
-/// The ARP packet that answers the question in a frame, if there is one: who asks is told a hardware address.
-/// It has no contract: what the program prints is compared with what is stored.
+/// The ARP packet that answers the request in a frame, if there is one: it gives the sender a hardware
+/// address. It has no contract: what the program prints is compared with what is stored.
 pub fn reply(
     alloc: Global,
     frame: &[u8],

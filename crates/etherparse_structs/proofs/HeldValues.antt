@@ -16,7 +16,7 @@ use denote.Struct.Struct.{within}
 use denote.Struct.Owning.{shape}
 use Rattle.std.specs.contracts.impls.GlobalAllocator.TheImpl.{ghosts}
 use Rattle.std_alloc.specs.Box.Ownership.{box_owns}
-use Rattle.handles.specs.Holds.{heap, holds}
+use Rattle.c_handles.specs.Holds.{heap, holds}
 use Rattle.etherparse_structs.specs.contracts.frame_pool.FramePool.{the_row as R}
 use Rattle.etherparse_structs.specs.contracts.held.Held as held
 

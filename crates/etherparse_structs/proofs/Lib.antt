@@ -1,4 +1,4 @@
 mod HeldValues
-pub mod Places
+pub mod Offsets
 mod PlanLemmas
 mod PoolLemmas

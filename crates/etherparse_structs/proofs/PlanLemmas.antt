@@ -1,4 +1,4 @@
--- Which field of a plan is told to be at fault.
+-- Which field of a plan is reported to be at fault.
 use Rattle.std.proofs.Common.{◌≡◌, subst, Option, Some, None, MatchOption, IfSome, IsOkUnless}
 use Rattle.std.proofs.Common.{Result, Ok, Err}
 use Rattle.std.specs.Option.{option_or}
@@ -9,17 +9,17 @@ use Rattle.etherparse_structs.specs.declared.build.BuildError.TheVariants.{Field
 use Rattle.etherparse_structs.specs.declared.build.EpBuilt.{EpBuilt}
 use Rattle.etherparse_structs.specs.declared.plan.PlanField.{PlanField}
 
--- where the first headers are right, it is one behind them
-pub at_fault_behind : {A : Type 0} (front rest : Option PlanField) (x y : A) (right : Type 0)
-    (wrong : PlanField → Type 0) → unless front x ≡ Ok y → MatchOption rest right wrong
-    → MatchOption (option_or front rest) right wrong
-at_fault_behind None rest x y right wrong is told = told
-at_fault_behind (Some f) rest x y right wrong is told = absurd (cc)
+-- where the first headers are right, the fault is one after them
+pub at_fault_after : {A : Type 0} (lower_headers rest : Option PlanField) (x y : A) (right : Type 0)
+    (wrong : PlanField → Type 0) → unless lower_headers x ≡ Ok y → MatchOption rest right wrong
+    → MatchOption (option_or lower_headers rest) right wrong
+at_fault_after None rest x y right wrong is reported = reported
+at_fault_after (Some f) rest x y right wrong is reported = absurd (cc)
 
--- it is that of the error
+-- the fault is that of the error
 pub at_fault_is : (at_fault : Option PlanField) (r : Result (Unit {0}) BuildError) (f : PlanField)
     (b : EpBuilt) → MatchOption at_fault (IsOkUnless r Memory) (λ g. r ≡ Err (Field g))
     → r ≡ Err (Field f) → b ≡ refused f → IfSome at_fault (λ g. b ≡ refused g)
-at_fault_is None r f b told is same = tt
-at_fault_is (Some g) r f b told is same =
+at_fault_is None r f b reported is same = tt
+at_fault_is (Some g) r f b reported is same =
     let f_is : f ≡ g = cc in subst (λ (h : PlanField). b ≡ refused h) f_is same

@@ -1,17 +1,17 @@
--- What is known of the messages of a pool when they are taken, and when they are put back.
+-- What is known of the reassemblies of a pool when they are taken, and when they are put back.
 use Rattle.std.proofs.Common.{inl, inr, ◌≡◌, ◌∙◌, sym, ap, subst, refl, ℕ, List, Option, Some, None}
 use Rattle.std.proofs.Common.{IsSome, true, length}
 use Rattle.std.specs.Prelude.{unwrap_or}
-use Rattle.etherparse.specs.defrag.IpDefragPool.{payload_told}
-use Rattle.etherparse.specs.defrag.PoolCalls.{FrameAnswered, GoesOn, Lists, ShowsLists, Told}
-use Rattle.etherparse.specs.defrag.PoolCalls.{answer_to_frame, lists_with_frame, want_at_frame}
-use Rattle.etherparse.specs.defrag.PoolCalls.Told.{Delivered}
+use Rattle.etherparse.specs.IpDefragPool.{payload_parsed}
+use Rattle.etherparse.specs.PoolCalls.{FrameAnswered, GoesOn, Lists, ShowsLists, CallResult}
+use Rattle.etherparse.specs.PoolCalls.{answer_to_frame, lists_with_frame, memory_error_at_frame}
+use Rattle.etherparse.specs.PoolCalls.CallResult.{Delivered}
 use Rattle.etherparse.specs.packet.Class.{Class}
 use Rattle.etherparse.specs.packet.declared.addresses.Addresses.{Addresses}
 use Rattle.etherparse.specs.packet.declared.err.packet.slice_error.SliceError.{SliceError}
-use Rattle.etherparse_structs.specs.FramePool.{HasAddresses, IsAnswered, Kept, added_told}
+use Rattle.etherparse_structs.specs.FramePool.{HasAddresses, IsAnswered, Kept, call_result_of}
 use Rattle.etherparse_structs.specs.FramePool.{addresses_in, completed, completed_if, kept_after}
-use Rattle.etherparse_structs.specs.FramePool.{kept_of, kept_told, numbers_of, output_after}
+use Rattle.etherparse_structs.specs.FramePool.{kept_of, kept_of_message, numbers_of, output_after}
 use Rattle.etherparse_structs.specs.FramePool.{written}
 use Rattle.etherparse_structs.specs.Pool.{Keeps}
 use Rattle.etherparse_structs.specs.declared.added.EpAdded.{EpAdded}
@@ -24,42 +24,42 @@ use Rattle.etherparse_structs.specs.declared.pool.EpPool.{EpPool}
 same_frames : (x y : FramePool) (m : Option FramePool) → m ≡ Some x → m ≡ Some y → x ≡ y
 same_frames x y m is this = ap (λ (n : Option FramePool). unwrap_or n x) (sym is ∙ this)
 
--- the messages show these lists, and this one is kept
+-- the reassemblies show these lists, and this message is kept
 pub record Show (frames : FramePool) (lists : Lists) (kept : Option Kept) : Type 0 where
   pub shows : ShowsLists frames.pool lists
-  pub is_kept : kept_told frames.kept ≡ kept
+  pub is_kept : kept_of_message frames.kept ≡ kept
 
 pub show_of : (x y : FramePool) (lists : Lists) (kept : Option Kept) → x ≡ y → Show y lists kept
     → Show x lists kept
 show_of x y lists kept same s = subst (λ (z : FramePool). Show z lists kept) (sym same) s
 
--- those that are taken, and read as these
+-- the reassemblies that are taken, and are read as these
 pub taken_show : (p : EpPool) (x y : FramePool) (lists : Lists) (kept : Option Kept)
     → Keeps p lists kept → p.held.value ≡ Some y → x ≡ y → Show x lists kept
 taken_show p x y lists kept k held same =
     show_of x k.frames lists kept (same ∙ same_frames y k.frames p.held.value held k.held)
     (record { shows = k.shows; is_kept = k.is_kept })
 
--- those that are put back
+-- the reassemblies that are put back
 pub put_keeps : (p : EpPool) (x : FramePool) (lists : Lists) (kept : Option Kept)
     → p.held.value ≡ Some x → p.is_open ≡ true → Show x lists kept → Keeps p lists kept
 put_keeps p x lists kept held is_open s =
     record { frames = x; is_open = is_open; held = held; shows = s.shows; is_kept = s.is_kept }
 
--- one that goes on goes on to what follows from that
-goes_on : (ends after : Lists → Type 0) (old new : Lists) (told answer : Told)
-    (want : Option Told) → ((l : Lists) → ends l → after l)
-    → GoesOn ends old new answer want told → GoesOn after old new answer want told
-goes_on ends after old new told answer want then (inl is) = inl (is.0, then new is.1)
-goes_on ends after old new told answer want then (inr is) = inr (is.0, then old is.1)
+-- what goes on with one proposition goes on with one that follows from it
+goes_on : (ends after : Lists → Type 0) (old new : Lists) (reported answer : CallResult)
+    (memory_result : Option CallResult) → ((l : Lists) → ends l → after l)
+    → GoesOn ends old new answer memory_result reported → GoesOn after old new answer memory_result reported
+goes_on ends after old new reported answer memory_result then (inl is) = inl (is.0, then new is.1)
+goes_on ends after old new reported answer memory_result then (inr is) = inr (is.0, then old is.1)
 
 pub frame_goes_on : (ends after : Lists → Type 0) (lists : Lists) (class : Class)
-    (time channel : ℕ) (fault : Option SliceError) (told : Told) → ((l : Lists) → ends l → after l)
-    → FrameAnswered ends lists class time channel fault told
-    → FrameAnswered after lists class time channel fault told
-frame_goes_on ends after lists class time channel fault told then a =
-    goes_on ends after lists (lists_with_frame lists class time channel) told
-    (answer_to_frame lists class channel fault) (want_at_frame lists class channel) then a
+    (time channel : ℕ) (fault : Option SliceError) (reported : CallResult) → ((l : Lists) → ends l → after l)
+    → FrameAnswered ends lists class time channel fault reported
+    → FrameAnswered after lists class time channel fault reported
+frame_goes_on ends after lists class time channel fault reported then a =
+    goes_on ends after lists (lists_with_frame lists class time channel) reported
+    (answer_to_frame lists class channel fault) (memory_error_at_frame lists class channel) then a
 
 pub answered_then : (ends after : Lists → Option Kept → Type 0) (lists : Lists) (class : Class)
     (time channel : ℕ) (fault : Option SliceError) (old new : List ℕ) (result : EpAdded)
@@ -67,21 +67,21 @@ pub answered_then : (ends after : Lists → Option Kept → Type 0) (lists : Lis
     → IsAnswered ends lists class time channel fault old new result
     → IsAnswered after lists class time channel fault old new result
 answered_then ends after lists class time channel fault old new result then a =
-    let kept : Option Kept = kept_after (length old) (addresses_in class) a.told in
+    let kept : Option Kept = kept_after (length old) (addresses_in class) a.reported in
     record {
-      told = a.told;
+      reported = a.reported;
       answered = frame_goes_on (λ l. ends l kept) (λ l. after l kept) lists class time channel fault
-          a.told (λ l e. then l kept e) a.answered;
+          a.reported (λ l e. then l kept e) a.answered;
       numbers = a.numbers;
       output = a.output;
     }
 
--- none is kept, or one
-pub kept_none : (m : Option Completed) → kept_told m ≡ None → m ≡ None
+-- no message is kept, or one is
+pub kept_none : (m : Option Completed) → kept_of_message m ≡ None → m ≡ None
 kept_none None is = refl
 kept_none (Some x) is = absurd (cc)
 
-pub kept_some : (m : Option Completed) (kept : Kept) → kept_told m ≡ Some kept → IsSome m
+pub kept_some : (m : Option Completed) (kept : Kept) → kept_of_message m ≡ Some kept → IsSome m
 kept_some None kept is = absurd (cc)
 kept_some (Some x) kept is = refl
 
@@ -89,21 +89,21 @@ kept_some (Some x) kept is = refl
 pub none_completed : (was now : Added) (shows : Lists → Type 0) (lists : Lists) (class : Class)
     (time channel : ℕ) (fault : Option SliceError) (old new : List ℕ) (result : EpAdded)
     (kept : Option Completed) → was ≡ now
-    → FrameAnswered shows lists class time channel fault (added_told was)
-    → kept_after (length old) (addresses_in class) (added_told now) ≡ None → kept ≡ None
-    → result ≡ numbers_of (length old) (addresses_in class) (added_told now)
-    → new ≡ output_after old (added_told now)
-    → IsAnswered (λ l k. shows l × (kept_told kept ≡ k)) lists class time channel fault old new
+    → FrameAnswered shows lists class time channel fault (call_result_of was)
+    → kept_after (length old) (addresses_in class) (call_result_of now) ≡ None → kept ≡ None
+    → result ≡ numbers_of (length old) (addresses_in class) (call_result_of now)
+    → new ≡ output_after old (call_result_of now)
+    → IsAnswered (λ l k. shows l × (kept_of_message kept ≡ k)) lists class time channel fault old new
     result
 none_completed was now shows lists class time channel fault old new result kept is answered keeps
     none numbers output =
-    let told = added_told now in
-    let kept_then = kept_after (length old) (addresses_in class) told in
+    let reported = call_result_of now in
+    let kept_then = kept_after (length old) (addresses_in class) reported in
     record {
-      told = told;
-      answered = frame_goes_on shows (λ l. shows l × (kept_told kept ≡ kept_then)) lists class time
-          channel fault told (λ l s. (s, ap kept_told none ∙ sym keeps))
-          (subst (λ (a : Added). FrameAnswered shows lists class time channel fault (added_told a))
+      reported = reported;
+      answered = frame_goes_on shows (λ l. shows l × (kept_of_message kept ≡ kept_then)) lists class time
+          channel fault reported (λ l s. (s, ap kept_of_message none ∙ sym keeps))
+          (subst (λ (a : Added). FrameAnswered shows lists class time channel fault (call_result_of a))
           is answered);
       numbers = numbers;
       output = output;
@@ -113,27 +113,27 @@ none_completed was now shows lists class time channel fault old new result kept 
 pub one_completed : (was : Added) (message : Completed) (shows after : Lists → Type 0)
     (lists : Lists) (class : Class) (time channel : ℕ) (fault : Option SliceError)
     (old new : List ℕ) (result : EpAdded) (kept : Option Completed) → was ≡ made.Completed message
-    → FrameAnswered shows lists class time channel fault (added_told was)
+    → FrameAnswered shows lists class time channel fault (call_result_of was)
     → HasAddresses (addresses_in class) was
-    → result ≡ completed (length old) message.addresses (payload_told message.payload)
-    → kept_told kept ≡ kept_of (length old) (Some message.addresses) (payload_told message.payload)
-    → new ≡ written old (payload_told message.payload) → ((l : Lists) → shows l → after l)
-    → IsAnswered (λ l k. after l × (kept_told kept ≡ k)) lists class time channel fault old new
+    → result ≡ completed (length old) message.addresses (payload_parsed message.payload)
+    → kept_of_message kept ≡ kept_of (length old) (Some message.addresses) (payload_parsed message.payload)
+    → new ≡ written old (payload_parsed message.payload) → ((l : Lists) → shows l → after l)
+    → IsAnswered (λ l k. after l × (kept_of_message kept ≡ k)) lists class time channel fault old new
     result
 one_completed was message shows after lists class time channel fault old new result kept is answered
     has numbers keeps output then =
-    let payload = payload_told message.payload in
+    let payload = payload_parsed message.payload in
     let between : addresses_in class ≡ Some message.addresses =
     subst (λ (a : Added). HasAddresses (addresses_in class) a) is has in
     record {
-      told = Delivered payload;
+      reported = Delivered payload;
       answered = frame_goes_on shows (λ l. after l
-          × (kept_told kept ≡ kept_of (length old) (addresses_in class) payload)) lists class time
+          × (kept_of_message kept ≡ kept_of (length old) (addresses_in class) payload)) lists class time
           channel fault (Delivered payload) (λ l s. (
             then l s,
             keeps ∙ sym (ap (λ (o : Option Addresses). kept_of (length old) o payload) between),
           ))
-          (subst (λ (a : Added). FrameAnswered shows lists class time channel fault (added_told a))
+          (subst (λ (a : Added). FrameAnswered shows lists class time channel fault (call_result_of a))
           is answered);
       numbers = numbers
           ∙ sym (ap (λ (o : Option Addresses). completed_if (length old) o payload) between);

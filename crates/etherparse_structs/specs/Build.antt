@@ -1,7 +1,7 @@
--- What is told of a packet that was to be built.
+-- The result of building a packet.
 use Rattle.std.specs.Prelude.{ℕ, if◌then◌else◌}
-use Rattle.etherparse.specs.build.BuildWriteError.{is_memory}
-use Rattle.etherparse.specs.build.declared.err.packet.build_write_error.BuildWriteError.{BuildWriteError}
+use Rattle.etherparse.specs.BuildWriteError.{is_memory}
+use Rattle.etherparse.specs.declared.err.packet.build_write_error.BuildWriteError.{BuildWriteError}
 use Rattle.etherparse_structs.specs.Plan.{field_number, field_of}
 use Rattle.etherparse_structs.specs.declared.build.BuildError.{BuildError}
 use Rattle.etherparse_structs.specs.declared.build.BuildError.TheVariants.{Field, Memory}
@@ -12,7 +12,7 @@ use Rattle.etherparse_structs.specs.declared.plan.PlanField.{PlanField}
 abbrev pub built : (len : ℕ) → EpBuilt
 built len = record { status = 0; field = 0; len = len }
 
--- the output has no room for so many
+-- the output is shorter than the packet, which has so many bytes
 abbrev pub has_no_room : (len : ℕ) → EpBuilt
 has_no_room len = record { status = 1; field = 0; len = len }
 
@@ -24,6 +24,6 @@ not_built status field = record { status = status; field = field; len = 0 }
 abbrev pub refused : PlanField → EpBuilt
 refused f = not_built 3 (field_number f)
 
--- what an error of the builder tells
+-- the reported error by an error of the builder
 abbrev pub error_of : BuildWriteError → BuildError
 error_of e = if is_memory e then Memory else Field (field_of e)

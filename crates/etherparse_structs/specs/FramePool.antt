@@ -1,17 +1,17 @@
--- What a pool makes of a frame: what is told of it, which message is kept, and what is written.
+-- What a pool makes of a frame: what is reported of it, which message is kept, and what is written.
 use Rattle.std.specs.Prelude.{◌≡◌, ⊤, ℕ, nat_lt, if◌then◌else◌, List, ◌++◌, drop, length}
 use Rattle.std.specs.Prelude.{Option, Some, None}
 use Rattle.std.specs.Option.{option_map}
-use Rattle.etherparse.specs.defrag.IpDefragPool.{Payload, payload_told}
-use Rattle.etherparse.specs.defrag.PoolCalls.{FrameAnswered, Lists, Told}
-use Rattle.etherparse.specs.defrag.PoolCalls.Told.{Delivered, NoMemory, NotSliced, Nothing, Refused}
-use Rattle.etherparse.specs.defrag.PoolCalls.Told.{Retained}
-use Rattle.etherparse.specs.fragments.declared.defrag.ip_defrag_error.IpDefragError.{IpDefragError}
-use Rattle.etherparse.specs.fragments.declared.defrag.ip_defrag_error.IpDefragError.TheVariants.{UnalignedFragmentPayloadLen}
-use Rattle.etherparse.specs.fragments.declared.defrag.ip_defrag_error.IpDefragError.TheVariants.{SegmentTooBig}
-use Rattle.etherparse.specs.fragments.declared.defrag.ip_defrag_error.IpDefragError.TheVariants.{ConflictingEnd}
-use Rattle.etherparse.specs.fragments.declared.defrag.ip_defrag_error.IpDefragError.TheVariants.{AllocationFailure}
-use Rattle.etherparse.specs.fragments.declared.defrag.ip_defrag_error.IpDefragError.TheVariants.{OverlappingFragment}
+use Rattle.etherparse.specs.IpDefragPool.{Payload, payload_parsed}
+use Rattle.etherparse.specs.PoolCalls.{FrameAnswered, Lists, CallResult}
+use Rattle.etherparse.specs.PoolCalls.CallResult.{Delivered, NoMemory, NotSliced, Nothing, Refused}
+use Rattle.etherparse.specs.PoolCalls.CallResult.{Retained}
+use Rattle.etherparse.specs.declared.defrag.ip_defrag_error.IpDefragError.{IpDefragError}
+use Rattle.etherparse.specs.declared.defrag.ip_defrag_error.IpDefragError.TheVariants.{UnalignedFragmentPayloadLen}
+use Rattle.etherparse.specs.declared.defrag.ip_defrag_error.IpDefragError.TheVariants.{SegmentTooBig}
+use Rattle.etherparse.specs.declared.defrag.ip_defrag_error.IpDefragError.TheVariants.{ConflictingEnd}
+use Rattle.etherparse.specs.declared.defrag.ip_defrag_error.IpDefragError.TheVariants.{AllocationFailure}
+use Rattle.etherparse.specs.declared.defrag.ip_defrag_error.IpDefragError.TheVariants.{OverlappingFragment}
 use Rattle.etherparse.specs.packet.Class.{Class}
 use Rattle.etherparse.specs.packet.Class.Class.{Whole, Cut, Other, Refused as Faulty}
 use Rattle.etherparse.specs.packet.declared.addresses.Addresses.{Addresses}
@@ -24,14 +24,14 @@ use Rattle.etherparse_structs.specs.declared.frame_pool.Added.{Added}
 use Rattle.etherparse_structs.specs.declared.frame_pool.Added.TheVariants as made
 use Rattle.etherparse_structs.specs.declared.frame_pool.Completed.{Completed as Message}
 
--- what is told of a frame
-abbrev pub added_told : Added → Told
-added_told made.Nothing = Nothing
-added_told (made.Completed message) = Delivered (payload_told message.payload)
-added_told (made.Refused error) = Refused error
-added_told (made.NotSliced error) = NotSliced (Some error)
+-- what is reported of a frame
+abbrev pub call_result_of : Added → CallResult
+call_result_of made.Nothing = Nothing
+call_result_of (made.Completed message) = Delivered (payload_parsed message.payload)
+call_result_of (made.Refused error) = Refused error
+call_result_of (made.NotSliced error) = NotSliced (Some error)
 
--- the addresses between which a part of a message goes
+-- the addresses of a fragment
 abbrev pub addresses_in : Class → Option Addresses
 addresses_in (Whole addresses number bytes message) = None
 addresses_in (Cut name offset more bytes) = Some name.addresses
@@ -49,11 +49,11 @@ HasAddresses addresses (made.NotSliced error) = ⊤
 abbrev pub Kept : Type 0
 Kept = Addresses × Payload
 
-abbrev pub kept_told : Option Message → Option Kept
-kept_told None = None
-kept_told (Some message) = Some (message.addresses, payload_told message.payload)
+abbrev pub kept_of_message : Option Message → Option Kept
+kept_of_message None = None
+kept_of_message (Some message) = Some (message.addresses, payload_parsed message.payload)
 
--- the numbers that are told: of a status alone
+-- the numbers that are returned: of a status alone
 abbrev pub added : (status : ℕ) → EpAdded
 added status = record {
   status = status;
@@ -62,17 +62,17 @@ added status = record {
   message = no_message;
 }
 
--- of a message that is complete, where so many bytes have room
-abbrev pub completed : (room : ℕ) → Addresses → Payload → EpAdded
-completed room addresses p =
-    record (added (if nat_lt room (length p.bytes) then 1 else 5))
+-- of a message that is complete, where the output has so many bytes
+abbrev pub completed : (capacity : ℕ) → Addresses → Payload → EpAdded
+completed capacity addresses p =
+    record (added (if nat_lt capacity (length p.bytes) then 1 else 5))
     { message = message_of addresses p }
 
-abbrev pub completed_if : (room : ℕ) → Option Addresses → Payload → EpAdded
-completed_if room None p = added 0
-completed_if room (Some addresses) p = completed room addresses p
+abbrev pub completed_if : (capacity : ℕ) → Option Addresses → Payload → EpAdded
+completed_if capacity None p = added 0
+completed_if capacity (Some addresses) p = completed capacity addresses p
 
--- of a part that is refused, or for which there is no memory
+-- of a fragment that is refused, or for which there is no memory
 abbrev pub error_status : IpDefragError → ℕ
 error_status (UnalignedFragmentPayloadLen offset len) = 3
 error_status (SegmentTooBig offset len most) = 3
@@ -80,8 +80,8 @@ error_status (ConflictingEnd previous_end end) = 3
 error_status (AllocationFailure len) = 2
 error_status (OverlappingFragment offset len) = 3
 
-abbrev pub part_refused : IpDefragError → EpAdded
-part_refused error = record (added (error_status error)) { part = part_refusal_of error }
+abbrev pub fragment_refused : IpDefragError → EpAdded
+fragment_refused error = record (added (error_status error)) { part = part_refusal_of error }
 
 -- of a frame that is refused
 abbrev pub frame_refused : SliceError → EpAdded
@@ -92,33 +92,33 @@ frame_refused_if None = added 3
 frame_refused_if (Some error) = frame_refused error
 
 -- of a frame
-abbrev pub numbers_of : (room : ℕ) → Option Addresses → Told → EpAdded
-numbers_of room addresses Nothing = added 0
-numbers_of room addresses (Delivered p) = completed_if room addresses p
-numbers_of room addresses (Refused error) = part_refused error
-numbers_of room addresses (NotSliced error) = frame_refused_if error
-numbers_of room addresses Retained = added 0
-numbers_of room addresses NoMemory = added 2
+abbrev pub numbers_of : (capacity : ℕ) → Option Addresses → CallResult → EpAdded
+numbers_of capacity addresses Nothing = added 0
+numbers_of capacity addresses (Delivered p) = completed_if capacity addresses p
+numbers_of capacity addresses (Refused error) = fragment_refused error
+numbers_of capacity addresses (NotSliced error) = frame_refused_if error
+numbers_of capacity addresses Retained = added 0
+numbers_of capacity addresses NoMemory = added 2
 
--- the message that is kept, since it has no room
-abbrev pub kept_of : (room : ℕ) → Option Addresses → Payload → Option Kept
-kept_of room addresses p = if nat_lt room (length p.bytes)
+-- the message that is kept, since the output is too short for it
+abbrev pub kept_of : (capacity : ℕ) → Option Addresses → Payload → Option Kept
+kept_of capacity addresses p = if nat_lt capacity (length p.bytes)
     then option_map (λ a. (a, p)) addresses else None
 
-abbrev pub kept_after : (room : ℕ) → Option Addresses → Told → Option Kept
-kept_after room addresses Nothing = None
-kept_after room addresses (Delivered p) = kept_of room addresses p
-kept_after room addresses (Refused error) = None
-kept_after room addresses (NotSliced error) = None
-kept_after room addresses Retained = None
-kept_after room addresses NoMemory = None
+abbrev pub kept_after : (capacity : ℕ) → Option Addresses → CallResult → Option Kept
+kept_after capacity addresses Nothing = None
+kept_after capacity addresses (Delivered p) = kept_of capacity addresses p
+kept_after capacity addresses (Refused error) = None
+kept_after capacity addresses (NotSliced error) = None
+kept_after capacity addresses Retained = None
+kept_after capacity addresses NoMemory = None
 
--- the output: a message that has room stands at its front
+-- the output: it starts with a message that is no longer than it
 abbrev pub written : List ℕ → Payload → List ℕ
 written output p = if nat_lt (length output) (length p.bytes) then output
     else p.bytes ++ drop (length p.bytes) output
 
-abbrev pub output_after : List ℕ → Told → List ℕ
+abbrev pub output_after : List ℕ → CallResult → List ℕ
 output_after output Nothing = output
 output_after output (Delivered p) = written output p
 output_after output (Refused error) = output
@@ -127,13 +127,13 @@ output_after output Retained = output
 output_after output NoMemory = output
 
 -- a frame of this class was answered, which came at this time on this channel, by the lists of all
--- names; the lists then, and the message that is kept, are said by `ends`
+-- names; `ends` holds of the lists then and the message that is kept
 pub record IsAnswered (ends : Lists → Option Kept → Type 0) (lists : Lists) (class : Class)
     (time channel : ℕ) (fault : Option SliceError) (old new : List ℕ) (result : EpAdded)
     : Type 0 where
-  pub told : Told
+  pub reported : CallResult
   pub answered : FrameAnswered
-      (λ next. ends next (kept_after (length old) (addresses_in class) told))
-      lists class time channel fault told
-  pub numbers : result ≡ numbers_of (length old) (addresses_in class) told
-  pub output : new ≡ output_after old told
+      (λ next. ends next (kept_after (length old) (addresses_in class) reported))
+      lists class time channel fault reported
+  pub numbers : result ≡ numbers_of (length old) (addresses_in class) reported
+  pub output : new ≡ output_after old reported

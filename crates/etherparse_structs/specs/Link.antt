@@ -1,4 +1,4 @@
--- A link header and the tags behind it, as fields and numbers.
+-- A link header and the tags after it, as fields and numbers.
 use Rattle.std.specs.Prelude.{ℕ, ◌+◌, false, List, [], ◌∷◌, replicate, Option}
 use Rattle.std.specs.Prelude.{Some, None, unwrap_or}
 use Rattle.std.specs.List.{slice_get}
@@ -29,16 +29,16 @@ no_link = record {
   address = replicate 8 0;
 }
 
-abbrev pub ethernet_told : List ℕ → EpLink
-ethernet_told frame = record no_link {
+abbrev pub ethernet_struct : List ℕ → EpLink
+ethernet_struct frame = record no_link {
   kind = 1;
   protocol = (ethernet.next_type_of frame).0;
   destination = ethernet.destination_of frame;
   source = ethernet.source_of frame;
 }
 
-abbrev pub sll_told : List ℕ → EpLink
-sll_told bytes = record no_link {
+abbrev pub sll_struct : List ℕ → EpLink
+sll_struct bytes = record no_link {
   kind = 2;
   protocol = sll.number_of (sll.protocol_of (sll.hardware_type_of bytes) (num bytes 14 2));
   packet_type = sll.packet_type_of bytes;
@@ -48,12 +48,12 @@ sll_told bytes = record no_link {
 }
 
 -- Ethernet II, a Linux cooked capture, or no link header
-abbrev pub link_told : Option LinkSlice → EpLink
-link_told None = no_link
-link_told (Some (link.Ethernet2 frame)) = ethernet_told frame
-link_told (Some (link.LinuxSll bytes)) = sll_told bytes
-link_told (Some (link.EtherPayload p)) = no_link
-link_told (Some (link.LinuxSllPayload p)) = no_link
+abbrev pub link_struct : Option LinkSlice → EpLink
+link_struct None = no_link
+link_struct (Some (link.Ethernet2 frame)) = ethernet_struct frame
+link_struct (Some (link.LinuxSll bytes)) = sll_struct bytes
+link_struct (Some (link.EtherPayload p)) = no_link
+link_struct (Some (link.LinuxSllPayload p)) = no_link
 
 abbrev pub no_tag : EpTag
 no_tag = record {
@@ -74,8 +74,8 @@ no_tag = record {
   channel = 0;
 }
 
-abbrev pub vlan_told : ℕ → List ℕ → EpTag
-vlan_told place bytes = record no_tag {
+abbrev pub vlan_struct : ℕ → List ℕ → EpTag
+vlan_struct place bytes = record no_tag {
   header = record { offset = place; len = vlan.vlan_len };
   kind = 1;
   ether_type = (vlan.next_type_of bytes).0;
@@ -84,8 +84,8 @@ vlan_told place bytes = record no_tag {
   drop_eligible = vlan.drop_eligible_of bytes;
 }
 
-abbrev pub macsec_told : ℕ → List ℕ → EpTag
-macsec_told place header = record no_tag {
+abbrev pub macsec_struct : ℕ → List ℕ → EpTag
+macsec_struct place header = record no_tag {
   header = part_at place header;
   kind = 2;
   ether_type = unwrap_or (option_map (λ t. t.0) (macsec.next_type_of header)) 0;
@@ -100,20 +100,20 @@ macsec_told place header = record no_tag {
   channel = unwrap_or (macsec.sci_of header) 0;
 }
 
--- a tag at this place, if there is one
-abbrev pub tag_told : ℕ → Option LinkExtSlice → EpTag
-tag_told place None = no_tag
-tag_told place (Some (tag.Vlan bytes)) = vlan_told place bytes
-tag_told place (Some (tag.Macsec m)) = macsec_told place m.header
+-- a tag at this offset, if there is one
+abbrev pub tag_struct : ℕ → Option LinkExtSlice → EpTag
+tag_struct place None = no_tag
+tag_struct place (Some (tag.Vlan bytes)) = vlan_struct place bytes
+tag_struct place (Some (tag.Macsec m)) = macsec_struct place m.header
 
 abbrev pub len_of : Option LinkExtSlice → ℕ
 len_of None = 0
 len_of (Some t) = tag_len t
 
--- the first three tags, one behind the other, from a place on
-abbrev pub tags_told : ℕ → List LinkExtSlice → List EpTag
-tags_told place tags =
-    tag_told place (slice_get tags 0)
-    ∷ tag_told (place + len_of (slice_get tags 0)) (slice_get tags 1)
-    ∷ tag_told (place + len_of (slice_get tags 0) + len_of (slice_get tags 1)) (slice_get tags 2)
+-- the first three tags, one after the other, from an offset on
+abbrev pub tags_struct : ℕ → List LinkExtSlice → List EpTag
+tags_struct place tags =
+    tag_struct place (slice_get tags 0)
+    ∷ tag_struct (place + len_of (slice_get tags 0)) (slice_get tags 1)
+    ∷ tag_struct (place + len_of (slice_get tags 0) + len_of (slice_get tags 1)) (slice_get tags 2)
     ∷ []

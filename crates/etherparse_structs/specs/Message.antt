@@ -1,6 +1,6 @@
--- A message that was put together, as numbers.
+-- A reassembled message, as numbers.
 use Rattle.std.specs.Prelude.{length, replicate}
-use Rattle.etherparse.specs.defrag.IpDefragPool.{Payload}
+use Rattle.etherparse.specs.IpDefragPool.{Payload}
 use Rattle.etherparse.specs.packet.declared.addresses.Addresses.{Addresses}
 use Rattle.etherparse.specs.packet.declared.addresses.Addresses.TheVariants.{V4, V6}
 use Rattle.etherparse_structs.specs.declared.message.EpMessage.{EpMessage}

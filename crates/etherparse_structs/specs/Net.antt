@@ -35,9 +35,9 @@ no_ipv4 = record {
   is_part = false;
 }
 
--- an IPv4 packet at this place
-abbrev pub ipv4_told : ℕ → Ipv4Packet → EpIpv4
-ipv4_told place packet = record {
+-- an IPv4 packet at this offset
+abbrev pub ipv4_struct : ℕ → Ipv4Packet → EpIpv4
+ipv4_struct place packet = record {
   header = part_at place packet.header;
   extensions = part_at (place + length packet.header) (auth_bytes packet.auth);
   payload = part_at (place + length packet.header + length (auth_bytes packet.auth)) packet.payload;
@@ -79,15 +79,15 @@ no_ipv6 = record {
 
 -- what the first fragment header says, where there is one
 abbrev pub with_fragment : Option FragmentFields → EpIpv6 → EpIpv6
-with_fragment None told = told
-with_fragment (Some fields) told = record told {
+with_fragment None reported = reported
+with_fragment (Some fields) reported = record reported {
   has_fragment_header = true;
   identification = fields.identification;
   fragment_offset = fields.offset;
   more_fragments = fields.more;
 }
 
--- an IPv6 packet at this place, all but its fragment header
+-- an IPv6 packet at this offset, all but its fragment header
 abbrev pub ipv6_fields : ℕ → Ipv6Packet → EpIpv6
 ipv6_fields place packet = record no_ipv6 {
   header = part_at place packet.header;
@@ -105,8 +105,8 @@ ipv6_fields place packet = record no_ipv6 {
   is_part = packet.payload.fragmented;
 }
 
-abbrev pub ipv6_told : ℕ → Ipv6Packet → EpIpv6
-ipv6_told place packet = with_fragment (fragment_fields_in packet) (ipv6_fields place packet)
+abbrev pub ipv6_struct : ℕ → Ipv6Packet → EpIpv6
+ipv6_struct place packet = with_fragment (fragment_fields_in packet) (ipv6_fields place packet)
 
 abbrev pub no_arp : EpArp
 no_arp = record {
@@ -120,9 +120,9 @@ no_arp = record {
   operation = 0;
 }
 
--- an ARP packet at this place: behind 8 bytes stand the four addresses
-abbrev pub arp_told : ℕ → List ℕ → EpArp
-arp_told place packet = record {
+-- an ARP packet at this offset: the four addresses come after 8 bytes
+abbrev pub arp_struct : ℕ → List ℕ → EpArp
+arp_struct place packet = record {
   packet = part_at place packet;
   sender_hardware = record { offset = place + 8; len = arp.hw_len_of packet };
   sender_protocol = record {
@@ -143,23 +143,23 @@ arp_told place packet = record {
 }
 
 -- the packet of each kind, where it is one
-abbrev pub ipv4_in_told : ℕ → Option NetSlice → EpIpv4
-ipv4_in_told place None = no_ipv4
-ipv4_in_told place (Some (net.Ipv4 packet)) = ipv4_told place packet
-ipv4_in_told place (Some (net.Ipv6 packet)) = no_ipv4
-ipv4_in_told place (Some (net.Arp packet)) = no_ipv4
+abbrev pub ipv4_struct_in : ℕ → Option NetSlice → EpIpv4
+ipv4_struct_in place None = no_ipv4
+ipv4_struct_in place (Some (net.Ipv4 packet)) = ipv4_struct place packet
+ipv4_struct_in place (Some (net.Ipv6 packet)) = no_ipv4
+ipv4_struct_in place (Some (net.Arp packet)) = no_ipv4
 
-abbrev pub ipv6_in_told : ℕ → Option NetSlice → EpIpv6
-ipv6_in_told place None = no_ipv6
-ipv6_in_told place (Some (net.Ipv4 packet)) = no_ipv6
-ipv6_in_told place (Some (net.Ipv6 packet)) = ipv6_told place packet
-ipv6_in_told place (Some (net.Arp packet)) = no_ipv6
+abbrev pub ipv6_struct_in : ℕ → Option NetSlice → EpIpv6
+ipv6_struct_in place None = no_ipv6
+ipv6_struct_in place (Some (net.Ipv4 packet)) = no_ipv6
+ipv6_struct_in place (Some (net.Ipv6 packet)) = ipv6_struct place packet
+ipv6_struct_in place (Some (net.Arp packet)) = no_ipv6
 
-abbrev pub arp_in_told : ℕ → Option NetSlice → EpArp
-arp_in_told place None = no_arp
-arp_in_told place (Some (net.Ipv4 packet)) = no_arp
-arp_in_told place (Some (net.Ipv6 packet)) = no_arp
-arp_in_told place (Some (net.Arp packet)) = arp_told place packet
+abbrev pub arp_struct_in : ℕ → Option NetSlice → EpArp
+arp_struct_in place None = no_arp
+arp_struct_in place (Some (net.Ipv4 packet)) = no_arp
+arp_struct_in place (Some (net.Ipv6 packet)) = no_arp
+arp_struct_in place (Some (net.Arp packet)) = arp_struct place packet
 
 -- which of them it is
 abbrev pub net_number : Option NetSlice → ℕ

@@ -1,17 +1,17 @@
--- What is told of a packet: the parts that it was sliced into, as fields and numbers.
+-- The struct of a packet: the parts that it was sliced into, as fields and numbers.
 use Rattle.std.specs.Prelude.{ℕ, ◌+◌, [], ◌∷◌, length, Option, Some, None, Result, Ok, Err}
 use Rattle.etherparse.specs.packet.PacketView.{ether_payload_in}
 use Rattle.etherparse.specs.packet.Parts.{headers_len, tags_len}
 use Rattle.etherparse.specs.packet.declared.err.packet.slice_error.SliceError.{SliceError}
 use Rattle.etherparse.specs.packet.declared.sliced_packet.SlicedPacket.{SlicedPacket}
 use Rattle.etherparse.specs.tag.Ether.{EtherPayload}
-use Rattle.etherparse_structs.specs.Link.{link_told, no_link, no_tag, tags_told}
-use Rattle.etherparse_structs.specs.Net.{arp_in_told, ipv4_in_told, ipv6_in_told, net_number}
+use Rattle.etherparse_structs.specs.Link.{link_struct, no_link, no_tag, tags_struct}
+use Rattle.etherparse_structs.specs.Net.{arp_struct_in, ipv4_struct_in, ipv6_struct_in, net_number}
 use Rattle.etherparse_structs.specs.Net.{no_arp, no_ipv4, no_ipv6}
 use Rattle.etherparse_structs.specs.Part.{no_part, part_at}
 use Rattle.etherparse_structs.specs.Refusal.{no_refusal, refusal_of}
-use Rattle.etherparse_structs.specs.Transport.{icmp_in_told, no_icmp, no_tcp, no_udp, tcp_in_told}
-use Rattle.etherparse_structs.specs.Transport.{transport_number, udp_in_told}
+use Rattle.etherparse_structs.specs.Transport.{icmp_struct_in, no_icmp, no_tcp, no_udp, tcp_struct_in}
+use Rattle.etherparse_structs.specs.Transport.{transport_number, udp_struct_in}
 use Rattle.etherparse_structs.specs.declared.packet.EpPacket.{EpPacket}
 use Rattle.etherparse_structs.specs.declared.part.EpPart.{EpPart}
 
@@ -33,37 +33,37 @@ refused e = record {
   icmp = no_icmp;
 }
 
--- where the packet of the network layer stands: behind a link header of this length and the tags
-abbrev pub net_place : ℕ → SlicedPacket → ℕ
-net_place link_len packet = link_len + tags_len packet.link_exts.items
+-- the offset of the packet of the network layer: after a link header of this length and the tags
+abbrev pub net_offset : ℕ → SlicedPacket → ℕ
+net_offset link_len packet = link_len + tags_len packet.link_exts.items
 
--- where the message of the transport layer stands
-abbrev pub transport_place : ℕ → SlicedPacket → ℕ
-transport_place link_len packet = net_place link_len packet + headers_len packet.net
+-- the offset of the message of the transport layer
+abbrev pub transport_offset : ℕ → SlicedPacket → ℕ
+transport_offset link_len packet = net_offset link_len packet + headers_len packet.net
 
 abbrev pub ether_part : ℕ → Option EtherPayload → EpPart
 ether_part place None = no_part
 ether_part place (Some p) = part_at place p.payload
 
--- each layer by its own words, behind a link header of this length
-abbrev pub packet_told : ℕ → SlicedPacket → EpPacket
-packet_told link_len packet = record {
+-- each layer by its own struct, after a link header of this length
+abbrev pub packet_struct : ℕ → SlicedPacket → EpPacket
+packet_struct link_len packet = record {
   refusal = no_refusal;
-  link = link_told packet.link;
+  link = link_struct packet.link;
   tag_count = length packet.link_exts.items;
-  tags = tags_told link_len packet.link_exts.items;
-  ether_payload = ether_part (net_place link_len packet) (ether_payload_in packet);
+  tags = tags_struct link_len packet.link_exts.items;
+  ether_payload = ether_part (net_offset link_len packet) (ether_payload_in packet);
   net = net_number packet.net;
   transport = transport_number packet.transport;
-  ipv4 = ipv4_in_told (net_place link_len packet) packet.net;
-  ipv6 = ipv6_in_told (net_place link_len packet) packet.net;
-  arp = arp_in_told (net_place link_len packet) packet.net;
-  udp = udp_in_told (transport_place link_len packet) packet.transport;
-  tcp = tcp_in_told (transport_place link_len packet) packet.transport;
-  icmp = icmp_in_told (transport_place link_len packet) packet.transport;
+  ipv4 = ipv4_struct_in (net_offset link_len packet) packet.net;
+  ipv6 = ipv6_struct_in (net_offset link_len packet) packet.net;
+  arp = arp_struct_in (net_offset link_len packet) packet.net;
+  udp = udp_struct_in (transport_offset link_len packet) packet.transport;
+  tcp = tcp_struct_in (transport_offset link_len packet) packet.transport;
+  icmp = icmp_struct_in (transport_offset link_len packet) packet.transport;
 }
 
--- the parts, or the refusal
-abbrev pub told : ℕ → Result SlicedPacket SliceError → EpPacket
-told link_len (Ok packet) = packet_told link_len packet
-told link_len (Err e) = refused e
+-- the struct of a packet, or of its refusal
+abbrev pub reported : ℕ → Result SlicedPacket SliceError → EpPacket
+reported link_len (Ok packet) = packet_struct link_len packet
+reported link_len (Err e) = refused e

@@ -1,4 +1,4 @@
--- Where bytes stand.
+-- Offset and length of bytes.
 use Rattle.std.specs.Prelude.{ℕ, List, length}
 use Rattle.etherparse_structs.specs.declared.part.EpPart.{EpPart}
 

@@ -1,15 +1,15 @@
--- The packet that a plan asks for: the headers by the builder's words, and the first field that
--- asks for what no packet has.
+-- The packet that a plan describes: the headers by the builder's definitions, and the first field
+-- that describes what no packet has.
 use Rattle.std.specs.Prelude.{ℕ, ◌==◌, nat_lt, if◌then◌else◌, List, take, Option, Some, None}
 use Rattle.std.specs.Prelude.{Result, Ok, Err}
 use Rattle.std.specs.Option.{option_map, option_map_or, option_or}
-use Rattle.etherparse.specs.build.BuildWriteError.{is_icmpv6_in_ipv4}
-use Rattle.etherparse.specs.build.Built.{number_of, packet_with_number, refusal_of}
-use Rattle.etherparse.specs.build.BuiltSteps.{cooked_link_header, echo, ethernet_between, icmpv4_of}
-use Rattle.etherparse.specs.build.BuiltSteps.{icmpv6_of, ipv4_between, ipv6_between, no_headers}
-use Rattle.etherparse.specs.build.BuiltSteps.{tag_of, udp_between}
-use Rattle.etherparse.specs.build.PacketImpl.{PacketImpl}
-use Rattle.etherparse.specs.build.declared.err.packet.build_write_error.BuildWriteError.{BuildWriteError}
+use Rattle.etherparse.specs.BuildWriteError.{is_icmpv6_in_ipv4}
+use Rattle.etherparse.specs.Built.{number_of, packet_with_number, refusal_of}
+use Rattle.etherparse.specs.BuiltSteps.{cooked_link_header, echo, ethernet_between, icmpv4_of}
+use Rattle.etherparse.specs.BuiltSteps.{icmpv6_of, ipv4_between, ipv6_between, no_headers}
+use Rattle.etherparse.specs.BuiltSteps.{tag_of, udp_between}
+use Rattle.etherparse.specs.PacketImpl.{PacketImpl}
+use Rattle.etherparse.specs.declared.err.packet.build_write_error.BuildWriteError.{BuildWriteError}
 use Rattle.etherparse.specs.icmp.declared.transport.icmpv4_type.Icmpv4Type.{Icmpv4Type}
 use Rattle.etherparse.specs.icmp.declared.transport.icmpv4_type.Icmpv4Type.TheVariants as v4
 use Rattle.etherparse.specs.icmp.declared.transport.icmpv6_type.Icmpv6Type.{Icmpv6Type}
@@ -38,7 +38,7 @@ field_number field.Transport = 7
 field_number field.OptionsLen = 8
 field_number field.Payload = 9
 
--- the headers that are asked for, by kinds and numbers that are known
+-- the headers that a plan describes, where its kinds and numbers are known
 abbrev pub link_in : EpPlan → Option LinkHeader
 link_in p = if p.link == 1 then Some (ethernet_between p.source p.destination)
     else (if p.link == 2 then Some (cooked_link_header p.packet_type p.address_len p.address)
@@ -91,15 +91,15 @@ transport_in p = if p.transport == 1 then Some (icmpv4_of (icmpv4_in p))
     else (if p.transport == 58 then Some (icmpv6_of (icmpv6_in p)) else None)))
 
 -- those up to the network layer, and all of them
-abbrev pub front_in : EpPlan → PacketImpl
-front_in p = record no_headers {
+abbrev pub lower_headers_in : EpPlan → PacketImpl
+lower_headers_in p = record no_headers {
   link_header = link_in p;
   vlan_header = tags_in p;
   ip_headers = Some (ip_in p);
 }
 
 abbrev pub headers_in : EpPlan → PacketImpl
-headers_in p = record (front_in p) { transport_header = transport_in p }
+headers_in p = record (lower_headers_in p) { transport_header = transport_in p }
 
 -- the number that the IP header names last: that of the transport header, or of the payload
 abbrev pub last_number : EpPlan → ℕ
@@ -118,7 +118,7 @@ wrong_link p = if p.link == 0 then None else (if p.link == 1 then None
     else (if p.link == 2 then (if nat_lt 4 p.packet_type then Some field.PacketType else None)
     else Some field.Link))
 
--- tags stand behind an Ethernet II header alone
+-- tags come after an Ethernet II header alone
 abbrev pub wrong_tags : EpPlan → Option PlanField
 wrong_tags p = if p.tag_count == 0 then None else (if p.link == 1
     then (if p.tag_count == 1 then wrong_id p.outer_vlan_id field.OuterVlanId
@@ -138,17 +138,17 @@ wrong_transport p = if p.transport == 0 then None else (if p.transport == 1 then
     else (if p.transport == 6 then wrong_options p else (if p.transport == 17 then None
     else (if p.transport == 58 then None else Some field.Transport))))
 
-abbrev pub wrong_front : EpPlan → Option PlanField
-wrong_front p = option_or (wrong_link p) (option_or (wrong_tags p) (wrong_ip p))
+abbrev pub wrong_lower_headers : EpPlan → Option PlanField
+wrong_lower_headers p = option_or (wrong_link p) (option_or (wrong_tags p) (wrong_ip p))
 
 -- what the builder refuses: ICMPv6 over IPv4, or the length of the payload
 abbrev pub field_of : BuildWriteError → PlanField
 field_of e = if is_icmpv6_in_ipv4 e then field.Transport else field.Payload
 
--- the first field at fault with a payload of so many bytes: one that asks for no header, or else
--- one that the builder refuses
+-- the first field at fault with a payload of so many bytes: one that names no header, or else one
+-- that the builder refuses
 abbrev pub wrong_in : EpPlan → ℕ → Option PlanField
-wrong_in p len = option_or (wrong_front p) (option_or (wrong_transport p)
+wrong_in p len = option_or (wrong_lower_headers p) (option_or (wrong_transport p)
     (option_map field_of (refusal_of (headers_in p) len)))
 
 -- a value, unless a field is at fault

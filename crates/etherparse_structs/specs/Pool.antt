@@ -1,11 +1,11 @@
 -- A pool as C holds it.
 use Rattle.std.specs.Prelude.{◌≡◌, true, Option, Some}
-use Rattle.etherparse.specs.defrag.PoolCalls.{Lists, ShowsLists}
-use Rattle.etherparse_structs.specs.FramePool.{Kept, kept_told}
+use Rattle.etherparse.specs.PoolCalls.{Lists, ShowsLists}
+use Rattle.etherparse_structs.specs.FramePool.{Kept, kept_of_message}
 use Rattle.etherparse_structs.specs.declared.frame_pool.FramePool.{FramePool}
 use Rattle.etherparse_structs.specs.declared.pool.EpPool.{EpPool}
 
--- one that is open has messages
+-- one that is open has reassemblies
 abbrev pub IsPool : EpPool → Type 0
 IsPool p = p.is_open ≡ true → (frames : FramePool) × (p.held.value ≡ Some frames)
 
@@ -15,4 +15,4 @@ pub record Keeps (p : EpPool) (lists : Lists) (kept : Option Kept) : Type 0 wher
   pub is_open : p.is_open ≡ true
   pub held : p.held.value ≡ Some frames
   pub shows : ShowsLists frames.pool lists
-  pub is_kept : kept_told frames.kept ≡ kept
+  pub is_kept : kept_of_message frames.kept ≡ kept

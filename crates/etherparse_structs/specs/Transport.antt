@@ -14,7 +14,7 @@ use Rattle.etherparse_structs.specs.declared.transport.EpIcmp.{EpIcmp}
 use Rattle.etherparse_structs.specs.declared.transport.EpTcp.{EpTcp}
 use Rattle.etherparse_structs.specs.declared.transport.EpUdp.{EpUdp}
 
--- a header of this length at a place, and what follows it
+-- a header of this length at an offset, and what follows it
 abbrev pub header_part : (place len : ℕ) → EpPart
 header_part place len = record { offset = place; len = len }
 
@@ -31,9 +31,9 @@ no_udp = record {
   checksum = 0;
 }
 
--- a UDP datagram at this place
-abbrev pub udp_told : ℕ → List ℕ → EpUdp
-udp_told place message = record {
+-- a UDP datagram at this offset
+abbrev pub udp_struct : ℕ → List ℕ → EpUdp
+udp_struct place message = record {
   header = header_part place 8;
   payload = payload_part place 8 message;
   source_port = udp.source_port_of message;
@@ -64,9 +64,9 @@ no_tcp = record {
   cwr = false;
 }
 
--- a TCP segment at this place
-abbrev pub tcp_told : ℕ → List ℕ → EpTcp
-tcp_told place message = record {
+-- a TCP segment at this offset
+abbrev pub tcp_struct : ℕ → List ℕ → EpTcp
+tcp_struct place message = record {
   header = header_part place (4 * tcp.data_offset_of message);
   payload = payload_part place (4 * tcp.data_offset_of message) message;
   sequence_number = tcp.sequence_number_of message;
@@ -97,9 +97,9 @@ no_icmp = record {
   rest = replicate 4 0;
 }
 
--- an ICMP message of either version at this place, with a header of this length
-abbrev pub icmp_told : (place len : ℕ) → List ℕ → EpIcmp
-icmp_told place len message = record {
+-- an ICMP message of either version at this offset, with a header of this length
+abbrev pub icmp_struct : (place len : ℕ) → List ℕ → EpIcmp
+icmp_struct place len message = record {
   header = header_part place len;
   payload = payload_part place len message;
   checksum = num message 2 2;
@@ -109,27 +109,27 @@ icmp_told place len message = record {
 }
 
 -- the message of each kind, where it is one
-abbrev pub udp_in_told : ℕ → Option TransportSlice → EpUdp
-udp_in_told place None = no_udp
-udp_in_told place (Some (transport.Udp m)) = udp_told place m
-udp_in_told place (Some (transport.Tcp m)) = no_udp
-udp_in_told place (Some (transport.Icmpv4 m)) = no_udp
-udp_in_told place (Some (transport.Icmpv6 m)) = no_udp
+abbrev pub udp_struct_in : ℕ → Option TransportSlice → EpUdp
+udp_struct_in place None = no_udp
+udp_struct_in place (Some (transport.Udp m)) = udp_struct place m
+udp_struct_in place (Some (transport.Tcp m)) = no_udp
+udp_struct_in place (Some (transport.Icmpv4 m)) = no_udp
+udp_struct_in place (Some (transport.Icmpv6 m)) = no_udp
 
-abbrev pub tcp_in_told : ℕ → Option TransportSlice → EpTcp
-tcp_in_told place None = no_tcp
-tcp_in_told place (Some (transport.Udp m)) = no_tcp
-tcp_in_told place (Some (transport.Tcp m)) = tcp_told place m
-tcp_in_told place (Some (transport.Icmpv4 m)) = no_tcp
-tcp_in_told place (Some (transport.Icmpv6 m)) = no_tcp
+abbrev pub tcp_struct_in : ℕ → Option TransportSlice → EpTcp
+tcp_struct_in place None = no_tcp
+tcp_struct_in place (Some (transport.Udp m)) = no_tcp
+tcp_struct_in place (Some (transport.Tcp m)) = tcp_struct place m
+tcp_struct_in place (Some (transport.Icmpv4 m)) = no_tcp
+tcp_struct_in place (Some (transport.Icmpv6 m)) = no_tcp
 
-abbrev pub icmp_in_told : ℕ → Option TransportSlice → EpIcmp
-icmp_in_told place None = no_icmp
-icmp_in_told place (Some (transport.Udp m)) = no_icmp
-icmp_in_told place (Some (transport.Tcp m)) = no_icmp
-icmp_in_told place (Some (transport.Icmpv4 m)) =
-    icmp_told place (icmpv4.header_len (icmpv4.type_of m)) m
-icmp_in_told place (Some (transport.Icmpv6 m)) = icmp_told place 8 m
+abbrev pub icmp_struct_in : ℕ → Option TransportSlice → EpIcmp
+icmp_struct_in place None = no_icmp
+icmp_struct_in place (Some (transport.Udp m)) = no_icmp
+icmp_struct_in place (Some (transport.Tcp m)) = no_icmp
+icmp_struct_in place (Some (transport.Icmpv4 m)) =
+    icmp_struct place (icmpv4.header_len (icmpv4.type_of m)) m
+icmp_struct_in place (Some (transport.Icmpv6 m)) = icmp_struct place 8 m
 
 -- how many bytes it has
 abbrev pub message_len : Option TransportSlice → ℕ

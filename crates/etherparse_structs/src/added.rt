@@ -1,7 +1,7 @@
 //! What became of a frame that a pool was given, as numbers.
 ghost use Rattle.std.specs.Prelude.{◌≡◌};
 ghost use Rattle.etherparse_structs.specs.FramePool.{added, error_status, frame_refused};
-ghost use Rattle.etherparse_structs.specs.FramePool.{part_refused};
+ghost use Rattle.etherparse_structs.specs.FramePool.{fragment_refused};
 
 use crate::message::no_message;
 use crate::part_refusal::{no_part_refusal, part_refusal_of};
@@ -14,12 +14,12 @@ use etherparse::err::packet::SliceError;
 #[repr(C)]
 #[derive(Drop)]
 pub struct EpAdded {
-    /// 5 where a message is complete and written, 1 where it is complete and has no room, and 0
-    /// where none is complete; 2 out of memory, 3 refused, 4 in a wrong state.
+    /// 5 where a message is complete and written, 1 where it is complete and the output is too
+    /// short for it, and 0 where none is complete; 2 out of memory, 3 refused, 4 in a wrong state.
     pub status: u32,
     /// Why the frame is refused.
     pub refusal: EpRefusal,
-    /// Why the part of a message that the frame has is refused.
+    /// Why the fragment in the frame is refused.
     pub part: EpPartRefusal,
     /// The message that is complete.
     pub message: EpMessage,
@@ -37,8 +37,8 @@ impl EpAdded {
         }
     }
 
-    pub(crate) fn part_refused(error: &IpDefragError) -> EpAdded
-        ensures { result ≡ part_refused error.now }
+    pub(crate) fn fragment_refused(error: &IpDefragError) -> EpAdded
+        ensures { result ≡ fragment_refused error.now }
     {
         EpAdded {
             part: part_refusal_of(error),

@@ -2,29 +2,29 @@
 ghost use Rattle.std.specs.Prelude.{◌≡◌, ◌≤◌, ◌<◌, ◌++◌, [], length, drop, IfSome, None, Err};
 ghost use Rattle.std.specs.Prelude.{IsOkUnless, MatchOption, MatchResult, Ok, OnOk};
 ghost use Rattle.std.specs.Option.{option_map, option_or};
-ghost use Rattle.etherparse.specs.build.Built.{number_in, packet_with_number, refusal_of};
+ghost use Rattle.etherparse.specs.Built.{number_in, packet_with_number, refusal_of};
 ghost use Rattle.etherparse_structs.specs.Build.{built, error_of, has_no_room, not_built, refused};
-ghost use Rattle.etherparse_structs.specs.Plan.{bytes_in, field_of, front_in, headers_in, wrong_in};
+ghost use Rattle.etherparse_structs.specs.Plan.{bytes_in, field_of, lower_headers_in, headers_in, wrong_in};
 ghost use Rattle.etherparse_structs.specs.Plan.{wrong_transport};
 ghost use Rattle.etherparse_structs.specs.declared.build.BuildError.TheVariants.{Field, Memory};
 
 use crate::plan::{EpPlan, PlanField, field_number};
-use crate::planned::{front, icmpv4, icmpv6, tcp};
+use crate::planned::{icmpv4, icmpv6, lower_headers, tcp};
 use crate::{DONE, NO_MEMORY, NO_ROOM, REFUSED};
 use etherparse::err::packet::BuildWriteError;
 use etherparse::{IpHeaders, IpNumber, PacketBuilderStep, TransportStep};
 use std::alloc::Global;
 
-/// What became of a packet that was to be built.
+/// The result of building a packet.
 #[repr(C)]
 #[derive(Drop)]
 pub struct EpBuilt {
-    /// 0 where it is built, 1 where the output has no room for its length, 2 where there is no memory,
-    /// 3 where a field of the plan, or the payload, is refused.
+    /// 0 where it is built, 1 where the output is shorter than the packet, 2 where there is no
+    /// memory, 3 where a field of the plan, or the payload, is refused.
     pub status: u32,
     /// The first field of the plan at fault, where it is refused, else 0.
     pub field: u32,
-    /// The length of the packet, where it is built or has no room, else 0.
+    /// The length of the packet, where it is built or the output is too short, else 0.
     pub len: usize,
 }
 
@@ -34,8 +34,8 @@ pub(crate) enum BuildError {
     Field(PlanField),
 }
 
-/// Builds the packet of a plan with this payload, at the front of the output. Where the status isn't
-/// 0 the output is as it was.
+/// Builds the packet of a plan with this payload, at the start of the output. Where the status
+/// isn't 0 the output is as it was.
 pub fn build_packet(alloc: Global, plan: &EpPlan, payload: &[u8], output: &mut [u8]) -> EpBuilt
     ensures refused { IfSome (wrong_in plan.now (length payload.now))
         (λ field. result ≡ refused field) }
@@ -50,7 +50,7 @@ pub fn build_packet(alloc: Global, plan: &EpPlan, payload: &[u8], output: &mut [
 {
     let mut packet = Vec::new(alloc);
     match append(plan, payload, &mut packet) {
-        Ok(()) => hand_out(packet.as_slice(), output),
+        Ok(()) => copy_out(packet.as_slice(), output),
         Err(BuildError::Memory) => not_built(NO_MEMORY, 0),
         Err(BuildError::Field(field)) => not_built(REFUSED, field_number(field)),
     }
@@ -66,8 +66,8 @@ fn not_built(status: u32, field: u32) -> EpBuilt
     }
 }
 
-// Copies the packet to the front of the output, where it has room.
-fn hand_out(packet: &[u8], output: &mut [u8]) -> EpBuilt
+// Copies the packet to the start of the output, unless that is too short.
+fn copy_out(packet: &[u8], output: &mut [u8]) -> EpBuilt
     ensures codes { result.status ≤ 1 }
     ensures built { result.status ≡ 0 → (result ≡ built (length packet.now))
         × (output.new ≡ packet.now ++ drop (length packet.now) output.old) }
@@ -95,20 +95,20 @@ fn append(plan: &EpPlan, payload: &[u8], packet: &mut Vec<u8>) -> Result<(), Bui
     ensures bytes { OnOk result
         (packet.new.items ≡ packet.old.items ++ bytes_in plan.now payload.now) }
 {
-    match front(plan) {
-        Ok(step) => append_behind(step, plan, payload, packet),
+    match lower_headers(plan) {
+        Ok(step) => append_rest(step, plan, payload, packet),
         Err(field) => Err(BuildError::Field(field)),
     }
 }
 
 // Appends the packet of a plan whose headers up to that of the network layer are chosen.
-fn append_behind(
+fn append_rest(
     step: PacketBuilderStep<IpHeaders>,
     plan: &EpPlan,
     payload: &[u8],
     packet: &mut Vec<u8>,
 ) -> Result<(), BuildError>
-    requires { step ≡ front_in plan.now }
+    requires { step ≡ lower_headers_in plan.now }
     ensures refused { MatchOption (option_or (wrong_transport plan.now)
         (option_map field_of (refusal_of (headers_in plan.now) (length payload.now))))
         (IsOkUnless result Memory) (λ field. result ≡ Err (Field field)) }

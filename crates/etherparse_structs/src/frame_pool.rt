@@ -1,34 +1,34 @@
-//! A pool of messages that are on their way, and one that is complete.
+//! A pool of reassemblies, and one message that is complete.
 ghost use Rattle.std.specs.Prelude.{◌≡◌, Option, Some, None, IsSome, length};
-ghost use Rattle.etherparse.specs.defrag.IpDefragPool.{payload_told};
-ghost use Rattle.etherparse.specs.defrag.PoolCalls.{FrameAnswered, Lists, ShowsLists, fault_in};
-ghost use Rattle.etherparse.specs.defrag.OpenMessages.{IsOpenCount};
-ghost use Rattle.etherparse.specs.defrag.PoolCalls.{retained_from, told_outcome};
+ghost use Rattle.etherparse.specs.IpDefragPool.{payload_parsed};
+ghost use Rattle.etherparse.specs.PoolCalls.{FrameAnswered, Lists, ShowsLists, fault_in};
+ghost use Rattle.etherparse.specs.OpenReassemblies.{IsOpenCount};
+ghost use Rattle.etherparse.specs.PoolCalls.{retained_from, as_call_result};
 ghost use Rattle.etherparse.specs.packet.Class.{IdentificationFits, as_class, class_of};
-ghost use Rattle.etherparse.specs.packet.Class.{packet_told};
+ghost use Rattle.etherparse.specs.packet.Class.{packet_parsed};
 ghost use Rattle.etherparse.specs.packet.Class.Class.{Refused as Faulty};
 ghost use Rattle.etherparse.specs.packet.Sliced.{sliced_ethernet};
 ghost use Rattle.etherparse.specs.packet.declared.class.Class.TheVariants as class;
 ghost use Rattle.etherparse.specs.packet.declared.err.packet.slice_error.SliceError.{SliceError as Fault};
 ghost use Rattle.etherparse_structs.specs.FramePool.{HasAddresses, IsAnswered, Kept, added};
-ghost use Rattle.etherparse_structs.specs.FramePool.{added_told, addresses_in, completed, kept_of};
-ghost use Rattle.etherparse_structs.specs.FramePool.{kept_told, written};
+ghost use Rattle.etherparse_structs.specs.FramePool.{call_result_of, addresses_in, completed, kept_of};
+ghost use Rattle.etherparse_structs.specs.FramePool.{kept_of_message, written};
 
 use crate::message::message_of;
 use crate::{COMPLETED, DONE, EpAdded, NO_ROOM, WRONG_STATE};
 use etherparse::defrag::{IpDefragError, IpDefragPayloadVec, IpDefragPool};
 use etherparse::err::packet::SliceError;
-use etherparse::laws::defrag::streams::{
-    open_messages_are_counted, packets_are_answered, spare_buffers_show_nothing,
+use etherparse::laws::defrag::reassemblies::{
+    open_reassemblies_are_counted, packets_are_answered, spare_buffers_show_nothing,
 };
-use etherparse::{Addresses, Class, CutMessage, SlicedPacket};
+use etherparse::{Addresses, Class, IpFragment, SlicedPacket};
 
-/// The messages that are on their way, and one that is complete and wasn't handed out.
+/// The reassemblies, and one message that is complete and wasn't returned.
 #[derive(Drop)]
 pub struct FramePool {
-    /// The messages that are on their way.
+    /// The reassemblies.
     pub pool: IpDefragPool<u64, u32>,
-    /// The one that is complete.
+    /// The message that is complete.
     pub kept: Option<Completed>,
 }
 
@@ -44,11 +44,11 @@ pub struct Completed {
 /// What became of a frame.
 #[derive(Drop)]
 pub enum Added {
-    /// It is no part of a message, or its message waits for others.
+    /// It is no fragment, or its datagram waits for others.
     Nothing,
-    /// It is the last part of this message that was missing.
+    /// It is the last fragment of this message that was missing.
     Completed(Completed),
-    /// It is a part that is refused.
+    /// It is a fragment that is refused.
     Refused(IpDefragError),
     /// It is refused.
     NotSliced(SliceError),
@@ -56,7 +56,8 @@ pub enum Added {
 
 impl FramePool {
     /// Takes an Ethernet II frame, which came at this time on this channel, and writes the message
-    /// that is complete with it, if there is room. While one is kept, no frame is taken.
+    /// that is complete with it, unless the output is too short. While a message is kept, no frame
+    /// is taken.
     pub(crate) fn take_frame(
         &mut self,
         frame: &[u8],
@@ -66,7 +67,7 @@ impl FramePool {
     ) -> EpAdded
         ensures answered { self.old.kept ≡ None → (lists : Lists) → ShowsLists self.old.pool lists
             → IsAnswered
-            (λ next kept. ShowsLists self.new.pool next × (kept_told self.new.kept ≡ kept)) lists
+            (λ next kept. ShowsLists self.new.pool next × (kept_of_message self.new.kept ≡ kept)) lists
             (class_of frame.now) time channel (fault_in (sliced_ethernet frame.now))
             output.old output.new result }
         ensures keeps { IsSome self.old.kept
@@ -77,16 +78,16 @@ impl FramePool {
         }
         match add(&mut self.pool, frame, time, channel) {
             Added::Nothing => EpAdded::of(DONE),
-            Added::Completed(message) => self.hand_out(message, output),
-            Added::Refused(error) => EpAdded::part_refused(&error),
+            Added::Completed(message) => self.copy_out(message, output),
+            Added::Refused(error) => EpAdded::fragment_refused(&error),
             Added::NotSliced(error) => EpAdded::frame_refused(error),
         }
     }
 
-    /// Writes the message that is kept, if there is room.
+    /// Writes the message that is kept, unless the output is too short.
     pub(crate) fn take_kept(&mut self, output: &mut [u8]) -> EpAdded
-        ensures taken { (kept : Kept) → kept_told self.old.kept ≡ Some kept
-            → (kept_told self.new.kept ≡ kept_of (length output.old) (Some kept.0) kept.1)
+        ensures taken { (kept : Kept) → kept_of_message self.old.kept ≡ Some kept
+            → (kept_of_message self.new.kept ≡ kept_of (length output.old) (Some kept.0) kept.1)
             × (result ≡ completed (length output.old) kept.0 kept.1)
             × (output.new ≡ written output.old kept.1) }
         ensures none { self.old.kept ≡ None
@@ -95,55 +96,55 @@ impl FramePool {
             → ShowsLists self.new.pool lists }
     {
         match self.kept.take() {
-            Some(message) => self.hand_out(message, output),
+            Some(message) => self.copy_out(message, output),
             None => EpAdded::of(WRONG_STATE),
         }
     }
 
-    /// Drops the messages whose last part came before this time.
+    /// Drops the reassemblies whose last fragment came before this time.
     pub(crate) fn forget_before(&mut self, time: u64)
         ensures lists { (lists : Lists) → ShowsLists self.old.pool lists
             → ShowsLists self.new.pool (λ name channel. retained_from time (lists name channel)) }
         ensures kept { self.new.kept ≡ self.old.kept }
     {
-        // To drop messages takes no memory.
+        // To drop reassemblies takes no memory.
         let _ = self.pool.retain(|last: &u64| *last >= time);
     }
 
-    /// How many messages are on their way.
+    /// How many datagrams are not complete.
     pub(crate) fn open_len(&self) -> usize
         ensures { (lists : Lists) → ShowsLists self.now.pool lists → IsOpenCount lists result }
     {
-        open_messages_are_counted();
+        open_reassemblies_are_counted();
         self.pool.open_len()
     }
 
-    // Writes a message that is complete, if there is room, and else keeps it.
-    fn hand_out(&mut self, message: Completed, output: &mut [u8]) -> EpAdded
+    // Writes a message that is complete, or keeps it where the output is too short.
+    fn copy_out(&mut self, message: Completed, output: &mut [u8]) -> EpAdded
         requires { self.old.kept ≡ None }
-        ensures told { result ≡ completed (length output.old) message.addresses
-            (payload_told message.payload) }
-        ensures kept { kept_told self.new.kept ≡ kept_of (length output.old)
-            (Some message.addresses) (payload_told message.payload) }
-        ensures output { output.new ≡ written output.old (payload_told message.payload) }
+        ensures reported { result ≡ completed (length output.old) message.addresses
+            (payload_parsed message.payload) }
+        ensures kept { kept_of_message self.new.kept ≡ kept_of (length output.old)
+            (Some message.addresses) (payload_parsed message.payload) }
+        ensures output { output.new ≡ written output.old (payload_parsed message.payload) }
         ensures lists { (lists : Lists) → ShowsLists self.old.pool lists
             → ShowsLists self.new.pool lists }
     {
         spare_buffers_show_nothing();
-        let told = message_of(&message.addresses, &message.payload);
+        let reported = message_of(&message.addresses, &message.payload);
         let len = message.payload.payload.len();
         if output.len() < len {
             self.kept = Some(message);
             return EpAdded {
-                message: told,
+                message: reported,
                 ..EpAdded::of(NO_ROOM)
             };
         }
         output[..len].copy_from_slice(message.payload.payload.as_slice());
-        // A buffer for which no place is found is dropped.
+        // A buffer for which there is no free slot is dropped.
         drop(self.pool.return_buf(message.payload));
         EpAdded {
-            message: told,
+            message: reported,
             ..EpAdded::of(COMPLETED)
         }
     }
@@ -151,9 +152,9 @@ impl FramePool {
 
 // Takes an Ethernet II frame, which came at this time on this channel.
 fn add(pool: &mut IpDefragPool<u64, u32>, frame: &[u8], time: u64, channel: u32) -> Added
-    ensures told { (lists : Lists) → ShowsLists pool.old lists
+    ensures reported { (lists : Lists) → ShowsLists pool.old lists
         → FrameAnswered (ShowsLists pool.new) lists (class_of frame.now) time channel
-        (fault_in (sliced_ethernet frame.now)) (added_told result) }
+        (fault_in (sliced_ethernet frame.now)) (call_result_of result) }
     ensures addresses { HasAddresses (addresses_in (class_of frame.now)) result }
 {
     match SlicedPacket::from_ethernet(frame) {
@@ -168,43 +169,43 @@ fn add_packet(
     time: u64,
     channel: u32,
 ) -> Added
-    requires { packet_told packet.now ≡ Faulty → ⊥ }
-    ensures told { (fault : Option Fault) (lists : Lists) → ShowsLists pool.old lists
-        → FrameAnswered (ShowsLists pool.new) lists (packet_told packet.now) time channel fault
-        (added_told result) }
-    ensures addresses { HasAddresses (addresses_in (packet_told packet.now)) result }
+    requires { packet_parsed packet.now ≡ Faulty → ⊥ }
+    ensures reported { (fault : Option Fault) (lists : Lists) → ShowsLists pool.old lists
+        → FrameAnswered (ShowsLists pool.new) lists (packet_parsed packet.now) time channel fault
+        (call_result_of result) }
+    ensures addresses { HasAddresses (addresses_in (packet_parsed packet.now)) result }
 {
     match packet.class() {
-        Class::Cut(message) => add_part(pool, message, time, channel),
+        Class::Cut(message) => add_fragment(pool, message, time, channel),
         Class::Whole(_) => Added::Nothing,
         Class::Other => Added::Nothing,
         Class::Refused => Added::Nothing,
     }
 }
 
-fn add_part(
+fn add_fragment(
     pool: &mut IpDefragPool<u64, u32>,
-    message: CutMessage<'_>,
+    message: IpFragment<'_>,
     time: u64,
     channel: u32,
 ) -> Added
     requires { IdentificationFits message.addresses message.identification }
-    ensures told { (fault : Option Fault) (lists : Lists) → ShowsLists pool.old lists
+    ensures reported { (fault : Option Fault) (lists : Lists) → ShowsLists pool.old lists
         → FrameAnswered (ShowsLists pool.new) lists (as_class (class.Cut message.entry)) time
-        channel fault (added_told result) }
+        channel fault (call_result_of result) }
     ensures addresses { HasAddresses (Some message.entry.addresses) result }
 {
     packets_are_answered();
     let addresses = message.addresses;
-    outcome_of(addresses, pool.process_cut_message(message, time, channel))
+    outcome_of(addresses, pool.process_fragment(message, time, channel))
 }
 
-// What became of a part of a message between these addresses.
+// What became of a fragment between these addresses.
 fn outcome_of(
     addresses: Addresses,
     outcome: Result<Option<IpDefragPayloadVec>, IpDefragError>,
 ) -> Added
-    ensures told { added_told result ≡ told_outcome outcome }
+    ensures reported { call_result_of result ≡ as_call_result outcome }
     ensures addresses { HasAddresses (Some addresses) result }
 {
     match outcome {

@@ -1,12 +1,12 @@
 //! A pool, held by C as a pointer.
 ghost use Rattle.std.specs.Prelude.{◌≡◌, Option, Some, None, IsSome};
 ghost use Rattle.std.specs.Coded.{coded_option};
-ghost use Rattle.handles.specs.Holds.{holds};
+ghost use Rattle.c_handles.specs.Holds.{holds};
 ghost use Rattle.etherparse_structs.specs.declared.frame_pool.FramePool.{FramePool as Value};
 ghost use Rattle.etherparse_structs.specs.contracts.frame_pool.FramePool.{the_row as row};
 
 use crate::frame_pool::FramePool;
-use handles::Loose;
+use c_handles::Loose;
 use std::alloc::Global;
 use std::marker::Model;
 use std::ptr::null_mut;

@@ -1,5 +1,5 @@
-//! The definitions at values from outside, worked out by hand from the C header and the standards,
-//! so that a definition can't change with the code.
+//! The definitions at literal values, worked out from the C header and the standards, so that a
+//! definition can't change with the code.
 
 pub mod headers;
 pub mod numbers;

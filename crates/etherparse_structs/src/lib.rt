@@ -1,5 +1,5 @@
 //! What the calls of `etherparse` for C take and give, as structs of numbers: packets, verdicts,
-//! plans, and messages that come in parts.
+//! plans, and pools that reassemble datagrams.
 #![tactic(auto)]
 
 mod added;
@@ -26,7 +26,7 @@ pub use held::Held;
 pub use link::{EpLink, EpTag};
 pub use message::EpMessage;
 pub use net::{EpArp, EpIpv4, EpIpv6};
-pub use packet::{EpPacket, told};
+pub use packet::{EpPacket, reported};
 pub use part::EpPart;
 pub use part_refusal::EpPartRefusal;
 pub use plan::EpPlan;
@@ -38,16 +38,16 @@ pub use verdict::verdict_on;
 /// It is done, or there was nothing to do.
 pub const DONE: u32 = 0;
 
-/// The output has no room.
+/// The output is too short.
 pub const NO_ROOM: u32 = 1;
 
 /// Out of memory.
 pub const NO_MEMORY: u32 = 2;
 
-/// A field is refused.
+/// A packet, a fragment, a field of a plan or a payload is refused.
 pub const REFUSED: u32 = 3;
 
-/// It isn't open, or is open already, or keeps a message.
+/// The pool isn't open, or is open already, or keeps a message.
 pub const WRONG_STATE: u32 = 4;
 
 /// A message is complete.

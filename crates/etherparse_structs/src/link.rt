@@ -1,8 +1,8 @@
-//! A link header and the tags behind it, as fields and numbers.
+//! A link header and the tags after it, as fields and numbers.
 ghost use Rattle.std.specs.Prelude.{◌≡◌, ◌≤◌};
 ghost use Rattle.std.specs.List.{slice_get};
-ghost use Rattle.etherparse_structs.specs.Link.{ethernet_told, len_of, link_told, macsec_told};
-ghost use Rattle.etherparse_structs.specs.Link.{no_link, no_tag, sll_told, tag_told, vlan_told};
+ghost use Rattle.etherparse_structs.specs.Link.{ethernet_struct, len_of, link_struct, macsec_struct};
+ghost use Rattle.etherparse_structs.specs.Link.{no_link, no_tag, sll_struct, tag_struct, vlan_struct};
 
 use crate::EpPart;
 use etherparse::{
@@ -27,7 +27,7 @@ pub struct EpLink {
     pub hardware_type: u16,
     /// Of a cooked capture: how many bytes of the address are the sender's, as it states it.
     pub address_len: u16,
-    /// Of a cooked capture: the sender's address, and bytes without meaning behind it.
+    /// Of a cooked capture: the sender's address, and bytes without meaning after it.
     pub address: [u8; 8],
 }
 
@@ -35,11 +35,11 @@ pub struct EpLink {
 #[repr(C)]
 #[derive(Drop)]
 pub struct EpTag {
-    /// Where the tag itself stands.
+    /// Where the tag itself is.
     pub header: EpPart,
     /// 0 none, 1 VLAN, 2 MACsec.
     pub kind: u32,
-    /// The ether type of what follows, 0 behind a changed or encrypted MACsec payload.
+    /// The ether type of what follows, 0 where a changed or encrypted MACsec payload follows.
     pub ether_type: u16,
     /// Of VLAN: the identifier.
     pub vlan_id: u16,
@@ -67,12 +67,12 @@ pub struct EpTag {
     pub channel: u64,
 }
 
-pub(crate) fn link_told(link: &Option<LinkSlice<'_>>) -> EpLink
-    ensures { result ≡ link_told link.now }
+pub(crate) fn link_struct(link: &Option<LinkSlice<'_>>) -> EpLink
+    ensures { result ≡ link_struct link.now }
 {
     match link {
-        Some(LinkSlice::Ethernet2(frame)) => ethernet_told(frame),
-        Some(LinkSlice::LinuxSll(packet)) => sll_told(packet),
+        Some(LinkSlice::Ethernet2(frame)) => ethernet_struct(frame),
+        Some(LinkSlice::LinuxSll(packet)) => sll_struct(packet),
         _ => no_link(),
     }
 }
@@ -92,8 +92,8 @@ fn no_link() -> EpLink
     }
 }
 
-fn ethernet_told(frame: &Ethernet2Slice<'_>) -> EpLink
-    ensures { result ≡ ethernet_told frame.now }
+fn ethernet_struct(frame: &Ethernet2Slice<'_>) -> EpLink
+    ensures { result ≡ ethernet_struct frame.now }
 {
     EpLink {
         kind: 1,
@@ -104,8 +104,8 @@ fn ethernet_told(frame: &Ethernet2Slice<'_>) -> EpLink
     }
 }
 
-fn sll_told(packet: &LinuxSllSlice<'_>) -> EpLink
-    ensures { result ≡ sll_told packet.now }
+fn sll_struct(packet: &LinuxSllSlice<'_>) -> EpLink
+    ensures { result ≡ sll_struct packet.now }
 {
     EpLink {
         kind: 2,
@@ -118,14 +118,14 @@ fn sll_told(packet: &LinuxSllSlice<'_>) -> EpLink
     }
 }
 
-/// The tag of this index, if there is one, at this place.
-pub(crate) fn tag_told(place: usize, tags: &[LinkExtSlice<'_>], index: usize) -> EpTag
-    ensures { result ≡ tag_told place (slice_get tags.now index) }
+/// The tag of this index, if there is one, at this offset.
+pub(crate) fn tag_struct(place: usize, tags: &[LinkExtSlice<'_>], index: usize) -> EpTag
+    ensures { result ≡ tag_struct place (slice_get tags.now index) }
 {
     match tags.get(index) {
         None => no_tag(),
-        Some(LinkExtSlice::Vlan(tag)) => vlan_told(place, tag),
-        Some(LinkExtSlice::Macsec(macsec)) => macsec_told(place, &macsec.header),
+        Some(LinkExtSlice::Vlan(tag)) => vlan_struct(place, tag),
+        Some(LinkExtSlice::Macsec(macsec)) => macsec_struct(place, &macsec.header),
     }
 }
 
@@ -162,8 +162,8 @@ pub(crate) fn no_tag() -> EpTag
     }
 }
 
-fn vlan_told(place: usize, tag: &SingleVlanSlice<'_>) -> EpTag
-    ensures { result ≡ vlan_told place tag.now }
+fn vlan_struct(place: usize, tag: &SingleVlanSlice<'_>) -> EpTag
+    ensures { result ≡ vlan_struct place tag.now }
 {
     EpTag {
         header: EpPart {
@@ -179,8 +179,8 @@ fn vlan_told(place: usize, tag: &SingleVlanSlice<'_>) -> EpTag
     }
 }
 
-fn macsec_told(place: usize, header: &MacsecHeaderSlice<'_>) -> EpTag
-    ensures { result ≡ macsec_told place header.now }
+fn macsec_struct(place: usize, header: &MacsecHeaderSlice<'_>) -> EpTag
+    ensures { result ≡ macsec_struct place header.now }
 {
     let ether_type = match header.next_ether_type() {
         Some(ether_type) => ether_type.0,

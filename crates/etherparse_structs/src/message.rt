@@ -1,12 +1,12 @@
-//! A message that was put together, as numbers.
+//! A reassembled message, as numbers.
 ghost use Rattle.std.specs.Prelude.{◌≡◌, length};
-ghost use Rattle.etherparse.specs.defrag.IpDefragPool.{payload_told};
+ghost use Rattle.etherparse.specs.IpDefragPool.{payload_parsed};
 ghost use Rattle.etherparse_structs.specs.Message.{message_of, no_message};
 
 use etherparse::Addresses;
 use etherparse::defrag::IpDefragPayloadVec;
 
-/// A message that was put together. All fields are 0 where there is none.
+/// A reassembled message. All fields are 0 where there is none.
 #[repr(C)]
 #[derive(Drop)]
 pub struct EpMessage {
@@ -42,7 +42,7 @@ pub(crate) fn no_message() -> EpMessage
 
 /// The message that goes between these addresses.
 pub(crate) fn message_of(addresses: &Addresses, payload: &IpDefragPayloadVec) -> EpMessage
-    ensures { result ≡ message_of addresses.now (payload_told payload.now) }
+    ensures { result ≡ message_of addresses.now (payload_parsed payload.now) }
 {
     let len = payload.payload.len();
     let number = payload.ip_number.0;

@@ -5,15 +5,15 @@ ghost use Rattle.std.specs.Option.{option_map};
 ghost use Rattle.etherparse.specs.ipslice.Ipv6Packet.{fragment_fields_in};
 ghost use Rattle.etherparse.specs.ipslice.Packet.{fragment_fields};
 ghost use Rattle.etherparse.specs.packet.Parts.{headers_len};
-ghost use Rattle.etherparse_structs.specs.Net.{arp_in_told, arp_told, ipv4_in_told, ipv4_told};
-ghost use Rattle.etherparse_structs.specs.Net.{ipv6_fields, ipv6_in_told, ipv6_told, net_number};
+ghost use Rattle.etherparse_structs.specs.Net.{arp_struct_in, arp_struct, ipv4_struct_in, ipv4_struct};
+ghost use Rattle.etherparse_structs.specs.Net.{ipv6_fields, ipv6_struct_in, ipv6_struct, net_number};
 ghost use Rattle.etherparse_structs.specs.Net.{no_arp, no_ipv4, no_ipv6};
 
 use crate::EpPart;
 use etherparse::laws::ipslice::{extensions_of_a_packet, ipv6_fragment_fields};
 use etherparse::{ArpPacketSlice, IpFragOffset, Ipv4Slice, Ipv6Slice, NetSlice};
 
-/// An IPv4 packet (RFC 791). Its options stand at the end of its header.
+/// An IPv4 packet (RFC 791). Its options are the last bytes of its header.
 #[repr(C)]
 #[derive(Drop)]
 pub struct EpIpv4 {
@@ -29,11 +29,11 @@ pub struct EpIpv4 {
     pub destination: [u8; 4],
     /// The length of header and payload, as the header states it.
     pub total_len: u16,
-    /// What the parts of one message share.
+    /// The identification, which the fragments of one datagram share.
     pub identification: u16,
-    /// The offset of the payload in the message, in units of 8 bytes.
+    /// The offset of the payload in the datagram, in units of 8 bytes.
     pub fragment_offset: u16,
-    /// The header checksum, as it stands.
+    /// The header checksum, as the header states it.
     pub header_checksum: u16,
     /// Differentiated services code point.
     pub dscp: u8,
@@ -43,13 +43,13 @@ pub struct EpIpv4 {
     pub time_to_live: u8,
     /// The number of what follows the header.
     pub protocol: u8,
-    /// The number of the payload, behind an authentication header.
+    /// The number of the payload, after an authentication header.
     pub payload_number: u8,
     /// Whether the packet may not be fragmented.
     pub dont_fragment: bool,
-    /// Whether other parts follow.
+    /// Whether other fragments follow.
     pub more_fragments: bool,
-    /// Whether the payload is a part of a message.
+    /// Whether the payload is a fragment.
     pub is_part: bool,
 }
 
@@ -69,11 +69,12 @@ pub struct EpIpv6 {
     pub destination: [u8; 16],
     /// The flow label.
     pub flow_label: u32,
-    /// What the parts of one message share, by the first fragment header.
+    /// The identification, which the fragments of one datagram share, by the first fragment header.
     pub identification: u32,
     /// The payload length, as the header states it.
     pub payload_length: u16,
-    /// The offset of the payload in the message, in units of 8 bytes, by the first fragment header.
+    /// The offset of the payload in the datagram, in units of 8 bytes, by the first fragment
+    /// header.
     pub fragment_offset: u16,
     /// The traffic class.
     pub traffic_class: u8,
@@ -81,13 +82,13 @@ pub struct EpIpv6 {
     pub next_header: u8,
     /// Hops that are left.
     pub hop_limit: u8,
-    /// The number of the payload, behind the extension headers.
+    /// The number of the payload, after the extension headers.
     pub payload_number: u8,
     /// Whether there is a fragment header.
     pub has_fragment_header: bool,
-    /// Whether other parts follow, by the first fragment header.
+    /// Whether other fragments follow, by the first fragment header.
     pub more_fragments: bool,
-    /// Whether the payload is a part of a message.
+    /// Whether the payload is a fragment.
     pub is_part: bool,
 }
 
@@ -124,7 +125,7 @@ pub(crate) fn net_number(packet: &Option<NetSlice<'_>>) -> u32
     }
 }
 
-/// The bytes in front of the payload.
+/// The bytes before the payload.
 pub(crate) fn headers_len(packet: &Option<NetSlice<'_>>) -> usize
     requires { headers_len packet.now < 2 ^ 64 }
     ensures { result ≡ headers_len packet.now }
@@ -141,7 +142,7 @@ pub(crate) fn headers_len(packet: &Option<NetSlice<'_>>) -> usize
 
 pub(crate) fn ipv4_in(place: usize, packet: &Option<NetSlice<'_>>) -> EpIpv4
     requires { place + headers_len packet.now < 2 ^ 64 }
-    ensures { result ≡ ipv4_in_told place packet.now }
+    ensures { result ≡ ipv4_struct_in place packet.now }
 {
     match packet {
         Some(NetSlice::Ipv4(packet)) => ipv4_fields(place, packet),
@@ -151,7 +152,7 @@ pub(crate) fn ipv4_in(place: usize, packet: &Option<NetSlice<'_>>) -> EpIpv4
 
 pub(crate) fn ipv6_in(place: usize, packet: &Option<NetSlice<'_>>) -> EpIpv6
     requires { place + headers_len packet.now < 2 ^ 64 }
-    ensures { result ≡ ipv6_in_told place packet.now }
+    ensures { result ≡ ipv6_struct_in place packet.now }
 {
     match packet {
         Some(NetSlice::Ipv6(packet)) => ipv6_fields(place, packet),
@@ -161,7 +162,7 @@ pub(crate) fn ipv6_in(place: usize, packet: &Option<NetSlice<'_>>) -> EpIpv6
 
 pub(crate) fn arp_in(place: usize, packet: &Option<NetSlice<'_>>) -> EpArp
     requires { place + headers_len packet.now < 2 ^ 64 }
-    ensures { result ≡ arp_in_told place packet.now }
+    ensures { result ≡ arp_struct_in place packet.now }
 {
     match packet {
         Some(NetSlice::Arp(packet)) => arp_fields(place, packet),
@@ -195,16 +196,16 @@ fn no_ipv4() -> EpIpv4
 
 fn ipv4_fields(place: usize, packet: &Ipv4Slice<'_>) -> EpIpv4
     requires { place + length packet.now.header + length (auth_bytes packet.now.auth) < 2 ^ 64 }
-    ensures { result ≡ ipv4_told place packet.now }
+    ensures { result ≡ ipv4_struct place packet.now }
 {
     let header = packet.header();
     let extensions = auth_bytes(packet);
     let payload = packet.payload();
-    let behind_header = place + header.slice().len();
+    let after_header = place + header.slice().len();
     EpIpv4 {
         header: EpPart::of(place, header.slice()),
-        extensions: EpPart::of(behind_header, extensions),
-        payload: EpPart::of(behind_header + extensions.len(), payload.payload),
+        extensions: EpPart::of(after_header, extensions),
+        payload: EpPart::of(after_header + extensions.len(), payload.payload),
         source: header.source(),
         destination: header.destination(),
         total_len: header.total_len(),
@@ -256,22 +257,22 @@ fn no_ipv6() -> EpIpv6
 
 fn ipv6_fields(place: usize, packet: &Ipv6Slice<'_>) -> EpIpv6
     requires { place + length packet.now.header + length packet.now.exts.slice < 2 ^ 64 }
-    ensures { result ≡ ipv6_told place packet.now }
+    ensures { result ≡ ipv6_struct place packet.now }
 {
-    let told = ipv6_header_told(place, packet);
+    let reported = ipv6_header_struct(place, packet);
     match fragment_fields(packet) {
         Some((identification, offset, more_fragments)) => EpIpv6 {
             has_fragment_header: true,
             identification,
             fragment_offset: offset.value(),
             more_fragments,
-            ..told
+            ..reported
         },
-        None => told,
+        None => reported,
     }
 }
 
-// What the first fragment header tells, if there is one: identification, offset, and whether more
+// What the first fragment header states, if there is one: identification, offset, and whether more
 // fragments follow.
 fn fragment_fields(packet: &Ipv6Slice<'_>) -> Option<(u32, IpFragOffset, bool)>
     ensures { option_map fragment_fields result ≡ fragment_fields_in packet.now }
@@ -281,18 +282,18 @@ fn fragment_fields(packet: &Ipv6Slice<'_>) -> Option<(u32, IpFragOffset, bool)>
     ipv6_fragment_fields(packet)
 }
 
-fn ipv6_header_told(place: usize, packet: &Ipv6Slice<'_>) -> EpIpv6
+fn ipv6_header_struct(place: usize, packet: &Ipv6Slice<'_>) -> EpIpv6
     requires { place + length packet.now.header + length packet.now.exts.slice < 2 ^ 64 }
     ensures { result ≡ ipv6_fields place packet.now }
 {
     let header = packet.header();
     let extensions = packet.extensions().slice();
     let payload = packet.payload();
-    let behind_header = place + header.slice().len();
+    let after_header = place + header.slice().len();
     EpIpv6 {
         header: EpPart::of(place, header.slice()),
-        extensions: EpPart::of(behind_header, extensions),
-        payload: EpPart::of(behind_header + extensions.len(), payload.payload),
+        extensions: EpPart::of(after_header, extensions),
+        payload: EpPart::of(after_header + extensions.len(), payload.payload),
         source: header.source(),
         destination: header.destination(),
         flow_label: header.flow_label().value(),
@@ -323,7 +324,7 @@ fn no_arp() -> EpArp
 
 fn arp_fields(place: usize, packet: &ArpPacketSlice<'_>) -> EpArp
     requires { place + length packet.now < 2 ^ 64 }
-    ensures { result ≡ arp_told place packet.now }
+    ensures { result ≡ arp_struct place packet.now }
 {
     let bytes = packet.slice();
     let hardware_len = usize::from(packet.hw_addr_size());

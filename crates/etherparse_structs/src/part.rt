@@ -1,8 +1,8 @@
-//! Where bytes stand.
+//! Where bytes are.
 ghost use Rattle.std.specs.Prelude.{◌≡◌, length};
 ghost use Rattle.etherparse_structs.specs.Part.{no_part, part_at};
 
-/// Where bytes stand in those that were handed in.
+/// Where bytes are in those that were passed.
 #[repr(C)]
 #[derive(Drop)]
 pub struct EpPart {

@@ -1,24 +1,24 @@
-//! Why a part of a message is refused, as numbers.
+//! Why a fragment is refused, as numbers.
 ghost use Rattle.std.specs.Prelude.{◌≡◌};
 ghost use Rattle.etherparse_structs.specs.PartRefusal.{no_part_refusal, part_refusal_of};
 
 use etherparse::defrag::IpDefragError;
 
-/// Why a part of a message is refused. All fields are 0 where it isn't.
+/// Why a fragment is refused. All fields are 0 where it isn't.
 #[repr(C)]
 #[derive(Drop)]
 pub struct EpPartRefusal {
-    /// 0 not refused, 1 others follow it and its length is no multiple of 8, 2 it ends beyond
-    /// 65535 bytes, 3 it ends elsewhere than the message, 4 over IPv6 it overlaps another part: then
-    /// the message is dropped with all of its parts.
+    /// 0 not refused, 1 others follow it and its length is no multiple of 8, 2 it ends beyond 65535
+    /// bytes, 3 it ends elsewhere than the datagram, 4 over IPv6 it overlaps another fragment: then
+    /// the datagram is dropped with all of its fragments.
     pub kind: u32,
-    /// Of kinds 1, 2 and 4: its offset in the message, in units of 8 bytes.
+    /// Of kinds 1, 2 and 4: its offset in the datagram, in units of 8 bytes.
     pub offset: u16,
-    /// Of kind 3: the end of the message, in bytes.
+    /// Of kind 3: the end of the datagram, in bytes.
     pub previous_end: u16,
     /// Of kind 3: its own end, in bytes.
     pub end: u16,
-    /// Of kinds 1, 2 and 4: its length.
+    /// Of kinds 1, 2 and 4: its length, in bytes.
     pub len: usize,
 }
 
@@ -34,7 +34,7 @@ pub(crate) fn no_part_refusal() -> EpPartRefusal
     }
 }
 
-/// The refusal that an error is; of want of memory none.
+/// The refusal by an error; none where memory ran out.
 pub(crate) fn part_refusal_of(error: &IpDefragError) -> EpPartRefusal
     ensures { result ≡ part_refusal_of error.now }
 {

@@ -1,8 +1,8 @@
-//! What a packet is to be built of.
+//! The headers of a packet to build.
 ghost use Rattle.std.specs.Prelude.{◌≡◌};
 ghost use Rattle.etherparse_structs.specs.Plan.{field_number};
 
-/// What a packet is to be built of. The fields of headers that it doesn't ask for don't count.
+/// The headers of a packet to build. The fields of headers that it doesn't have are ignored.
 /// Lengths, checksums, ether types and the numbers of headers follow from it.
 #[repr(C)]
 #[derive(Drop)]
@@ -19,7 +19,7 @@ pub struct EpPlan {
     pub address_len: u16,
     /// Of a cooked capture: the sender's address.
     pub address: [u8; 8],
-    /// How many VLAN tags stand behind an Ethernet II header: 0, 1 or 2.
+    /// How many VLAN tags follow an Ethernet II header: 0, 1 or 2.
     pub tag_count: u32,
     /// The identifier of the first of them, 0 to 4095.
     pub outer_vlan_id: u16,
@@ -79,18 +79,18 @@ pub struct EpPlan {
     pub cwr: bool,
     /// Of TCP: how many bytes of options there are, at most 40.
     pub options_len: usize,
-    /// Of TCP: the options. They are filled up with 0 to whole words.
+    /// Of TCP: the options. They are padded with 0 to whole words of 4 bytes.
     pub options: [u8; 40],
 }
 
-/// The fields of a plan that may ask for what no packet has.
+/// The fields of a plan that may describe what no packet has.
 #[derive(Clone, Copy, Debug, PartialEq, Eq)]
 pub enum PlanField {
     /// No such link header.
     Link,
     /// No such packet type.
     PacketType,
-    /// More tags than may stand there.
+    /// More tags than are allowed there.
     TagCount,
     /// An identifier above 4095.
     OuterVlanId,
@@ -102,7 +102,7 @@ pub enum PlanField {
     Transport,
     /// More than 40 bytes of options.
     OptionsLen,
-    /// A payload that is longer than the length field of the IP header can say.
+    /// A payload that is longer than the length field of the IP header can state.
     Payload,
 }
 

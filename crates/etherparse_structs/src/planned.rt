@@ -1,8 +1,8 @@
-//! The headers that a plan asks for.
+//! The headers that a plan describes.
 ghost use Rattle.std.specs.Prelude.{◌≡◌, ◌==◌, Some, false};
-ghost use Rattle.etherparse.specs.build.BuiltSteps.{echo};
-ghost use Rattle.etherparse_structs.specs.Plan.{front_in, icmpv4_in, icmpv6_in, ip_in, tcp_in};
-ghost use Rattle.etherparse_structs.specs.Plan.{unless, wrong_front, wrong_id, wrong_ip};
+ghost use Rattle.etherparse.specs.BuiltSteps.{echo};
+ghost use Rattle.etherparse_structs.specs.Plan.{lower_headers_in, icmpv4_in, icmpv6_in, ip_in, tcp_in};
+ghost use Rattle.etherparse_structs.specs.Plan.{unless, wrong_lower_headers, wrong_id, wrong_ip};
 ghost use Rattle.etherparse_structs.specs.Plan.{wrong_options, wrong_tags};
 
 use crate::plan::{EpPlan, PlanField};
@@ -11,21 +11,21 @@ use etherparse::{
     PacketBuilderStep, TcpHeader, TcpOptions, VlanId,
 };
 
-/// The headers up to that of the network layer, or the first field that asks for none.
-pub(crate) fn front(plan: &EpPlan) -> Result<PacketBuilderStep<IpHeaders>, PlanField>
-    ensures { result ≡ unless (wrong_front plan.now) (front_in plan.now) }
+/// The headers up to that of the network layer, or the first field that describes none.
+pub(crate) fn lower_headers(plan: &EpPlan) -> Result<PacketBuilderStep<IpHeaders>, PlanField>
+    ensures { result ≡ unless (wrong_lower_headers plan.now) (lower_headers_in plan.now) }
 {
     match plan.link {
-        0 => front_alone(plan),
-        1 => front_of_ethernet(plan),
-        2 => front_of_capture(plan),
+        0 => headers_without_link(plan),
+        1 => headers_of_ethernet(plan),
+        2 => headers_of_capture(plan),
         _ => Err(PlanField::Link),
     }
 }
 
-fn front_alone(plan: &EpPlan) -> Result<PacketBuilderStep<IpHeaders>, PlanField>
+fn headers_without_link(plan: &EpPlan) -> Result<PacketBuilderStep<IpHeaders>, PlanField>
     requires { plan.now.link ≡ 0 }
-    ensures { result ≡ unless (wrong_front plan.now) (front_in plan.now) }
+    ensures { result ≡ unless (wrong_lower_headers plan.now) (lower_headers_in plan.now) }
 {
     no_tags(plan)?;
     match plan.ip_version {
@@ -35,9 +35,9 @@ fn front_alone(plan: &EpPlan) -> Result<PacketBuilderStep<IpHeaders>, PlanField>
     }
 }
 
-fn front_of_ethernet(plan: &EpPlan) -> Result<PacketBuilderStep<IpHeaders>, PlanField>
+fn headers_of_ethernet(plan: &EpPlan) -> Result<PacketBuilderStep<IpHeaders>, PlanField>
     requires { plan.now.link ≡ 1 }
-    ensures { result ≡ unless (wrong_front plan.now) (front_in plan.now) }
+    ensures { result ≡ unless (wrong_lower_headers plan.now) (lower_headers_in plan.now) }
 {
     let ethernet = PacketBuilder::ethernet2(plan.source, plan.destination);
     match plan.tag_count {
@@ -55,9 +55,9 @@ fn front_of_ethernet(plan: &EpPlan) -> Result<PacketBuilderStep<IpHeaders>, Plan
     }
 }
 
-fn front_of_capture(plan: &EpPlan) -> Result<PacketBuilderStep<IpHeaders>, PlanField>
+fn headers_of_capture(plan: &EpPlan) -> Result<PacketBuilderStep<IpHeaders>, PlanField>
     requires { plan.now.link ≡ 2 }
-    ensures { result ≡ unless (wrong_front plan.now) (front_in plan.now) }
+    ensures { result ≡ unless (wrong_lower_headers plan.now) (lower_headers_in plan.now) }
 {
     let packet_type = match LinuxSllPacketType::try_from(plan.packet_type) {
         Ok(packet_type) => packet_type,
@@ -70,7 +70,7 @@ fn front_of_capture(plan: &EpPlan) -> Result<PacketBuilderStep<IpHeaders>, PlanF
     )
 }
 
-// Only behind an Ethernet II header there are tags.
+// Only an Ethernet II header has tags after it.
 fn no_tags(plan: &EpPlan) -> Result<(), PlanField>
     requires { (plan.now.link == 1) ≡ false }
     ensures { result ≡ unless (wrong_tags plan.now) tt }

@@ -1,9 +1,9 @@
-//! Messages that come in parts.
+//! The reassembly of datagrams from their fragments.
 ghost use Rattle.std.specs.Prelude.{◌≡◌, ◌<◌, ◌⊎◌, true, false, Option, Some, None, IfOk, IsSome};
 ghost use Rattle.std.specs.Prelude.{length};
-ghost use Rattle.etherparse.specs.defrag.OpenMessages.{IsOpenCount};
-ghost use Rattle.etherparse.specs.defrag.PoolCalls.{Lists, ShowsLists, fault_in, no_lists};
-ghost use Rattle.etherparse.specs.defrag.PoolCalls.{retained_from};
+ghost use Rattle.etherparse.specs.OpenReassemblies.{IsOpenCount};
+ghost use Rattle.etherparse.specs.PoolCalls.{Lists, ShowsLists, fault_in, no_lists};
+ghost use Rattle.etherparse.specs.PoolCalls.{retained_from};
 ghost use Rattle.etherparse.specs.packet.Class.{class_of};
 ghost use Rattle.etherparse.specs.packet.Sliced.{sliced_ethernet};
 ghost use Rattle.etherparse_structs.specs.FramePool.{IsAnswered, Kept, added, completed, kept_of};
@@ -13,14 +13,13 @@ ghost use Rattle.etherparse_structs.specs.Pool.{IsPool, Keeps};
 use crate::frame_pool::FramePool;
 use crate::held::Held;
 use crate::{DONE, EpAdded, NO_MEMORY, WRONG_STATE};
+use c_handles::Loose;
 use etherparse::defrag::IpDefragPool;
-use etherparse::laws::defrag::streams::a_new_pool_shows_no_lists;
-use handles::Loose;
+use etherparse::laws::defrag::reassemblies::a_new_pool_shows_no_lists;
 use std::alloc::{AllocError, Global};
 use std::mem::replace;
 
-/// The messages that are on their way in parts. It begins as zeros, and is changed by these calls
-/// alone.
+/// A pool that reassembles datagrams. It starts as zeros, and only these calls change it.
 #[repr(C)]
 #[derive(Drop)]
 pub struct EpPool {
@@ -31,8 +30,8 @@ pub struct EpPool {
 }
 
 impl EpPool {
-    /// Opens it with no message. The result is 0 where it is open, 2 where there is no memory, and 4
-    /// where it was open before. Where it isn't 0 nothing is changed.
+    /// Opens it without fragments. The result is 0 where it is open, 2 where there is no memory,
+    /// and 4 where it was open before. Where it isn't 0 nothing is changed.
     pub fn begin(&mut self, alloc: Global) -> u32
         requires { IsPool self.old }
         ensures pool { IsPool self.new }
@@ -52,11 +51,13 @@ impl EpPool {
     }
 
     /// Takes an Ethernet II frame, which came at this time on this channel, and writes the message
-    /// that is complete with it, if there is room. While one is kept, no frame is taken.
+    /// that is complete with it, unless the output is too short. While a message is kept, no frame
+    /// is taken.
     ///
-    /// The status is 5 where a message is complete and written, 1 where it has no room and is kept, 0
-    /// where none is complete, 2 where there is no memory for the part, 3 where the frame or the part
-    /// is refused, and 4 where the pool isn't open or keeps a message.
+    /// The status is 5 where a message is complete and written, 1 where the output is too short and
+    /// the message is kept, 0 where none is complete, 2 where there is no memory for the fragment,
+    /// 3 where the frame or the fragment is refused, and 4 where the pool isn't open or keeps a
+    /// message.
     pub fn add(
         &mut self,
         alloc: Global,
@@ -84,8 +85,8 @@ impl EpPool {
         added
     }
 
-    /// Writes the message that is kept, if there is room. The status is 5 where it is written, 1 where
-    /// it has no room, and 4 where the pool isn't open or keeps none.
+    /// Writes the message that is kept, unless the output is too short. The status is 5 where it is
+    /// written, 1 where the output is too short, and 4 where the pool isn't open or keeps none.
     pub fn take(&mut self, alloc: Global, output: &mut [u8]) -> EpAdded
         requires { IsPool self.old }
         ensures pool { IsPool self.new }
@@ -102,13 +103,13 @@ impl EpPool {
             return EpAdded::of(WRONG_STATE);
         }
         let mut frames = taken(alloc, self);
-        let told = frames.take_kept(output);
+        let reported = frames.take_kept(output);
         put(self, frames);
-        told
+        reported
     }
 
-    /// Drops the messages whose last part came before this time. The result is 0, or 4 where the pool
-    /// isn't open.
+    /// Drops the reassemblies whose last fragment came before this time. The result is 0, or 4
+    /// where the pool isn't open.
     pub fn forget_before(&mut self, alloc: Global, time: u64) -> u32
         requires { IsPool self.old }
         ensures pool { IsPool self.new }
@@ -126,7 +127,7 @@ impl EpPool {
         DONE
     }
 
-    /// How many messages are on their way, 0 where it isn't open.
+    /// How many datagrams are not complete, 0 where it isn't open.
     pub fn open_len(&mut self, alloc: Global) -> usize
         requires { IsPool self.old }
         ensures pool { IsPool self.new }
@@ -170,7 +171,7 @@ fn new_frames(alloc: Global) -> Result<Box<FramePool>, AllocError>
     }
 }
 
-// The frames of an open pool, which is closed then.
+// The reassemblies of an open pool, which is closed then.
 fn taken(alloc: Global, pool: &mut EpPool) -> Box<FramePool>
     requires { IsSome pool.old.held.value }
     ensures frames { pool.old.held.value ≡ Some result.value }

@@ -22,7 +22,7 @@ pub const REFUSAL_LINUX_SLL_HARDWARE_TYPE: u32 = 3;
 /// A MACsec version other than 0.
 pub const REFUSAL_MACSEC_VERSION: u32 = 4;
 
-/// A MACsec short length without room for the ether type.
+/// A MACsec short length below that of the ether type.
 pub const REFUSAL_MACSEC_SHORT_LEN: u32 = 5;
 
 /// An IP version other than 4 and 6.
@@ -40,7 +40,7 @@ pub const REFUSAL_IPV6_VERSION: u32 = 9;
 /// A payload length 0 of an authentication header.
 pub const REFUSAL_AUTH_HEADER_LEN: u32 = 10;
 
-/// Hop-by-hop options behind another extension header.
+/// Hop-by-hop options after another extension header.
 pub const REFUSAL_HOP_BY_HOP_NOT_AT_START: u32 = 11;
 
 /// A TCP data offset below 5.
@@ -63,7 +63,7 @@ pub struct EpRefusal {
     pub place: usize,
     /// Of too few bytes: where their number comes from.
     pub source: u32,
-    /// Of a header that breaks its format: the field that it holds in place of a right one.
+    /// Of a header that breaks its format: the wrong value of its field.
     pub value: u32,
 }
 
@@ -74,7 +74,7 @@ pub(crate) fn no_refusal() -> EpRefusal
     content(REFUSAL_NONE, 0, 0)
 }
 
-/// The refusal that an error is.
+/// The refusal by an error.
 pub(crate) fn refusal(error: SliceError) -> EpRefusal
     ensures { result ≡ refusal_of error }
 {

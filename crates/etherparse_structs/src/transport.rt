@@ -1,10 +1,10 @@
 //! A message of a transport protocol, as fields and numbers.
 ghost use Rattle.std.specs.Prelude.{◌≡◌, ◌+◌, ◌^◌, ◌<◌, length};
 ghost use Rattle.etherparse.specs.icmp.Icmpv4.{header_len, type_of};
-ghost use Rattle.etherparse_structs.specs.Transport.{icmp_in_told, icmp_told, message_len, no_icmp};
+ghost use Rattle.etherparse_structs.specs.Transport.{icmp_struct_in, icmp_struct, message_len, no_icmp};
 ghost use Rattle.etherparse_structs.specs.Transport.{no_tcp, no_udp};
-ghost use Rattle.etherparse_structs.specs.Transport.{tcp_in_told, tcp_told, transport_number};
-ghost use Rattle.etherparse_structs.specs.Transport.{udp_in_told, udp_told};
+ghost use Rattle.etherparse_structs.specs.Transport.{tcp_struct_in, tcp_struct, transport_number};
+ghost use Rattle.etherparse_structs.specs.Transport.{udp_struct_in, udp_struct};
 
 use crate::EpPart;
 use etherparse::{Icmpv4Slice, Icmpv6Slice, TcpSlice, TransportSlice, UdpSlice};
@@ -23,11 +23,11 @@ pub struct EpUdp {
     pub destination_port: u16,
     /// The length of header and payload, as the header states it; 0 in a jumbogram.
     pub stated_len: u16,
-    /// The checksum, as it stands; 0 where none was sent.
+    /// The checksum, as the header states it; 0 where none was sent.
     pub checksum: u16,
 }
 
-/// A TCP segment (RFC 9293). Its options stand behind the first 20 bytes of the header.
+/// A TCP segment (RFC 9293). Its options follow the first 20 bytes of the header.
 #[repr(C)]
 #[derive(Drop)]
 pub struct EpTcp {
@@ -45,7 +45,7 @@ pub struct EpTcp {
     pub destination_port: u16,
     /// The window.
     pub window_size: u16,
-    /// The checksum, as it stands.
+    /// The checksum, as the header states it.
     pub checksum: u16,
     /// The urgent pointer.
     pub urgent_pointer: u16,
@@ -77,7 +77,7 @@ pub struct EpIcmp {
     pub header: EpPart,
     /// What follows it.
     pub payload: EpPart,
-    /// The checksum, as it stands.
+    /// The checksum, as the header states it.
     pub checksum: u16,
     /// The type.
     pub icmp_type: u8,
@@ -101,7 +101,7 @@ pub(crate) fn transport_number(message: &Option<TransportSlice<'_>>) -> u32
 
 pub(crate) fn udp_in(place: usize, message: &Option<TransportSlice<'_>>) -> EpUdp
     requires { place + message_len message.now < 2 ^ 64 }
-    ensures { result ≡ udp_in_told place message.now }
+    ensures { result ≡ udp_struct_in place message.now }
 {
     match message {
         Some(TransportSlice::Udp(datagram)) => udp_fields(place, datagram),
@@ -111,7 +111,7 @@ pub(crate) fn udp_in(place: usize, message: &Option<TransportSlice<'_>>) -> EpUd
 
 pub(crate) fn tcp_in(place: usize, message: &Option<TransportSlice<'_>>) -> EpTcp
     requires { place + message_len message.now < 2 ^ 64 }
-    ensures { result ≡ tcp_in_told place message.now }
+    ensures { result ≡ tcp_struct_in place message.now }
 {
     match message {
         Some(TransportSlice::Tcp(segment)) => tcp_fields(place, segment),
@@ -121,7 +121,7 @@ pub(crate) fn tcp_in(place: usize, message: &Option<TransportSlice<'_>>) -> EpTc
 
 pub(crate) fn icmp_in(place: usize, message: &Option<TransportSlice<'_>>) -> EpIcmp
     requires { place + message_len message.now < 2 ^ 64 }
-    ensures { result ≡ icmp_in_told place message.now }
+    ensures { result ≡ icmp_struct_in place message.now }
 {
     match message {
         Some(TransportSlice::Icmpv4(message)) => icmpv4_fields(place, message),
@@ -145,7 +145,7 @@ fn no_icmp() -> EpIcmp
 
 fn icmpv4_fields(place: usize, message: &Icmpv4Slice<'_>) -> EpIcmp
     requires { place + length message.now < 2 ^ 64 }
-    ensures { result ≡ icmp_told place (header_len (type_of message.now)) message.now }
+    ensures { result ≡ icmp_struct place (header_len (type_of message.now)) message.now }
 {
     let len = message.header_len();
     EpIcmp {
@@ -160,7 +160,7 @@ fn icmpv4_fields(place: usize, message: &Icmpv4Slice<'_>) -> EpIcmp
 
 fn icmpv6_fields(place: usize, message: &Icmpv6Slice<'_>) -> EpIcmp
     requires { place + length message.now < 2 ^ 64 }
-    ensures { result ≡ icmp_told place 8 message.now }
+    ensures { result ≡ icmp_struct place 8 message.now }
 {
     // For the proof alone: that the message has a header.
     let _message = message.slice();
@@ -190,7 +190,7 @@ fn no_udp() -> EpUdp
 
 fn udp_fields(place: usize, datagram: &UdpSlice<'_>) -> EpUdp
     requires { place + length datagram.now < 2 ^ 64 }
-    ensures { result ≡ udp_told place datagram.now }
+    ensures { result ≡ udp_struct place datagram.now }
 {
     // For the proof alone: that the datagram has a header.
     let _datagram = datagram.slice();
@@ -234,7 +234,7 @@ fn no_tcp() -> EpTcp
 
 fn tcp_fields(place: usize, segment: &TcpSlice<'_>) -> EpTcp
     requires { place + length segment.now < 2 ^ 64 }
-    ensures { result ≡ tcp_told place segment.now }
+    ensures { result ≡ tcp_struct place segment.now }
 {
     EpTcp {
         header: EpPart {

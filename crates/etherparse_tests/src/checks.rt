@@ -6,19 +6,19 @@ use std::fmt::{Debug, Display};
 use std::process::Abort;
 use std::test::*;
 
-/// Fails where what is told is not what is wanted, and shows both.
-pub fn equal<T: PartialEq + Debug + Drop>(rt: impl Abort + Copy, told: T, wanted: T) {
-    assert_eq!(rt; told, wanted);
+/// Fails where a value is not the expected one, and shows both.
+pub fn equal<T: PartialEq + Debug + Drop>(rt: impl Abort + Copy, described: T, wanted: T) {
+    assert_eq!(rt; described, wanted);
 }
 
 /// The same of bytes.
-pub fn equal_bytes(rt: impl Abort + Copy, told: &[u8], wanted: &[u8]) {
-    assert_eq!(rt; told, wanted);
+pub fn equal_bytes(rt: impl Abort + Copy, described: &[u8], wanted: &[u8]) {
+    assert_eq!(rt; described, wanted);
 }
 
 /// The same for a row of a table, which is shown too.
-pub fn equal_in<T: PartialEq + Debug>(rt: impl Abort + Copy, row: &str, told: &T, wanted: &T) {
-    assert_eq!(rt; told, wanted, "{row}");
+pub fn equal_in<T: PartialEq + Debug>(rt: impl Abort + Copy, row: &str, described: &T, wanted: &T) {
+    assert_eq!(rt; described, wanted, "{row}");
 }
 
 /// Fails where it is not so.
@@ -47,7 +47,7 @@ pub fn have_one_text(
     }
 }
 
-/// A buffer with one byte. Where the byte wants memory, the next try gets it.
+/// A buffer with one byte. Where the first try for the byte finds no memory, the next one does.
 pub fn held(rt: impl Abort + Copy, alloc: Global) -> Vec<u8> {
     let mut buffer = Vec::new(alloc);
     equal(
@@ -58,10 +58,10 @@ pub fn held(rt: impl Abort + Copy, alloc: Global) -> Vec<u8> {
     buffer
 }
 
-/// Fails where the bytes aren't these two parts.
-pub fn are_joined(rt: impl Abort + Copy, bytes: &[u8], front: &[u8], rest: &[u8]) {
-    equal(rt, bytes.get(..front.len()), Some(front));
-    equal(rt, bytes.get(front.len()..), Some(rest));
+/// Fails where the bytes aren't these two in a row.
+pub fn are_joined(rt: impl Abort + Copy, bytes: &[u8], prefix: &[u8], rest: &[u8]) {
+    equal(rt, bytes.get(..prefix.len()), Some(prefix));
+    equal(rt, bytes.get(prefix.len()..), Some(rest));
 }
 
 /// Ends a test.

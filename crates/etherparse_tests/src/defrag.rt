@@ -1,4 +1,4 @@
-//! Messages that are put together, by a buffer and by a pool.
+//! Datagrams that are reassembled, by a buffer and by a pool.
 
 mod buffer_scripts;
 mod buffers;
@@ -20,9 +20,9 @@ mod pool_reuse;
 mod pool_scripts;
 mod pools;
 mod ranges;
+mod reassemblies;
 mod refusals;
 mod renewed_timestamps;
 mod rounds;
 mod rules;
-mod streams;
 mod values;

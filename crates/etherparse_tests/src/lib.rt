@@ -1,6 +1,7 @@
-//! Tests of `ep_packet` (`packets`), of `ep_build` (`builder`), of `ep_fragments` and `ep_defrag`
-//! (`defrag`), and of `etherparse` (`paths`, `memory`) over their public calls. They stand in a crate
-//! of their own, so that they are proved beside these and not with each of their functions once more.
+//! Tests of `etherparse` over its public calls: of packets that are read (`packets`), of the
+//! builder (`builder`), of reassembly (`defrag`), and of the names and the memory of all (`paths`,
+//! `memory`). They are a crate of their own, so that they are proved once beside the library and
+//! not with each of its functions.
 #![tactic(auto)]
 
 #[cfg(test)]

@@ -80,7 +80,7 @@ type Extensions<'a> = (
     etherparse::IpAuthHeaderSlice<'a>,
     etherparse::Ipv4Extensions,
     etherparse::Ipv4ExtensionsSlice<'a>,
-    etherparse::Ipv6ExtPlace,
+    etherparse::Ipv6ExtSlot,
     etherparse::Ipv6ExtensionSlice<'a>,
     etherparse::Ipv6ExtensionSliceIter<'a>,
     etherparse::Ipv6Extensions,
@@ -132,10 +132,10 @@ type IcmpKinds = (
 type Packets<'a> = (
     etherparse::Addresses,
     etherparse::Class<'a>,
-    etherparse::CutMessage<'a>,
+    etherparse::IpFragment<'a>,
     etherparse::Message<'a>,
     etherparse::PacketHeaders<'a>,
-    etherparse::Part<'a>,
+    etherparse::SlicedFragment<'a>,
     etherparse::PayloadSlice<'a>,
     etherparse::SlicedPacket<'a>,
     etherparse::WholeMessage<'a>,
@@ -148,7 +148,7 @@ type Packets<'a> = (
     etherparse::defrag::IpFragVersionSpecId,
     etherparse::defrag::OverlapRule,
     etherparse::defrag::PoolCall<'a>,
-    etherparse::defrag::PoolReply,
+    etherparse::defrag::PoolAnswer,
     etherparse::PacketBuilder,
     etherparse::PacketBuilderStep<etherparse::UdpHeader>,
     err::packet::BuildWriteError,
@@ -250,9 +250,9 @@ fn pseudo_sums(rt: HostRuntime) {
 
 /// A law of each crate below, by its path.
 #[test]
-fn laws_of_members() {
+fn laws_of_crates() {
     laws::base::fold_of_pieces();
-    laws::build::traits::types_are_plain_data();
+    laws::packet_builder::traits::types_are_plain_data();
     laws::defrag::traits::names_hash_all_fields::<u32>();
     laws::ext::chain_is_alone();
     laws::fragments::traits::types_are_plain_data();

@@ -8,7 +8,7 @@ use std::alloc::Global;
 use std::fmt;
 use std::io::{self, ErrorKind, Read, Write};
 
-/// What a call does in place of moving as many bytes as the others.
+/// What a call does instead of moving as many bytes as the others.
 #[derive(Clone, Copy, Debug, PartialEq, Eq)]
 pub enum Fault {
     Fails(ErrorKind),
@@ -17,14 +17,19 @@ pub enum Fault {
 }
 
 // How many bytes of so many the call with this number moves.
-fn moved(call: usize, piece: usize, fault: Option<(usize, Fault)>, len: usize) -> io::Result<usize>
+fn moved(
+    call: usize,
+    chunk_size: usize,
+    fault: Option<(usize, Fault)>,
+    len: usize,
+) -> io::Result<usize>
     ensures { IfOk result (λ moved. moved ≤ len) }
 {
     match fault {
         Some((at, Fault::Fails(kind))) if at == call => Err(kind.into()),
         Some((at, Fault::MovesNone)) if at == call => Ok(0),
         Some((at, Fault::MovesOne)) if at == call => Ok(len.min(1)),
-        _ => Ok(len.min(piece)),
+        _ => Ok(len.min(chunk_size)),
     }
 }
 
@@ -35,32 +40,37 @@ pub struct FaultReader<'a> {
     pub rest: &'a [u8],
     /// How often it was called.
     pub calls: usize,
-    /// The room that the last call was given.
+    /// The length in bytes of the last call's buffer.
     pub room: usize,
-    piece: usize,
+    chunk_size: usize,
     fault: Option<(usize, Fault)>,
 }
 
 impl<'a> FaultReader<'a> {
     /// Gives so many bytes a call, as long as there are some. It has no contract: tests alone call
     /// it, and are run.
-    pub fn new(bytes: &'a [u8], piece: usize) -> FaultReader<'a> {
+    pub fn new(bytes: &'a [u8], chunk_size: usize) -> FaultReader<'a> {
         FaultReader {
             rest: bytes,
             calls: 0,
             room: 0,
-            piece,
+            chunk_size,
             fault: None,
         }
     }
 
     /// The same but for this call, counted from 0; it has no contract, as `new`.
-    pub fn failing(bytes: &'a [u8], piece: usize, call: usize, fault: Fault) -> FaultReader<'a> {
+    pub fn failing(
+        bytes: &'a [u8],
+        chunk_size: usize,
+        call: usize,
+        fault: Fault,
+    ) -> FaultReader<'a> {
         FaultReader {
             rest: bytes,
             calls: 0,
             room: 0,
-            piece,
+            chunk_size,
             fault: Some((call, fault)),
         }
     }
@@ -72,7 +82,7 @@ impl<'a> Read for FaultReader<'a> {
         self.calls = call.saturating_add(1);
         self.room = buf.len();
         let len = buf.len().min(self.rest.len());
-        let count = moved(call, self.piece, self.fault, len)?;
+        let count = moved(call, self.chunk_size, self.fault, len)?;
         let (given, rest) = self.rest.split_at(count);
         buf[..count].copy_from_slice(given);
         self.rest = rest;
@@ -87,27 +97,27 @@ pub struct FaultWriter {
     pub taken: Vec<u8>,
     /// How often `write` was called.
     pub calls: usize,
-    piece: usize,
+    chunk_size: usize,
     fault: Option<(usize, Fault)>,
 }
 
 impl FaultWriter {
     /// Takes so many bytes a call at most. It has no contract: tests alone call it, and are run.
-    pub fn new(alloc: Global, piece: usize) -> FaultWriter {
+    pub fn new(alloc: Global, chunk_size: usize) -> FaultWriter {
         FaultWriter {
             taken: Vec::new(alloc),
             calls: 0,
-            piece,
+            chunk_size,
             fault: None,
         }
     }
 
     /// The same but for this call, counted from 0; it has no contract, as `new`.
-    pub fn failing(alloc: Global, piece: usize, call: usize, fault: Fault) -> FaultWriter {
+    pub fn failing(alloc: Global, chunk_size: usize, call: usize, fault: Fault) -> FaultWriter {
         FaultWriter {
             taken: Vec::new(alloc),
             calls: 0,
-            piece,
+            chunk_size,
             fault: Some((call, fault)),
         }
     }
@@ -117,7 +127,7 @@ impl Write for FaultWriter {
     fn write(&mut self, buf: &[u8]) -> io::Result<usize> {
         let call = self.calls;
         self.calls = call.saturating_add(1);
-        let count = moved(call, self.piece, self.fault, buf.len())?;
+        let count = moved(call, self.chunk_size, self.fault, buf.len())?;
         self.taken.extend_from_slice(&buf[..count])?;
         Ok(count)
     }
@@ -158,34 +168,34 @@ impl Write for UnflushableWriter {
     }
 }
 
-/// At how many places a call can fail so, and at how many of them a test let it.
+/// At how many positions in a run a call can fail so, and at how many of them a test let it fail.
 /// `tools/faults_tried` reads what it prints.
 #[derive(Drop)]
 pub struct Tally {
     call: &'static str,
     fault: &'static str,
-    places: usize,
+    positions: usize,
     tried: usize,
 }
 
 impl Tally {
-    /// No place yet, of a call that fails so: both in words. It has no contract: tests alone call it,
-    /// and print it.
+    /// No position yet, of a call that fails so: the call and the fault in words. It has no
+    /// contract: tests alone call it, and print it.
     pub fn new(call: &'static str, fault: &'static str) -> Tally {
         Tally {
             call,
             fault,
-            places: 0,
+            positions: 0,
             tried: 0,
         }
     }
 
-    /// Counts the places that a call without a fault has; it has no contract, as `new`.
-    pub fn count(&mut self, places: usize) {
-        self.places = self.places.saturating_add(places);
+    /// Counts the positions that a run without a fault has; it has no contract, as `new`.
+    pub fn count(&mut self, positions: usize) {
+        self.positions = self.positions.saturating_add(positions);
     }
 
-    /// Counts a place that is tried; it has no contract, as `new`.
+    /// Counts a position that is tried; it has no contract, as `new`.
     pub fn tries(&mut self) {
         self.tried = self.tried.saturating_add(1);
     }
@@ -196,7 +206,7 @@ impl fmt::Display for Tally {
         write!(
             f,
             "tally: {}: {}: {}: {}",
-            self.call, self.fault, self.places, self.tried
+            self.call, self.fault, self.positions, self.tried
         )
     }
 }

@@ -1,5 +1,5 @@
-//! Tests of `ep_base`, `ep_ip`, `ep_tcpudp`, `ep_icmp`, `ep_tag` and `ep_link` over their public calls. They stand in
-//! a crate of their own, so that they are proved beside these and not with each of their functions once more.
+//! Tests of `ep_base`, `ep_ip`, `ep_tcpudp`, `ep_icmp`, `ep_tag` and `ep_link` over their public calls. They are a
+//! crate of their own, so that they are proved beside these and not once more with each of their functions.
 #![tactic(auto)]
 
 #[cfg(test)]

@@ -10,32 +10,32 @@ use std::fmt::{Debug, Display};
 use std::process::Abort;
 use std::test::*;
 
-/// Fails where it is not so.
+/// Fails where `is_so` is false.
 pub fn holds(rt: impl Abort + Copy, is_so: bool) {
     assert!(rt; is_so);
 }
 
-// Fails where a text is another, and tells the row and both.
+// Fails where a text is another, and reports the row and both.
 fn is_text<R: Display + Drop>(
     rt: impl Abort + Copy,
     row: R,
-    told: Result<String, AllocError>,
+    observed: Result<String, AllocError>,
     wanted: &str,
 ) {
-    match told {
-        Ok(told) => assert_eq!(rt; told.as_str(), wanted, "at {row}"),
+    match observed {
+        Ok(observed) => assert_eq!(rt; observed.as_str(), wanted, "at {row}"),
         Err(_) => panic!(rt; "no memory for a text"),
     }
 }
 
-/// Fails where a value is shown otherwise, and tells the row and both.
+/// Fails where a value is shown otherwise, and reports the row and both.
 pub fn shows<R: Display + Drop, T: Debug>(
     rt: impl Abort + AllocGlobal + Copy,
     row: R,
-    told: &T,
+    observed: &T,
     wanted: &str,
 ) {
-    is_text(rt, row, format!(in rt.alloc(); "{told:?}"), wanted);
+    is_text(rt, row, format!(in rt.alloc(); "{observed:?}"), wanted);
 }
 
 /// Fails where this is not the text of each of these errors.
@@ -66,8 +66,8 @@ pub fn read_alike<E: Display, F: Display, G: Display, H: Display>(
     }
 }
 
-/// The want of bytes in a slice that tests expect, at its front.
-pub fn want_in_slice(required_len: usize, len: usize, layer: Layer) -> LenError
+/// The error of too few bytes in a slice that tests expect, at offset 0.
+pub fn missing_in_slice(required_len: usize, len: usize, layer: Layer) -> LenError
     ensures { result.layer_start_offset ≡ 0 }
 {
     LenError {

@@ -11,7 +11,7 @@ mod kinds;
 mod limited_reader;
 mod limited_reads;
 mod memory;
-mod places;
 mod readers;
 mod reads;
 mod rows;
+mod slots;

@@ -1,5 +1,6 @@
-//! Tests of `ep_ext` (`extensions`) and `ep_ipslice` (`slices`) over their public calls. They stand in a crate of their
-//! own, so that they are proved beside these and not with each of their functions once more.
+//! Tests of `ep_ext` (`extensions`) and `ep_ipslice` (`slices`) over their public calls. They are
+//! in a crate of their own, so that they are proved apart from these two, and not again with each
+//! function of them.
 #![tactic(auto)]
 
 #[cfg(test)]

@@ -1,37 +1,37 @@
--- A piece of a stream, line by line.
+-- A chunk of the input, line by line.
 use Rattle.std.proofs.Common.{◌≡◌, ◌∙◌, sym, ap, refl, subst, ℕ, zero, suc, ◌+◌, ◌-◌, ◌<◌, Bool}
 use Rattle.std.proofs.Common.{true, false, ◌==◌, List, [], ◌∷◌, ◌++◌, length, take, drop, get_or}
 use Rattle.std.proofs.Common.{arith, append_assoc, append-nil, length-append, take-append-drop}
 use Rattle.std.proofs.lemmas.List.{take_rest, drop_more, take_all, drop-drop}
 use Rattle.memchr.specs.Find.{NoneBefore, Nowhere, Passes, is_byte}
-use Rattle.runs.specs.Calls.{Call}
-use Rattle.runs.specs.Endings.{Ending, Done}
-use Rattle.runs.specs.Writes.{Written, Stops, Delivers}
-use Rattle.runs.proofs.WriteLemmas.{Written-append, Written-nil, Stops-after, Stops-more}
-use Rattle.runs.proofs.WriteLemmas.{Delivers-after}
+use Rattle.device_runs.specs.Calls.{Call}
+use Rattle.device_runs.specs.Endings.{Ending, Done}
+use Rattle.device_runs.specs.Writes.{Written, Stops, Delivers}
+use Rattle.device_runs.proofs.WriteLemmas.{Written-append, Written-nil, Stops-after, Stops-more}
+use Rattle.device_runs.proofs.WriteLemmas.{Delivers-after}
 use Rattle.lines.specs.declared.run_error.RunError.{RunError}
 use Rattle.lines.specs.Endings.{cause}
 use Rattle.lines.specs.Lines.{Split, split, HasNoNewline}
-use Rattle.lines.specs.Replies.{Begun, Meaning, replies_after}
+use Rattle.lines.specs.LineAnswers.{Started, Meaning, answers_to_later}
 use Rattle.lines.specs.Writes.{Gathers, Serves}
-use Rattle.lines.proofs.RepliesLemmas.{replies_after-append}
+use Rattle.lines.proofs.AnswersLemmas.{answers_to_later-append}
 use Rattle.lines.proofs.SplitLemmas.{HasNoNewline-append, split-HasNoNewline, split-line}
 use Rattle.lines.proofs.SplitLemmas.{split_on}
 use Rattle.lines.proofs.WriteLemmas.{Delivers-gathered, Gathers-fails, Serves-delivered}
 use Rattle.lines.proofs.WriteLemmas.{cause_fails}
 
--- the replies to these lines are gathered, and what follows goes on with a line of which begun is
+-- the answers to these lines are gathered, and what follows goes on with a line of which `started` is
 -- read
 pub record Fed {D : Type 0} (transition : D → Call → D → Type 0) (m : Meaning) (old : D)
-    (earlier : List (List ℕ)) (text rest waiting : List ℕ) (count : ℕ) (has_begun : Bool)
+    (earlier : List (List ℕ)) (text rest waiting : List ℕ) (count : ℕ) (has_started : Bool)
     (shown : List (List ℕ) → List ℕ → Type 0) (new : D) : Type 0 where
   pub lines : List (List ℕ)
-  pub begun : List ℕ
-  pub keeps : Begun shown count has_begun (earlier ++ lines) begun
-  pub same : split text ≡ split_on lines begun rest
-  pub front : List ℕ
-  pub written : Written transition old front new
-  pub gathered : replies_after m earlier lines ≡ front ++ waiting
+  pub started : List ℕ
+  pub keeps : Started shown count has_started (earlier ++ lines) started
+  pub same : split text ≡ split_on lines started rest
+  pub prefix : List ℕ
+  pub written : Written transition old prefix new
+  pub gathered : answers_to_later m earlier lines ≡ prefix ++ waiting
 
 not_true : (b : Bool) → (b ≡ true → ⊥) → b ≡ false
 not_true true h = absurd (h refl)
@@ -49,38 +49,38 @@ HasNoNewline-take (x ∷ bytes) (suc n) none = (
 )
 
 -- the line that 0a ends at n, and what follows
-line_parts : (begun rest : List ℕ) (n : ℕ) → n < length rest → get_or rest n 0 ≡ 10
-    → begun ++ rest ≡ (begun ++ take n rest) ++ 10 ∷ drop (n + 1) rest
-line_parts begun rest n lt is =
-    ap (λ l. begun ++ l) (sym (take-append-drop n rest)
+line_parts : (started rest : List ℕ) (n : ℕ) → n < length rest → get_or rest n 0 ≡ 10
+    → started ++ rest ≡ (started ++ take n rest) ++ 10 ∷ drop (n + 1) rest
+line_parts started rest n lt is =
+    ap (λ l. started ++ l) (sym (take-append-drop n rest)
     ∙ ap (λ l. take n rest ++ l) (drop_more rest n 0 lt ∙ ap (λ b. b ∷ drop (n + 1) rest) is))
-    ∙ sym (append_assoc begun (take n rest) (10 ∷ drop (n + 1) rest))
+    ∙ sym (append_assoc started (take n rest) (10 ∷ drop (n + 1) rest))
 
-split_on-line : (lines : List (List ℕ)) (begun rest : List ℕ) (n : ℕ) → HasNoNewline begun
+split_on-line : (lines : List (List ℕ)) (started rest : List ℕ) (n : ℕ) → HasNoNewline started
     → n < length rest → get_or rest n 0 ≡ 10 → HasNoNewline (take n rest)
-    → split_on lines begun rest ≡ split_on (lines ++ (begun ++ take n rest) ∷ [])
+    → split_on lines started rest ≡ split_on (lines ++ (started ++ take n rest) ∷ [])
     [] (drop (n + 1) rest)
-split_on-line lines begun rest n whole lt is none =
-    let line = begun ++ take n rest in
+split_on-line lines started rest n whole lt is none =
+    let line = started ++ take n rest in
     ap (λ (c : Split). let d : Split = record { ended = lines ++ c.ended; rest = c.rest } in d)
-    (ap split (line_parts begun rest n lt is)
+    (ap split (line_parts started rest n lt is)
     ∙ split-line line (drop (n + 1) rest)
-    (HasNoNewline-append begun (take n rest) whole none))
+    (HasNoNewline-append started (take n rest) whole none))
     ∙ ap (λ ls. let d : Split = record { ended = ls; rest = (split (drop (n + 1) rest)).rest } in d)
     (sym (append_assoc lines (line ∷ []) (split (drop (n + 1) rest)).ended))
 
--- the replies to one more line, after what was written and what waits
-replies-more : (m : Meaning) (earlier lines : List (List ℕ))
-    (line front waiting front' waiting' : List ℕ) → replies_after m earlier lines ≡ front ++ waiting
-    → waiting ++ m.reply (earlier ++ lines) line ≡ front' ++ waiting'
-    → replies_after m earlier (lines ++ line ∷ []) ≡ (front ++ front') ++ waiting'
-replies-more m earlier lines line front waiting front' waiting' before here =
-    let reply = m.reply (earlier ++ lines) line in
-    replies_after-append m earlier lines (line ∷ [])
-    ∙ ap (λ l. replies_after m earlier lines ++ l) (append-nil reply)
-    ∙ ap (λ l. l ++ reply) before
-    ∙ append_assoc front waiting reply ∙ ap (λ l. front ++ l) here
-    ∙ sym (append_assoc front front' waiting')
+-- the answers to one more line, after what was written and what waits
+answers-more : (m : Meaning) (earlier lines : List (List ℕ))
+    (line prefix waiting prefix' waiting' : List ℕ) → answers_to_later m earlier lines ≡ prefix ++ waiting
+    → waiting ++ m.answer (earlier ++ lines) line ≡ prefix' ++ waiting'
+    → answers_to_later m earlier (lines ++ line ∷ []) ≡ (prefix ++ prefix') ++ waiting'
+answers-more m earlier lines line prefix waiting prefix' waiting' before here =
+    let answer = m.answer (earlier ++ lines) line in
+    answers_to_later-append m earlier lines (line ∷ [])
+    ∙ ap (λ l. answers_to_later m earlier lines ++ l) (append-nil answer)
+    ∙ ap (λ l. l ++ answer) before
+    ∙ append_assoc prefix waiting answer ∙ ap (λ l. prefix ++ l) here
+    ∙ sym (append_assoc prefix prefix' waiting')
 
 -- one more line is counted
 counted-more : (earlier lines : List (List ℕ)) (line : List ℕ) (count count' : ℕ)
@@ -91,29 +91,29 @@ counted-more earlier lines line count count' before more =
     ∙ ap length (append_assoc earlier lines (line ∷ []))
 
 module _ {D : Type 0} (transition : D → Call → D → Type 0) (m : Meaning) where
-  pub fed_start : (old : D) (earlier : List (List ℕ)) (start piece waiting : List ℕ)
-      (count : ℕ) (has_begun : Bool) (shown : List (List ℕ) → List ℕ → Type 0)
-      → Begun shown count has_begun earlier start → waiting ≡ []
-      → Fed transition m old earlier (start ++ piece) piece waiting count has_begun shown old
-  fed_start old earlier start piece waiting count has_begun shown keeps none = record {
+  pub fed_start : (old : D) (earlier : List (List ℕ)) (start chunk waiting : List ℕ)
+      (count : ℕ) (has_started : Bool) (shown : List (List ℕ) → List ℕ → Type 0)
+      → Started shown count has_started earlier start → waiting ≡ []
+      → Fed transition m old earlier (start ++ chunk) chunk waiting count has_started shown old
+  fed_start old earlier start chunk waiting count has_started shown keeps none = record {
     lines = [];
-    begun = start;
-    keeps = subst (λ l. Begun shown count has_begun l start) (sym (append-nil earlier)) keeps;
+    started = start;
+    keeps = subst (λ l. Started shown count has_started l start) (sym (append-nil earlier)) keeps;
     same = refl;
-    front = [];
+    prefix = [];
     written = Written-nil transition old;
     gathered = sym none;
   }
 
-  -- a line alone, for which memory is wanting or a write stops,
+  -- a line alone, for which memory runs out or a write stops,
   pub serves_fails : (old new : D) (earlier : List (List ℕ)) (line waiting waiting' : List ℕ)
       → waiting ≡ [] → (e : RunError)
-      → Gathers transition (m.takes_memory earlier line) old waiting (m.reply earlier line)
+      → Gathers transition (m.takes_memory earlier line) old waiting (m.answer earlier line)
       (cause e) waiting' new → Serves transition m old earlier (line ∷ []) (cause e) new
   serves_fails old new earlier line waiting waiting' none e fails =
-      let reply = m.reply earlier line in
+      let answer = m.answer earlier line in
       Gathers-fails transition (λ ending. Serves transition m old earlier (line ∷ []) ending new)
-      old new (m.takes_memory earlier line) waiting reply waiting'
+      old new (m.takes_memory earlier line) waiting answer waiting'
       (λ h. (
         [],
         record {
@@ -127,78 +127,78 @@ module _ {D : Type 0} (transition : D → Call → D → Type 0) (m : Meaning) w
         subst (λ l. Written transition old l new) none h.1,
       ))
       (λ fault stops. subst (λ l. Stops transition fault old l new)
-      (ap (λ w. w ++ reply) none ∙ sym (append-nil reply)) stops)
+      (ap (λ w. w ++ answer) none ∙ sym (append-nil answer)) stops)
       (cause e) (cause_fails e) fails
 
   -- or that is answered
   pub serves_line : (old mid new : D) (earlier : List (List ℕ)) (line waiting waiting' : List ℕ)
       → waiting ≡ [] → (ending : Ending ⊥)
       → Gathers transition (m.takes_memory earlier line) old waiting
-      (m.reply earlier line) Done waiting' mid → Delivers transition mid waiting' ending new
+      (m.answer earlier line) Done waiting' mid → Delivers transition mid waiting' ending new
       → Serves transition m old earlier (line ∷ []) ending new
   serves_line old mid new earlier line waiting waiting' none ending gathers delivers =
-      let reply = m.reply earlier line in
+      let answer = m.answer earlier line in
       Serves-delivered transition m old new earlier (line ∷ []) ending
       (subst (λ l. Delivers transition old l ending new)
-      (ap (λ w. w ++ reply) none ∙ sym (append-nil reply))
-      (Delivers-gathered transition (m.takes_memory earlier line) old mid new waiting reply waiting'
+      (ap (λ w. w ++ answer) none ∙ sym (append-nil answer))
+      (Delivers-gathered transition (m.takes_memory earlier line) old mid new waiting answer waiting'
       ending gathers delivers))
 
   module _ (old mid new : D) (earlier : List (List ℕ)) (text rest waiting : List ℕ) (count : ℕ)
-      (has_begun : Bool) (shown : List (List ℕ) → List ℕ → Type 0) (n : ℕ)
-      (f : Fed transition m old earlier text rest waiting count has_begun shown mid)
+      (has_started : Bool) (shown : List (List ℕ) → List ℕ → Type 0) (n : ℕ)
+      (f : Fed transition m old earlier text rest waiting count has_started shown mid)
       (lt : n < length rest) (is : get_or rest n 0 ≡ 10)
       (none : HasNoNewline (take n rest)) where
     -- one more line
     pub fed_line : (waiting' : List ℕ)
-        → Gathers transition (m.takes_memory (earlier ++ f.lines) (f.begun ++ take n rest)) mid
-        waiting (m.reply (earlier ++ f.lines) (f.begun ++ take n rest)) Done waiting' new
+        → Gathers transition (m.takes_memory (earlier ++ f.lines) (f.started ++ take n rest)) mid
+        waiting (m.answer (earlier ++ f.lines) (f.started ++ take n rest)) Done waiting' new
         → (count' : ℕ) → count' ≡ count + 1 → (shown' : List (List ℕ) → List ℕ → Type 0)
-        → shown' ((earlier ++ f.lines) ++ (f.begun ++ take n rest) ∷ []) []
+        → shown' ((earlier ++ f.lines) ++ (f.started ++ take n rest) ∷ []) []
         → (begins : Bool) → begins ≡ false
         → Fed transition m old earlier text (drop (n + 1) rest) waiting' count' begins shown' new
-    fed_line waiting' more count' counts shown' shows begins none_begun =
-        let line = f.begun ++ take n rest in
+    fed_line waiting' more count' counts shown' shows begins none_started =
+        let line = f.started ++ take n rest in
         record {
           lines = f.lines ++ line ∷ [];
-          begun = [];
+          started = [];
           keeps = record {
             shows = subst (λ ls. shown' ls []) (append_assoc earlier f.lines (line ∷ [])) shows;
             counted = counted-more earlier f.lines line count count' f.keeps.counted counts;
-            begins = none_begun;
+            begins = none_started;
             unended = tt;
           };
-          same = f.same ∙ split_on-line f.lines f.begun rest n f.keeps.unended lt is none;
-          front = f.front ++ more.0;
-          written = Written-append transition old mid new f.front more.0 f.written more.1;
-          gathered = replies-more m earlier f.lines line f.front waiting more.0
+          same = f.same ∙ split_on-line f.lines f.started rest n f.keeps.unended lt is none;
+          prefix = f.prefix ++ more.0;
+          written = Written-append transition old mid new f.prefix more.0 f.written more.1;
+          gathered = answers-more m earlier f.lines line f.prefix waiting more.0
               waiting' f.gathered more.2;
         }
 
-    -- a write stops at a line, or memory is wanting for it
+    -- a write stops at a line, or memory runs out for it
     pub fed_fails : (e : RunError) (waiting' : List ℕ)
-        → Gathers transition (m.takes_memory (earlier ++ f.lines) (f.begun ++ take n rest)) mid
-        waiting (m.reply (earlier ++ f.lines) (f.begun ++ take n rest)) (cause e) waiting' new
+        → Gathers transition (m.takes_memory (earlier ++ f.lines) (f.started ++ take n rest)) mid
+        waiting (m.answer (earlier ++ f.lines) (f.started ++ take n rest)) (cause e) waiting' new
         → Serves transition m old earlier (split text).ended (cause e) new
     fed_fails e waiting' fails =
-        let line = f.begun ++ take n rest in
+        let line = f.started ++ take n rest in
         let later = (split (drop (n + 1) rest)).ended in
-        let reply = m.reply (earlier ++ f.lines) line in
-        let replies = replies_after m ((earlier ++ f.lines) ++ line ∷ []) later in
+        let answer = m.answer (earlier ++ f.lines) line in
+        let answers = answers_to_later m ((earlier ++ f.lines) ++ line ∷ []) later in
         let parts : (split text).ended ≡ f.lines ++ line ∷ later =
-        ap (λ c. c.ended) (f.same ∙ split_on-line f.lines f.begun rest n f.keeps.unended lt is none)
+        ap (λ c. c.ended) (f.same ∙ split_on-line f.lines f.started rest n f.keeps.unended lt is none)
         ∙ append_assoc f.lines (line ∷ []) later in
-        let all : replies_after m earlier (split text).ended ≡ f.front
-        ++ ((waiting ++ reply) ++ replies) =
-        ap (replies_after m earlier) parts ∙ replies_after-append m earlier f.lines (line ∷ later)
-        ∙ ap (λ l. l ++ (reply ++ replies)) f.gathered
-        ∙ append_assoc f.front waiting (reply ++ replies)
-        ∙ ap (λ l. f.front ++ l) (sym (append_assoc waiting reply replies)) in
+        let all : answers_to_later m earlier (split text).ended ≡ f.prefix
+        ++ ((waiting ++ answer) ++ answers) =
+        ap (answers_to_later m earlier) parts ∙ answers_to_later-append m earlier f.lines (line ∷ later)
+        ∙ ap (λ l. l ++ (answer ++ answers)) f.gathered
+        ∙ append_assoc f.prefix waiting (answer ++ answers)
+        ∙ ap (λ l. f.prefix ++ l) (sym (append_assoc waiting answer answers)) in
         Gathers-fails transition
         (λ ending. Serves transition m old earlier (split text).ended ending new) mid new
-        (m.takes_memory (earlier ++ f.lines) line) waiting reply waiting'
+        (m.takes_memory (earlier ++ f.lines) line) waiting answer waiting'
         (λ h. (
-          replies_after m earlier f.lines,
+          answers_to_later m earlier f.lines,
           record {
             before = f.lines;
             line = line;
@@ -208,46 +208,46 @@ module _ {D : Type 0} (transition : D → Call → D → Type 0) (m : Meaning) w
             same = refl;
           },
           subst (λ l. Written transition old l new) (sym f.gathered)
-              (Written-append transition old mid new f.front waiting f.written h.1),
+              (Written-append transition old mid new f.prefix waiting f.written h.1),
         ))
         (λ fault stops. subst (λ bytes. Stops transition fault old bytes new) (sym all)
-        (Stops-after transition fault old mid new f.front ((waiting ++ reply) ++ replies) f.written
-        (Stops-more transition fault mid new (waiting ++ reply) replies stops)))
+        (Stops-after transition fault old mid new f.prefix ((waiting ++ answer) ++ answers) f.written
+        (Stops-more transition fault mid new (waiting ++ answer) answers stops)))
         (cause e) (cause_fails e) fails
 
   module _ (old new : D) (earlier : List (List ℕ)) (text rest waiting : List ℕ) (count : ℕ)
-      (has_begun : Bool) (shown : List (List ℕ) → List ℕ → Type 0)
-      (f : Fed transition m old earlier text rest waiting count has_begun shown new)
+      (has_started : Bool) (shown : List (List ℕ) → List ℕ → Type 0)
+      (f : Fed transition m old earlier text rest waiting count has_started shown new)
       (none : HasNoNewline rest) where
     -- no line ends any more
     fed_split : split text ≡ (let d : Split =
-        record { ended = f.lines; rest = f.begun ++ rest } in d)
+        record { ended = f.lines; rest = f.started ++ rest } in d)
     fed_split =
         f.same ∙ ap (λ (c : Split). let d : Split =
         record { ended = f.lines ++ c.ended; rest = c.rest } in d)
-        (split-HasNoNewline (f.begun ++ rest)
-        (HasNoNewline-append f.begun rest f.keeps.unended none))
-        ∙ ap (λ ls. let d : Split = record { ended = ls; rest = f.begun ++ rest } in d)
+        (split-HasNoNewline (f.started ++ rest)
+        (HasNoNewline-append f.started rest f.keeps.unended none))
+        ∙ ap (λ ls. let d : Split = record { ended = ls; rest = f.started ++ rest } in d)
         (append-nil f.lines)
 
     -- what waits is written
     pub fed_written : (later : D) (r : Ending ⊥) → Delivers transition new waiting r later
         → Serves transition m old earlier (split text).ended r later
     fed_written later r d =
-        let all : replies_after m earlier (split text).ended ≡ f.front ++ waiting =
-        ap (λ (c : Split). replies_after m earlier c.ended) fed_split ∙ f.gathered in
+        let all : answers_to_later m earlier (split text).ended ≡ f.prefix ++ waiting =
+        ap (λ (c : Split). answers_to_later m earlier c.ended) fed_split ∙ f.gathered in
         Serves-delivered transition m old later earlier (split text).ended r
         (subst (λ bytes. Delivers transition old bytes r later) (sym all)
-        (Delivers-after transition old new later f.front waiting r f.written d))
+        (Delivers-after transition old new later f.prefix waiting r f.written d))
 
-    pub fed_begun : (count' : ℕ) (begins : Bool) (shown' : List (List ℕ) → List ℕ → Type 0)
-        → Begun shown' count' begins (earlier ++ f.lines) (f.begun ++ rest)
-        → Begun shown' count' begins (earlier ++ (split text).ended) (split text).rest
-    fed_begun count' begins shown' begun =
-        subst (λ (c : Split). Begun shown' count' begins (earlier ++ c.ended) c.rest)
-        (sym fed_split) begun
+    pub fed_started : (count' : ℕ) (begins : Bool) (shown' : List (List ℕ) → List ℕ → Type 0)
+        → Started shown' count' begins (earlier ++ f.lines) (f.started ++ rest)
+        → Started shown' count' begins (earlier ++ (split text).ended) (split text).rest
+    fed_started count' begins shown' started =
+        subst (λ (c : Split). Started shown' count' begins (earlier ++ c.ended) c.rest)
+        (sym fed_split) started
 
--- what memchr tells of the first 0a
+-- what memchr returns for the first 0a
 pub found_end : (rest : List ℕ) (n : ℕ) → NoneBefore (Passes (is_byte 10) rest) 0 (length rest) n
     → HasNoNewline (take n rest)
 found_end rest n h = HasNoNewline-take rest n (λ k lt is. h.before k (omega arith) lt is)

@@ -1,8 +1,10 @@
-mod Feeding
+-- for the crates above, beside what is proved of each function
 pub mod Going
+pub mod SplitLemmas
+mod AnswersLemmas
+mod Feeding
 mod LineLemmas
 mod MemoryLemmas
-mod RepliesLemmas
+mod SessionLemmas
 mod SplitLaws
-pub mod SplitLemmas
 mod WriteLemmas

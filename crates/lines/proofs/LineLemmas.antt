@@ -1,4 +1,4 @@
--- Whether a line has begun.
+-- Whether a line has started.
 use Rattle.std.proofs.Common.{◌≡◌, ◌∙◌, sym, ap, refl, ℕ, ◌==◌, not, true, false, List, [], ◌∷◌, ◌++◌}
 use Rattle.std.proofs.Common.{length, Result, Ok, Err, append-nil}
 use Rattle.std.specs.Prelude.{OnOk}
@@ -10,26 +10,26 @@ pub on_ok : {T E P : Type 0} (r : Result T E) → P → OnOk r P
 on_ok (Ok t) p = p
 on_ok (Err x) p = tt
 
--- nothing is read of a line that hasn't begun,
-pub nothing_begun : (front : List ℕ) → false ≡ not (length front == 0) → front ≡ []
-nothing_begun [] is = refl
-nothing_begun (b ∷ front) is =
-    let not_so = is ∙ ap not (eqb-suc-zero (length front)) in cc
+-- nothing is read of a line that hasn't started,
+pub nothing_started : (prefix : List ℕ) → false ≡ not (length prefix == 0) → prefix ≡ []
+nothing_started [] is = refl
+nothing_started (b ∷ prefix) is =
+    let not_so = is ∙ ap not (eqb-suc-zero (length prefix)) in cc
 
 -- and one that has is the last line
-pub begun_line : (front : List ℕ) → true ≡ not (length front == 0)
-    → last_line front ≡ (front ++ []) ∷ []
-begun_line [] is = cc
-begun_line (b ∷ front) is = ap (λ l. l ∷ []) (sym (append-nil (b ∷ front)))
+pub started_line : (prefix : List ℕ) → true ≡ not (length prefix == 0)
+    → last_line prefix ≡ (prefix ++ []) ∷ []
+started_line [] is = cc
+started_line (b ∷ prefix) is = ap (λ l. l ∷ []) (sym (append-nil (b ∷ prefix)))
 
--- it has begun where bytes follow
-pub begins_more : (front bytes : List ℕ) → (length bytes == 0) ≡ false
-    → true ≡ not (length (front ++ bytes) == 0)
+-- it has started where bytes follow
+pub begins_more : (prefix bytes : List ℕ) → (length bytes == 0) ≡ false
+    → true ≡ not (length (prefix ++ bytes) == 0)
 begins_more [] [] some = cc
 begins_more [] (b ∷ bytes) some = sym (ap not (eqb-suc-zero (length bytes)))
-begins_more (b ∷ front) bytes some = sym (ap not (eqb-suc-zero (length (front ++ bytes))))
+begins_more (b ∷ prefix) bytes some = sym (ap not (eqb-suc-zero (length (prefix ++ bytes))))
 
-pub no_bytes : (front bytes : List ℕ) → (length bytes == 0) ≡ true → front ++ bytes ≡ front
-no_bytes front [] none = append-nil front
-no_bytes front (b ∷ bytes) none =
+pub no_bytes : (prefix bytes : List ℕ) → (length bytes == 0) ≡ true → prefix ++ bytes ≡ prefix
+no_bytes prefix [] none = append-nil prefix
+no_bytes prefix (b ∷ bytes) none =
     let not_so = sym none ∙ eqb-suc-zero (length bytes) in cc

@@ -1,18 +1,18 @@
 -- A run over a device in memory.
 use Rattle.std.proofs.Common.{◌≡◌, ◌∙◌, ap, subst, ℕ, ◌+◌, ◌≤◌, arith, zero, suc, List, [], ◌∷◌}
 use Rattle.std.proofs.Common.{◌++◌, ◌<◌, ◌^◌, length, length-append, Some, None, Ok, Err}
-use Rattle.runs.specs.declared.fault.Fault.TheVariants.{ReadFailed, NothingTaken}
-use Rattle.runs.specs.Calls.{Call, Reads, Writes, Makes, bytes_read, faults_of}
-use Rattle.runs.specs.Endings.{Ending, Done, OutOfReads}
-use Rattle.runs.specs.Known.{Known, KnownCall, known_of}
-use Rattle.runs.specs.Runs.{EachFollows, Goes}
-use Rattle.runs.proofs.KnownLemmas.{Goes-map, goes_too_many, known_read}
+use Rattle.device_runs.specs.declared.fault.Fault.TheVariants.{ReadFailed, NothingTaken}
+use Rattle.device_runs.specs.Calls.{Call, Reads, Writes, Makes, bytes_read, faults_of}
+use Rattle.device_runs.specs.Endings.{Ending, Done, OutOfReads}
+use Rattle.device_runs.specs.Known.{Known, KnownCall, known_of}
+use Rattle.device_runs.specs.Runs.{EachFollows, Goes}
+use Rattle.device_runs.proofs.KnownLemmas.{Goes-map, goes_too_many, known_read}
 use Rattle.lines.specs.declared.run_error.RunError.{RunError}
 use Rattle.lines.specs.declared.run_error.RunError.TheVariants.{Read, WriteZero}
 use Rattle.lines.specs.declared.run_error.RunError.TheVariants.{TooManyReads}
 use Rattle.lines.specs.Known.{MemoryCall}
-use Rattle.lines.specs.Replies.{Meaning, replies_to}
-use Rattle.lines.specs.Runs.{RunsBy, reply_task}
+use Rattle.lines.specs.LineAnswers.{Meaning, answers_to_text}
+use Rattle.lines.specs.Runs.{RunsBy, answer_task}
 use Rattle.lines.proofs.Going.{runs_ok}
 
 -- no more bytes are read than there are
@@ -36,19 +36,19 @@ no_read a b (Writes bytes (Some (suc n)) ∷ calls) made faults = no_read made.0
 
 module _ (m : Meaning) where
   known_run : (limit : ℕ) (a b : Known) (ending : Ending ⊥)
-      → Goes (reply_task m) MemoryCall limit a b ending
-      → Goes (reply_task m) KnownCall limit a b ending
-  known_run limit a b ending runs = Goes-map (reply_task m) MemoryCall KnownCall (λ s. s)
+      → Goes (answer_task m) MemoryCall limit a b ending
+      → Goes (answer_task m) KnownCall limit a b ending
+  known_run limit a b ending runs = Goes-map (answer_task m) MemoryCall KnownCall (λ s. s)
       (λ s t call moved. moved.0) limit a b ending runs
 
   -- what is written into an empty vector is the answers
   pub memory_ok : (limit : ℕ) (text start rest output : List ℕ) → start ≡ []
       → RunsBy MemoryCall m limit (known_of (Some text) (Some start)) (known_of (Some rest) (Some output))
-      (Ok tt) → output ≡ replies_to m text
+      (Ok tt) → output ≡ answers_to_text m text
   memory_ok limit text start rest output empty runs =
       runs_ok m limit (known_of (Some text) (Some start)) (known_of (Some rest) (Some output)) (Ok tt)
       (known_run limit _ _ Done runs)
-      ∙ ap (λ l. l ++ replies_to m text) empty
+      ∙ ap (λ l. l ++ answers_to_text m text) empty
 
   -- no read is a fault,
   pub memory_read : (limit : ℕ) (a b : Known) (e : RunError)
@@ -59,7 +59,7 @@ module _ (m : Meaning) where
 
   -- and no write of some bytes takes none
   no_write_zero : (before : List Call) (a b : Known) (calls : List Call)
-      → EachFollows (reply_task m) before calls → Makes MemoryCall a calls b
+      → EachFollows (answer_task m) before calls → Makes MemoryCall a calls b
       → faults_of calls ≡ NothingTaken ∷ [] → ⊥
   no_write_zero before a b [] each made faults = cc
   no_write_zero before a b (Reads None ∷ calls) each made faults = cc
@@ -77,7 +77,7 @@ module _ (m : Meaning) where
       let ended = subst (λ e. RunsBy MemoryCall m limit a b (Err e)) is runs in
       no_write_zero [] a b ended.calls ended.each ended.made ended.ends
 
-  -- one read more than there are bytes tells the end
+  -- one read more than there are bytes reports the end
   pub memory_too_many : (text output : List ℕ) (b : Known) (e : RunError)
       → RunsBy MemoryCall m (length text + 1) (known_of (Some text) (Some output)) b (Err e)
       → e ≡ TooManyReads → ⊥
@@ -85,7 +85,7 @@ module _ (m : Meaning) where
       let ended = subst (λ e. RunsBy MemoryCall m (length text + 1)
       (known_of (Some text) (Some output)) b (Err e)) is runs in
       let le : length text + 1 ≤ length text =
-      goes_too_many (reply_task m) (length text + 1) (known_of (Some text) (Some output))
+      goes_too_many (answer_task m) (length text + 1) (known_of (Some text) (Some output))
       b
       (known_run _ _ _ OutOfReads ended) in
       omega arith

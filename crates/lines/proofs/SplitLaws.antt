@@ -1,12 +1,12 @@
--- Pieces joined by 0a are the text.
+-- The parts between the 0a bytes, joined by 0a, are the text.
 use Rattle.std.proofs.Common.{◌≡◌, ◌∙◌, sym, ap, refl, ℕ, Bool, true, false, ◌==◌, List, [], ◌∷◌}
 use Rattle.std.proofs.Common.{◌++◌}
 use Rattle.std.proofs.lemmas.Bool.{eqb-true}
 use Rattle.std.specs.List.{AllByRecursion, join_with_byte}
-use Rattle.lines.specs.Lines.{split, with_byte, HasNoNewline, pieces_of, PiecesAreTheText}
+use Rattle.lines.specs.Lines.{split, with_byte, HasNoNewline, separated_parts, PartsAreTheText}
 use Rattle.lines.proofs.SplitLemmas.{split-end, split-other, split-nil}
 
--- one line in front
+-- one line before others
 join-cons : (line : List ℕ) (lines : List (List ℕ)) (rest : List ℕ)
     → join_with_byte 10 (line ∷ (lines ++ rest ∷ [])) ≡ line ++ 10 ∷
     join_with_byte 10 (lines ++ rest ∷ [])
@@ -29,8 +29,8 @@ without_byte b [] rest e each = ((e, each.0), tt)
 without_byte b (line ∷ lines) rest e each = ((e, each.0), each.1)
 
 joined_cases : (t : Bool) (b : ℕ) (bytes : List ℕ) → (b == 10) ≡ t
-    → join_with_byte 10 (pieces_of bytes) ≡ bytes
-    → join_with_byte 10 (pieces_of (b ∷ bytes)) ≡ b ∷ bytes
+    → join_with_byte 10 (separated_parts bytes) ≡ bytes
+    → join_with_byte 10 (separated_parts (b ∷ bytes)) ≡ b ∷ bytes
 joined_cases true b bytes e is =
     let ten : b ≡ 10 = eqb-true b 10 e in
     ap (λ s. join_with_byte 10 (s.ended ++ s.rest ∷ [])) (split-end b bytes e)
@@ -41,14 +41,14 @@ joined_cases false b bytes e is =
     ∙ joined_byte b (split bytes).ended (split bytes).rest bytes is
 
 none_cases : (t : Bool) (b : ℕ) (bytes : List ℕ) → (b == 10) ≡ t
-    → AllByRecursion HasNoNewline (pieces_of bytes)
-    → AllByRecursion HasNoNewline (pieces_of (b ∷ bytes))
+    → AllByRecursion HasNoNewline (separated_parts bytes)
+    → AllByRecursion HasNoNewline (separated_parts (b ∷ bytes))
 none_cases true b bytes e each = rw (split-end b bytes e) (tt, each)
 none_cases false b bytes e each = rw (split-other b bytes e)
     (without_byte b (split bytes).ended (split bytes).rest e each)
 
-pub pieces_are_the_text : PiecesAreTheText
-pieces_are_the_text [] = rw split-nil (refl, (tt, tt))
-pieces_are_the_text (b ∷ bytes) =
-    let later = pieces_are_the_text bytes in
+pub parts_are_the_text : PartsAreTheText
+parts_are_the_text [] = rw split-nil (refl, (tt, tt))
+parts_are_the_text (b ∷ bytes) =
+    let later = parts_are_the_text bytes in
     (joined_cases (b == 10) b bytes refl later.0, none_cases (b == 10) b bytes refl later.1)

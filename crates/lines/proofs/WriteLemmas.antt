@@ -1,20 +1,20 @@
--- Replies that wait to be written, and writes.
+-- Answers that wait to be written, and writes.
 use Rattle.std.proofs.Common.{◌≡◌, ◌∙◌, sym, ap, refl, subst, ℕ, List, [], ◌++◌, Bool, true}
 use Rattle.std.proofs.Common.{append_assoc, append-nil}
-use Rattle.runs.specs.declared.fault.Fault.{Fault}
-use Rattle.runs.specs.Calls.{Call}
-use Rattle.runs.specs.Endings.{Ending, Done, Stopped, OutOfMemory, OutOfReads, Refused}
-use Rattle.runs.specs.Writes.{Written, Stops, Delivers}
-use Rattle.runs.proofs.WriteLemmas.{Written-nil, Written-append, Stops-after, Stops-more}
-use Rattle.runs.proofs.WriteLemmas.{Delivers-after}
+use Rattle.device_runs.specs.declared.fault.Fault.{Fault}
+use Rattle.device_runs.specs.Calls.{Call}
+use Rattle.device_runs.specs.Endings.{Ending, Done, Stopped, OutOfMemory, OutOfReads, Refused}
+use Rattle.device_runs.specs.Writes.{Written, Stops, Delivers}
+use Rattle.device_runs.proofs.WriteLemmas.{Written-nil, Written-append, Stops-after, Stops-more}
+use Rattle.device_runs.proofs.WriteLemmas.{Delivers-after}
 use Rattle.lines.specs.declared.run_error.RunError.{RunError}
 use Rattle.lines.specs.declared.run_error.RunError.TheVariants.{Read, Write, WriteZero}
 use Rattle.lines.specs.declared.run_error.RunError.TheVariants.{Memory, TooManyReads}
 use Rattle.lines.specs.Endings.{cause}
-use Rattle.lines.specs.Replies.{Meaning, EndsBefore, replies_after}
+use Rattle.lines.specs.LineAnswers.{Meaning, EndsBefore, answers_to_later}
 use Rattle.lines.specs.Writes.{Gathers, Serves}
 
--- an error doesn't tell the end
+-- an error isn't the ending `Done`
 pub cause_fails : (e : RunError) → cause e ≡ Done → ⊥
 cause_fails Read is = cc
 cause_fails Write is = cc
@@ -23,21 +23,21 @@ cause_fails Memory is = cc
 cause_fails TooManyReads is = cc
 
 module _ {D : Type 0} (transition : D → Call → D → Type 0) where
-  -- of what waits a front is written, and the rest is left
+  -- of what waits a prefix is written, and the rest is left
   pub record Left (a : D) (waiting left : List ℕ) (b : D) : Type 0 where
-    pub front : List ℕ
-    pub written : Written transition a front b
-    pub whole : waiting ≡ front ++ left
+    pub prefix : List ℕ
+    pub written : Written transition a prefix b
+    pub whole : waiting ≡ prefix ++ left
 
   pub Left-none : (a : D) (waiting left : List ℕ) → left ≡ waiting → Left a waiting left a
   Left-none a waiting left is =
-      record { front = []; written = Written-nil transition a; whole = sym is }
+      record { prefix = []; written = Written-nil transition a; whole = sym is }
 
   pub Left-all : (a b : D) (waiting left : List ℕ) → Written transition a waiting b → left ≡ []
       → Left a waiting left b
   Left-all a b waiting left written is =
       record {
-        front = waiting;
+        prefix = waiting;
         written = written;
         whole = sym (ap (λ l. waiting ++ l) is ∙ append-nil waiting);
       }
@@ -47,20 +47,20 @@ module _ {D : Type 0} (transition : D → Call → D → Type 0) where
       → Left a waiting left b → waiting' ≡ left ++ bytes
       → Gathers transition takes a waiting bytes Done waiting' b
   Gathers-left takes a b waiting left bytes waiting' l is = (
-    l.front,
+    l.prefix,
     l.written,
-    ap (λ w. w ++ bytes) l.whole ∙ append_assoc l.front left bytes
-        ∙ ap (λ w. l.front ++ w) (sym is),
+    ap (λ w. w ++ bytes) l.whole ∙ append_assoc l.prefix left bytes
+        ∙ ap (λ w. l.prefix ++ w) (sym is),
   )
 
-  -- or memory is wanting for them, and all that waits is written,
+  -- or memory runs out for them, and all that waits is written,
   pub Gathers-memory : (takes : Bool) (a b c : D) (waiting left bytes waiting' : List ℕ)
       → takes ≡ true → Left a waiting left b → Written transition b left c
       → Gathers transition takes a waiting bytes OutOfMemory waiting' c
   Gathers-memory takes a b c waiting left bytes waiting' does l w = (
     does,
     subst (λ all. Written transition a all c) (sym l.whole)
-        (Written-append transition a b c l.front left l.written w),
+        (Written-append transition a b c l.prefix left l.written w),
   )
 
   -- or a write stops
@@ -72,7 +72,7 @@ module _ {D : Type 0} (transition : D → Call → D → Type 0) where
   Gathers-stops takes a b c waiting left bytes waiting' l (Stopped fault) fails d =
       Stops-more transition fault a c waiting bytes
       (subst (λ all. Stops transition fault a all c) (sym l.whole)
-      (Stops-after transition fault a b c l.front left l.written d))
+      (Stops-after transition fault a b c l.prefix left l.written d))
   Gathers-stops takes a b c waiting left bytes waiting' l OutOfMemory fails d = absurd d
   Gathers-stops takes a b c waiting left bytes waiting' l OutOfReads fails d = d
   Gathers-stops takes a b c waiting left bytes waiting' l (Refused reason) fails d = d
@@ -100,10 +100,10 @@ module _ {D : Type 0} (transition : D → Call → D → Type 0) where
 
     -- and where lines are served
     pub Serves-cases : (m : Meaning) (earlier lines : List (List ℕ)) (ending : Ending ⊥)
-        → (ending ≡ Done → Written transition old (replies_after m earlier lines) new → P Done)
-        → ((replies : List ℕ) → EndsBefore m earlier lines replies
-        → Written transition old replies new → P OutOfMemory)
-        → ((fault : Fault) → Stops transition fault old (replies_after m earlier lines) new
+        → (ending ≡ Done → Written transition old (answers_to_later m earlier lines) new → P Done)
+        → ((answers : List ℕ) → EndsBefore m earlier lines answers
+        → Written transition old answers new → P OutOfMemory)
+        → ((fault : Fault) → Stops transition fault old (answers_to_later m earlier lines) new
         → P (Stopped fault))
         → Serves transition m old earlier lines ending new → P ending
     Serves-cases m earlier lines Done done memory stops s = done refl s
@@ -114,7 +114,7 @@ module _ {D : Type 0} (transition : D → Call → D → Type 0) where
 
   -- what is delivered is served
   pub Serves-delivered : (m : Meaning) (old new : D) (earlier lines : List (List ℕ))
-      (ending : Ending ⊥) → Delivers transition old (replies_after m earlier lines) ending new
+      (ending : Ending ⊥) → Delivers transition old (answers_to_later m earlier lines) ending new
       → Serves transition m old earlier lines ending new
   Serves-delivered m old new earlier lines Done d = d
   Serves-delivered m old new earlier lines (Stopped fault) d = d

@@ -1,7 +1,7 @@
 -- What is known of a run over memory.
 use Rattle.std.specs.Prelude.{◌≡◌, length, None, Some}
-use Rattle.runs.specs.Calls.{Call, Reads, Writes}
-use Rattle.runs.specs.Known.{Known, KnownCall}
+use Rattle.device_runs.specs.Calls.{Call, Reads, Writes}
+use Rattle.device_runs.specs.Known.{Known, KnownCall}
 
 -- calls of a device in memory: no read fails, and a write that doesn't fail takes all its bytes
 abbrev pub IsInMemory : Call → Type 0

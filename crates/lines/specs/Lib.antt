@@ -1,6 +1,7 @@
 pub mod Endings
 pub mod Known
+pub mod LineAnswers
 pub mod Lines
-pub mod Replies
 pub mod Runs
+pub mod Sessions
 pub mod Writes

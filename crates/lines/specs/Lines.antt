@@ -7,7 +7,7 @@ pub record Split : Type 0 where
   pub ended : List (List ℕ)
   pub rest : List ℕ
 
--- one more byte, which is not 0a, in front of the first line
+-- one more byte, which is not 0a, before the first line
 abbrev pub with_byte : ℕ → List (List ℕ) → List ℕ → Split
 with_byte b [] rest = record { ended = []; rest = b ∷ rest }
 with_byte b (line ∷ lines) rest = record { ended = (b ∷ line) ∷ lines; rest = rest }
@@ -19,7 +19,7 @@ split (b ∷ bytes) =
     if b == 10 then record { ended = [] ∷ later.ended; rest = later.rest }
     else with_byte b later.ended later.rest
 
--- a last piece that no 0a ends is a line if it is not empty
+-- a last part that no 0a ends is a line if it is not empty
 abbrev pub last_line : List ℕ → List (List ℕ)
 last_line [] = []
 last_line (b ∷ rest) = (b ∷ rest) ∷ []
@@ -37,11 +37,11 @@ abbrev pub HasNoNewline : List ℕ → Type 0
 HasNoNewline [] = Unit {0}
 HasNoNewline (b ∷ bytes) = (b == 10 ≡ false) × HasNoNewline bytes
 
--- the pieces that 0a parts, the last one too
-abbrev pub pieces_of : List ℕ → List (List ℕ)
-pieces_of bytes = (split bytes).ended ++ (split bytes).rest ∷ []
+-- the parts between the 0a bytes, the last one too
+abbrev pub separated_parts : List ℕ → List (List ℕ)
+separated_parts bytes = (split bytes).ended ++ (split bytes).rest ∷ []
 
--- joined by 0a the pieces are the bytes again, and none of them holds a 0a
-abbrev pub PiecesAreTheText : Type 0
-PiecesAreTheText = (bytes : List ℕ) → (join_with_byte 10 (pieces_of bytes) ≡ bytes)
-    × AllByRecursion HasNoNewline (pieces_of bytes)
+-- joined by 0a the parts are the bytes again, and none of them holds a 0a
+abbrev pub PartsAreTheText : Type 0
+PartsAreTheText = (bytes : List ℕ) → (join_with_byte 10 (separated_parts bytes) ≡ bytes)
+    × AllByRecursion HasNoNewline (separated_parts bytes)

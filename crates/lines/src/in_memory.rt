@@ -1,12 +1,12 @@
-//! The replies to the lines of a text in memory.
+//! The answers to the lines of a text in memory.
 ghost use Rattle.std.specs.Prelude.{◌≡◌, [], IfOk, Some};
-ghost use Rattle.runs.specs.Known.{known_of};
+ghost use Rattle.device_runs.specs.Known.{known_of};
 ghost use Rattle.lines.specs.Known.{MemoryCall};
-ghost use Rattle.lines.specs.Replies.{replies_to};
+ghost use Rattle.lines.specs.LineAnswers.{answers_to_text};
 
 use crate::run_lines::answer_input;
 use crate::{Answerer, RunError};
-use runs::Device;
+use device_runs::Device;
 use std::alloc::{AllocError, Global};
 use std::io;
 
@@ -38,7 +38,7 @@ impl<'t> Device for TextDevice<'t> {
     }
 }
 
-/// The replies to all lines of a text, by an answerer that has answered no line yet. The only error
+/// The answers to all lines of a text, by an answerer that has answered no line yet. The only error
 /// is out of memory.
 pub fn answers_by<A: Answerer + Drop>(
     alloc: Global,
@@ -46,7 +46,7 @@ pub fn answers_by<A: Answerer + Drop>(
     text: &[u8],
 ) -> Result<Vec<u8>, AllocError>
     requires { A.shows answerer [] [] }
-    ensures { IfOk result (λ answers. answers.items ≡ replies_to A.meaning text.now) }
+    ensures { IfOk result (λ answers. answers.items ≡ answers_to_text A.meaning text.now) }
 {
     let mut device = TextDevice {
         input: text,

@@ -1,19 +1,21 @@
-//! Lines of a stream of bytes, each answered by one line, whatever they mean.
+//! Lines of a text that is read in chunks, each answered by one line, whatever they mean.
 #![tactic(auto)]
 
+mod answer_buffer;
 mod answerer;
 mod in_memory;
 pub mod laws;
 mod limits;
 mod line_answerer;
-mod reply_buffer;
 mod run_error;
 mod run_lines;
+mod session;
 
 pub use answerer::Answerer;
+pub use device_runs::READ_COUNT_LIMIT;
 pub use in_memory::answers_by;
-pub use limits::{LINE_LIMIT, READ_SIZE_LIMIT, REPLY_ROOM};
+pub use limits::{ANSWER_CAPACITY, LINE_LIMIT, READ_SIZE_LIMIT};
 pub use line_answerer::LineAnswerer;
 pub use run_error::RunError;
 pub use run_lines::run_with;
-pub use runs::READ_COUNT_LIMIT;
+pub use session::{Session, Waiting};

@@ -1,9 +1,9 @@
-//! A reader and a writer as one device: each of its calls is one call of theirs and tells what
-//! that one tells, whatever the size of the buffer; and writes of all of some bytes. `Read` and
+//! A reader and a writer as one device: each of its calls is one call of theirs and returns what
+//! that one returns, whatever the size of the buffer; and writes of all of some bytes. `Read` and
 //! `Write` give a failing call no meaning, so no clause says it.
 use crate::checks::equal;
+use device_runs::{Device, ReaderWriter, flush_after, write_whole};
 use fault_devices::{Fault, FaultReader, FaultWriter, Tally, UnflushableWriter};
-use runs::{Device, ReaderWriter, flush_behind, write_whole};
 use std::io::{self, ErrorKind};
 use std::process::Abort;
 use std::test::Fail;
@@ -31,8 +31,8 @@ fn reads(
     let mut room = b"\0".repeat(rt.alloc(), size).expect(&rt, "no memory");
     let mut writer = FaultWriter::new(rt.alloc(), 0);
     let count = given(&mut reader, &mut writer, room.as_mut_slice());
-    let told = (count, reader.calls, reader.room, writer.calls);
-    equal(rt, told, (wanted, 1, size, 0));
+    let reported = (count, reader.calls, reader.room, writer.calls);
+    equal(rt, reported, (wanted, 1, size, 0));
 }
 
 fn reads_of(rt: impl Abort + AllocGlobal + Copy, tally: &mut Tally, bytes: &[u8], size: usize) {
@@ -75,8 +75,8 @@ fn writes(
 ) {
     let mut reader = FaultReader::new(b"", 0);
     let count = taken(&mut reader, &mut writer, bytes);
-    let told = (count, writer.calls, writer.taken.len(), reader.calls);
-    equal(rt, told, (wanted, 1, wanted.unwrap_or(0), 0));
+    let reported = (count, writer.calls, writer.taken.len(), reader.calls);
+    equal(rt, reported, (wanted, 1, wanted.unwrap_or(0), 0));
 }
 
 fn writes_of(rt: impl Abort + AllocGlobal + Copy, tally: &mut Tally, bytes: &[u8], size: usize) {
@@ -107,7 +107,7 @@ fn writes_of_each_size(rt: HostRuntime) -> Result<(), Fail> {
     Ok(())
 }
 
-// What a read can do in place of giving a byte, and how many it gives then, if it doesn't fail.
+// What a read can do instead of giving a byte, and how many it gives then, if it doesn't fail.
 const READS: &[(Fault, Option<usize>)] = &[
     (Fault::Fails(ErrorKind::Interrupted), None),
     (FAILS, None),
@@ -133,11 +133,11 @@ fn reads_with(
             (fault, failing, call, count),
             (fault, failing, call, wanted),
         );
-        let front = &room[..count.unwrap_or(0).min(200)];
-        assert!(rt; read.extend_from_slice(front).is_ok());
+        let prefix = &room[..count.unwrap_or(0).min(200)];
+        assert!(rt; read.extend_from_slice(prefix).is_ok());
     }
-    let told = (reader.calls, read.as_slice(), writer.calls);
-    equal(rt, told, (3, b"ab".as_slice(), 0));
+    let reported = (reader.calls, read.as_slice(), writer.calls);
+    equal(rt, reported, (3, b"ab".as_slice(), 0));
 }
 
 // Nothing is tried again, and no fault is made up.
@@ -150,14 +150,14 @@ fn each_read_is_one_read(rt: HostRuntime) {
     }
 }
 
-// What a write can do in place of taking two bytes, and what is told of it.
-const WRITES: &[(Fault, runs::Fault)] = &[
+// What a write can do instead of taking two bytes, and what is reported of it.
+const WRITES: &[(Fault, device_runs::Fault)] = &[
     (
         Fault::Fails(ErrorKind::Interrupted),
-        runs::Fault::WriteFailed,
+        device_runs::Fault::WriteFailed,
     ),
-    (FAILS, runs::Fault::WriteFailed),
-    (Fault::MovesNone, runs::Fault::NothingTaken),
+    (FAILS, device_runs::Fault::WriteFailed),
+    (Fault::MovesNone, device_runs::Fault::NothingTaken),
 ];
 
 // A whole write of five bytes, of which this write is a fault.
@@ -165,7 +165,7 @@ fn writes_with(
     rt: impl Abort + AllocGlobal + Copy,
     fault: Fault,
     failing: usize,
-    wanted: Result<(), runs::Fault>,
+    wanted: Result<(), device_runs::Fault>,
     taken: &[u8],
 ) {
     let mut reader = io::empty();
@@ -175,18 +175,18 @@ fn writes_with(
         writer: &mut writer,
     };
     let result = write_whole(&mut device, b"abcde".as_slice());
-    let told = (fault, result, writer.calls, writer.taken.as_slice());
+    let reported = (fault, result, writer.calls, writer.taken.as_slice());
     let calls = 3.min(failing.saturating_add(1));
-    equal(rt, told, (fault, wanted, calls, taken));
+    equal(rt, reported, (fault, wanted, calls, taken));
 }
 
 // The same of writes, which end where one of them is a fault.
 #[test]
 fn writes_end_at_a_fault(rt: HostRuntime) {
-    for (fault, told) in WRITES.iter() {
-        writes_with(rt, *fault, 0, Err(*told), b"");
-        writes_with(rt, *fault, 1, Err(*told), b"ab");
-        writes_with(rt, *fault, 2, Err(*told), b"abcd");
+    for (fault, reported) in WRITES.iter() {
+        writes_with(rt, *fault, 0, Err(*reported), b"");
+        writes_with(rt, *fault, 1, Err(*reported), b"ab");
+        writes_with(rt, *fault, 2, Err(*reported), b"abcd");
         writes_with(rt, *fault, 3, Ok(()), b"abcde");
     }
 }
@@ -203,14 +203,14 @@ fn writes_of_no_bytes(rt: HostRuntime) {
     equal(rt, (result, writer.calls), (Ok(()), 0));
 }
 
-// The end of a run, and what it is with a flush behind it: of a writer that flushes, and of one
-// that doesn't. The flush fails by 1, the run by 2.
+// The end of a run, and what it is with a flush after it: of a writer that flushes, and of one that
+// doesn't. The flush fails by 1, the run by 2.
 #[test]
-fn flushes_behind_runs(rt: HostRuntime) {
+fn flushes_after_runs(rt: HostRuntime) {
     for (done, flushed, unflushed) in [(Ok(()), Ok(()), Err(1)), (Err(2), Err(2), Err(2))] {
         let mut writer = FaultWriter::new(rt.alloc(), 1);
-        equal(rt, flush_behind(&mut writer, done, 1), flushed);
+        equal(rt, flush_after(&mut writer, done, 1), flushed);
         let mut writer = UnflushableWriter::new(rt.alloc(), 1);
-        equal(rt, flush_behind(&mut writer, done, 1), unflushed);
+        equal(rt, flush_after(&mut writer, done, 1), unflushed);
     }
 }

@@ -1,19 +1,18 @@
-//! A run in which a reply depends on the lines before it, and memory is wanting in the midst of it.
+//! A run in which an answer depends on the lines before it, and in which memory runs out midway.
 ghost use Rattle.std.specs.Prelude.{◌≡◌, ◌≤◌, ◌%◌, ◌==◌, codes, false, length, not, take};
 ghost use Rattle.std.specs.Prelude.{if◌then◌else◌};
 ghost use Rattle.std.specs.List.{list_any};
-ghost use Rattle.lines.specs.Replies.{number_after};
-ghost use Rattle.sessions.specs.Sessions.{IsWrittenOut};
+ghost use Rattle.lines.specs.LineAnswers.{number_after};
+ghost use Rattle.lines.specs.Sessions.{IsWrittenOut};
 
 use crate::checks::equal;
-use lines::{Answerer, RunError, answers_by, run_with};
-use runs::ReaderWriter;
-use sessions::Session;
+use device_runs::ReaderWriter;
+use lines::{Answerer, RunError, Session, answers_by, run_with};
 use std::alloc::AllocError;
 use std::process::Abort;
 use std::test::Fail;
 
-// Tells of each line whether its number is even, and of an empty one whether it is the first. Each
+// Says of each line whether its number is even, and of an empty one whether it is the first. Each
 // empty line takes memory, of which there is some for so many of them.
 #[derive(Drop)]
 struct Marker {
@@ -36,16 +35,16 @@ fn unmarked(room: usize) -> Marker
 
 impl Answerer for Marker {
     ghost meaning = { record {
-      reply = λ earlier line. if length line == 0
+      answer = λ earlier line. if length line == 0
           then (if list_any (λ line. length line == 0) earlier then codes "again\n"
           else codes "first\n")
           else (if number_after earlier % 2 == 0 then codes "even\n" else codes "odd\n");
       takes_memory = λ earlier line. length line == 0;
     } };
 
-    ghost shows = { λ marker earlier front.
+    ghost shows = { λ marker earlier prefix.
         (marker.marked ≡ list_any (λ line. length line == 0) earlier)
-        × (not marker.has_byte ≡ (length front == 0)) };
+        × (not marker.has_byte ≡ (length prefix == 0)) };
 
     fn take(&mut self, bytes: &[u8]) {
         if bytes.is_empty() {
@@ -69,7 +68,7 @@ impl Answerer for Marker {
     }
 }
 
-// Puts a text into the front of a buffer, and tells its length.
+// Puts a text at the start of a buffer, and returns its length.
 fn put(text: &[u8], out: &mut [u8]) -> usize
     requires { length text.now ≤ length out.old }
     ensures end { result ≡ length text.now }
@@ -97,7 +96,7 @@ const LINES: &[u8] = b"a\nb\n\nc\n\nd";
 
 #[test]
 fn answers_by_earlier_lines(rt: HostRuntime) -> Result<(), Fail> {
-    for (room, answer, written) in [
+    for (room, outcome, written) in [
         (2, Ok(()), "odd\neven\nfirst\neven\nagain\neven\n"),
         (1, Err(RunError::Memory), "odd\neven\nfirst\neven\n"),
         (0, Err(RunError::Memory), "odd\neven\n"),
@@ -109,7 +108,7 @@ fn answers_by_earlier_lines(rt: HostRuntime) -> Result<(), Fail> {
             writer: &mut writer,
         };
         let result = run_with(rt.alloc(), unmarked(room), &mut device, 10);
-        assert!(rt; result == answer, "room for {room}");
+        assert!(rt; result == outcome, "room for {room}");
         assert!(rt; writer.as_slice() == written.as_bytes(), "room for {room}");
     }
     Ok(())
@@ -117,13 +116,13 @@ fn answers_by_earlier_lines(rt: HostRuntime) -> Result<(), Fail> {
 
 #[test]
 fn answers_a_text_in_memory(rt: HostRuntime) {
-    let replies = answers_by(rt.alloc(), unmarked(2), LINES).expect(&rt, "no memory");
+    let answers = answers_by(rt.alloc(), unmarked(2), LINES).expect(&rt, "no memory");
     let wanted = b"odd\neven\nfirst\neven\nagain\neven\n".as_slice();
-    equal(rt, replies.as_slice(), wanted);
+    equal(rt, answers.as_slice(), wanted);
 }
 
-// A session with so much room for its replies hands them out, or tells how many bytes they are.
-fn hands_out(
+// A session returns its answers where they fit so many bytes, or reports how many bytes they have.
+fn returns_answers(
     rt: impl Abort + AllocGlobal + Copy,
     session: &mut Session<Marker>,
     room: usize,
@@ -135,25 +134,25 @@ fn hands_out(
 {
     let mut output = b"\0".repeat(rt.alloc(), room).expect(&rt, "no memory");
     let mut written = 0;
-    let has_room = session.hand_out(output.as_mut_slice(), &mut written);
+    let has_room = session.return_answers(output.as_mut_slice(), &mut written);
     equal(rt, (has_room, written), wanted);
     output.truncate(if has_room { written } else { 0 });
     equal(rt, output.as_slice(), text.as_bytes());
 }
 
 #[test]
-fn answers_a_text_in_pieces(rt: HostRuntime) {
+fn answers_a_text_in_chunks(rt: HostRuntime) {
     let mut session = Session::new(rt.alloc(), unmarked(2)).expect(&rt, "no memory");
     session.take(b"a").expect(&rt, "no memory");
     session.take(b"\nb\n\nc").expect(&rt, "no memory");
-    hands_out(rt, &mut session, 8, (false, 15), "");
-    hands_out(rt, &mut session, 16, (true, 15), "odd\neven\nfirst\n");
+    returns_answers(rt, &mut session, 8, (false, 15), "");
+    returns_answers(rt, &mut session, 16, (true, 15), "odd\neven\nfirst\n");
     session.finish().expect(&rt, "no memory");
     equal(rt, session.has_ended(), true);
-    hands_out(rt, &mut session, 16, (true, 5), "even\n");
+    returns_answers(rt, &mut session, 16, (true, 5), "even\n");
 }
 
-/// Each line is a piece of its own, and its reply is handed out before the next one comes.
+/// Each line is a chunk of its own, and its answer is returned before the next one comes.
 #[test]
 fn answers_thousands_of_lines(rt: HostRuntime) {
     let mut session = Session::new(rt.alloc(), unmarked(2500)).expect(&rt, "no memory");
@@ -161,11 +160,11 @@ fn answers_thousands_of_lines(rt: HostRuntime) {
         session.take(b"a\n").expect(&rt, "no memory");
         session.take(b"\n").expect(&rt, "no memory");
         if round == 0 {
-            hands_out(rt, &mut session, 16, (true, 10), "odd\nfirst\n");
+            returns_answers(rt, &mut session, 16, (true, 10), "odd\nfirst\n");
         } else {
-            hands_out(rt, &mut session, 16, (true, 10), "odd\nagain\n");
+            returns_answers(rt, &mut session, 16, (true, 10), "odd\nagain\n");
         }
     }
     session.finish().expect(&rt, "no memory");
-    hands_out(rt, &mut session, 0, (true, 0), "");
+    returns_answers(rt, &mut session, 0, (true, 0), "");
 }

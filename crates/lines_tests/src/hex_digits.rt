@@ -1,4 +1,4 @@
-//! Hex digits at every length, and at values from outside.
+//! Hex digits at every length, and at literal values.
 ghost use Rattle.std.specs.Prelude.{◌*◌, ◌<◌, ◌≤◌};
 
 use digits::{decode, decode_at, decode_to_slice, encode};
@@ -47,35 +47,35 @@ fn each_length(rt: HostRuntime) {
     }
 }
 
-fn with_digit(place: usize, digit: u8) -> [u8; 64]
-    requires { place < 64 }
+fn with_digit(position: usize, digit: u8) -> [u8; 64]
+    requires { position < 64 }
 {
     let mut digits = *DIGITS;
-    digits[place] = digit;
+    digits[position] = digit;
     digits
 }
 
-// Whether n bytes' digits are refused for a bad one at a place.
-fn is_refused(n: usize, place: usize, bad: u8) -> bool
-    requires { (n ≤ 32) × (place < 2 * n) }
+// Whether n bytes' digits are refused for a bad one at a position.
+fn is_refused(n: usize, position: usize, bad: u8) -> bool
+    requires { (n ≤ 32) × (position < 2 * n) }
 {
-    let digits = with_digit(place, bad);
+    let digits = with_digit(position, bad);
     let digits = &digits[..2 * n];
     let mut bytes = [0u8; 32];
     let bytes = &mut bytes[..n];
     let error = FromHexError::InvalidHexCharacter {
         c: char::from(bad),
-        index: place,
+        index: position,
     };
     !decode(digits, bytes) && decode_to_slice(digits, bytes) == Err(error)
 }
 
 #[test]
-fn each_place_of_a_bad_digit(rt: HostRuntime) {
+fn each_position_of_a_bad_digit(rt: HostRuntime) {
     for n in 1..=32 {
-        for place in 0..2 * n {
+        for position in 0..2 * n {
             for bad in b"/:@G`g\x00\xb0\xff" {
-                assert!(rt; is_refused(n, place, *bad));
+                assert!(rt; is_refused(n, position, *bad));
             }
         }
     }
@@ -129,7 +129,7 @@ fn other_lengths(rt: HostRuntime) {
     assert!(rt; bytes == [7u8; 31]);
 }
 
-// The text of RFC 4648 in two pieces.
+// The text of RFC 4648 in two chunks.
 #[test]
 fn texts_in_a_row(rt: HostRuntime) {
     let mut bytes = [0u8; 6];

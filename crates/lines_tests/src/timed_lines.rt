@@ -1,6 +1,7 @@
-//! Lines of frames with their times. What stands in them was read off the grammar by hand.
+//! Lines of frames with their times. The expected fields were read off the grammar, independently
+//! of the code.
 
-use commands::read_timed_line;
+use line_grammar::read_timed_line;
 
 // A channel, seconds, nanoseconds, and digits.
 type Parts = (u32, u32, u32, &'static [u8]);

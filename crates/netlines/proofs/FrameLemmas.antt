@@ -1,4 +1,4 @@
--- A message is a part of its frame.
+-- The bytes of a message are among those of its frame.
 use Rattle.std.proofs.Common.{◌≡◌, ℕ, ◌≤◌, Bool, true, false, cond, List, ◌++◌, length, Option}
 use Rattle.std.proofs.Common.{Some, None, IfSome, ap, subst, arith, length-append}
 use Rattle.etherparse.specs.ip.Ipv4 as v4
@@ -6,8 +6,8 @@ use Rattle.etherparse.specs.ipslice.Ipv6Packet.{fragment_fields_in}
 use Rattle.etherparse.specs.ipslice.Packet.{FragmentFields, IpPayload, ipv4_fragment_fields}
 use Rattle.etherparse.specs.ipslice.Packet.{ipv4_payload}
 use Rattle.etherparse.specs.link.Ethernet.{ethernet_len}
-use Rattle.etherparse.specs.packet.Class.{Class, ipv4_addresses, ipv6_addresses, net_told}
-use Rattle.etherparse.specs.packet.Class.{packet_told, part_class}
+use Rattle.etherparse.specs.packet.Class.{Class, ipv4_addresses, ipv6_addresses, net_class}
+use Rattle.etherparse.specs.packet.Class.{packet_parsed, fragmented_class}
 use Rattle.etherparse.specs.packet.Class.Class.{Whole, Cut, Other, Refused}
 use Rattle.etherparse.specs.packet.Parts.{ArePartsOf, IsAt, IsNetAt}
 use Rattle.etherparse.specs.packet.Readable.{ReadMessage}
@@ -25,46 +25,46 @@ message_len (Cut name offset more bytes) = 0
 message_len Other = 0
 message_len Refused = 0
 
-at_fits : (bytes part : List ℕ) (place : ℕ) → IsAt bytes place part → length part ≤ length bytes
-at_fits bytes part place at =
+at_fits : (bytes fragment : List ℕ) (position : ℕ) → IsAt bytes position fragment → length fragment ≤ length bytes
+at_fits bytes fragment position at =
     omega (
       arith,
       ap length at.parts,
       length-append
-          (at.before ++ part) at.after,
-      length-append at.before part,
+          (at.before ++ fragment) at.after,
+      length-append at.before fragment,
     )
 
-choice_fits : (b : Bool) (part whole : Class) (n : ℕ) → message_len part ≤ n → message_len whole ≤ n
-    → message_len (cond b part whole) ≤ n
-choice_fits true part whole n left right = left
-choice_fits false part whole n left right = right
+choice_fits : (b : Bool) (fragment whole : Class) (n : ℕ) → message_len fragment ≤ n → message_len whole ≤ n
+    → message_len (cond b fragment whole) ≤ n
+choice_fits true fragment whole n left right = left
+choice_fits false fragment whole n left right = right
 
-part_fits : (ids : List ℕ) (addresses : Addresses) (p : IpPayload)
+fragment_fits : (ids : List ℕ) (addresses : Addresses) (p : IpPayload)
     (fields : Option FragmentFields) (n : ℕ)
-    → message_len (part_class ids addresses p fields) ≤ n
-part_fits ids addresses p None n = omega arith
-part_fits ids addresses p (Some fields) n =
+    → message_len (fragmented_class ids addresses p fields) ≤ n
+fragment_fits ids addresses p None n = omega arith
+fragment_fits ids addresses p (Some fields) n =
     choice_fits (v4.is_fragmenting fields.more fields.offset) _ Other n (omega arith) (omega arith)
 
-net_fits : (frame ids : List ℕ) (place : ℕ) (o : Option NetSlice) (message : Option TransportSlice)
-    → IfSome o (IsNetAt frame place) → message_len (net_told ids o message) ≤ length frame
-net_fits frame ids place None message at = omega arith
-net_fits frame ids place (Some (net.Ipv4 packet)) message at =
+net_fits : (frame ids : List ℕ) (position : ℕ) (o : Option NetSlice) (message : Option TransportSlice)
+    → IfSome o (IsNetAt frame position) → message_len (net_class ids o message) ≤ length frame
+net_fits frame ids position None message at = omega arith
+net_fits frame ids position (Some (net.Ipv4 packet)) message at =
     choice_fits (ipv4_payload packet).fragmented _ _ (length frame)
-    (part_fits ids (ipv4_addresses packet) (ipv4_payload packet)
+    (fragment_fits ids (ipv4_addresses packet) (ipv4_payload packet)
     (Some (ipv4_fragment_fields packet.header)) (length frame))
     (at_fits frame packet.payload _ at.2)
-net_fits frame ids place (Some (net.Ipv6 packet)) message at =
+net_fits frame ids position (Some (net.Ipv6 packet)) message at =
     choice_fits packet.payload.fragmented _ _ (length frame)
-    (part_fits ids (ipv6_addresses packet) packet.payload
+    (fragment_fits ids (ipv6_addresses packet) packet.payload
     (fragment_fields_in packet) (length frame))
     (at_fits frame packet.payload.payload _ at.2)
-net_fits frame ids place (Some (net.Arp packet)) message at = omega arith
+net_fits frame ids position (Some (net.Arp packet)) message at = omega arith
 
 pub whole_fits : (frame : List ℕ) (packet : SlicedPacket) → ArePartsOf frame ethernet_len packet
     → (addresses : Addresses) (number : ℕ) (bytes : List ℕ) (message : ReadMessage)
-    → packet_told packet ≡ Whole addresses number bytes message → length bytes ≤ length frame
+    → packet_parsed packet ≡ Whole addresses number bytes message → length bytes ≤ length frame
 whole_fits frame packet parts addresses number bytes message is =
     subst (λ (c : Class). message_len c ≤ length frame) is
     (net_fits frame (vlan_ids_of packet.link_exts.items) _ packet.net

@@ -1,16 +1,17 @@
 -- What the code writes in answer to a line, and what its pool shows then.
 use Rattle.std.specs.Prelude.{◌≡◌, ℕ, true, MatchResult, Result, List, take}
-use Rattle.etherparse.specs.defrag.PoolCalls.{Lists, ShowsLists, lists_with_frame}
-use Rattle.etherparse.specs.streams.Streams.{Pool}
-use Rattle.etherparse.specs.defrag.declared.defrag.ip_frag_id.IpFragId.{IpFragId}
+use Rattle.etherparse.specs.PoolCalls.{Lists, ShowsLists, lists_with_frame}
+use Rattle.etherparse.specs.ReassemblyTable.{Pool}
+use Rattle.etherparse.specs.declared.defrag.ip_frag_id.IpFragId.{IpFragId}
 use Rattle.etherparse.specs.packet.Class.{Class}
-use Rattle.line_answers.specs.Answers.{class_answer, class_takes_memory, command_answer}
-use Rattle.line_answers.specs.Answers.{command_takes_memory}
-use Rattle.line_answers.specs.Arrivals.{lists_with_line}
-use Rattle.commands.specs.Commands.{Command}
+use Rattle.netlines.specs.Answers.{class_answer, class_takes_memory, command_answer}
+use Rattle.netlines.specs.Answers.{command_takes_memory}
+use Rattle.netlines.specs.Arrivals.{lists_with_line}
+use Rattle.line_grammar.specs.Commands.{Command}
 
--- a frame of a class that came on a channel, in the line of this number, is answered by the front
--- of a text, and the pool shows the lists with it; or memory is wanting where it may be
+-- a frame of a class that came on a channel, in the line of this number, is answered by a prefix of
+-- a text, and the pool shows the lists after the frame; or it is out of memory, for a frame that
+-- may take some
 abbrev pub AnswersClass : {E : Type 0} → (old new : Pool (IpFragId ℕ) ℕ) → (number : ℕ)
     → Class → (channel : ℕ)
     → (text : List ℕ) → Result ℕ E → Type 0
@@ -20,7 +21,7 @@ AnswersClass old new number class channel text result = (lists : Lists) → Show
     × ShowsLists new (lists_with_frame lists class number channel))
     (λ e. class_takes_memory lists class channel ≡ true)
 
--- the same of what a line asks for
+-- the same of the command of a line
 abbrev pub AnswersCommand : {E : Type 0} → (old new : Pool (IpFragId ℕ) ℕ) → (number : ℕ) → Command
     → (text : List ℕ) → Result ℕ E → Type 0
 AnswersCommand old new number command text result = (lists : Lists) → ShowsLists old lists

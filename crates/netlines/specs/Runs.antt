@@ -1,11 +1,11 @@
 -- A run over the lines of its input, where each line gets its answer after those before it.
 use Rattle.std.specs.Prelude.{ℕ, List, Option, Result}
-use Rattle.runs.specs.Calls.{Call}
-use Rattle.runs.specs.Known as known
+use Rattle.device_runs.specs.Calls.{Call}
+use Rattle.device_runs.specs.Known as known
 use Rattle.lines.specs.Endings.{ending_of}
-use Rattle.lines.specs.Runs.{RunsBy, reply_task}
+use Rattle.lines.specs.Runs.{RunsBy, answer_task}
 use Rattle.lines.specs.declared.run_error.RunError.{RunError}
-use Rattle.line_answers.specs.Answers.{frame_meaning}
+use Rattle.netlines.specs.Answers.{frame_meaning}
 
 -- a run of at most so many reads took a device from old to new, and ended by this result
 abbrev pub Runs : {D : Type 0} → (D → Call → D → Type 0) → ℕ → D → D → Result Unit RunError → Type 0
@@ -15,4 +15,4 @@ Runs transition limit old new result = RunsBy transition frame_meaning limit old
 abbrev pub Transfers : Option (List ℕ) → Option (List ℕ) → Option (List ℕ) → Option (List ℕ)
     → Result Unit RunError → Type 0
 Transfers input input' output output' result =
-    known.Transfers (reply_task frame_meaning) input input' output output' (ending_of result)
+    known.Transfers (answer_task frame_meaning) input input' output output' (ending_of result)

@@ -1,4 +1,4 @@
-//! The answers to what lines ask for, and runs by them.
+//! The answers to the requests of lines, and runs that write them.
 
 pub(crate) mod answer;
 pub(crate) mod frame_answerer;

@@ -1,16 +1,16 @@
 //! Two runs over two readers.
 ghost use Rattle.std.specs.Prelude.{IfSome, OnOk};
-ghost use Rattle.line_answers.specs.TwoRuns.{AreIsolated};
+ghost use Rattle.netlines.specs.TwoRuns.{AreIsolated};
 
+use crate::laws::isolation;
 use crate::run;
-use line_answers::laws::isolation;
 use lines::RunError;
 use std::alloc::Global;
 use std::io::{Read, Write};
 
-/// Two runs over two readers. Where both end well, a message whose fragments stand in both inputs at
-/// the same line numbers, with the same `forget` lines, has the same answers at these numbers in both
-/// outputs, whatever else stands in the inputs.
+/// Two runs over two readers. Where both end well, the lines of a message whose fragments are in
+/// both inputs at the same line numbers, with the same `forget` lines, have the same answers in
+/// both outputs, whatever other lines the inputs have.
 pub fn two_runs<R: Read, W: Write, Q: Read, V: Write>(
     alloc: Global,
     reader: &mut R,

@@ -1,24 +1,24 @@
-//! What the program `netlines` does but for the system that it runs on: it answers an input, and
-//! ends with a status.
+//! What the program `netlines` does, apart from the system that it runs on: it answers an input,
+//! and ends with a status.
 ghost use Rattle.std.specs.Prelude.{◌≡◌, ◌≤◌, ℕ, List, Option, Result, length, OnOk, IfSome, IsErrOf};
 ghost use Rattle.std.specs.Prelude.{MatchResult};
 ghost use Rattle.std.specs.Io.KnownBytes.{Appends, IsAtEnd, Keeps};
 ghost use Rattle.std.specs.Process.{exit_status};
 ghost use Rattle.lines.specs.declared.run_error.RunError.{RunError};
-ghost use Rattle.runs.specs.Endings.{EndsFlushed};
-ghost use Rattle.runs.specs.Known.{KnownCall, known_of};
-ghost use Rattle.line_answers.specs.Answers.{answers_of};
+ghost use Rattle.device_runs.specs.Endings.{EndsFlushed};
+ghost use Rattle.device_runs.specs.Known.{KnownCall, known_of};
+ghost use Rattle.netlines.specs.Answers.{answers_of};
 ghost use Rattle.netlines.specs.Runs.{Runs, Transfers};
 
 use crate::frames::run_frames::run;
+use device_runs::flush_after;
 use lines::{READ_COUNT_LIMIT, RunError};
-use runs::flush_behind;
 use std::alloc::Global;
 use std::io::{Read, Write};
 use std::process::ExitCode;
 
-/// [`run`], and a flush behind it where all lines are answered. A flush that fails is a failed write.
-/// After another error what [`run`] says of it holds.
+/// [`run`], and a flush after it where all lines are answered. A flush that fails is a failed
+/// write. After another error what [`run`] says of it holds.
 pub fn answer_input<R: Read, W: Write>(
     alloc: Global,
     reader: &mut R,
@@ -46,11 +46,11 @@ pub fn answer_input<R: Read, W: Write>(
         → IfSome (R.remaining reader.old) (λ bytes. READ_COUNT_LIMIT ≤ length bytes) }
 {
     run(alloc, reader, writer)?;
-    flush_behind(writer, Ok(()), RunError::Write)
+    flush_after(writer, Ok(()), RunError::Write)
 }
 
-/// Tells an error on standard error, by its [`fault_name`]. The status tells of it where that fails
-/// too.
+/// Prints the [`fault_name`] of an error on standard error, and returns the status, which says that
+/// there was an error also where printing fails.
 pub fn exit_code<P: Eprint>(rt: &P, done: Result<(), RunError>) -> ExitCode
     ensures { MatchResult done (λ _. exit_status result ≡ 0) (λ _. exit_status result ≡ 1) }
 {

@@ -16,8 +16,8 @@ use denote.Struct.Struct.{within}
 use denote.Struct.Owning.{shape}
 use Rattle.std.specs.contracts.impls.GlobalAllocator.TheImpl.{ghosts}
 use Rattle.std_alloc.specs.Box.Ownership.{box_owns}
-use Rattle.handles.specs.Holds.{heap, holds}
-use Rattle.netlines_c.specs.contracts.stream.Stream.{the_row as R}
+use Rattle.c_handles.specs.Holds.{heap, holds}
+use Rattle.netlines_c.specs.contracts.frame_session.FrameSession.{the_row as R}
 use Rattle.netlines_c.specs.contracts.held.Held as held
 
 pub value_of : (m : Option R.Denot) → IsSome m → (x : R.Denot) × (m ≡ Some x)

@@ -1,2 +1,2 @@
 mod HeldValues
-mod StreamLemmas
+mod FrameSessionLemmas

@@ -7,9 +7,10 @@ use std::alloc::Global;
 
 /// Answers all lines of a text, each by a line.
 ///
-/// The result is 0 where they are answered: then `written` bytes at the front of the output are
-/// the answers, and what stands behind them stays. It is 1 where the output has no room: then `written` is the room that they need,
-/// and the output is as it was. It is 2 where there is no memory, and nothing is changed.
+/// The result is 0 where they are answered: then `written` bytes at the start of the output are the
+/// answers, and the bytes after them are as they were. It is 1 where the output is too short: then
+/// `written` is the length that they need, and the output is as it was. It is 2 where it is out of
+/// memory, and nothing is changed.
 #[unsafe(no_mangle)]
 pub extern "C" fn netlines_answers(
     alloc: Global,

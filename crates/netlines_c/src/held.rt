@@ -1,12 +1,12 @@
 //! A session, held by C as a pointer.
 ghost use Rattle.std.specs.Prelude.{◌≡◌, Option, Some, None, IsSome};
 ghost use Rattle.std.specs.Coded.{coded_option};
-ghost use Rattle.handles.specs.Holds.{holds};
-ghost use Rattle.netlines_c.specs.declared.stream.Stream.{Stream as Value};
-ghost use Rattle.netlines_c.specs.contracts.stream.Stream.{the_row as row};
+ghost use Rattle.c_handles.specs.Holds.{holds};
+ghost use Rattle.netlines_c.specs.declared.frame_session.FrameSession.{FrameSession as Value};
+ghost use Rattle.netlines_c.specs.contracts.frame_session.FrameSession.{the_row as row};
 
-use crate::stream::Stream;
-use handles::Loose;
+use crate::frame_session::FrameSession;
+use c_handles::Loose;
 use std::alloc::Global;
 use std::marker::Model;
 use std::ptr::null_mut;
@@ -30,20 +30,20 @@ impl Held {
         Held { at: null_mut() }
     }
 
-    pub(crate) fn of(value: Loose<Stream, Global>) -> Held
+    pub(crate) fn of(value: Loose<FrameSession, Global>) -> Held
         ensures { result.value ≡ Some value.value }
     {
         let Loose { at, alloc: _ } = value;
         Held { at: at as *mut u8 }
     }
 
-    pub(crate) fn into_loose(self, alloc: Global) -> Loose<Stream, Global>
+    pub(crate) fn into_loose(self, alloc: Global) -> Loose<FrameSession, Global>
         requires { IsSome self.value }
         ensures { self.value ≡ Some result.value }
     {
         let Held { at } = self;
         Loose {
-            at: at as *mut Stream,
+            at: at as *mut FrameSession,
             alloc,
         }
     }

@@ -1,10 +1,10 @@
-//! The calls of `netlines` for C: texts come and go as a pointer and a length.
+//! The calls of `netlines` for C: a text is a pointer and a length.
 #![tactic(auto)]
 
 mod answers;
+mod frame_session;
 mod held;
 mod session;
-mod stream;
 
 pub use held::Held;
 pub use session::NetlinesSession;
@@ -12,11 +12,11 @@ pub use session::NetlinesSession;
 /// The answers are written.
 pub const ANSWERED: u32 = 0;
 
-/// The output has no room for the answers.
+/// The output is too short for the answers.
 pub const NO_ROOM: u32 = 1;
 
 /// Out of memory.
 pub const NO_MEMORY: u32 = 2;
 
-/// The session isn't open, or was told the end, or is open already.
+/// The session isn't open, or its text has ended, or it is open already.
 pub const WRONG_STATE: u32 = 3;

@@ -7,7 +7,7 @@ use netlines::{READ_COUNT_LIMIT, RunError};
 use std::alloc::Global;
 use std::hash::BuildHasher;
 
-/// Whether a run over the input writes exactly what is wanted.
+/// Whether a run over the input writes exactly the expected bytes.
 pub fn agrees(alloc: Global, input: &[u8], wanted: &[u8]) -> Result<bool, RunError>
     ensures { IfOk result (λ agrees. IsTrue agrees ↔ (answers_of input.now ≡ wanted.now)) }
 {
@@ -17,10 +17,10 @@ pub fn agrees(alloc: Global, input: &[u8], wanted: &[u8]) -> Result<bool, RunErr
     Ok(output.as_slice() == wanted)
 }
 
-/// Whether runs write the same where a read gives a byte, a pair of digits or one byte more, about
-/// as many digits as are read at once, or all that it has room for; with such a hasher's state for
-/// the names of messages. It has no contract: it is run, as a test is.
-pub fn agrees_in_pieces<S: BuildHasher + Copy>(
+/// Whether runs write the same where a read returns a byte, a pair of digits or one byte more,
+/// about as many digits as are read at once, or as many as fit its buffer; with this hasher's state
+/// for the names of messages. It has no contract: it is run, as a test is.
+pub fn agrees_in_chunks<S: BuildHasher + Copy>(
     alloc: Global,
     state: S,
     input: &[u8],

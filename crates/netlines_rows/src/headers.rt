@@ -1,4 +1,4 @@
-//! The headers of frames as values, beside their slices, and what refuses a frame.
+//! The headers of frames as values, compared with their slices, and what refuses a frame.
 
 use ep_ext::Ipv6Extensions;
 use ep_packet::err::packet::SliceError;
@@ -9,15 +9,15 @@ use ep_packet::{
 use ep_tag::{LinkExtSlice, MacsecPayloadSlice};
 use std::alloc::{AllocError, Global};
 
-/// How many frames there are, by what their two readers tell.
+/// How many frames there are, by what the two readers return, slices and values.
 #[derive(Drop)]
 pub struct Frames {
     /// Frames whose headers and payload are those of the slices.
     pub same: usize,
     /// Frames that both refuse, with the same error.
     pub refused: usize,
-    /// Frames of which they tell different things: those where the length field of UDP counts other
-    /// bytes than the payload's, and those with an extension header that has no place among values.
+    /// Frames for which they differ: those where the length field of UDP counts other bytes than
+    /// the payload's, and those with an extension header for which the values have no field.
     pub apart: usize,
     /// A line for each frame that is refused: its row, the number of its line there, and by what.
     pub refusals: String,
@@ -45,8 +45,8 @@ impl Frames {
     ) -> Result<(), AllocError> {
         if let Err(error) = SlicedPacket::from_ethernet(frame) {
             let fault = fault_of(alloc, &error)?;
-            let told = format!(in alloc; "{row} {line} {fault}\n")?;
-            self.refusals.push_str(told.as_str())?;
+            let outcome = format!(in alloc; "{row} {line} {fault}\n")?;
+            self.refusals.push_str(outcome.as_str())?;
         }
         let number = match compare(frame) {
             Comparison::Same => &mut self.same,
@@ -58,11 +58,12 @@ impl Frames {
     }
 }
 
-// The layer that wants bytes and where it begins, or the header that breaks its format.
+// The layer that lacks bytes and the offset where it starts, or the header with a value that is
+// refused.
 fn fault_of(alloc: Global, error: &SliceError) -> Result<String, AllocError> {
     let header = match error {
-        SliceError::Len(want) => {
-            return format!(in alloc; "{:?} {}", want.layer, want.layer_start_offset);
+        SliceError::Len(missing) => {
+            return format!(in alloc; "{:?} {}", missing.layer, missing.layer_start_offset);
         }
         SliceError::LinuxSll(_) => "LinuxSll",
         SliceError::Macsec(_) => "Macsec",
@@ -102,7 +103,7 @@ fn compare(frame: &[u8]) -> Comparison {
     Comparison::Apart
 }
 
-// Whether headers are those of a packet, part by part.
+// Whether headers are those of a packet, field by field.
 fn are_headers_of(packet: &SlicedPacket, headers: &PacketHeaders) -> bool {
     is_same_link(packet, headers)
         && is_same_net(packet, headers)
@@ -174,17 +175,17 @@ fn is_same_transport(packet: &SlicedPacket, headers: &PacketHeaders) -> bool {
 
 fn is_same_payload(packet: &SlicedPacket, headers: &PacketHeaders) -> bool {
     match (&packet.transport, &packet.net) {
-        (Some(message), _) => headers.payload == behind_message(message),
+        (Some(message), _) => headers.payload == after_message(message),
         (None, Some(packet)) => match (packet.ip_payload_ref(), &headers.payload) {
-            (Some(payload), PayloadSlice::Ip(told)) => payload == told,
+            (Some(payload), PayloadSlice::Ip(outcome)) => payload == outcome,
             (None, PayloadSlice::Empty) => true,
             _ => false,
         },
-        (None, None) => headers.payload == behind_tags(packet),
+        (None, None) => headers.payload == after_tags(packet),
     }
 }
 
-fn behind_message<'a>(message: &TransportSlice<'a>) -> PayloadSlice<'a> {
+fn after_message<'a>(message: &TransportSlice<'a>) -> PayloadSlice<'a> {
     match message {
         TransportSlice::Udp(message) => PayloadSlice::Udp(message.payload()),
         TransportSlice::Tcp(message) => PayloadSlice::Tcp(message.payload()),
@@ -193,8 +194,8 @@ fn behind_message<'a>(message: &TransportSlice<'a>) -> PayloadSlice<'a> {
     }
 }
 
-// What the last ether type names, and else what MACsec changed.
-fn behind_tags<'a>(packet: &SlicedPacket<'a>) -> PayloadSlice<'a> {
+// The payload that the last ether type names, and else the one that MACsec changed.
+fn after_tags<'a>(packet: &SlicedPacket<'a>) -> PayloadSlice<'a> {
     if let Some(payload) = packet.ether_payload() {
         return PayloadSlice::Ether(payload);
     }

@@ -2,16 +2,16 @@
 //!
 //! A row NAME is an input, `NAME.in`, and the output that it has to give, `NAME.out`. The rows were
 //! worked out by a program that is independent of this project. The arguments name the rows that
-//! are compared, with each hasher's state for the names of messages. Those that differ are told, and
-//! then the program fails. The file `refusals` says of each frame that is refused which layer breaks,
-//! and where that begins.
+//! are compared, with each hasher's state for the names of messages. Those that differ are printed,
+//! and then the program fails. The file `refusals` says of each frame that is refused which layer
+//! breaks, and at which offset that starts.
 #![tactic(auto)]
 
 mod comparison;
 mod frame_count;
 mod headers;
 
-use crate::comparison::{agrees, agrees_in_pieces};
+use crate::comparison::{agrees, agrees_in_chunks};
 use crate::frame_count::count_frames;
 use crate::headers::Frames;
 use anyhow::{Context, Result};
@@ -33,7 +33,7 @@ fn main(rt: HostRuntime) -> Result<ExitCode> {
         count_frames(rt.alloc(), name.as_str(), input.as_slice(), &mut frames)?;
     }
     println!(rt; "{} rows compared, {differing} of them differ", names.len())?;
-    let agrees = tell_frames(&rt, &frames)?;
+    let agrees = print_frames(&rt, &frames)?;
     Ok(if differing == 0 && agrees {
         ExitCode::SUCCESS
     } else {
@@ -41,26 +41,26 @@ fn main(rt: HostRuntime) -> Result<ExitCode> {
     })
 }
 
-// Whether a row agrees. Where it differs is told.
+// Whether a row agrees. Where it differs its name is printed.
 fn is_answered(rt: &HostRuntime, random: RandomState, name: &str, input: &[u8]) -> Result<bool> {
     let wanted = read(rt, name, "out")?;
     let wanted = wanted.as_slice();
     let fixed = BuildHasherDefault::<FoldHasher>::new();
-    let told = if !agrees(rt.alloc(), input, wanted)? {
+    let outcome = if !agrees(rt.alloc(), input, wanted)? {
         "differs"
-    } else if !agrees_in_pieces(rt.alloc(), fixed, input, wanted)? {
+    } else if !agrees_in_chunks(rt.alloc(), fixed, input, wanted)? {
         "differs where reads give few bytes"
-    } else if !agrees_in_pieces(rt.alloc(), random, input, wanted)? {
+    } else if !agrees_in_chunks(rt.alloc(), random, input, wanted)? {
         "differs where names are hashed by random keys"
     } else {
         return Ok(true);
     };
-    println!(rt; "{name} {told}")?;
+    println!(rt; "{name} {outcome}")?;
     Ok(false)
 }
 
-// Tells how many frames are read alike. Whether the refusals are those that are stored.
-fn tell_frames(rt: &HostRuntime, frames: &Frames) -> Result<bool> {
+// Prints how many frames are read alike. Whether the refusals are those that are stored.
+fn print_frames(rt: &HostRuntime, frames: &Frames) -> Result<bool> {
     println!(rt;
         "{} frames have the same headers as slices, {} are refused alike, {} are read otherwise",
         frames.same, frames.refused, frames.apart,

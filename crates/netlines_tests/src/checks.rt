@@ -1,5 +1,5 @@
-//! What tests compare and put together, as functions: each is proved once, and its calls cost a
-//! test's proof little. They have no contracts, as tests alone call them.
+//! What tests compare and join, as functions: each is proved once, and its calls cost a test's
+//! proof little. They have no contracts, as tests alone call them.
 use fault_devices::Tally;
 use std::alloc::{AllocError, Global};
 use std::fmt::Debug;
@@ -12,14 +12,14 @@ pub fn print_tally(rt: &HostRuntime, tally: &Tally) -> Result<(), Fail> {
     Ok(())
 }
 
-/// Ends a test that is told another value, and shows both.
-pub fn equal<T: PartialEq + Debug + Drop>(rt: impl Abort + Copy, told: T, wanted: T) {
-    assert_eq!(rt; told, wanted);
+/// Ends a test with another value than the expected one, and shows both.
+pub fn equal<T: PartialEq + Debug + Drop>(rt: impl Abort + Copy, actual: T, wanted: T) {
+    assert_eq!(rt; actual, wanted);
 }
 
 /// The same of bytes.
-pub fn equal_bytes(rt: impl Abort + Copy, told: &[u8], wanted: &[u8]) {
-    assert_eq!(rt; told, wanted);
+pub fn equal_bytes(rt: impl Abort + Copy, actual: &[u8], wanted: &[u8]) {
+    assert_eq!(rt; actual, wanted);
 }
 
 /// Ends a test in which it is not so.

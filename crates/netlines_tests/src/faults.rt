@@ -1,8 +1,8 @@
 //! Runs over readers and writers that give and take little, and fail, some of them while a
-//! message is on its way.
+//! reassembly waits.
 //! Calls have no contracts: tests alone make them, and are run.
 use crate::checks::{ended_lines, equal, equal_bytes, holds, print_tally, repeated};
-use crate::texts::{BAD_ANSWERS, BAD_LINES, ON_THEIR_WAY, ON_THEIR_WAY_ANSWERS};
+use crate::texts::{BAD_ANSWERS, BAD_LINES, INCOMPLETE, INCOMPLETE_ANSWERS};
 use fault_devices::{Fault, FaultReader, FaultWriter, Tally};
 use netlines::{RunError, run};
 use std::io::ErrorKind;
@@ -19,31 +19,26 @@ type Read = (&'static [u8], &'static [u8], Fault, Result<(), RunError>);
 const FAILING_READS: &[Read] = &[
     (BAD_LINES, BAD_ANSWERS, INTERRUPTED, Err(RunError::Read)),
     (BAD_LINES, BAD_ANSWERS, FAILS, Err(RunError::Read)),
-    (
-        ON_THEIR_WAY,
-        ON_THEIR_WAY_ANSWERS,
-        FAILS,
-        Err(RunError::Read),
-    ),
+    (INCOMPLETE, INCOMPLETE_ANSWERS, FAILS, Err(RunError::Read)),
 ];
 
 const ENDING_READS: &[Read] = &[(BAD_LINES, BAD_ANSWERS, Fault::MovesNone, Ok(()))];
 
-// How many lines of a text's front have an answer: those that are ended, and one that the end of
-// the input ends.
-fn answered_lines(front: &[u8], ends: bool) -> usize {
-    let begun = match front.last() {
+// How many lines at the start of a text have an answer: those that are ended, and one that the end
+// of the input ends.
+fn answered_lines(prefix: &[u8], ends: bool) -> usize {
+    let started = match prefix.last() {
         Some(byte) => ends && *byte != b'\n',
         None => false,
     };
-    ended_lines(front).saturating_add(begun as usize)
+    ended_lines(prefix).saturating_add(started as usize)
 }
 
 // Whether these are the first so many answers.
-fn are_first(told: &[u8], answers: &[u8], count: usize) -> bool {
-    answers.starts_with(told)
-        && ended_lines(told) == count
-        && (told.is_empty() || told.ends_with(b"\n"))
+fn are_first(actual: &[u8], answers: &[u8], count: usize) -> bool {
+    answers.starts_with(actual)
+        && ended_lines(actual) == count
+        && (actual.is_empty() || actual.ends_with(b"\n"))
 }
 
 // This read of a byte is the fault, and no other follows. What was read by then is answered.
@@ -101,16 +96,16 @@ const FAILING_WRITES: &[Write] = &[
         RunError::WriteZero,
     ),
     (
-        ON_THEIR_WAY,
+        INCOMPLETE,
         65_536,
-        ON_THEIR_WAY_ANSWERS,
+        INCOMPLETE_ANSWERS,
         FAILS,
         RunError::Write,
     ),
     (
-        ON_THEIR_WAY,
+        INCOMPLETE,
         65_536,
-        ON_THEIR_WAY_ANSWERS,
+        INCOMPLETE_ANSWERS,
         Fault::MovesNone,
         RunError::WriteZero,
     ),
@@ -121,24 +116,24 @@ const FAILING_WRITES: &[Write] = &[
 pub(super) fn are_writes(
     rt: impl Abort + AllocGlobal + Copy,
     text: &[u8],
-    piece: usize,
+    chunk_size: usize,
     at: usize,
     fault: Fault,
     wanted: (Result<(), RunError>, usize, &[u8]),
 ) {
-    let mut reader = FaultReader::new(text, piece);
+    let mut reader = FaultReader::new(text, chunk_size);
     let mut writer = FaultWriter::failing(rt.alloc(), 1, at, fault);
     let result = run(rt.alloc(), &mut reader, &mut writer);
-    let told = (result, writer.calls, writer.taken.as_slice());
-    equal(rt, (at, told), (at, wanted));
+    let actual = (result, writer.calls, writer.taken.as_slice());
+    equal(rt, (at, actual), (at, wanted));
 }
 
 // This write of a byte is the fault, and no other follows.
 fn write_is_last(rt: impl Abort + AllocGlobal + Copy, row: &Write, at: usize) {
-    let (text, piece, answers, fault, error) = *row;
+    let (text, chunk_size, answers, fault, error) = *row;
     let taken = answers.get(..at).unwrap_or(&[]);
     let wanted = (Err(error), at.saturating_add(1), taken);
-    are_writes(rt, text, piece, at, fault, wanted);
+    are_writes(rt, text, chunk_size, at, fault, wanted);
 }
 
 fn each_write_is_last(rt: impl Abort + AllocGlobal + Copy, tally: &mut Tally, row: &Write) {
@@ -159,8 +154,8 @@ fn stops_at_each_write_that_fails(rt: HostRuntime) -> Result<(), Fail> {
     print_tally(&rt, &tally)
 }
 
-// So many empty lines, and the writes of their answers: those to one read go out together, as 65536
-// bytes and one reply more fit a write.
+// So many empty lines, and the writes of their answers: those to the lines of one read are written
+// together, as 65536 bytes and one answer more fit a write.
 const FEW_WRITES: &[(usize, usize)] = &[
     (0, 0),
     (1, 1),

@@ -1,4 +1,4 @@
-//! Runs that may make few reads, by each call that is told how many: with the names of messages
+//! Runs that may make few reads, by each call that has a bound on them: with the names of messages
 //! hashed by a fixed seed and by random keys.
 use crate::checks::equal;
 use fault_devices::{FaultReader, FaultWriter};
@@ -11,7 +11,7 @@ use std::hash::RandomState;
 use std::process::Abort;
 use std::test::*;
 
-// The call that runs; the last hands an answerer to the run.
+// The call that runs; the last passes an answerer to the run.
 #[derive(Clone, Copy)]
 enum Call {
     Bounded,
@@ -75,8 +75,8 @@ const BAD_LINE: &[u8] = b"bad line\n";
 
 const TWO_BAD: &[u8] = b"bad line\nbad line\n";
 
-// A text of two lines takes three reads of one byte a line, and one more to tell the end, which is
-// one of those that may be made.
+// A text of two lines takes three reads of one byte a line, and one more that finds the end, which
+// is one of those that may be made.
 const ROWS: &[Row] = &[
     (Call::Bounded, b"", 0, 0, TOO_MANY, b""),
     (Call::Bounded, b"", 1, 1, Ok(()), b""),

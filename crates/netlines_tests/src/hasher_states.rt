@@ -27,7 +27,7 @@ fn answers_by_random_keys(
 }
 
 #[test]
-fn puts_messages_together(rt: HostRuntime) -> Result<(), Fail> {
+fn reassembles_messages(rt: HostRuntime) -> Result<(), Fail> {
     let state = RandomState::new(&rt)?;
     answers_by_random_keys(rt, state, TWO_ROUNDS, TWO_ROUNDS_ANSWERS);
     Ok(())

@@ -32,7 +32,7 @@ fn push_line(
             0a0000010a000002{digits}\n"
         )
     } else {
-        // What 16 bits don't tell is all that is there.
+        // A length that 16 bits don't hold is 0: the packet has all that is there.
         let payload = u16::try_from(len.saturating_add(8)).unwrap_or(0);
         let place = if more { 1 } else { units % 8192 * 8 };
         write!(
@@ -46,7 +46,7 @@ fn push_line(
 
 // Lines, and their answers.
 #[derive(Drop)]
-struct Asked {
+struct TestCase {
     text: String,
     wanted: String,
 }
@@ -54,7 +54,7 @@ struct Asked {
 // Adds a datagram that is cut there, in both orders.
 fn push_datagram(
     alloc: Global,
-    asked: &mut Asked,
+    test_case: &mut TestCase,
     version: u8,
     whole: &[u8],
     cut: usize,
@@ -65,38 +65,38 @@ fn push_datagram(
     }
     let first = hex::encode(alloc, first)?;
     let last = hex::encode(alloc, last)?;
-    push_line(&mut asked.text, version, 0, true, first.as_str())?;
-    push_line(&mut asked.text, version, cut / 8, false, last.as_str())?;
-    push_line(&mut asked.text, version, cut / 8, false, last.as_str())?;
-    push_line(&mut asked.text, version, 0, true, first.as_str())?;
+    push_line(&mut test_case.text, version, 0, true, first.as_str())?;
+    push_line(&mut test_case.text, version, cut / 8, false, last.as_str())?;
+    push_line(&mut test_case.text, version, cut / 8, false, last.as_str())?;
+    push_line(&mut test_case.text, version, 0, true, first.as_str())?;
     for _ in 0..2 {
-        write!(asked.wanted, "wait\nmessage 253 none {first}{last}\n")?;
+        write!(test_case.wanted, "wait\nmessage 253 none {first}{last}\n")?;
     }
     Ok(())
 }
 
-// Behind a first fragment of this length, and before a last one.
+// After a first fragment of this length, and before a last one.
 fn push_length(
     alloc: Global,
-    asked: &mut Asked,
+    test_case: &mut TestCase,
     version: u8,
     bytes: &[u8],
     len: usize,
 ) -> Result<(), AllocError> {
     if len != 0 && len % 8 == 0 {
         let whole = bytes.get(..len.saturating_mul(2)).unwrap_or(bytes);
-        push_datagram(alloc, asked, version, whole, len)?;
+        push_datagram(alloc, test_case, version, whole, len)?;
     }
     match bytes.get(..len.saturating_add(8)) {
-        Some(whole) => push_datagram(alloc, asked, version, whole, 8),
+        Some(whole) => push_datagram(alloc, test_case, version, whole, 8),
         None => Ok(()),
     }
 }
 
-// How many lines in front are the same in both texts.
-fn lines_alike(told: &[u8], wanted: &[u8]) -> usize {
+// How many lines at the start are the same in both texts.
+fn lines_alike(actual: &[u8], wanted: &[u8]) -> usize {
     let mut count = 0usize;
-    for (one, other) in told.iter().zip(wanted.iter()) {
+    for (one, other) in actual.iter().zip(wanted.iter()) {
         if *one != *other {
             return count;
         }
@@ -113,19 +113,19 @@ fn are_answered(rt: impl Abort + Copy, alloc: Global, version: u8) -> Result<(),
     for place in 0..LONGEST {
         bytes.push((place % 251) as u8)?;
     }
-    let mut asked = Asked {
+    let mut test_case = TestCase {
         text: String::new(alloc),
         wanted: String::new(alloc),
     };
     for len in (0..=1600).chain(GREAT.iter().copied()) {
-        push_length(alloc, &mut asked, version, &bytes, len)?;
+        push_length(alloc, &mut test_case, version, &bytes, len)?;
     }
-    let mut told = Vec::new(alloc);
-    let mut reader = FaultReader::new(asked.text.as_bytes(), usize::MAX);
-    holds(rt, run(alloc, &mut reader, &mut told).is_ok());
-    let wanted = asked.wanted.as_bytes();
-    equal(rt, lines_alike(&told, wanted), ended_lines(wanted));
-    equal(rt, told.len(), wanted.len());
+    let mut actual = Vec::new(alloc);
+    let mut reader = FaultReader::new(test_case.text.as_bytes(), usize::MAX);
+    holds(rt, run(alloc, &mut reader, &mut actual).is_ok());
+    let wanted = test_case.wanted.as_bytes();
+    equal(rt, lines_alike(&actual, wanted), ended_lines(wanted));
+    equal(rt, actual.len(), wanted.len());
     Ok(())
 }
 

@@ -1,7 +1,7 @@
-//! Tests of `netlines` and `verdicts` over their public calls. They stand in a crate of their own,
-//! so that they are proved beside these and not with each of their functions once more. Tests of
-//! one shape are rows of a table, and functions that they share have no contracts, as tests alone
-//! call them.
+//! Tests of `netlines` and `checksum_verdicts` over their public calls. They are a crate of their
+//! own, so that they are proved beside these and not with each of their functions once more. Tests
+//! of one shape are rows of a table, and functions that they share have no contracts, as tests
+//! alone call them.
 #![tactic(auto)]
 
 #[cfg(test)]

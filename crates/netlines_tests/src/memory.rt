@@ -1,6 +1,6 @@
-//! Without memory. `tools/faults_tried` runs each of these tests once for each of its growths, and
-//! refuses that one: then a call tells of it and of nothing else, what it worked on is as before,
-//! and the same call succeeds after it. All growths are those of the calls.
+//! Out of memory. `tools/faults_tried` runs each of these tests once for each of its growths, and
+//! refuses that one: then a call returns this error and no other, what it changes is as before, and
+//! the same call succeeds after it. All growths are those of the calls.
 use crate::checks::{equal, holds};
 use crate::post::{FRAME, MESSAGE, MESSAGE_V6, SEGMENT, letter, stream};
 use crate::rows::{TWO_ANSWERS, TWO_FRAGMENTS};
@@ -11,7 +11,8 @@ use netlines::{PostError, RunError, SealError, post, run, seal_message};
 use std::process::Abort;
 use std::test::*;
 
-// The first half of a message, a line that forgets it, both halves and a line that forgets nothing.
+// The first fragment of a message, a line that forgets it, both fragments and a line that forgets
+// nothing.
 const FORGOTTEN_HALF: &[u8] = b"\
     frame 0 02000000000202000000000108004500001c00072000401146c80a0000010a000002\
     000100020010dbb4\n\
@@ -42,14 +43,14 @@ const RUNS: &[Run] = &[
     (b"\nforget\nforget 7", b"bad line\nbad line\nok\n", &[0]),
 ];
 
-// Whether a run answers the whole input. If not, it found no memory, and what it wrote are the
-// answers to the lines before one that takes some: so many bytes. With no memory for its buffers it
+// Whether a run answers the whole input. If not, it was out of memory, and what it wrote are the
+// answers to the lines before one that takes some: so many bytes. Without memory for its buffers it
 // reads nothing.
 fn is_answered(
     rt: impl Abort + AllocGlobal + Copy,
     input: &[u8],
     answers: &[u8],
-    fronts: &[usize],
+    prefixes: &[usize],
 ) -> bool {
     let mut room = [0u8; 512];
     let mut left = room.as_mut_slice();
@@ -63,22 +64,22 @@ fn is_answered(
     }
     holds(
         rt,
-        result == Err(RunError::Memory) && fronts.contains(&written),
+        result == Err(RunError::Memory) && prefixes.contains(&written),
     );
     holds(rt, reader.calls > 0 || written == 0);
     false
 }
 
 #[test]
-fn runs_want_memory(rt: HostRuntime) {
-    for (input, answers, fronts) in RUNS.iter() {
-        let first = is_answered(rt, input, answers, fronts);
-        let second = is_answered(rt, input, answers, fronts);
+fn runs_run_out_of_memory(rt: HostRuntime) {
+    for (input, answers, prefixes) in RUNS.iter() {
+        let first = is_answered(rt, input, answers, prefixes);
+        let second = is_answered(rt, input, answers, prefixes);
         holds(rt, first || second);
     }
 }
 
-// Behind two tags over IPv6.
+// After two tags over IPv6.
 const TAGGED: &[u8] = &[
     2, 0, 0, 0, 0, 2, 2, 0, 0, 0, 0, 1, 0x88, 0xa8, 0, 5, 0x81, 0, 0, 9, 0x86, 0xdd, 0x60, 0, 0, 0,
     0, 0x10, 0x11, 0x40, 0xfd, 0, 0, 0, 0, 0, 0, 0, 0, 0, 0, 0, 0, 0, 0, 1, 0xfd, 0, 0, 0, 0, 0, 0,
@@ -86,7 +87,7 @@ const TAGGED: &[u8] = &[
 ];
 
 // The worked row of three frames.
-const PIECES: &[&[u8]] = &[
+const FRAGMENT_FRAMES: &[&[u8]] = &[
     &[
         2, 0, 0, 0, 0, 2, 2, 0, 0, 0, 0, 1, 8, 0, 0x45, 0, 0, 0x1c, 0, 7, 0x20, 0, 0x40, 6, 0x46,
         0xd3, 10, 0, 0, 1, 10, 0, 0, 2, 0, 1, 0, 2, 0, 0, 0, 3,
@@ -114,10 +115,10 @@ type Posted = (
 const POSTED: &[Posted] = &[
     (4, 17, &[], MESSAGE, &[], &[FRAME]),
     (6, 17, &[5, 9], MESSAGE_V6, &[], &[TAGGED]),
-    (4, 6, &[], SEGMENT, &[8, 16], PIECES),
+    (4, 6, &[], SEGMENT, &[8, 16], FRAGMENT_FRAMES),
 ];
 
-// Whether the message is posted; the only refusal is that of memory.
+// Whether the message is posted; the only refusal is out of memory.
 fn posts(rt: impl Abort + AllocGlobal + Copy, row: &Posted) -> bool {
     let (version, number, tags, message, cuts, frames) = *row;
     match post(
@@ -142,7 +143,7 @@ fn posts(rt: impl Abort + AllocGlobal + Copy, row: &Posted) -> bool {
 
 // One frame, one with tags, and three.
 #[test]
-fn a_frame_wants_memory(rt: HostRuntime) {
+fn a_frame_runs_out_of_memory(rt: HostRuntime) {
     for row in POSTED.iter() {
         let first = posts(rt, row);
         let second = posts(rt, row);
@@ -161,19 +162,19 @@ const REFUSED: &[Refused] = &[
 
 fn is_refused(rt: impl Abort + AllocGlobal + Copy, row: &Refused) {
     let (version, number, cuts, refusal) = *row;
-    let told = post(rt.alloc(), &letter(rt, version, number, &[]), MESSAGE, cuts).err();
-    equal(rt, told, Some(refusal));
+    let actual = post(rt.alloc(), &letter(rt, version, number, &[]), MESSAGE, cuts).err();
+    equal(rt, actual, Some(refusal));
 }
 
 // Refused for another reason than memory, with all of it or without.
 #[test]
-fn refused_letters_want_no_memory(rt: HostRuntime) {
+fn refused_letters_take_no_memory(rt: HostRuntime) {
     for row in REFUSED.iter() {
         is_refused(rt, row);
     }
 }
 
-// Whether the message's payload is sealed as the message; the only refusal is that of memory.
+// Whether the message's payload is sealed as the message; the only refusal is out of memory.
 fn seals(rt: impl Abort + AllocGlobal + Copy, version: u8, message: &[u8]) -> bool {
     let payload = message.get(8..).unwrap_or(&[]);
     match seal_message(
@@ -194,7 +195,7 @@ fn seals(rt: impl Abort + AllocGlobal + Copy, version: u8, message: &[u8]) -> bo
 }
 
 #[test]
-fn sealed_messages_want_memory(rt: HostRuntime) {
+fn sealed_messages_run_out_of_memory(rt: HostRuntime) {
     let first = seals(rt, 4, MESSAGE);
     let second = seals(rt, 4, MESSAGE);
     holds(rt, first || second);

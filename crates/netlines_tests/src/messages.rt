@@ -19,7 +19,7 @@ const OVER_V6: Addresses = Addresses::V6 {
     destination: [0xfd, 0, 0, 0, 0, 0, 0, 0, 0, 0, 0, 0, 0, 0, 0, 2],
 };
 
-// What is told of a message with this number; `None` where it can't be read.
+// The verdict on a message with this number; `None` where it can't be read.
 fn verdict(addresses: &Addresses, number: u8, message: &[u8]) -> Option<Verdict> {
     match read_message(IpNumber(number), message) {
         Ok(message) => Some(judge(addresses, &message)),
@@ -37,7 +37,7 @@ const SEGMENT: &[u8] = &[
     0, 1, 0, 2, 0, 0, 0, 3, 0, 0, 0, 0, 0x50, 2, 4, 0, 0x97, 0xda, 0, 0,
 ];
 
-// The IP version, a number, a message, and what is told of it.
+// The IP version, a number, a message, and the expected verdict.
 const VERDICTS: &[(u8, u8, &[u8], Verdict)] = &[
     // All ones.
     (4, 1, &[0, 0, 0, 0, 0, 0, 0, 0], Verdict::Bad),
@@ -58,8 +58,12 @@ const VERDICTS: &[(u8, u8, &[u8], Verdict)] = &[
 
 fn is_judged(rt: impl Abort + Copy, version: u8, number: u8, message: &[u8], wanted: Verdict) {
     let addresses = if version == 6 { &OVER_V6 } else { &OVER_V4 };
-    let told = verdict(addresses, number, message);
-    equal(rt, (version, number, told), (version, number, Some(wanted)));
+    let actual = verdict(addresses, number, message);
+    equal(
+        rt,
+        (version, number, actual),
+        (version, number, Some(wanted)),
+    );
 }
 
 #[test]
@@ -69,8 +73,8 @@ fn verdicts(rt: HostRuntime) {
     }
 }
 
-// What is told of an echo reply of zeros with this checksum in front of a payload, to whose sum it
-// adds nothing else.
+// The verdict on an echo reply of zeros with this checksum and a payload, to whose sum it adds
+// nothing else.
 fn verdict_of_reply(checksum: u16, payload: &[u8]) -> Option<Verdict> {
     let mut message = [0; 138];
     message[2..4].copy_from_slice(&checksum.to_be_bytes());
@@ -79,8 +83,8 @@ fn verdict_of_reply(checksum: u16, payload: &[u8]) -> Option<Verdict> {
     verdict(&OVER_V4, 1, &message[..8 + len])
 }
 
-// Words of ffff and of 0, and 16 words 0101 with 0100 behind them.
-const REPLIES: &[(u16, &[u8], Verdict)] = &[
+// Words of ffff and of 0, and 16 words 0101 followed by 0100.
+const WORKED_ROWS: &[(u16, &[u8], Verdict)] = &[
     (0, &[0xff; 64], Verdict::Good),
     (0xffff, &[0xff; 64], Verdict::Good),
     (0xffff, &[0; 64], Verdict::Good),
@@ -91,19 +95,19 @@ const REPLIES: &[(u16, &[u8], Verdict)] = &[
 
 #[test]
 fn payloads_of_one_byte_repeated(rt: HostRuntime) {
-    for (checksum, payload, wanted) in REPLIES.iter() {
-        let told = verdict_of_reply(*checksum, payload);
-        equal(rt, (*checksum, told), (*checksum, Some(*wanted)));
+    for (checksum, payload, wanted) in WORKED_ROWS.iter() {
+        let actual = verdict_of_reply(*checksum, payload);
+        equal(rt, (*checksum, actual), (*checksum, Some(*wanted)));
     }
 }
 
 // A payload with its checksum, and with one more.
 fn is_judged_by_checksum(rt: impl Abort + Copy, payload: &[u8], checksum: u16) {
-    let told = [
+    let actual = [
         verdict_of_reply(checksum, payload),
         verdict_of_reply(checksum ^ 1, payload),
     ];
-    equal(rt, told, [Some(Verdict::Good), Some(Verdict::Bad)]);
+    equal(rt, actual, [Some(Verdict::Good), Some(Verdict::Bad)]);
 }
 
 // Payloads of 1, 2, 3, .. of each length up to 130, of which the longest are summed in lanes.
@@ -163,7 +167,7 @@ fn fault(number: u8, message: &[u8]) -> Option<SliceError> {
     read_message(IpNumber(number), message).err()
 }
 
-// A number, a message, how many bytes are wanted, and in which layer.
+// A number, a message, how many bytes are required, and in which layer.
 const REFUSALS: &[(u8, &[u8], usize, Layer)] = &[
     (1, &[0; 7], 8, Layer::Icmpv4),
     (6, &[0; 19], 20, Layer::TcpHeader),
@@ -172,7 +176,7 @@ const REFUSALS: &[(u8, &[u8], usize, Layer)] = &[
     (1, &[13, 0, 0, 0, 0, 0, 0, 0], 20, Layer::Icmpv4Timestamp),
 ];
 
-fn wants_bytes(
+fn requires_bytes(
     rt: impl Abort + Copy,
     number: u8,
     message: &[u8],
@@ -192,7 +196,7 @@ fn wants_bytes(
 #[test]
 fn refusals_of_messages(rt: HostRuntime) {
     for (number, message, required_len, layer) in REFUSALS.iter() {
-        wants_bytes(rt, *number, message, *required_len, *layer);
+        requires_bytes(rt, *number, message, *required_len, *layer);
     }
 }
 

@@ -1,4 +1,4 @@
-//! The flush, the status and what is told of an error.
+//! The flush, the status and the name of an error.
 use crate::checks::{equal, equal_bytes};
 use fault_devices::UnflushableWriter;
 use netlines::{RunError, answer_input, exit_code, fault_name};
@@ -39,7 +39,7 @@ fn errors_have_names(rt: HostRuntime) {
 
 #[test]
 #[should_panic(expected = "netlines: reads")]
-fn errors_are_told(rt: HostRuntime) {
+fn errors_are_reported(rt: HostRuntime) {
     let _ = exit_code(&rt, Err(RunError::TooManyReads));
-    panic!(rt; "told");
+    panic!(rt; "reported");
 }

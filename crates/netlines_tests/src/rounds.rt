@@ -1,8 +1,8 @@
-//! A run whose memory served before. The functions have no contracts: tests alone call them, and are
-//! run.
+//! A run whose buffers were used before. The functions have no contracts: tests alone call them,
+//! and are run.
 //!
-//! `tools/faults_tried` runs both tests: ten rounds have no more growths than one, and pass with each
-//! growth behind those of the first round refused.
+//! `tools/faults_tried` runs both tests: ten rounds have no more growths than one, and pass with
+//! each growth after those of the first round refused.
 
 use crate::checks::{equal_bytes, holds};
 use netlines::run;
@@ -10,8 +10,8 @@ use std::alloc::{AllocError, Global};
 use std::process::Abort;
 use std::test::*;
 
-// The halves of a UDP datagram whose length field tells a byte too many, those of one that is
-// whole, one that is given up, and the halves of one over IPv6.
+// The fragments of a UDP datagram whose length field counts a byte too many, those of one that is
+// whole, one fragment of a message that is given up, and the fragments of one over IPv6.
 const ROUND: &[u8] = b"\
     frame 0 02000000000202000000000108004500001c00072000401146c80a0000010a000002\
     000100020011dbb4\n\
@@ -39,9 +39,9 @@ const ANSWERS: &[u8] = b"\
 fn go_rounds(rt: impl Abort + Copy, alloc: Global, count: usize) -> Result<(), AllocError> {
     let text = ROUND.repeat(alloc, count)?;
     let wanted = ANSWERS.repeat(alloc, count)?;
-    let mut told = Vec::with_capacity(alloc, wanted.len())?;
-    holds(rt, run(alloc, &mut text.as_slice(), &mut told).is_ok());
-    equal_bytes(rt, told.as_slice(), wanted.as_slice());
+    let mut actual = Vec::with_capacity(alloc, wanted.len())?;
+    holds(rt, run(alloc, &mut text.as_slice(), &mut actual).is_ok());
+    equal_bytes(rt, actual.as_slice(), wanted.as_slice());
     Ok(())
 }
 

@@ -15,7 +15,7 @@ pub const UNCUT_UDP: &[u8] = b"frame 0 \
 /// The answer to it.
 pub const MESSAGE: &[u8] = b"message 17 good 000100020010dbb40102030405060708\n";
 
-/// The halves of that message in two frames.
+/// The fragments of that message in two frames.
 pub const TWO_FRAGMENTS: &[u8] = b"frame 0 \
     0200000000020200000000010800\
     4500001c00072000401146c80a0000010a000002000100020010dbb4\n\
@@ -31,12 +31,12 @@ fn three_reads_of_one_byte(rt: HostRuntime) {
     let mut reader = FaultReader::new(UNCUT_UDP, 1);
     let mut writer = FaultWriter::new(rt.alloc(), usize::MAX);
     let result = run_bounded(rt.alloc(), &mut reader, &mut writer, 3);
-    let told = (result, reader.calls, writer.calls);
-    equal(rt, told, (Err(RunError::TooManyReads), 3, 0));
+    let actual = (result, reader.calls, writer.calls);
+    equal(rt, actual, (Err(RunError::TooManyReads), 3, 0));
 }
 
-// A write that is a fault, the answer, the writes, and what they take: a byte each. The last row
-// has no such write.
+// The index of the write that fails, its fault, the result, how many writes are made, and the bytes
+// that they take, one each. In the last row no write fails.
 type Row = (usize, Fault, Result<(), RunError>, usize, &'static [u8]);
 
 const WRITES: &[Row] = &[
@@ -59,13 +59,13 @@ fn each_write_takes_one_byte(rt: HostRuntime) {
     }
 }
 
-// What the line before the failing read is answered is written.
+// The answer to the line before the failing read is written.
 #[test]
-fn a_read_fails_behind_a_line(rt: HostRuntime) {
+fn a_read_fails_after_a_line(rt: HostRuntime) {
     let fault = Fault::Fails(ErrorKind::Other);
     let mut reader = FaultReader::failing(UNCUT_UDP, 4096, 1, fault);
     let mut output = Vec::new(rt.alloc());
     let result = run(rt.alloc(), &mut reader, &mut output);
-    let told = (result, reader.calls, output.as_slice());
-    equal(rt, told, (Err(RunError::Read), 2, MESSAGE));
+    let actual = (result, reader.calls, output.as_slice());
+    equal(rt, actual, (Err(RunError::Read), 2, MESSAGE));
 }

@@ -93,17 +93,20 @@ fn is_sealed(
     header: Header,
     payload: &[u8],
     wanted: Result<usize, SealError>,
-    front: &[u8],
+    prefix: &[u8],
 ) {
     let sealed = seal_message(rt.alloc(), &stream(version), transport(header), payload);
-    let (told, bytes) = match &sealed {
-        Ok(message) => (Ok(message.len()), message.get(..front.len()).unwrap_or(&[])),
+    let (actual, bytes) = match &sealed {
+        Ok(message) => (
+            Ok(message.len()),
+            message.get(..prefix.len()).unwrap_or(&[]),
+        ),
         Err(error) => (Err(*error), &[][..]),
     };
     equal(
         rt,
-        (version, payload.len(), told, bytes),
-        (version, payload.len(), wanted, front),
+        (version, payload.len(), actual, bytes),
+        (version, payload.len(), wanted, prefix),
     );
 }
 

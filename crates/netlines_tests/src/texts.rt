@@ -12,10 +12,10 @@ pub const BAD_LINES: &[u8] = b"\nx\nframe\nframe 0 0\n\r\nlast";
 /// The answers to these lines.
 pub const BAD_ANSWERS: &[u8] = b"bad line\nbad line\nbad line\nbad line\nbad line\nbad line\n";
 
-/// Two halves of a UDP message with another message between them, the first half on a channel of
-/// its own, and lines that forget: the rows `two_fragments`, `uncut_udp` and `forget_keeps_stream`
+/// Two fragments of a UDP message with another message between them, a first fragment on a channel
+/// of its own, and `forget` lines: the rows `two_fragments`, `uncut_udp` and `forget_keeps_stream`
 /// in one.
-pub const ON_THEIR_WAY: &[u8] = b"\
+pub const INCOMPLETE: &[u8] = b"\
     frame 0 02000000000202000000000108004500001c00072000401146c80a0000010a000002\
     000100020010dbb4\n\
     frame 7 02000000000202000000000108004500001c00072000401146c80a0000010a000002\
@@ -31,7 +31,7 @@ pub const ON_THEIR_WAY: &[u8] = b"\
     forget\n";
 
 /// The answers to these lines.
-pub const ON_THEIR_WAY_ANSWERS: &[u8] = b"\
+pub const INCOMPLETE_ANSWERS: &[u8] = b"\
     wait\n\
     wait\n\
     message 17 good 000100020010dbb40102030405060708\n\
@@ -41,8 +41,8 @@ pub const ON_THEIR_WAY_ANSWERS: &[u8] = b"\
     wait\n\
     bad line\n";
 
-/// Twice the halves of a UDP message (the row `two_fragments`), and then the three pieces of a TCP
-/// segment in the order third, first, second (the row `posted_tcp`).
+/// Twice the two fragments of a UDP message (the row `two_fragments`), and then the three fragments
+/// of a TCP segment in the order third, first, second (the row `posted_tcp`).
 pub const TWO_ROUNDS: &[u8] = b"\
     frame 0 02000000000202000000000108004500001c00072000401146c80a0000010a000002\
     000100020010dbb4\n\
@@ -85,7 +85,7 @@ const TEXTS: &[(&[u8], &[u8])] = &[
     (b"\nx", TWO_BAD),
     (b"\n\nx\n", b"bad line\nbad line\nbad line\n"),
     (BAD_LINES, BAD_ANSWERS),
-    (ON_THEIR_WAY, ON_THEIR_WAY_ANSWERS),
+    (INCOMPLETE, INCOMPLETE_ANSWERS),
     // Frames that messages are posted as, without an end of the line.
     (
         b"frame 4294967295 02000000000202000000000186dd6000000000101140fd00000000000\
@@ -108,20 +108,20 @@ const TEXTS: &[(&[u8], &[u8])] = &[
 // A text in memory.
 pub(super) fn answers_in_memory(rt: impl Abort + AllocGlobal + Copy, text: &[u8], wanted: &[u8]) {
     match answers(rt.alloc(), text) {
-        Ok(told) => equal(rt, told.as_slice(), wanted),
+        Ok(actual) => equal(rt, actual.as_slice(), wanted),
         Err(_) => panic!(rt; "no memory"),
     }
 }
 
 // So many bytes a call.
-fn answers_in_pieces(
+fn answers_in_chunks(
     rt: impl Abort + AllocGlobal + Copy,
     text: &[u8],
     wanted: &[u8],
-    piece: usize,
+    chunk_size: usize,
 ) {
-    let mut reader = FaultReader::new(text, piece);
-    let mut writer = FaultWriter::new(rt.alloc(), piece);
+    let mut reader = FaultReader::new(text, chunk_size);
+    let mut writer = FaultWriter::new(rt.alloc(), chunk_size);
     let result = run(rt.alloc(), &mut reader, &mut writer);
     equal(rt, (result, writer.taken.as_slice()), (Ok(()), wanted));
 }
@@ -130,13 +130,14 @@ fn answers_in_pieces(
 fn answers_each_line_once(rt: HostRuntime) {
     for (text, wanted) in TEXTS.iter() {
         answers_in_memory(rt, text, wanted);
-        answers_in_pieces(rt, text, wanted, usize::MAX);
-        answers_in_pieces(rt, text, wanted, 1);
+        answers_in_chunks(rt, text, wanted, usize::MAX);
+        answers_in_chunks(rt, text, wanted, 1);
     }
 }
 
-// Bytes so many times over, the text's end, and an answer so many times over: the rest of a long
-// line is skipped, and messages are put together in the memory of those before them.
+// Bytes and how often they are repeated, the text's end, and an answer and how often it is
+// repeated: the rest of a long line is skipped, and messages are reassembled in the buffers of
+// those before them.
 type Long = (&'static [u8], usize, &'static [u8], &'static [u8], usize);
 
 const LONG_TEXTS: &[Long] = &[
@@ -154,7 +155,7 @@ fn answers_long_text(rt: impl Abort + AllocGlobal + Copy, row: &Long) -> Result<
     text.extend_from_slice(end)?;
     let wanted = repeated(rt.alloc(), answer, count)?;
     answers_in_memory(rt, &text, &wanted);
-    answers_in_pieces(rt, &text, &wanted, usize::MAX);
+    answers_in_chunks(rt, &text, &wanted, usize::MAX);
     Ok(())
 }
 

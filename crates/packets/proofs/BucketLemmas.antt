@@ -15,13 +15,13 @@ use Rattle.packets.specs.declared.outline.Outline.{Outline}
 use Rattle.packets.proofs.TallyLemmas.{count_by-more, count_by-none, tally_of-other}
 
 -- the counts of the buckets with one packet more, which is in bucket k alone
-pub bucket-more : (counts : List ℕ) (room k v : ℕ) (kind : ℕ → Outline → Bool)
+pub bucket-more : (counts : List ℕ) (capacity k v : ℕ) (kind : ℕ → Outline → Bool)
     (packets : List Outline) (packet : Outline) → k < length counts
-    → ((d : ℕ) → d < room → slice_index counts d ≡ capped (count_by (kind d) packets))
+    → ((d : ℕ) → d < capacity → slice_index counts d ≡ capped (count_by (kind d) packets))
     → kind k packet ≡ true → ((d : ℕ) → d ≢ k → kind d packet ≡ false)
-    → v ≡ capped (slice_index counts k + 1) → (d : ℕ) → d < room
+    → v ≡ capped (slice_index counts k + 1) → (d : ℕ) → d < capacity
     → slice_index (slice_set counts k v) d ≡ capped (count_by (kind d) (packets ++ packet ∷ []))
-bucket-more counts room k v kind packets packet within counted here others ev d small =
+bucket-more counts capacity k v kind packets packet within counted here others ev d small =
     elim (eqb_tells d k) [
       | inl same ↦
           let old : slice_index counts k ≡ capped (count_by (kind k) packets) =
@@ -93,8 +93,8 @@ tallies-none zero (suc k) = refl
 tallies-none (suc n) zero = refl
 tallies-none (suc n) (suc k) = tallies-none n k
 
-pub number-here : (number place : ℕ) → place ≡ number → (number == place) ≡ true
-number-here number place e = grind (arith, nat_tests)
+pub number-here : (number position : ℕ) → position ≡ number → (number == position) ≡ true
+number-here number position e = grind (arith, nat_tests)
 
-pub number-others : (number place d : ℕ) → place ≡ number → d ≢ place → (number == d) ≡ false
-number-others number place d e other = grind (arith, nat_tests)
+pub number-others : (number position d : ℕ) → position ≡ number → d ≢ position → (number == d) ≡ false
+number-others number position d e other = grind (arith, nat_tests)

@@ -1,7 +1,7 @@
--- How runs end: by a write or not.
+-- How runs end: by a write or otherwise.
 use Rattle.std.proofs.Common.{◌≡◌, sym, refl, subst, arith, ℕ, Bool, List, [], Option, Result, Ok}
 use Rattle.std.proofs.Common.{Err, MatchResult, OnOk, OnErr, append-nil, inl, inr}
-use Rattle.captures.specs.Fronts.{Gives}
+use Rattle.captures.specs.PacketSteps.{Gives}
 use Rattle.captures.specs.Skipping.{none_skipped}
 use Rattle.captures.specs.Units.{skipped_in}
 use Rattle.captures.specs.declared.packet.Packet.{Packet}
@@ -14,7 +14,7 @@ use Rattle.captures.specs.declared.translation.skipped.Skipped.{Skipped}
 use Rattle.captures.specs.declared.translation.state.State.{State}
 use Rattle.captures.specs.declared.translation.state.State.TheVariants.{Start}
 use Rattle.captures.specs.declared.unfit.Unfit.{Unfit}
-use Rattle.packets.specs.Runs.{AreButLast, AreTaken, BreaksBy, EndsBy, Unbroken, UnlessWanting}
+use Rattle.packets.specs.Runs.{AreButLast, AreTaken, BreaksBy, EndsBy, Unbroken, UnlessOutOfMemory}
 
 pub weaker_match : {E : Type 0} (result : Result Unit E) (A C : Type 0) (B D : E → Type 0)
     → (A → C) → ((error : E) → B error → D error) → MatchResult result (λ _. A) B
@@ -34,10 +34,10 @@ weaker_break writes Write A B from by = (by.0, from by.1)
 weaker_break writes WriteZero A B from by = (by.0, from by.1)
 weaker_break writes Memory A B from by = by
 weaker_break writes TooManyReads A B from by = by
-weaker_break writes (Capture why place) A B from by = by
+weaker_break writes (Capture why position) A B from by = by
 weaker_break writes (BadLine number) A B from by = by
 
--- what holds by a write's error, which breaks a run
+-- what holds after a write's error, which ends a run
 pub broken : (writes : Bool) (error : RunError) (A : Type 0) → BreaksBy writes error A
     → A × ((P Q : Type 0) → Q → Unbroken (Err error) P Q)
 broken writes Read A by = absurd by
@@ -45,10 +45,10 @@ broken writes Write A by = (by.1, λ P Q q. q)
 broken writes WriteZero A by = (by.1, λ P Q q. q)
 broken writes Memory A by = absurd by
 broken writes TooManyReads A by = absurd by
-broken writes (Capture why place) A by = absurd by
+broken writes (Capture why position) A by = absurd by
 broken writes (BadLine number) A by = absurd by
 
--- a run is broken by a write, or it isn't
+-- a write ended a run, or it didn't
 pub either_way : (result : Result Unit RunError) (A B C : Type 0) → Unbroken result A B
     → (A → ((P Q : Type 0) → P → Unbroken result P Q) → C)
     → (B → ((P Q : Type 0) → Q → Unbroken result P Q) → C) → C
@@ -58,7 +58,7 @@ either_way (Err Write) A B C holds first second = second holds (λ P Q q. q)
 either_way (Err WriteZero) A B C holds first second = second holds (λ P Q q. q)
 either_way (Err Memory) A B C holds first second = first holds (λ P Q p. p)
 either_way (Err TooManyReads) A B C holds first second = first holds (λ P Q p. p)
-either_way (Err (Capture why place)) A B C holds first second = first holds (λ P Q p. p)
+either_way (Err (Capture why position)) A B C holds first second = first holds (λ P Q p. p)
 either_way (Err (BadLine number)) A B C holds first second = first holds (λ P Q p. p)
 
 pub weaker_unbroken : (result : Result Unit RunError) (A B C D : Type 0) → (A → C) → (B → D)
@@ -70,7 +70,7 @@ pub unbroken_always : (result : Result Unit RunError) (A : Type 0) → Unbroken 
 unbroken_always result A holds =
     either_way result A ⊥ A holds (λ a here. a) (λ none here. absurd none)
 
--- all packets that were given are told
+-- the packets that were given are the first ones, and none is left out
 pub all_first : (unfit : Unfit) (skipped : Skipped) (bytes : List ℕ) (given : List Packet)
     (state : State) (rest : List ℕ) → Gives (Start unfit) bytes given state rest
     → skipped_in state ≡ skipped → AreButLast unfit skipped bytes given
@@ -100,7 +100,7 @@ ends_taken unfit skipped left bytes given writes (Err TooManyReads) (inl (are, r
     inl (all_first unfit skipped bytes given are.state are.rest are.gives are.counts)
 ends_taken unfit skipped left bytes given writes (Err TooManyReads) (inr (first, count)) =
     inl (all_first unfit skipped bytes given first.0 first.1 first.2 first.3)
-ends_taken unfit skipped left bytes given writes (Err (Capture why place)) ends =
+ends_taken unfit skipped left bytes given writes (Err (Capture why position)) ends =
     inl (all_first unfit skipped bytes given ends.state ends.rest ends.gives ends.counts)
 ends_taken unfit skipped left bytes given writes (Err (BadLine number)) ends = absurd ends
 
@@ -114,31 +114,31 @@ break_ends writes unfit skipped left bytes given Write Breaks by taken = (by.0, 
 break_ends writes unfit skipped left bytes given WriteZero Breaks by taken = (by.0, taken)
 break_ends writes unfit skipped left bytes given Memory Breaks by taken = absurd by
 break_ends writes unfit skipped left bytes given TooManyReads Breaks by taken = absurd by
-break_ends writes unfit skipped left bytes given (Capture why place) Breaks by taken = absurd by
+break_ends writes unfit skipped left bytes given (Capture why position) Breaks by taken = absurd by
 break_ends writes unfit skipped left bytes given (BadLine number) Breaks by taken = absurd by
 
 pub nothing_first : (unfit : Unfit) → AreButLast unfit none_skipped [] []
 nothing_first unfit = all_first unfit none_skipped [] [] (Start unfit) []
     (record { units = []; row = (refl, refl); parts = refl }) refl
 
-pub unless_wanting : (result : Result Unit RunError) (Holds : Type 0) → Holds
-    → UnlessWanting result Holds
-unless_wanting (Ok done) Holds holds = holds
-unless_wanting (Err Read) Holds holds = holds
-unless_wanting (Err Write) Holds holds = holds
-unless_wanting (Err WriteZero) Holds holds = holds
-unless_wanting (Err Memory) Holds holds = tt
-unless_wanting (Err TooManyReads) Holds holds = holds
-unless_wanting (Err (Capture why place)) Holds holds = holds
-unless_wanting (Err (BadLine number)) Holds holds = holds
+pub unless_out_of_memory : (result : Result Unit RunError) (Holds : Type 0) → Holds
+    → UnlessOutOfMemory result Holds
+unless_out_of_memory (Ok done) Holds holds = holds
+unless_out_of_memory (Err Read) Holds holds = holds
+unless_out_of_memory (Err Write) Holds holds = holds
+unless_out_of_memory (Err WriteZero) Holds holds = holds
+unless_out_of_memory (Err Memory) Holds holds = tt
+unless_out_of_memory (Err TooManyReads) Holds holds = holds
+unless_out_of_memory (Err (Capture why position)) Holds holds = holds
+unless_out_of_memory (Err (BadLine number)) Holds holds = holds
 
-pub weaker_wanting : (result : Result Unit RunError) (A B : Type 0) → (A → B)
-    → UnlessWanting result A → UnlessWanting result B
-weaker_wanting (Ok done) A B from holds = from holds
-weaker_wanting (Err Read) A B from holds = from holds
-weaker_wanting (Err Write) A B from holds = from holds
-weaker_wanting (Err WriteZero) A B from holds = from holds
-weaker_wanting (Err Memory) A B from holds = tt
-weaker_wanting (Err TooManyReads) A B from holds = from holds
-weaker_wanting (Err (Capture why place)) A B from holds = from holds
-weaker_wanting (Err (BadLine number)) A B from holds = from holds
+pub weaker_out_of_memory : (result : Result Unit RunError) (A B : Type 0) → (A → B)
+    → UnlessOutOfMemory result A → UnlessOutOfMemory result B
+weaker_out_of_memory (Ok done) A B from holds = from holds
+weaker_out_of_memory (Err Read) A B from holds = from holds
+weaker_out_of_memory (Err Write) A B from holds = from holds
+weaker_out_of_memory (Err WriteZero) A B from holds = from holds
+weaker_out_of_memory (Err Memory) A B from holds = tt
+weaker_out_of_memory (Err TooManyReads) A B from holds = from holds
+weaker_out_of_memory (Err (Capture why position)) A B from holds = from holds
+weaker_out_of_memory (Err (BadLine number)) A B from holds = from holds

@@ -1,4 +1,4 @@
--- Which messages a span that has passed drops.
+-- Which reassemblies a span that has passed drops.
 use Rattle.std.proofs.Common.{◌≡◌, ℕ, ◌+◌, ◌-◌, ◌*◌, ◌<◌, ◌≤◌, Bool, true, false, List, [], ◌∷◌}
 use Rattle.std.proofs.Common.{◌++◌, Option, Some, None, refl, ap, sym, subst, ◌∙◌}
 use Rattle.std.proofs.Common.{arith, inl, inr, map, ◌⊎◌}
@@ -9,8 +9,8 @@ use Rattle.std.proofs.lemmas.Bool.Decides.{nat_tests}
 use Rattle.std.proofs.lemmas.List.{map-append}
 use Rattle.captures.specs.Spans.{Drops, Mark, SpansDrop, have_passed, passed_spans}
 use Rattle.captures.specs.declared.packet.Packet.{Packet}
-use Rattle.ep_defrag.specs.PoolCalls.{Lists, after_frame, retained_from}
-use Rattle.ep_fragments.specs.Outcome.{Held}
+use Rattle.etherparse.specs.PoolCalls.{Lists, after_frame, retained_from}
+use Rattle.etherparse.specs.Outcome.{Held}
 use Rattle.ep_packet.specs.Class.{FragmentName}
 use Rattle.packets.specs.Courses.{Course, begin_at, class_of, course_after, forgotten, lists_at}
 use Rattle.packets.specs.Courses.{lists_since, next_course}
@@ -29,7 +29,7 @@ late-enough seconds begin time late some near passed =
     let after : begin ≤ late = omega (arith, far, near) in
     grind (arith, nat_tests)
 
--- what comes soon after the last fragment drops nothing
+-- a packet soon after the last fragment drops nothing
 stays : (seconds begin time : ℕ) (lists : Lists) (name : FragmentName) (channel : ℕ) → 0 < seconds
     → time < (lists name channel).time + 1000000000 * seconds
     → lists_at (Some seconds) (Some begin) time lists name channel ≡ lists name channel
@@ -51,7 +51,7 @@ stays-at seconds time course name channel some near = elim course.begin as (λ b
       | Some begin ↦ stays seconds begin time course.lists name channel some near
     ]
 
--- two courses that agree on a message still do behind packets that come soon after its fragments
+-- two courses that agree on a reassembly still do after packets that come soon after its fragments
 keeps : (seconds channel : ℕ) (name : FragmentName) (own other : Course) (packets : List Packet)
     → 0 < seconds → own.lists name channel ≡ other.lists name channel
     → ComeWithin seconds name channel other packets
@@ -131,13 +131,13 @@ module _ (seconds channel : ℕ) (name : FragmentName) where
   -- ---- one packet that passes by: its span has passed, or not
 
   module _ (course : Course) (packet : Packet) (begin : ℕ) (by : PassesBy name channel packet)
-      (begun : course.begin ≡ Some begin) where
+      (started : course.begin ≡ Some begin) where
     held-at : held (next course packet)
         ≡ (if have_passed seconds begin packet.time then retained_from begin (held course)
         else held course)
     held-at = by (lists_at (Some seconds) course.begin packet.time course.lists name channel)
         ∙ ap (λ (o : Option ℕ). lists_at (Some seconds) o packet.time course.lists name channel)
-        begun ∙ chosen (have_passed seconds begin packet.time) course.lists begin name channel
+        started ∙ chosen (have_passed seconds begin packet.time) course.lists begin name channel
 
     held-passed : have_passed seconds begin packet.time ≡ true
         → held (next course packet) ≡ retained_from begin (held course)
@@ -151,7 +151,7 @@ module _ (seconds channel : ℕ) (name : FragmentName) where
 
     begin-at : (next course packet).begin
         ≡ (if have_passed seconds begin packet.time then Some packet.time else Some begin)
-    begin-at = ap (λ (o : Option ℕ). begin_at (Some seconds) o packet.time) begun
+    begin-at = ap (λ (o : Option ℕ). begin_at (Some seconds) o packet.time) started
 
     begin-passed : have_passed seconds begin packet.time ≡ true
         → (next course packet).begin ≡ Some packet.time
@@ -170,7 +170,7 @@ module _ (seconds channel : ℕ) (name : FragmentName) where
       ∙ none-chosen (have_passed seconds begin time) (retained_from begin (held course))
       (held course) (none-retained begin (held course) none) none
 
-  -- a message that is dropped stays so
+  -- a reassembly that is dropped stays dropped
   stays-dropped : (course : Course) (packets : List Packet) → (held course).fragments ≡ []
       → AllPass packets → (after course packets).fragments ≡ []
   stays-dropped course [] none by = none
@@ -186,8 +186,8 @@ module _ (seconds channel : ℕ) (name : FragmentName) where
   abbrev began : ℕ → Mark
   began begin = record { time = begin; number = begin }
 
-  abbrev Tells : ℕ → (begin : ℕ) → Packet → List Packet → Bool → Type 0
-  Tells own begin packet packets b = Drops own (if b
+  abbrev DropsIf : ℕ → (begin : ℕ) → Packet → List Packet → Bool → Type 0
+  DropsIf own begin packet packets b = Drops own (if b
       then begin ∷ passed_spans seconds (mark packet) (map mark packets)
       else passed_spans seconds (began begin) (map mark packets))
 
@@ -196,11 +196,11 @@ module _ (seconds channel : ℕ) (name : FragmentName) where
       → AllPass packets
       → Drops (held course).time (passed_spans seconds (began begin) (map mark packets))
       → (after course packets).fragments ≡ []
-  dropped course begin [] begun by drops = absurd drops
-  dropped course begin (packet ∷ packets) begun by drops =
+  dropped course begin [] started by drops = absurd drops
+  dropped course begin (packet ∷ packets) started by drops =
       elim (cases_Bool (have_passed seconds begin packet.time)) [
         | inl t ↦
-            let now = held-passed course packet begin by.0 begun t in
+            let now = held-passed course packet begin by.0 started t in
             elim (cases_Bool (nat_lt (held course).time begin)) [
               | inl early ↦ stays-dropped (next course packet) packets
                   (ap (λ (h : Held). h.fragments) now
@@ -209,17 +209,17 @@ module _ (seconds channel : ℕ) (name : FragmentName) where
                   let stays : held (next course packet) ≡ held course =
                   now ∙ retained begin (held course) (is-late (held course).time begin late) in
                   dropped (next course packet) packet.time packets
-                  (begin-passed course packet begin by.0 begun t) by.1
+                  (begin-passed course packet begin by.0 started t) by.1
                   (subst (λ (h : Held). Drops h.time
                   (passed_spans seconds (mark packet) (map mark packets))) (sym stays)
                   (later-drops (held course).time begin
                   (passed_spans seconds (mark packet) (map mark packets))
-                  (is-late (held course).time begin late) (subst (Tells (held course).time begin packet packets) t drops)))
+                  (is-late (held course).time begin late) (subst (DropsIf (held course).time begin packet packets) t drops)))
             ]
         | inr t ↦ dropped (next course packet) begin packets
-            (begin-more course packet begin by.0 begun t) by.1
+            (begin-more course packet begin by.0 started t) by.1
             (subst (λ (h : Held). Drops h.time (passed_spans seconds (began begin) (map mark packets)))
-            (sym (held-more course packet begin by.0 begun t)) (subst (Tells (held course).time begin packet packets) t drops))
+            (sym (held-more course packet begin by.0 started t)) (subst (DropsIf (held course).time begin packet packets) t drops))
       ]
 
   numbers : (time : ℕ) (packets : List Packet)
@@ -239,20 +239,20 @@ module _ (seconds channel : ℕ) (name : FragmentName) where
       → AllByRecursion (λ p. p.time + 1000000000 * seconds ≤ last.time) (between ++ soon ∷ [])
       → AllPass ((between ++ soon ∷ []) ++ (later ++ last ∷ []))
       → (after course ((between ++ soon ∷ []) ++ (later ++ last ∷ []))).fragments ≡ []
-  drops-in-time law course begin between soon later last some begun late far all by =
+  drops-in-time law course begin between soon later last some started late far all by =
       let time = (held course).time in
-      let front : map mark (between ++ soon ∷ []) ≡ map mark between ++ mark soon ∷ [] =
+      let prefix : map mark (between ++ soon ∷ []) ≡ map mark between ++ mark soon ∷ [] =
       map-append mark between (soon ∷ []) in
       let back : map mark (later ++ last ∷ []) ≡ map mark later ++ mark last ∷ [] =
       map-append mark later (last ∷ []) in
       let whole = map-append mark (between ++ soon ∷ []) (later ++ last ∷ []) in
-      dropped course begin ((between ++ soon ∷ []) ++ (later ++ last ∷ [])) begun by
-      (rw (whole, front, back)
+      dropped course begin ((between ++ soon ∷ []) ++ (later ++ last ∷ [])) started by
+      (rw (whole, prefix, back)
       (law seconds time time (began begin) (map mark between) (mark soon) (map mark later)
       (mark last) late far (omega (arith, far, some)) (numbers time between)
-      (rw front at (times last.time (between ++ soon ∷ []) all))))
+      (rw prefix at (times last.time (between ++ soon ∷ []) all))))
 
 pub forget_drops : SpansDrop → ForgetDrops
-forget_drops law seconds channel name course begin between soon later last some begun late far all by =
-    drops-in-time seconds channel name law course begin between soon later last some begun late far all
+forget_drops law seconds channel name course begin between soon later last some started late far all by =
+    drops-in-time seconds channel name law course begin between soon later last some started late far all
     by

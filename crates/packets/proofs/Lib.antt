@@ -1,9 +1,9 @@
-mod BegunLemmas
+mod StartedLemmas
 mod BucketLemmas
 mod EndLemmas
 mod ForgetLemmas
 mod LineLemmas
-pub mod PartLemmas
+pub mod FragmentLemmas
 mod RateLemmas
 mod TableLemmas
 mod TallyLemmas

@@ -19,45 +19,45 @@ pub appended : {E : Type 0} (result : Result Unit E) (old new more : List ℕ)
 appended (Ok done) old new more P is holds = subst P (sym is) holds
 appended (Err e) old new more P is holds = is
 
-front_of_nothing : (bytes front rest : List ℕ) → bytes ≡ front ++ rest → bytes ≡ [] → front ≡ []
-front_of_nothing bytes [] rest whole none = refl
-front_of_nothing bytes (x ∷ front) rest whole none = absurd (cc)
+prefix_of_nothing : (bytes prefix rest : List ℕ) → bytes ≡ prefix ++ rest → bytes ≡ [] → prefix ≡ []
+prefix_of_nothing bytes [] rest whole none = refl
+prefix_of_nothing bytes (x ∷ prefix) rest whole none = absurd (cc)
 
-module _ (tells : Dissection → List ℕ → Type 0) where
+module _ (describes : Dissection → List ℕ → Type 0) where
   pub lines_more : (seen : List Dissection) (text : List ℕ) (packet : Dissection) (line : List ℕ)
-      → AreLines tells seen text → tells packet line
-      → AreLines tells (seen ++ packet ∷ []) (text ++ one_line line)
-  lines_more [] text packet line are told = (
+      → AreLines describes seen text → describes packet line
+      → AreLines describes (seen ++ packet ∷ []) (text ++ one_line line)
+  lines_more [] text packet line are reported = (
     line,
     [],
     ap (λ (l : List ℕ). l ++ one_line line) are ∙ sym (append-nil (one_line line)),
-    told,
+    reported,
     refl,
   )
-  lines_more (first ∷ later) text packet line are told = (
+  lines_more (first ∷ later) text packet line are reported = (
     are.0,
     are.1 ++ one_line line,
     ap (λ (l : List ℕ). l ++ one_line line) are.2
         ∙ append_assoc (one_line are.0) are.1 (one_line line),
     are.3,
-    lines_more later are.1 packet line are.4 told,
+    lines_more later are.1 packet line are.4 reported,
   )
 
   -- these lines are written, and those that wait
   abbrev pub Wait : (first now : Option (List ℕ)) → List Dissection → (waiting : List ℕ) → Type 0
   Wait first now seen waiting = (written : List ℕ) × Appends first now written
-      × AreLines tells seen (written ++ waiting)
+      × AreLines describes seen (written ++ waiting)
 
-  -- a front of these lines is written
+  -- a prefix of these lines is written
   abbrev pub Break : (first now : Option (List ℕ)) → List Dissection → Type 0
   Break first now seen = (written : List ℕ) × (rest : List ℕ) × Appends first now written
-      × AreLines tells seen (written ++ rest)
+      × AreLines describes seen (written ++ rest)
 
   -- what a write of a text does, with this result
   abbrev pub Writes : (old new : Option (List ℕ)) → List ℕ → Result Unit RunError → Type 0
   Writes old new text result = MatchResult result (λ _. Appends old new text)
-      (λ error. BreaksBy true error ((front : List ℕ) × (rest : List ℕ) × Appends old new front
-      × (text ≡ front ++ rest)))
+      (λ error. BreaksBy true error ((prefix : List ℕ) × (rest : List ℕ) × Appends old new prefix
+      × (text ≡ prefix ++ rest)))
 
   -- the lines that waited are written
   pub written_out : (result : Result Unit RunError) (first old new : Option (List ℕ))
@@ -70,29 +70,29 @@ module _ (tells : Dissection → List ℕ → Type 0) where
       (λ all. (
         waits.0 ++ out,
         Appends-trans first old new waits.0 out waits.1 all,
-        subst (AreLines tells seen) (sym (ap (λ (l : List ℕ). (waits.0 ++ out) ++ l) none
+        subst (AreLines describes seen) (sym (ap (λ (l : List ℕ). (waits.0 ++ out) ++ l) none
             ∙ append-nil (waits.0 ++ out))) waits.2,
       ))
       (λ error. weaker_break true error _ (Break first new seen) (λ part. (
         waits.0 ++ part.0,
         part.1,
         Appends-trans first old new waits.0 part.0 waits.1 part.2,
-        subst (AreLines tells seen) (ap (λ (l : List ℕ). waits.0 ++ l) part.3
+        subst (AreLines describes seen) (ap (λ (l : List ℕ). waits.0 ++ l) part.3
             ∙ sym (append_assoc waits.0 part.0 part.1)) waits.2,
       )))
 
   -- what a run with this result wrote of the lines of these packets
-  abbrev pub Told : (first now : Option (List ℕ)) → List Dissection → Result Unit RunError → Type 0
-  Told first now seen result = (text : List ℕ) × AreLines tells seen text
+  abbrev pub CallResult : (first now : Option (List ℕ)) → List Dissection → Result Unit RunError → Type 0
+  CallResult first now seen result = (text : List ℕ) × AreLines describes seen text
       × (written : List ℕ) × Appends first now written × IsWritten result text written
 
   -- a run ended, and what waited is written
   pub ended_whole : (result : Result Unit RunError) (first mid new : Option (List ℕ))
       (seen : List Dissection) (out : List ℕ)
       → Unbroken result (Wait first mid seen out) ((out ≡ []) × Break first mid seen)
-      → Appends mid new out → Told first new seen result
+      → Appends mid new out → CallResult first new seen result
   ended_whole result first mid new seen out held all =
-      either_way result _ _ (Told first new seen result) held
+      either_way result _ _ (CallResult first new seen result) held
       (λ waits here. (
         waits.0 ++ out,
         waits.2,
@@ -116,11 +116,11 @@ module _ (tells : Dissection → List ℕ → Type 0) where
   pub ended_broken : (result : Result Unit RunError) (error : RunError)
       (first mid new : Option (List ℕ)) (seen : List Dissection) (out : List ℕ)
       → Unbroken result (Wait first mid seen out) ((out ≡ []) × Break first mid seen)
-      → BreaksBy true error ((front : List ℕ) × (rest : List ℕ) × Appends mid new front
-      × (out ≡ front ++ rest)) → Told first new seen (Err error)
+      → BreaksBy true error ((prefix : List ℕ) × (rest : List ℕ) × Appends mid new prefix
+      × (out ≡ prefix ++ rest)) → CallResult first new seen (Err error)
   ended_broken result error first mid new seen out held by =
       let part = broken true error _ by in
-      either_way result _ _ (Told first new seen (Err error)) held
+      either_way result _ _ (CallResult first new seen (Err error)) held
       (λ waits here. (
         waits.0 ++ out,
         waits.2,
@@ -141,14 +141,14 @@ module _ (tells : Dissection → List ℕ → Type 0) where
           before.1.1,
           ap (λ (l : List ℕ). l ++ before.1.1)
               (sym (ap (λ (l : List ℕ). before.1.0 ++ l)
-              (front_of_nothing out part.0.0 part.0.1 part.0.3 before.0) ∙ append-nil before.1.0)),
+              (prefix_of_nothing out part.0.0 part.0.1 part.0.3 before.0) ∙ append-nil before.1.0)),
         ),
       ))
 
-  -- the same behind a flush
+  -- the same after a flush
   pub lines_flushed : (rules : Rules) (skipped : Skipped) (source first mid now : Option (List ℕ))
-      (result : Result Unit RunError) → WritesLines tells rules skipped source first mid result
-      → Keeps mid now → WritesLines tells rules skipped source first now result
+      (result : Result Unit RunError) → WritesLines describes rules skipped source first mid result
+      → Keeps mid now → WritesLines describes rules skipped source first now result
   lines_flushed rules skipped source first mid now result lines keeps = (
     lines.0,
     lines.1,

@@ -12,7 +12,7 @@ use Rattle.std.proofs.lemmas.List.Folds.{list_any-append}
 use Rattle.std.proofs.lemmas.List.Sums.{sum_by-cons}
 use Rattle.std.proofs.Math.Nat.{div-div-eq-div-mul, mul-div-le, mul-le-mul_left, pow-suc}
 use Rattle.captures.specs.Numbers.{capped}
-use Rattle.packets.specs.Rate.{CountsBySpan, CountsSpans, is_behind, span_at, start_of}
+use Rattle.packets.specs.Rate.{CountsBySpan, CountsSpans, is_past_spans, span_at, start_of}
 use Rattle.packets.specs.declared.outline.Outline.{Outline}
 use Rattle.packets.specs.declared.summary.rate.Rate.{Rate}
 use Rattle.packets.proofs.BucketLemmas.{bucket-more}
@@ -121,8 +121,8 @@ pub spans-doubled : (rate rate' : Rate) (packets : List Outline) → CountsBySpa
 spans-doubled rate rate' packets old eb es low high = record {
   begin = eb ∙ old.begin;
   doubled = (suc old.doubled.0, es ∙ ap (λ n. n * 2) old.doubled.1 ∙ twofold old.doubled.0);
-  counted = subst (λ n. (place : ℕ) → place < 64 → slice_index rate'.counts place ≡ capped
-      (count_by (λ (q : Outline). span_at n (start_of packets) q.time == place) packets)) (sym es)
+  counted = subst (λ n. (position : ℕ) → position < 64 → slice_index rate'.counts position ≡ capped
+      (count_by (λ (q : Outline). span_at n (start_of packets) q.time == position) packets)) (sym es)
       (counts-doubled rate.span (start_of packets) rate.counts rate'.counts packets old.counted
       old.within low high);
   within = subst (λ n. All (λ (q : Outline). span_at n (start_of packets) q.time < 64) packets)
@@ -130,55 +130,55 @@ spans-doubled rate rate' packets old eb es low high = record {
       (within-doubled rate.span (start_of packets) packets old.within);
 }
 
-in-place : (x place : ℕ) → place ≡ x → (x == place) ≡ true
-in-place x place e = grind (arith, nat_tests)
+in-position : (x position : ℕ) → position ≡ x → (x == position) ≡ true
+in-position x position e = grind (arith, nat_tests)
 
-not-in : (x place d : ℕ) → place ≡ x → d ≢ place → (x == d) ≡ false
-not-in x place d e other = grind (arith, nat_tests)
+not-in : (x position d : ℕ) → position ≡ x → d ≢ position → (x == d) ≡ false
+not-in x position d e other = grind (arith, nat_tests)
 
-counts-added : (span start place v : ℕ) (counts : List ℕ) (packets : List Outline) (packet :
+counts-added : (span start position v : ℕ) (counts : List ℕ) (packets : List Outline) (packet :
     Outline)
     → length counts ≡ 64
     → ((d : ℕ) → d < 64 → slice_index counts d
     ≡ capped (count_by (λ (q : Outline). span_at span start q.time == d) packets))
-    → place ≡ span_at span start packet.time → place < 64
-    → v ≡ capped (slice_index counts place + 1) → (d : ℕ) → d < 64
-    → slice_index (slice_set counts place v) d ≡ capped (count_by
+    → position ≡ span_at span start packet.time → position < 64
+    → v ≡ capped (slice_index counts position + 1) → (d : ℕ) → d < 64
+    → slice_index (slice_set counts position v) d ≡ capped (count_by
     (λ (q : Outline). span_at span start q.time == d) (packets ++ packet ∷ []))
-counts-added span start place v counts packets packet size counted here small ev =
-    bucket-more counts 64 place v (λ (d : ℕ) (q : Outline). span_at span start q.time == d)
+counts-added span start position v counts packets packet size counted here small ev =
+    bucket-more counts 64 position v (λ (d : ℕ) (q : Outline). span_at span start q.time == d)
     packets packet
-    (omega arith) counted (in-place (span_at span start packet.time) place here)
-    (λ d other. not-in (span_at span start packet.time) place d here other) ev
+    (omega arith) counted (in-position (span_at span start packet.time) position here)
+    (λ d other. not-in (span_at span start packet.time) position d here other) ev
 
-within-added : (span start place : ℕ) (packets : List Outline) (packet : Outline)
-    → place ≡ span_at span start packet.time → place < 64
+within-added : (span start position : ℕ) (packets : List Outline) (packet : Outline)
+    → position ≡ span_at span start packet.time → position < 64
     → All (λ (q : Outline). span_at span start q.time < 64) packets
     → All (λ (q : Outline). span_at span start q.time < 64) (packets ++ packet ∷ [])
-within-added span start place packets packet here small all =
+within-added span start position packets packet here small all =
     All-append (λ (q : Outline). span_at span start q.time < 64) packets (packet ∷ []) all (alone
     here small)
   where
-    alone : place ≡ span_at span start packet.time → place < 64
+    alone : position ≡ span_at span start packet.time → position < 64
         → All (λ (q : Outline). span_at span start q.time < 64) (packet ∷ [])
     alone here small zero d lt = omega (arith, here, small)
     alone here small (suc k) d lt = absurd (omega arith)
 
-pub begun : (found : Option ℕ) (time start : ℕ) → found ≡ Some start → unwrap_or found time ≡ start
-begun found time start e = ap (λ o. unwrap_or o time) e
+pub started : (found : Option ℕ) (time start : ℕ) → found ≡ Some start → unwrap_or found time ≡ start
+started found time start e = ap (λ o. unwrap_or o time) e
 
 -- the packets are counted with one more
-pub spans-added : (rate rate' : Rate) (packets : List Outline) (packet : Outline) (begin place v
+pub spans-added : (rate rate' : Rate) (packets : List Outline) (packet : Outline) (begin position v
     : ℕ)
     → length rate.counts ≡ 64 → CountsBySpan rate packets
-    → begin ≡ unwrap_or rate.begin packet.time → place ≡ span_at rate.span begin packet.time
-    → place < 64 → v ≡ capped (slice_index rate.counts place + 1)
+    → begin ≡ unwrap_or rate.begin packet.time → position ≡ span_at rate.span begin packet.time
+    → position < 64 → v ≡ capped (slice_index rate.counts position + 1)
     → rate'.begin ≡ Some begin → rate'.span ≡ rate.span
-    → rate'.counts ≡ slice_set rate.counts place v
+    → rate'.counts ≡ slice_set rate.counts position v
     → CountsBySpan rate' (packets ++ packet ∷ [])
-spans-added rate rate' [] packet begin place v size old eb ep small ev eb' es ec =
+spans-added rate rate' [] packet begin position v size old eb ep small ev eb' es ec =
     let first : begin ≡ packet.time = eb ∙ ap (λ o. unwrap_or o packet.time) old.begin in
-    let here : place ≡ span_at rate'.span packet.time packet.time =
+    let here : position ≡ span_at rate'.span packet.time packet.time =
     ep ∙ ap (λ b. span_at rate.span b packet.time) first
     ∙ ap (λ s. span_at s packet.time packet.time) (sym es) in
     record {
@@ -186,14 +186,14 @@ spans-added rate rate' [] packet begin place v size old eb ep small ev eb' es ec
       doubled = (old.doubled.0, es ∙ old.doubled.1);
       counted = subst (λ cs. (d : ℕ) → d < 64 → slice_index cs d ≡ capped (count_by
           (λ (q : Outline). span_at rate'.span packet.time q.time == d) (packet ∷ []))) (sym ec)
-          (counts-added rate'.span packet.time place v rate.counts [] packet size old.counted
+          (counts-added rate'.span packet.time position v rate.counts [] packet size old.counted
           here small ev);
-      within = within-added rate'.span packet.time place [] packet here small
+      within = within-added rate'.span packet.time position [] packet here small
           (λ k d lt. absurd (omega arith));
     }
-spans-added rate rate' (q ∷ qs) packet begin place v size old eb ep small ev eb' es ec =
-    let first : begin ≡ q.time = eb ∙ begun rate.begin packet.time q.time old.begin in
-    let here : place ≡ span_at rate'.span q.time packet.time =
+spans-added rate rate' (q ∷ qs) packet begin position v size old eb ep small ev eb' es ec =
+    let first : begin ≡ q.time = eb ∙ started rate.begin packet.time q.time old.begin in
+    let here : position ≡ span_at rate'.span q.time packet.time =
     ep ∙ ap (λ b. span_at rate.span b packet.time) first
     ∙ ap (λ s. span_at s q.time packet.time) (sym es) in
     let before : (d : ℕ) → d < 64 → slice_index rate.counts d ≡ capped (count_by
@@ -208,9 +208,9 @@ spans-added rate rate' (q ∷ qs) packet begin place v size old eb ep small ev e
       counted = subst (λ cs. (d : ℕ) → d < 64 → slice_index cs d ≡ capped (count_by
           (λ (p : Outline). span_at rate'.span q.time p.time == d) ((q ∷ qs) ++ packet ∷ [])))
           (sym ec)
-          (counts-added rate'.span q.time place v rate.counts (q ∷ qs) packet size before here
+          (counts-added rate'.span q.time position v rate.counts (q ∷ qs) packet size before here
           small ev);
-      within = within-added rate'.span q.time place (q ∷ qs) packet here small around;
+      within = within-added rate'.span q.time position (q ∷ qs) packet here small around;
     }
 
 any-first : {X : Type 0} (p : X → Bool) (xs ys : List X) → list_any p xs ≡ true
@@ -222,14 +222,14 @@ any-last : {X : Type 0} (p : X → Bool) (xs : List X) (x : X) → p x ≡ true
 any-last p [] x h = ap (λ b. b || false) h
 any-last p (y ∷ ys) x h = ap (λ b. p y || b) (any-last p ys x h) ∙ or-true (p y)
 
-behind : (span start : ℕ) (packet : Outline) → 64 ≤ span_at span start packet.time
-    → is_behind span start packet ≡ true
-behind span start packet far = grind (arith, nat_tests)
+beyond : (span start : ℕ) (packet : Outline) → 64 ≤ span_at span start packet.time
+    → is_past_spans span start packet ≡ true
+beyond span start packet far = grind (arith, nat_tests)
 
--- no packet comes behind the last span, of which there is one at least where one does
+-- no packet comes after the last span; where a packet comes, there is one span at least
 still-least : (old : Rate) (span begin : ℕ) (packets : List Outline) (packet : Outline)
     → CountsSpans old packets → span ≡ old.span
-    → (span ≡ 1953125) ⊎ (list_any (is_behind (span / 2) (start_of (packets ++ packet ∷ [])))
+    → (span ≡ 1953125) ⊎ (list_any (is_past_spans (span / 2) (start_of (packets ++ packet ∷ [])))
     (packets ++ packet ∷ []) ≡ true)
 still-least old span begin [] packet counted e = elim counted.least [
   | inl shortest ↦ inl (e ∙ shortest)
@@ -237,8 +237,8 @@ still-least old span begin [] packet counted e = elim counted.least [
 ]
 still-least old span begin (q ∷ qs) packet counted e = elim counted.least [
   | inl shortest ↦ inl (e ∙ shortest)
-  | inr any ↦ inr (any-first (is_behind (span / 2) q.time) (q ∷ qs) (packet ∷ [])
-      (ap (λ s. list_any (is_behind (s / 2) q.time) (q ∷ qs)) e ∙ any))
+  | inr any ↦ inr (any-first (is_past_spans (span / 2) q.time) (q ∷ qs) (packet ∷ [])
+      (ap (λ s. list_any (is_past_spans (s / 2) q.time) (q ∷ qs)) e ∙ any))
 ]
 
 start-found : (old : Rate) (begin : ℕ) (packets : List Outline) (packet : Outline)
@@ -247,13 +247,13 @@ start-found : (old : Rate) (begin : ℕ) (packets : List Outline) (packet : Outl
 start-found old begin [] packet counted e =
     e ∙ ap (λ o. unwrap_or o packet.time) counted.by_span.begin
 start-found old begin (q ∷ qs) packet counted e =
-    e ∙ begun old.begin packet.time q.time counted.by_span.begin
+    e ∙ started old.begin packet.time q.time counted.by_span.begin
 
 -- the spans are the least with one packet more, where they stayed or half of them was too short
 pub spans-least : (old : Rate) (span begin since : ℕ) (packets : List Outline) (packet : Outline)
     → CountsSpans old packets → begin ≡ unwrap_or old.begin packet.time
     → since ≡ packet.time - begin → (span ≡ old.span) ⊎ (64 ≤ since / (span / 2))
-    → (span ≡ 1953125) ⊎ (list_any (is_behind (span / 2) (start_of (packets ++ packet ∷ [])))
+    → (span ≡ 1953125) ⊎ (list_any (is_past_spans (span / 2) (start_of (packets ++ packet ∷ [])))
     (packets ++ packet ∷ []) ≡ true)
 spans-least old span begin since packets packet counted eb es doubled = elim doubled [
   | inl same ↦ still-least old span begin packets packet counted same
@@ -262,8 +262,8 @@ spans-least old span begin since packets packet counted eb es doubled = elim dou
       let late : 64 ≤ span_at (span / 2) (start_of (packets ++ packet ∷ [])) packet.time =
       subst (λ b. 64 ≤ (packet.time - b) / (span / 2)) start
       (subst (λ n. 64 ≤ n / (span / 2)) es far) in
-      inr (any-last (is_behind (span / 2) (start_of (packets ++ packet ∷ []))) packets packet
-      (behind (span / 2) (start_of (packets ++ packet ∷ [])) packet late))
+      inr (any-last (is_past_spans (span / 2) (start_of (packets ++ packet ∷ []))) packets packet
+      (beyond (span / 2) (start_of (packets ++ packet ∷ [])) packet late))
 ]
 
 -- twice a span that was too short

@@ -31,10 +31,10 @@ use Rattle.packets.specs.declared.outline.Outline.{Outline}
 use Rattle.packets.specs.declared.summary.summary.Summary.{Summary}
 use Rattle.packets.proofs.EndLemmas.{all_first}
 
--- the run's error of a reader's
+-- the error of a run by a reader's error
 abbrev as_run_error : ReadError → RunError
 as_run_error read.Read = Read
-as_run_error (read.Capture error place) = Capture error place
+as_run_error (read.Capture error position) = Capture error position
 as_run_error read.TooManyReads = TooManyReads
 
 same_error : (from : ReadError) (error : RunError) → cause error ≡ read_cause from
@@ -44,21 +44,21 @@ same_error read.Read Write is = cc
 same_error read.Read WriteZero is = cc
 same_error read.Read Memory is = cc
 same_error read.Read TooManyReads is = cc
-same_error read.Read (Capture error place) is = cc
+same_error read.Read (Capture error position) is = cc
 same_error read.Read (BadLine number) is = cc
-same_error (read.Capture error place) Read is = cc
-same_error (read.Capture error place) Write is = cc
-same_error (read.Capture error place) WriteZero is = cc
-same_error (read.Capture error place) Memory is = cc
-same_error (read.Capture error place) TooManyReads is = cc
-same_error (read.Capture error place) (Capture other elsewhere) is = cc
-same_error (read.Capture error place) (BadLine number) is = cc
+same_error (read.Capture error position) Read is = cc
+same_error (read.Capture error position) Write is = cc
+same_error (read.Capture error position) WriteZero is = cc
+same_error (read.Capture error position) Memory is = cc
+same_error (read.Capture error position) TooManyReads is = cc
+same_error (read.Capture error position) (Capture other elsewhere) is = cc
+same_error (read.Capture error position) (BadLine number) is = cc
 same_error read.TooManyReads Read is = cc
 same_error read.TooManyReads Write is = cc
 same_error read.TooManyReads WriteZero is = cc
 same_error read.TooManyReads Memory is = cc
 same_error read.TooManyReads TooManyReads is = refl
-same_error read.TooManyReads (Capture error place) is = cc
+same_error read.TooManyReads (Capture error position) is = cc
 same_error read.TooManyReads (BadLine number) is = cc
 
 -- what a reader has given are the first packets
@@ -93,7 +93,7 @@ comes_ends : {R : Type 0} (writes : Bool) (unfit : Unfit) (reader : PacketReader
     → EndsBy writes unfit (skipped_by reader) left bytes given (Err (as_run_error from))
 comes_ends writes unfit reader left bytes given read.Read comes = comes.1
 comes_ends writes unfit reader left bytes given read.TooManyReads comes = inl (comes.1, comes.2)
-comes_ends writes unfit reader left bytes given (read.Capture error place) comes = comes.1
+comes_ends writes unfit reader left bytes given (read.Capture error position) comes = comes.1
 
 pub reader_ends : {R : Type 0} (writes : Bool) (unfit : Unfit) (reader : PacketReader R)
     (left : Option (List ℕ)) (bytes : List ℕ) (given : List Packet) (from : ReadError)
@@ -109,7 +109,7 @@ reader_ends writes unfit reader left bytes given from error is comes =
 reader_unbroken : (from : ReadError) (Goes Breaks : Type 0) → Goes
     → Unbroken (Err (as_run_error from)) Goes Breaks
 reader_unbroken read.Read Goes Breaks goes = goes
-reader_unbroken (read.Capture error place) Goes Breaks goes = goes
+reader_unbroken (read.Capture error position) Goes Breaks goes = goes
 reader_unbroken read.TooManyReads Goes Breaks goes = goes
 
 pub unbroken_by_read : (from : ReadError) (error : RunError) (Goes Breaks : Type 0)
@@ -129,13 +129,13 @@ course_more forget course (first ∷ later) packet =
     course_more forget (next_course forget course first) later packet
 
 pub dissected_more : (forget : Option ℕ) (course : Course) (given : List Packet)
-    (told : List Dissection) (packet : Packet) (last : Dissection)
-    → AreDissected forget course given told
+    (reported : List Dissection) (packet : Packet) (last : Dissection)
+    → AreDissected forget course given reported
     → IsDissected (forgotten forget packet.time (course_after forget course given)) packet last
-    → AreDissected forget course (given ++ packet ∷ []) (told ++ last ∷ [])
-dissected_more forget course [] told packet last are is =
+    → AreDissected forget course (given ++ packet ∷ []) (reported ++ last ∷ [])
+dissected_more forget course [] reported packet last are is =
     (last, [], ap (λ (l : List Dissection). l ++ last ∷ []) are, is, refl)
-dissected_more forget course (first ∷ later) told packet last are is = (
+dissected_more forget course (first ∷ later) reported packet last are is = (
   are.0,
   are.1 ++ last ∷ [],
   ap (λ (l : List Dissection). l ++ last ∷ []) are.2,
@@ -143,10 +143,10 @@ dissected_more forget course (first ∷ later) told packet last are is = (
   dissected_more forget (next_course forget course first) later are.1 packet last are.4 is,
 )
 
-pub shown_more : (conditions : Filter) (told : List Dissection) (last : Dissection)
-    → shown conditions (told ++ last ∷ [])
-    ≡ shown conditions told ++ filter (lets_through conditions) (last ∷ [])
-shown_more conditions told last = filter-append (lets_through conditions) told (last ∷ [])
+pub shown_more : (conditions : Filter) (reported : List Dissection) (last : Dissection)
+    → shown conditions (reported ++ last ∷ [])
+    ≡ shown conditions reported ++ filter (lets_through conditions) (last ∷ [])
+shown_more conditions reported last = filter-append (lets_through conditions) reported (last ∷ [])
 
 pub counted_none : {S H : Type 0} (same_reason : Reason → Reason → Bool)
     (same_addresses : Addresses → Addresses → Bool) (summary : Summary S H)

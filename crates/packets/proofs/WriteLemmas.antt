@@ -3,11 +3,11 @@ use Rattle.std.proofs.Common.{◌≡◌, ◌∙◌, sym, refl, subst, ℕ, zero,
 use Rattle.std.proofs.Common.{append-nil, Option, Some, None}
 use Rattle.std.specs.Io.KnownBytes.{Appends}
 use Rattle.std.proofs.KnownBytes.{Appends-kept, Appends-nil, Appends-trans}
-use Rattle.runs.specs.Calls.{Call, Makes, Reads, Writes, bytes_taken, bytes_written, fault_of}
-use Rattle.runs.specs.Known.{Known, KnownCall, known_of}
-use Rattle.runs.specs.Writes.{Stops, Written}
-use Rattle.runs.specs.declared.device.ReaderWriter.{ReaderWriter}
-use Rattle.runs.specs.declared.fault.Fault.{Fault}
+use Rattle.device_runs.specs.Calls.{Call, Makes, Reads, Writes, bytes_taken, bytes_written, fault_of}
+use Rattle.device_runs.specs.Known.{Known, KnownCall, known_of}
+use Rattle.device_runs.specs.Writes.{Stops, Written}
+use Rattle.device_runs.specs.declared.device.ReaderWriter.{ReaderWriter}
+use Rattle.device_runs.specs.declared.fault.Fault.{Fault}
 
 call_appends : (a b : Known) (call : Call) → KnownCall a call b
     → Appends a.output b.output (bytes_taken call)
@@ -19,13 +19,13 @@ call_appends a b (Writes bytes (Some n)) known = known.0
 call_appends a b (Writes bytes None) known =
     Appends-kept a.output a.output b.output [] (Appends-nil a.output) known.0
 
-stop_appends : (a b : Known) (handed : List ℕ) (taken : Option ℕ) (fault : Fault)
-    → fault_of (Writes handed taken) ≡ Some fault → KnownCall a (Writes handed taken) b
+stop_appends : (a b : Known) (offered : List ℕ) (taken : Option ℕ) (fault : Fault)
+    → fault_of (Writes offered taken) ≡ Some fault → KnownCall a (Writes offered taken) b
     → Appends a.output b.output []
-stop_appends a b handed None fault is known =
+stop_appends a b offered None fault is known =
     Appends-kept a.output a.output b.output [] (Appends-nil a.output) known.0
-stop_appends a b handed (Some zero) fault is known = known.0
-stop_appends a b handed (Some (suc n)) fault is known = absurd (cc)
+stop_appends a b offered (Some zero) fault is known = known.0
+stop_appends a b offered (Some (suc n)) fault is known = absurd (cc)
 
 module _ {A B : Type 0} (remaining : A → Option (List ℕ)) (contents : B → Option (List ℕ)) where
   abbrev seen : ReaderWriter A B → Known
@@ -60,16 +60,16 @@ module _ {A B : Type 0} (remaining : A → Option (List ℕ)) (contents : B → 
 
   pub stops_appends : (fault : Fault) (old new : ReaderWriter A B) (bytes : List ℕ)
       → Stops Moves fault old bytes new → (new.writer.ghost_name ≡ old.writer.ghost_name)
-      × (front : List ℕ) × (rest : List ℕ)
-      × Appends (contents old.writer.now) (contents new.writer.now) front
-      × (bytes ≡ front ++ rest)
+      × (prefix : List ℕ) × (rest : List ℕ)
+      × Appends (contents old.writer.now) (contents new.writer.now) prefix
+      × (bytes ≡ prefix ++ rest)
   stops_appends fault old new bytes s =
-      let before = written_appends old s.mid s.front s.before in (
+      let before = written_appends old s.mid s.prefix s.before in (
         s.stop.1 ∙ before.0,
-        s.front,
+        s.prefix,
         s.missing,
-        subst (Appends (contents old.writer.now) (contents new.writer.now)) (append-nil s.front)
-            (Appends-trans _ _ _ s.front [] before.1
-            (stop_appends (seen s.mid) (seen new) s.handed s.taken fault s.is_fault s.stop.2)),
+        subst (Appends (contents old.writer.now) (contents new.writer.now)) (append-nil s.prefix)
+            (Appends-trans _ _ _ s.prefix [] before.1
+            (stop_appends (seen s.mid) (seen new) s.offered s.taken fault s.is_fault s.stop.2)),
         s.whole,
       )

@@ -24,7 +24,7 @@ use Rattle.packets.specs.Headers.{has_header}
 use Rattle.packets.specs.Outlines.{headers_of, refusal_of}
 use Rattle.packets.specs.declared.dissection.Dissection.{Dissection}
 use Rattle.packets.specs.declared.dissection.Fragment.{Fragment}
-use Rattle.packets.specs.declared.dissection.Fragment.TheVariants as part
+use Rattle.packets.specs.declared.dissection.Fragment.TheVariants as fragment
 use Rattle.packets.specs.declared.filter.Condition.{Condition}
 use Rattle.packets.specs.declared.filter.Condition.TheVariants as condition
 use Rattle.packets.specs.declared.filter.Filter.{Filter}
@@ -33,7 +33,7 @@ use Rattle.packets.specs.declared.filter.Filter.{Filter}
 abbrev pub is_either : List ℕ → List ℕ → List ℕ → Bool
 is_either source destination address = bytes_eq source address || bytes_eq destination address
 
--- an ARP packet for the addresses of IPv4, which are those of ether type 0x0800, tells of two
+-- an ARP packet for the addresses of IPv4, which are those of ether type 0x0800, names two
 abbrev pub arp_has_host : List ℕ → List ℕ → Bool
 arp_has_host packet address = ((proto_type_of packet).0 == 2048)
     && is_either (sender_proto_of packet) (target_proto_of packet) address
@@ -77,7 +77,7 @@ transport_has_port (Some (transport.Tcp segment)) port = segment_has_port segmen
 transport_has_port (Some (transport.Icmpv4 message)) port = false
 transport_has_port (Some (transport.Icmpv6 message)) port = false
 
--- a message that was put together, if it can be read
+-- whether a reassembled message, if it can be read, comes from a port or goes to it
 abbrev pub message_has_port : Result ReadMessage SliceError → ℕ → Bool
 message_has_port (Ok (Icmpv4 message)) port = false
 message_has_port (Ok (Tcp segment)) port = segment_has_port segment port
@@ -93,10 +93,10 @@ packet_has_port (Err e) port = false
 -- whether the message of a packet, or the one that it completes, comes from a port or goes to it
 abbrev pub has_port : Result SlicedPacket SliceError → Option Fragment → ℕ → Bool
 has_port layers None port = packet_has_port layers port
-has_port layers (Some (part.Waits begun)) port = packet_has_port layers port
-has_port layers (Some (part.Completes begun message)) port =
+has_port layers (Some (fragment.Waits started)) port = packet_has_port layers port
+has_port layers (Some (fragment.Completes started message)) port =
     message_has_port (message_at message.ip_number.0 message.payload.items) port
-has_port layers (Some (part.Refused begun error)) port = packet_has_port layers port
+has_port layers (Some (fragment.Refused started error)) port = packet_has_port layers port
 
 abbrev pub holds : Condition → Dissection → Bool
 holds (condition.Protocol protocol) packet =

@@ -1,9 +1,9 @@
 -- What a summary counts.
 use Rattle.std.specs.Prelude.{◌≡◌, Bool, true, false, List, Option, Some, None, is_some}
 use Rattle.ep_packet.specs.declared.addresses.Addresses.{Addresses}
-use Rattle.header_texts.specs.declared.protocol.Protocol.{Protocol}
-use Rattle.header_texts.specs.declared.protocol.Protocol.TheVariants.{Ethernet, Vlan, Macsec, Arp, Ipv4}
-use Rattle.header_texts.specs.declared.protocol.Protocol.TheVariants.{Ipv6}
+use Rattle.header_descriptions.specs.declared.protocol.Protocol.{Protocol}
+use Rattle.header_descriptions.specs.declared.protocol.Protocol.TheVariants.{Ethernet, Vlan, Macsec, Arp, Ipv4}
+use Rattle.header_descriptions.specs.declared.protocol.Protocol.TheVariants.{Ipv6}
 use Rattle.packets.specs.declared.reason.Reason.{Reason}
 use Rattle.packets.specs.Headers.{has_header, net_addresses}
 use Rattle.packets.specs.Numbers.{CountsNumbers}
@@ -12,12 +12,12 @@ use Rattle.packets.specs.Sizes.{CountsSizes}
 use Rattle.packets.specs.Table.{CountsKeys}
 use Rattle.packets.specs.Tally.{tally_of}
 use Rattle.packets.specs.declared.outline.Outline.{Outline}
-use Rattle.packets.specs.declared.outline.PartState.{PartState}
-use Rattle.packets.specs.declared.outline.PartState.TheVariants as state
-use Rattle.verdicts.specs.declared.verdict.Verdict.{Verdict}
-use Rattle.verdicts.specs.declared.verdict.Verdict.TheVariants as verdict
+use Rattle.packets.specs.declared.outline.FragmentState.{FragmentState}
+use Rattle.packets.specs.declared.outline.FragmentState.TheVariants as state
+use Rattle.checksum_verdicts.specs.declared.verdict.Verdict.{Verdict}
+use Rattle.checksum_verdicts.specs.declared.verdict.Verdict.TheVariants as verdict
 use Rattle.packets.specs.declared.summary.summary.ChecksumTallies.{ChecksumTallies}
-use Rattle.packets.specs.declared.summary.summary.PartTallies.{PartTallies}
+use Rattle.packets.specs.declared.summary.summary.FragmentTallies.{FragmentTallies}
 use Rattle.packets.specs.declared.summary.summary.ProtocolTallies.{ProtocolTallies}
 use Rattle.packets.specs.declared.summary.summary.Summary.{Summary}
 
@@ -52,29 +52,29 @@ is_unchecked (Some verdict.Good) = false
 is_unchecked (Some verdict.Bad) = false
 is_unchecked (Some verdict.None) = true
 
--- the packets of which a message was read, by what its checksum tells
+-- the packets of which a message was read, by the verdict on its checksum
 pub record CountsChecksums (tallies : ChecksumTallies) (packets : List Outline) : Type 0 where
   pub good : tallies.good ≡ tally_of (λ packet. is_good packet.verdict) packets
   pub bad : tallies.bad ≡ tally_of (λ packet. is_bad packet.verdict) packets
   pub none : tallies.none ≡ tally_of (λ packet. is_unchecked packet.verdict) packets
 
-abbrev pub is_completing : Option PartState → Bool
+abbrev pub is_completing : Option FragmentState → Bool
 is_completing None = false
 is_completing (Some state.Waits) = false
 is_completing (Some state.Completes) = true
 is_completing (Some state.Refused) = false
 
-abbrev pub is_refused_part : Option PartState → Bool
-is_refused_part None = false
-is_refused_part (Some state.Waits) = false
-is_refused_part (Some state.Completes) = false
-is_refused_part (Some state.Refused) = true
+abbrev pub is_refused_fragment : Option FragmentState → Bool
+is_refused_fragment None = false
+is_refused_fragment (Some state.Waits) = false
+is_refused_fragment (Some state.Completes) = false
+is_refused_fragment (Some state.Refused) = true
 
--- the parts of messages, by what became of them
-pub record CountsParts (tallies : PartTallies) (packets : List Outline) : Type 0 where
-  pub all : tallies.all ≡ tally_of (λ packet. is_some packet.part) packets
-  pub completing : tallies.completing ≡ tally_of (λ packet. is_completing packet.part) packets
-  pub refused : tallies.refused ≡ tally_of (λ packet. is_refused_part packet.part) packets
+-- the fragments, by what became of them
+pub record CountsFragments (tallies : FragmentTallies) (packets : List Outline) : Type 0 where
+  pub all : tallies.all ≡ tally_of (λ packet. is_some packet.fragment) packets
+  pub completing : tallies.completing ≡ tally_of (λ packet. is_completing packet.fragment) packets
+  pub refused : tallies.refused ≡ tally_of (λ packet. is_refused_fragment packet.fragment) packets
 
 -- the summary is of these packets: each tally of those that are of its kind
 pub record Counts {S H : Type 0} (same_reason : Reason → Reason → Bool)
@@ -84,7 +84,7 @@ pub record Counts {S H : Type 0} (same_reason : Reason → Reason → Bool)
   pub refused : summary.refused ≡ tally_of (λ packet. is_some packet.refusal) packets
   pub protocols : CountsProtocols summary.protocols packets
   pub checksums : CountsChecksums summary.checksums packets
-  pub parts : CountsParts summary.parts packets
+  pub parts : CountsFragments summary.parts packets
   pub sizes : CountsSizes summary.sizes packets
   pub rate : CountsSpans summary.rate packets
   pub reasons : CountsKeys same_reason (λ packet. packet.refusal) summary.reasons packets

@@ -1,36 +1,36 @@
--- What is told of the packets of a capture, one after the other: which messages are on their way when
--- each comes, and when they are dropped.
+-- What is known of the packets of a capture, one after the other: which datagrams are not complete
+-- when each comes, and when their fragments are dropped.
 use Rattle.std.specs.Prelude.{◌≡◌, ℕ, ◌+◌, List, [], ◌∷◌, filter, length, Option, Some, None}
 use Rattle.captures.specs.Framed.{frame_bytes}
 use Rattle.captures.specs.Numbers.{capped}
 use Rattle.captures.specs.Spans.{begin_with, passed_with}
 use Rattle.captures.specs.declared.packet.Packet.{Packet}
 use Rattle.captures.specs.declared.spans.Spans.{Spans}
-use Rattle.ep_defrag.specs.PoolCalls.{Lists, answer_to_frame, fault_in, lists_with_frame}
-use Rattle.ep_defrag.specs.PoolCalls.{no_lists, retained_from}
-use Rattle.ep_packet.specs.Class.{Class, class_told}
-use Rattle.packets.specs.Begun.{Begun, ShowsBegun, ShowsParts, TellsBegun, begun_with, none_begun}
+use Rattle.etherparse.specs.PoolCalls.{Lists, answer_to_frame, fault_in, lists_with_frame}
+use Rattle.etherparse.specs.PoolCalls.{no_lists, retained_from}
+use Rattle.ep_packet.specs.Class.{Class, sliced_class}
+use Rattle.packets.specs.Started.{Started, ShowsStarted, ShowsFragments, ReportsStarted, started_with, none_started}
 use Rattle.packets.specs.Conditions.{lets_through}
-use Rattle.packets.specs.Dissected.{fragment_told, told_of, verdict_on}
+use Rattle.packets.specs.Dissected.{fragment_result, packet_result, verdict_on}
 use Rattle.packets.specs.Layers.{layers_of}
 use Rattle.packets.specs.declared.dissection.Dissection.{Dissection}
 use Rattle.packets.specs.declared.dissector.Dissector.{Dissector}
 use Rattle.packets.specs.declared.filter.Filter.{Filter}
 
 -- how far a capture has come: how many packets came, when the first one did, the fragments of each
--- message that is on its way, in which packet it began, and when the span began at whose end
--- messages are dropped
+-- datagram that is not complete, in which packet it started, and when the span began at whose end
+-- reassemblies are dropped
 pub record Course : Type 0 where
   pub number : ℕ
   pub first : Option ℕ
   pub lists : Lists
-  pub begun : Begun
+  pub started : Started
   pub begin : Option ℕ
 
 -- no packet came
 abbrev pub no_course : Course
 no_course =
-    record { number = 0; first = None; lists = no_lists; begun = none_begun; begin = None }
+    record { number = 0; first = None; lists = no_lists; started = none_started; begin = None }
 
 -- the lists without those of which no fragment was accepted since a span began, if one has passed
 abbrev pub lists_since : Option ℕ → Lists → Lists
@@ -59,7 +59,7 @@ first_at None time = time
 first_at (Some first) time = first
 
 abbrev pub class_of : Packet → Class
-class_of packet = class_told (layers_of packet.frame.header packet.frame.bytes)
+class_of packet = sliced_class (layers_of packet.frame.header packet.frame.bytes)
 
 -- one packet more
 abbrev pub with_packet : Course → Packet → Course
@@ -67,7 +67,7 @@ with_packet course packet = record {
   number = capped (course.number + 1);
   first = Some (first_at course.first packet.time);
   lists = lists_with_frame course.lists (class_of packet) packet.time packet.interface;
-  begun = begun_with course.lists course.begun (class_of packet) packet.interface
+  started = started_with course.lists course.started (class_of packet) packet.interface
       (capped (course.number + 1));
   begin = course.begin;
 }
@@ -81,40 +81,40 @@ course_after seconds course [] = course
 course_after seconds course (packet ∷ packets) =
     course_after seconds (next_course seconds course packet) packets
 
--- what is told of a packet that comes after others: its number, time and headers, what becomes of it
--- as a fragment by the fragments before it, and in which packet its message began
-pub record IsDissected (course : Course) (packet : Packet) (told : Dissection) : Type 0 where
-  pub number : told.number ≡ capped (course.number + 1)
-  pub first_time : told.first_time ≡ first_at course.first packet.time
-  pub time : told.time ≡ packet.time
-  pub interface : told.interface ≡ packet.interface
-  pub link : told.link ≡ packet.link
-  pub header : told.header ≡ packet.frame.header
-  pub len : told.len ≡ length (frame_bytes packet.frame)
-  pub layers : told.layers ≡ layers_of packet.frame.header packet.frame.bytes
-  pub answered : told_of told.layers told.fragment
-      ≡ answer_to_frame course.lists (class_told told.layers) packet.interface
-      (fault_in told.layers)
-  pub begun : TellsBegun course.lists course.begun (class_told told.layers) packet.interface
-      told.number told.fragment
-  pub verdict : told.verdict ≡ verdict_on (class_told told.layers) (fragment_told told.fragment)
+-- the dissection of a packet that comes after others: its number, time and headers, what becomes of
+-- it as a fragment by the fragments before it, and in which packet its datagram started
+pub record IsDissected (course : Course) (packet : Packet) (reported : Dissection) : Type 0 where
+  pub number : reported.number ≡ capped (course.number + 1)
+  pub first_time : reported.first_time ≡ first_at course.first packet.time
+  pub time : reported.time ≡ packet.time
+  pub interface : reported.interface ≡ packet.interface
+  pub link : reported.link ≡ packet.link
+  pub header : reported.header ≡ packet.frame.header
+  pub len : reported.len ≡ length (frame_bytes packet.frame)
+  pub layers : reported.layers ≡ layers_of packet.frame.header packet.frame.bytes
+  pub answered : packet_result reported.layers reported.fragment
+      ≡ answer_to_frame course.lists (sliced_class reported.layers) packet.interface
+      (fault_in reported.layers)
+  pub started : ReportsStarted course.lists course.started (sliced_class reported.layers) packet.interface
+      reported.number reported.fragment
+  pub verdict : reported.verdict ≡ verdict_on (sliced_class reported.layers) (fragment_result reported.fragment)
 
--- what is told of some packets, one by one, in their order
+-- the dissections of some packets, one by one, in their order
 abbrev pub AreDissected : Option ℕ → Course → List Packet → List Dissection → Type 0
-AreDissected seconds course [] told = told ≡ []
-AreDissected seconds course (packet ∷ packets) told = (first : Dissection)
-    × (later : List Dissection) × (told ≡ first ∷ later)
+AreDissected seconds course [] reported = reported ≡ []
+AreDissected seconds course (packet ∷ packets) reported = (first : Dissection)
+    × (later : List Dissection) × (reported ≡ first ∷ later)
     × IsDissected (forgotten seconds packet.time course) packet first
     × AreDissected seconds (next_course seconds course packet) packets later
 
 -- those of them that a filter lets through
 abbrev pub shown : Filter → List Dissection → List Dissection
-shown conditions told = filter (lets_through conditions) told
+shown conditions reported = filter (lets_through conditions) reported
 
 -- a capture has come so far with these
 pub record HasCourse (course : Course) (dissector : Dissector) (spans : Spans) : Type 0 where
   pub number : dissector.number ≡ course.number
   pub first : dissector.first_time ≡ course.first
-  pub lists : ShowsParts dissector.messages course.lists
-  pub begun : ShowsBegun dissector.messages course.begun
+  pub lists : ShowsFragments dissector.datagrams course.lists
+  pub started : ShowsStarted dissector.datagrams course.started
   pub begin : spans.begin ≡ course.begin

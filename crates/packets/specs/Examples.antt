@@ -1,4 +1,4 @@
--- Packets by hand, of which laws say what is told of them.
+-- Packets of literal bytes, which the examples dissect and count.
 use Rattle.std.specs.Prelude.{ℕ, ◌+◌, ◌*◌, ◌++◌, true, false, List, [], ◌∷◌, Option, Some, None, replicate}
 use Rattle.ep_base.specs.declared.err.layer.Layer.TheVariants.{Ipv4Header}
 use Rattle.ep_packet.specs.declared.addresses.Addresses.{Addresses}
@@ -7,13 +7,13 @@ use Rattle.packets.specs.declared.outline.Headers.{Headers}
 use Rattle.packets.specs.declared.outline.Net.{Net}
 use Rattle.packets.specs.declared.outline.Net.TheVariants as net
 use Rattle.packets.specs.declared.outline.Outline.{Outline}
-use Rattle.packets.specs.declared.outline.PartState.{PartState}
-use Rattle.packets.specs.declared.outline.PartState.TheVariants as part
+use Rattle.packets.specs.declared.outline.FragmentState.{FragmentState}
+use Rattle.packets.specs.declared.outline.FragmentState.TheVariants as fragment
 use Rattle.packets.specs.declared.reason.Reason.{Reason}
 use Rattle.packets.specs.declared.reason.Reason.TheVariants as reason
 use Rattle.packets.specs.declared.summary.tally.Tally.{Tally}
-use Rattle.verdicts.specs.declared.verdict.Verdict.{Verdict}
-use Rattle.verdicts.specs.declared.verdict.Verdict.TheVariants as verdict
+use Rattle.checksum_verdicts.specs.declared.verdict.Verdict.{Verdict}
+use Rattle.checksum_verdicts.specs.declared.verdict.Verdict.TheVariants as verdict
 
 -- ---- from 10.0.0.1 to 10.0.0.2, and from 2001:db8::1 to 2001:db8::2
 
@@ -27,21 +27,21 @@ abbrev pub ipv6_ends : Addresses
 ipv6_ends = V6 (0x20 ∷ 1 ∷ 0x0d ∷ 0xb8 ∷ (replicate 11 0 ++ 1 ∷ []))
     (0x20 ∷ 1 ∷ 0x0d ∷ 0xb8 ∷ (replicate 11 0 ++ 2 ∷ []))
 
--- an IPv4 header (RFC 791, section 3.1) without options, in front of 12 bytes of a protocol
+-- an IPv4 header (RFC 791, section 3.1) without options, of a packet with 12 bytes of a protocol
 abbrev pub ipv4_header : (protocol : ℕ) → List ℕ
 ipv4_header protocol =
     0x45 ∷ 0 ∷ 0 ∷ 32 ∷ 0 ∷ 1 ∷ 0 ∷ 0 ∷ 64 ∷ protocol ∷ 0x66 ∷ 0xca ∷ 10 ∷ 0 ∷ 0 ∷ 1 ∷ 10 ∷ 0 ∷ 0
     ∷ 2 ∷ []
 
--- an IPv6 header (RFC 8200, section 3) in front of 12 bytes of UDP
+-- an IPv6 header (RFC 8200, section 3) of a packet with 12 bytes of UDP
 abbrev pub ipv6_header : List ℕ
 ipv6_header =
     0x60 ∷ 0 ∷ 0 ∷ 0 ∷ 0 ∷ 12 ∷ 17 ∷ 64 ∷ 0x20 ∷ 1 ∷ 0x0d ∷ 0xb8 ∷ (replicate 11 0
     ++ (1 ∷ 0x20 ∷ 1 ∷ 0x0d ∷ 0xb8 ∷ (replicate 11 0 ++ 2 ∷ [])))
 
--- ARP packets (RFC 826) in which 10.0.0.1 asks for 10.0.0.2: of Ethernet for IPv4; of IEEE 802, hardware
--- type 6; for the addresses of protocol 0x1234; and of ARCNET, hardware type 7, whose addresses have
--- one byte
+-- ARP packets (RFC 826) in which 10.0.0.1 requests the hardware address of 10.0.0.2: of Ethernet
+-- for IPv4; of IEEE 802, hardware type 6; for the addresses of protocol 0x1234; and of ARCNET,
+-- hardware type 7, whose addresses have one byte
 abbrev pub arp_ends : List ℕ
 arp_ends = 2 ∷ 0 ∷ 0 ∷ 0 ∷ 0 ∷ 1 ∷ 10 ∷ 0 ∷ 0 ∷ 1 ∷ 0 ∷ 0 ∷ 0 ∷ 0 ∷ 0 ∷ 0 ∷ 10 ∷ 0 ∷ 0 ∷ 2 ∷ []
 
@@ -78,36 +78,36 @@ no_headers = record { ethernet = true; vlan = false; macsec = false; net = None 
 abbrev pub headers_over : Addresses → (number : ℕ) → Headers
 headers_over ends number = record no_headers { net = Some (net.Ip ends (record { 0 = number })) }
 
-abbrev pub message : (number place len : ℕ) → Headers → Option Verdict → Outline
-message number place len headers told = record {
+abbrev pub message : (number position len : ℕ) → Headers → Option Verdict → Outline
+message number position len headers reported = record {
   number = number;
-  time = 1700000000250000000 + 125000000 * place;
+  time = 1700000000250000000 + 125000000 * position;
   len = len;
   headers = headers;
   refusal = None;
-  part = None;
-  verdict = told;
+  fragment = None;
+  verdict = reported;
 }
 
-abbrev pub part_of_message : (number place : ℕ) → PartState → Option Verdict → Outline
-part_of_message number place state told =
-    record (message number place 50 (headers_over ipv4_ends 17) told) { part = Some state }
+abbrev pub outline_of_fragment : (number position : ℕ) → FragmentState → Option Verdict → Outline
+outline_of_fragment number position state reported =
+    record (message number position 50 (headers_over ipv4_ends 17) reported) { fragment = Some state }
 
-abbrev pub refused : (number place len : ℕ) → Reason → Outline
-refused number place len why =
-    record (message number place len no_headers None) { refusal = Some why }
+abbrev pub refused : (number position len : ℕ) → Reason → Outline
+refused number position len why =
+    record (message number position len no_headers None) { refusal = Some why }
 
 abbrev pub page : List Outline
 page = message 1 0 54 (headers_over ipv4_ends 6) (Some verdict.Good)
     ∷ message 2 1 46 (headers_over ipv4_ends 17) (Some verdict.Bad)
     ∷ message 3 2 42 (record no_headers { net = Some net.Arp }) None
     ∷ message 4 3 74 (record (headers_over ipv6_ends 58) { vlan = true }) (Some verdict.Good)
-    ∷ part_of_message 5 4 part.Waits None
-    ∷ part_of_message 6 5 part.Completes (Some verdict.Good)
+    ∷ outline_of_fragment 5 4 fragment.Waits None
+    ∷ outline_of_fragment 6 5 fragment.Completes (Some verdict.Good)
     ∷ refused 7 6 21 (reason.CutOff Ipv4Header)
     ∷ refused 8 7 54 reason.TcpDataOffset
     ∷ message 9 8 44 (headers_over back_ends 17) (Some verdict.None)
-    ∷ part_of_message 10 9 part.Waits None ∷ []
+    ∷ outline_of_fragment 10 9 fragment.Waits None ∷ []
 
 abbrev pub tally : (packets bytes first : ℕ) → Tally
 tally packets bytes first = record { packets = packets; bytes = bytes; first = Some first }

@@ -1,13 +1,13 @@
--- Which messages spans of time drop.
+-- Which reassemblies spans of time drop.
 use Rattle.std.specs.Prelude.{◌≡◌, ℕ, ◌+◌, ◌*◌, ◌<◌, ◌≤◌, List, [], ◌∷◌, ◌++◌, Some, None}
 use Rattle.std.specs.List.{AllByRecursion}
 use Rattle.captures.specs.declared.packet.Packet.{Packet}
-use Rattle.ep_defrag.specs.PoolCalls.{after_frame}
-use Rattle.ep_fragments.specs.Outcome.{Held}
+use Rattle.etherparse.specs.PoolCalls.{after_frame}
+use Rattle.etherparse.specs.Outcome.{Held}
 use Rattle.ep_packet.specs.Class.{FragmentName}
 use Rattle.packets.specs.Courses.{Course, class_of, course_after, next_course}
 
--- each of these packets comes less than so many seconds after the last fragment of a message that
+-- each of these packets comes less than so many seconds after the last fragment of a datagram that
 -- was accepted, where nothing is dropped
 abbrev pub ComeWithin : ℕ → FragmentName → ℕ → Course → List Packet → Type 0
 ComeWithin seconds name channel course [] = Unit {0}
@@ -15,14 +15,14 @@ ComeWithin seconds name channel course (packet ∷ packets) =
     (packet.time < (course.lists name channel).time + 1000000000 * seconds)
     × ComeWithin seconds name channel (next_course None course packet) packets
 
--- a packet is no fragment of a message, or one that is refused
+-- a packet is no fragment of a datagram, or one that is refused
 abbrev pub PassesBy : FragmentName → ℕ → Packet → Type 0
 PassesBy name channel packet = (h : Held)
     → after_frame name channel (class_of packet) packet.time packet.interface h ≡ h
 
--- where the span that lasts began no later than the last fragment of a message came, the message is
--- dropped at the latest with a packet that comes so many seconds after each up to one that comes so
--- many seconds after the fragment
+-- where the span that lasts began no later than the last fragment of a datagram came, its
+-- reassembly is dropped at the latest with a packet that comes so many seconds after each up to one
+-- that comes so many seconds after the fragment
 abbrev pub ForgetDrops : Type 0
 ForgetDrops =
     (seconds channel : ℕ) (name : FragmentName) (course : Course) (begin : ℕ)

@@ -3,8 +3,8 @@ use Rattle.std.specs.Prelude.{ℕ, ◌==◌, Bool, true, false, Option, Some, No
 use Rattle.ep_base.specs.declared.net.ip_number.IpNumber.{IpNumber}
 use Rattle.ep_packet.specs.declared.addresses.Addresses.{Addresses}
 use Rattle.ep_packet.specs.declared.addresses.Addresses.TheVariants.{V4, V6}
-use Rattle.header_texts.specs.declared.protocol.Protocol.{Protocol}
-use Rattle.header_texts.specs.declared.protocol.Protocol.TheVariants as protocol
+use Rattle.header_descriptions.specs.declared.protocol.Protocol.{Protocol}
+use Rattle.header_descriptions.specs.declared.protocol.Protocol.TheVariants as protocol
 use Rattle.packets.specs.declared.outline.Headers.{Headers}
 use Rattle.packets.specs.declared.outline.Net.{Net}
 use Rattle.packets.specs.declared.outline.Net.TheVariants as net
@@ -32,7 +32,7 @@ is_ipv6 None = false
 is_ipv6 (Some net.Arp) = false
 is_ipv6 (Some (net.Ip addresses number)) = is_v6 addresses
 
--- the protocol of the message of an IP packet
+-- the protocol that an IP packet carries
 abbrev pub net_number : Option Net → Option IpNumber
 net_number None = None
 net_number (Some net.Arp) = None
@@ -42,7 +42,7 @@ abbrev pub is_number : ℕ → Option IpNumber → Bool
 is_number n None = false
 is_number n (Some number) = number.0 == n
 
--- whether it is an IP packet whose message is of the protocol with this number
+-- whether it is an IP packet that carries the protocol with this number
 abbrev pub carries : Option Net → ℕ → Bool
 carries header n = is_number n (net_number header)
 

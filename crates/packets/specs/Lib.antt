@@ -1,4 +1,4 @@
-pub mod Begun
+pub mod Started
 pub mod Conditions
 pub mod Counts
 pub mod Courses

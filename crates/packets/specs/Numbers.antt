@@ -1,4 +1,4 @@
--- IP packets by the number of their message's protocol.
+-- IP packets by the number of the protocol they carry.
 use Rattle.std.specs.Prelude.{◌≡◌, ℕ, ◌<◌, List}
 use Rattle.std.specs.List.{slice_index_or}
 use Rattle.packets.specs.Headers.{carries}
@@ -11,7 +11,7 @@ use Rattle.packets.specs.declared.summary.tally.Tally.{Tally}
 abbrev pub number_tally : NumberTallies → ℕ → Tally
 number_tally numbers number = slice_index_or numbers.tallies number no_tally
 
--- of each number those packets are counted whose message is of its protocol
+-- of each number the packets are counted that carry its protocol
 abbrev pub CountsNumbers : NumberTallies → List Outline → Type 0
 CountsNumbers numbers packets = (number : ℕ) → number < 256 → number_tally numbers number
     ≡ tally_of (λ packet. carries packet.headers.net number) packets

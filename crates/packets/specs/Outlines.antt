@@ -13,7 +13,7 @@ use Rattle.ep_packet.specs.declared.net.net_slice.NetSlice.TheVariants as slice
 use Rattle.ep_packet.specs.declared.sliced_packet.SlicedPacket.{SlicedPacket}
 use Rattle.ep_tag.specs.declared.link.link_ext_slice.LinkExtSlice.{LinkExtSlice}
 use Rattle.ep_tag.specs.declared.link.link_ext_slice.LinkExtSlice.TheVariants.{Vlan, Macsec}
-use Rattle.packets.specs.Reasons.{part_reason, reason_of}
+use Rattle.packets.specs.Reasons.{fragment_reason, reason_of}
 use Rattle.packets.specs.declared.reason.Reason.{Reason}
 use Rattle.packets.specs.declared.dissection.Dissection.{Dissection}
 use Rattle.packets.specs.declared.dissection.Fragment.{Fragment}
@@ -22,8 +22,8 @@ use Rattle.packets.specs.declared.outline.Headers.{Headers}
 use Rattle.packets.specs.declared.outline.Net.{Net}
 use Rattle.packets.specs.declared.outline.Net.TheVariants as net
 use Rattle.packets.specs.declared.outline.Outline.{Outline}
-use Rattle.packets.specs.declared.outline.PartState.{PartState}
-use Rattle.packets.specs.declared.outline.PartState.TheVariants as state
+use Rattle.packets.specs.declared.outline.FragmentState.{FragmentState}
+use Rattle.packets.specs.declared.outline.FragmentState.TheVariants as state
 
 abbrev pub is_ethernet : Link → Bool
 is_ethernet Ethernet = true
@@ -65,29 +65,29 @@ headers_of link (Err e) = record {
   net = None;
 }
 
--- why a message that was put together can't be read
+-- why a reassembled message can't be read
 abbrev pub message_refusal : Result ReadMessage SliceError → Option Reason
 message_refusal (Ok message) = None
 message_refusal (Err e) = Some (reason_of e)
 
-abbrev pub part_refusal : Option Fragment → Option Reason
-part_refusal None = None
-part_refusal (Some (fragment.Waits begun)) = None
-part_refusal (Some (fragment.Completes begun message)) =
+abbrev pub fragment_refusal : Option Fragment → Option Reason
+fragment_refusal None = None
+fragment_refusal (Some (fragment.Waits started)) = None
+fragment_refusal (Some (fragment.Completes started message)) =
     message_refusal (message_at message.ip_number.0 message.payload.items)
-part_refusal (Some (fragment.Refused begun error)) = Some (part_reason error)
+fragment_refusal (Some (fragment.Refused started error)) = Some (fragment_reason error)
 
--- why a packet is refused: by its headers, as a part of a message, or since the message that it
--- completes can't be read
+-- why a packet is refused: by its headers, as a fragment, or since the message that it completes
+-- can't be read
 abbrev pub refusal_of : Result SlicedPacket SliceError → Option Fragment → Option Reason
-refusal_of (Ok packet) part = part_refusal part
-refusal_of (Err e) part = Some (reason_of e)
+refusal_of (Ok packet) fragment = fragment_refusal fragment
+refusal_of (Err e) fragment = Some (reason_of e)
 
-abbrev pub part_of : Option Fragment → Option PartState
-part_of None = None
-part_of (Some (fragment.Waits begun)) = Some state.Waits
-part_of (Some (fragment.Completes begun message)) = Some state.Completes
-part_of (Some (fragment.Refused begun error)) = Some state.Refused
+abbrev pub fragment_state_of : Option Fragment → Option FragmentState
+fragment_state_of None = None
+fragment_state_of (Some (fragment.Waits started)) = Some state.Waits
+fragment_state_of (Some (fragment.Completes started message)) = Some state.Completes
+fragment_state_of (Some (fragment.Refused started error)) = Some state.Refused
 
 abbrev pub outline_of : Dissection → Outline
 outline_of packet = record {
@@ -96,6 +96,6 @@ outline_of packet = record {
   len = packet.len;
   headers = headers_of packet.link packet.layers;
   refusal = refusal_of packet.layers packet.fragment;
-  part = part_of packet.fragment;
+  fragment = fragment_state_of packet.fragment;
   verdict = packet.verdict;
 }

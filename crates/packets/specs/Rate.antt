@@ -16,24 +16,24 @@ abbrev pub start_of : List Outline → ℕ
 start_of [] = 0
 start_of (packet ∷ packets) = packet.time
 
--- in which span after a start one of this time comes: with an earlier time in the first
+-- in which span after a start a packet of this time comes: one with an earlier time in the first
 abbrev pub span_at : (span start time : ℕ) → ℕ
 span_at span start time = (time - start) / span
 
--- the packets of each span are counted, and none comes behind the last span
+-- the packets of each span are counted, and none comes after the last span
 pub record CountsBySpan (rate : Rate) (packets : List Outline) : Type 0 where
   pub begin : rate.begin ≡ begin_of packets
   pub doubled : (times : ℕ) × (rate.span ≡ SHORTEST * 2 ^ times)
-  pub counted : (place : ℕ) → place < SPAN_COUNT → slice_index rate.counts place ≡ capped
-      (count_by (λ packet. span_at rate.span (start_of packets) packet.time == place) packets)
+  pub counted : (position : ℕ) → position < SPAN_COUNT → slice_index rate.counts position ≡ capped
+      (count_by (λ packet. span_at rate.span (start_of packets) packet.time == position) packets)
   pub within : All (λ packet. span_at rate.span (start_of packets) packet.time < SPAN_COUNT) packets
 
--- a packet comes behind the last of spans of this length
-abbrev pub is_behind : (span start : ℕ) → Outline → Bool
-is_behind span start packet = nat_le SPAN_COUNT (span_at span start packet.time)
+-- a packet comes after the last of spans of this length
+abbrev pub is_past_spans : (span start : ℕ) → Outline → Bool
+is_past_spans span start packet = nat_le SPAN_COUNT (span_at span start packet.time)
 
--- the spans are the shortest ones, or a packet comes behind the last of spans half as long
+-- the spans are the shortest ones, or a packet comes after the last of spans half as long
 pub record CountsSpans (rate : Rate) (packets : List Outline) : Type 0 where
   pub by_span : CountsBySpan rate packets
   pub least : (rate.span ≡ SHORTEST)
-      ⊎ (list_any (is_behind (rate.span / 2) (start_of packets)) packets ≡ true)
+      ⊎ (list_any (is_past_spans (rate.span / 2) (start_of packets)) packets ≡ true)

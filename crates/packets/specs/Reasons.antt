@@ -1,10 +1,10 @@
--- Why a packet is refused, without the numbers of its bytes.
+-- Why a packet is refused, without the numbers that differ from packet to packet.
 use Rattle.ep_ext.specs.declared.err.ip_auth.header_error.HeaderError.{HeaderError as AuthFault}
 use Rattle.ep_ext.specs.declared.err.ip_auth.header_error.HeaderError.TheVariants as auth
 use Rattle.ep_ext.specs.declared.err.ipv6_exts.header_error.HeaderError.{HeaderError as ExtsFault}
 use Rattle.ep_ext.specs.declared.err.ipv6_exts.header_error.HeaderError.TheVariants as exts
-use Rattle.ep_fragments.specs.declared.defrag.ip_defrag_error.IpDefragError.{IpDefragError}
-use Rattle.ep_fragments.specs.declared.defrag.ip_defrag_error.IpDefragError.TheVariants as part
+use Rattle.etherparse.specs.declared.defrag.ip_defrag_error.IpDefragError.{IpDefragError}
+use Rattle.etherparse.specs.declared.defrag.ip_defrag_error.IpDefragError.TheVariants as fragment
 use Rattle.ep_ip.specs.declared.err.ipv4.header_error.HeaderError.{HeaderError as Ipv4Fault}
 use Rattle.ep_ip.specs.declared.err.ipv4.header_error.HeaderError.TheVariants as v4
 use Rattle.ep_ipslice.specs.declared.err.ip.header_error.HeaderError.{HeaderError as IpFault}
@@ -53,10 +53,10 @@ reason_of (fault.Ipv4Exts e) = auth_reason e
 reason_of (fault.Ipv6Exts e) = exts_reason e
 reason_of (fault.Tcp e) = reason.TcpDataOffset
 
--- why a part of a message is refused
-abbrev pub part_reason : IpDefragError → Reason
-part_reason (part.UnalignedFragmentPayloadLen offset payload_len) = reason.FragmentUnaligned
-part_reason (part.SegmentTooBig offset payload_len max) = reason.FragmentTooLong
-part_reason (part.ConflictingEnd previous_end conflicting_end) = reason.FragmentEnd
-part_reason (part.AllocationFailure len) = reason.FragmentMemory
-part_reason (part.OverlappingFragment offset payload_len) = reason.FragmentOverlap
+-- why a fragment is refused
+abbrev pub fragment_reason : IpDefragError → Reason
+fragment_reason (fragment.UnalignedFragmentPayloadLen offset payload_len) = reason.FragmentUnaligned
+fragment_reason (fragment.SegmentTooBig offset payload_len max) = reason.FragmentTooLong
+fragment_reason (fragment.ConflictingEnd previous_end conflicting_end) = reason.FragmentEnd
+fragment_reason (fragment.AllocationFailure len) = reason.FragmentMemory
+fragment_reason (fragment.OverlappingFragment offset payload_len) = reason.FragmentOverlap

@@ -2,11 +2,11 @@
 use Rattle.std.specs.Prelude.{◌≡◌, ◌⊎◌, ℕ, ◌-◌, ◌^◌, ◌≤◌, Bool, true, List, ◌++◌, length, map}
 use Rattle.std.specs.Prelude.{Option, Result, Ok, Err}
 use Rattle.std.specs.Io.KnownBytes.{IsAtEnd}
-use Rattle.captures.specs.Fronts.{Gives, taken_of}
+use Rattle.captures.specs.PacketSteps.{Gives, taken_of}
 use Rattle.captures.specs.Readers.{AreGiven, IsRefusedAt}
 use Rattle.captures.specs.Runs.{IsCapture}
 use Rattle.captures.specs.Units.{skipped_in}
-use Rattle.runs.specs.declared.limits.TheConstants.{READ_COUNT_LIMIT}
+use Rattle.device_runs.specs.declared.limits.TheConstants.{READ_COUNT_LIMIT}
 use Rattle.captures.specs.declared.packet.Packet.{Packet}
 use Rattle.captures.specs.declared.translation.run_error.RunError.{RunError}
 use Rattle.captures.specs.declared.translation.run_error.RunError.TheVariants.{Read, Write}
@@ -23,13 +23,13 @@ abbrev pub AreFirst : Unfit → Skipped → List ℕ → List Packet → Type 0
 AreFirst unfit skipped read given = (state : State) × (rest : List ℕ)
     × Gives (Start unfit) read given state rest × (skipped_in state ≡ skipped)
 
--- these are the first packets of the bytes, but perhaps the last one, for which memory was wanting
+-- these are the first packets of the bytes, but perhaps the last one, for which memory ran out
 abbrev pub AreButLast : Unfit → Skipped → List ℕ → List Packet → Type 0
 AreButLast unfit skipped read given = (last : List Packet) × (length last ≤ 1)
     × AreFirst unfit skipped read (given ++ last)
 
 -- these are packets of the bytes, each once and in their order: the first ones, all of a capture,
--- or, as memory may be wanting before a write fails, all but the last one; so many were passed over
+-- or, as memory may run out before a write fails, all but the last one; so many were passed over
 abbrev pub AreTaken : Unfit → Skipped → List ℕ → List Packet → Type 0
 AreTaken unfit skipped read given = AreButLast unfit skipped read given
     ⊎ IsCapture unfit read (map taken_of given) skipped
@@ -50,8 +50,8 @@ EndsBy writes unfit skipped left read given (Err Memory) = AreButLast unfit skip
 EndsBy writes unfit skipped left read given (Err TooManyReads) =
     (AreGiven unfit skipped read given × (READ_COUNT_LIMIT ≤ length read))
     ⊎ (AreFirst unfit skipped read given × (2 ^ 64 - 1 ≤ length given))
-EndsBy writes unfit skipped left read given (Err (Capture error place)) =
-    IsRefusedAt unfit skipped error place left read given
+EndsBy writes unfit skipped left read given (Err (Capture error position)) =
+    IsRefusedAt unfit skipped error position left read given
 EndsBy writes unfit skipped left read given (Err (BadLine number)) = ⊥
 
 -- after a run the first holds, or the second where a write ended it
@@ -62,24 +62,24 @@ Unbroken (Err Write) Goes Breaks = Breaks
 Unbroken (Err WriteZero) Goes Breaks = Breaks
 Unbroken (Err Memory) Goes Breaks = Goes
 Unbroken (Err TooManyReads) Goes Breaks = Goes
-Unbroken (Err (Capture error place)) Goes Breaks = Goes
+Unbroken (Err (Capture error position)) Goes Breaks = Goes
 Unbroken (Err (BadLine number)) Goes Breaks = Goes
 
--- of a text this is written: all, or a front where a write ended the run
+-- of a text this is written: all, or a prefix where a write ended the run
 abbrev pub IsWritten : Result Unit RunError → (text written : List ℕ) → Type 0
 IsWritten result text written =
     Unbroken result (written ≡ text) ((rest : List ℕ) × (text ≡ written ++ rest))
 
--- what holds unless memory was wanting
-abbrev pub UnlessWanting : Result Unit RunError → Type 0 → Type 0
-UnlessWanting (Ok done) Holds = Holds
-UnlessWanting (Err Read) Holds = Holds
-UnlessWanting (Err Write) Holds = Holds
-UnlessWanting (Err WriteZero) Holds = Holds
-UnlessWanting (Err Memory) Holds = Unit {0}
-UnlessWanting (Err TooManyReads) Holds = Holds
-UnlessWanting (Err (Capture error place)) Holds = Holds
-UnlessWanting (Err (BadLine number)) Holds = Holds
+-- what holds unless memory ran out
+abbrev pub UnlessOutOfMemory : Result Unit RunError → Type 0 → Type 0
+UnlessOutOfMemory (Ok done) Holds = Holds
+UnlessOutOfMemory (Err Read) Holds = Holds
+UnlessOutOfMemory (Err Write) Holds = Holds
+UnlessOutOfMemory (Err WriteZero) Holds = Holds
+UnlessOutOfMemory (Err Memory) Holds = Unit {0}
+UnlessOutOfMemory (Err TooManyReads) Holds = Holds
+UnlessOutOfMemory (Err (Capture error position)) Holds = Holds
+UnlessOutOfMemory (Err (BadLine number)) Holds = Holds
 
 -- the error is a write's, of a run that writes, and this holds
 abbrev pub BreaksBy : (writes : Bool) → RunError → Type 0 → Type 0
@@ -88,5 +88,5 @@ BreaksBy writes Write Breaks = (writes ≡ true) × Breaks
 BreaksBy writes WriteZero Breaks = (writes ≡ true) × Breaks
 BreaksBy writes Memory Breaks = ⊥
 BreaksBy writes TooManyReads Breaks = ⊥
-BreaksBy writes (Capture error place) Breaks = ⊥
+BreaksBy writes (Capture error position) Breaks = ⊥
 BreaksBy writes (BadLine number) Breaks = ⊥

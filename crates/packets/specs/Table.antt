@@ -7,7 +7,7 @@ use Rattle.packets.specs.Tally.{tally_of}
 use Rattle.packets.specs.declared.outline.Outline.{Outline}
 use Rattle.packets.specs.declared.summary.tally.Tally.{Tally}
 
--- tallies, each beside its key, and room for so many others
+-- tallies, each beside its key, and the capacity for so many others
 pub record Tallies (K : Type 0) : Type 0 where
   pub entries : List (K × Tally)
   pub spare : ℕ
@@ -23,7 +23,7 @@ abbrev pub is_key : {K : Type 0} → (K → K → Bool) → K → Option K → B
 is_key same key None = false
 is_key same key (Some own) = same own key
 
--- keys, and behind them this one if it is none of them
+-- keys, and after them this one if it is none of them
 abbrev pub with_key : {K : Type 0} → (K → K → Bool) → List K → Option K → List K
 with_key same keys None = keys
 with_key same keys (Some key) =

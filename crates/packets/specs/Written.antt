@@ -13,19 +13,19 @@ use Rattle.packets.specs.declared.run.rules.Rules.{Rules}
 abbrev pub one_line : List ℕ → List ℕ
 one_line text = filter (λ byte. not (byte == 10)) text ++ 10 ∷ []
 
--- the lines of some packets, one by one, in their order, where such a text is told of each
+-- the lines of some packets, one by one, in their order, where such a text may describe each
 abbrev pub AreLines : (Dissection → List ℕ → Type 0) → List Dissection → List ℕ → Type 0
-AreLines tells [] text = text ≡ []
-AreLines tells (packet ∷ packets) text = (line : List ℕ) × (later : List ℕ)
-    × (text ≡ one_line line ++ later) × tells packet line × AreLines tells packets later
+AreLines describes [] text = text ≡ []
+AreLines describes (packet ∷ packets) text = (line : List ℕ) × (later : List ℕ)
+    × (text ≡ one_line line ++ later) × describes packet line × AreLines describes packets later
 
--- a run with this result read from the source, passed over so many packets, and wrote behind the
+-- a run with this result read from the source, passed over so many packets, and wrote after the
 -- first bytes the lines of those that its rules let through
 abbrev pub WritesLines : (Dissection → List ℕ → Type 0) → Rules → Skipped
     → (source first now : Option (List ℕ)) → Result Unit RunError → Type 0
-WritesLines tells rules skipped source first now result = (read : List ℕ)
-    × (left : Option (List ℕ)) × (given : List Packet) × (told : List Dissection)
+WritesLines describes rules skipped source first now result = (read : List ℕ)
+    × (left : Option (List ℕ)) × (given : List Packet) × (reported : List Dissection)
     × Consumes source left read × EndsBy true rules.unfit skipped left read given result
-    × AreDissected rules.forget no_course given told × (text : List ℕ)
-    × AreLines tells (shown rules.filter told) text × (written : List ℕ)
+    × AreDissected rules.forget no_course given reported × (text : List ℕ)
+    × AreLines describes (shown rules.filter reported) text × (written : List ℕ)
     × Appends first now written × IsWritten result text written

@@ -1,13 +1,12 @@
-//! A packet, and what is told of it.
+//! A packet, dissected.
 
 use captures::{Header, Link};
-use ep_defrag::defrag::IpDefragPayloadVec;
-use ep_fragments::defrag::IpDefragError;
+use checksum_verdicts::Verdict;
 use ep_packet::SlicedPacket;
 use ep_packet::err::packet::SliceError;
-use verdicts::Verdict;
+use etherparse::defrag::{IpDefragError, IpDefragPayloadVec};
 
-/// A packet, and what is told of it.
+/// A packet, dissected: what its capture states of it, its headers, and what became of it.
 #[derive(Drop)]
 pub struct Dissection<'a> {
     /// Its number among the packets that were dissected, from 1.
@@ -18,41 +17,41 @@ pub struct Dissection<'a> {
     pub time: u64,
     /// The interface that it was captured on.
     pub interface: u32,
-    /// What its bytes began with in the capture.
+    /// The link type of its bytes in the capture.
     pub link: Link,
     /// The Ethernet II header that was made in place of the link's own, if one was.
     pub header: Option<Header>,
     /// The bytes of its frame, with the header that was made for it.
     pub len: usize,
-    /// The headers of its frame, or why it is refused. The offset of an error counts from the front
+    /// The headers of its frame, or why it is refused. The offset of an error counts from the start
     /// of the Ethernet II frame, also where its header was made.
     pub layers: Result<SlicedPacket<'a>, SliceError>,
-    /// What became of it, if it is a part of a message.
+    /// What became of it, if it is a fragment.
     pub fragment: Option<Fragment>,
-    /// What the checksum tells of its message, or of that which it completes. None where no message
-    /// was read.
+    /// The verdict on the checksum of its message, or of that which it completes. `None` where no
+    /// message was read.
     pub verdict: Option<Verdict>,
 }
 
-/// What became of a part of a message.
+/// What became of a fragment.
 #[derive(Drop)]
 pub enum Fragment {
-    /// Its message waits for other parts.
+    /// Its datagram waits for other fragments.
     Waits {
-        /// The number of the packet whose part came first.
-        begun: u64,
+        /// The number of the packet whose fragment of the datagram came first.
+        started: u64,
     },
-    /// It is the last part that was missing.
+    /// It is the last fragment that was missing.
     Completes {
-        /// The number of the packet whose part came first.
-        begun: u64,
-        /// The message.
+        /// The number of the packet whose fragment of the datagram came first.
+        started: u64,
+        /// The payload of the datagram, reassembled.
         message: IpDefragPayloadVec,
     },
     /// It is refused.
     Refused {
-        /// The number of the packet whose part came first, if one waited.
-        begun: Option<u64>,
+        /// The number of the packet whose fragment came first, if fragments of the datagram wait.
+        started: Option<u64>,
         /// Why.
         error: IpDefragError,
     },

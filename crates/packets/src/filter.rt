@@ -1,4 +1,4 @@
-//! Which packets are told.
+//! Which packets are shown or counted.
 ghost use Rattle.std.specs.Prelude.{◌≡◌, ◌++◌, ◌∷◌, [], OnOk, OnErr};
 ghost use Rattle.ep_packet.specs.Readable.{message_at};
 ghost use Rattle.packets.specs.Conditions.{arp_has_host, datagram_has_port, has_host};
@@ -9,29 +9,29 @@ ghost use Rattle.packets.specs.Counts.{is_bad};
 
 use crate::outline::refusal_of;
 use crate::{Dissection, Fragment, Headers, Protocol};
+use checksum_verdicts::Verdict;
 use ep_base::EtherType;
-use ep_defrag::defrag::IpDefragPayloadVec;
 use ep_link::ArpPacketSlice;
 use ep_packet::err::packet::SliceError;
 use ep_packet::{Message, NetSlice, SlicedPacket, TransportSlice, read_message};
 use ep_tcpudp::{TcpSlice, UdpSlice};
+use etherparse::defrag::IpDefragPayloadVec;
 use std::alloc::{AllocError, Global};
 use std::net::IpAddr;
 use std::str::FromStr;
 use thiserror::Error;
-use verdicts::Verdict;
 
 /// A condition on a packet.
 #[derive(Clone, Copy, Debug, PartialEq, Eq)]
 pub enum Condition {
-    /// It has a header of this protocol, or is a part of a message of it.
+    /// It has a header of this protocol, or is a fragment of a datagram that carries it.
     Protocol(Protocol),
     /// The checksum of its message, or of that which it completes, is wrong.
     Bad,
-    /// It is refused, by its headers or as a part of a message, or the message that it completes
-    /// can't be read.
+    /// It is refused, by its headers or as a fragment, or the message that it completes can't be
+    /// read.
     Refused,
-    /// It is a part of a message.
+    /// It is a fragment.
     Fragment,
     /// It comes from this address or goes to it, by its IP header or as an ARP packet for IPv4.
     Host(IpAddr),
@@ -57,8 +57,8 @@ impl FromStr for Condition {
     type Err = WordError;
 
     /// Reads `bad`, `refused`, `fragments`, `host=ADDRESS`, `port=NUMBER`, or the name of a
-    /// protocol ([`Protocol::named`]), in letters of either case. A space may stand for the `=`. It
-    /// has no contract: tests compare the texts.
+    /// protocol ([`Protocol::named`]), in letters of either case. A space may be in place of the
+    /// `=`. It has no contract: tests compare the texts.
     fn from_str(word: &str) -> Result<Condition, WordError> {
         if let Some((key, value)) = word.split_once(|c: char| c == '=' || c == ' ') {
             return Condition::of(key, value);
@@ -97,7 +97,7 @@ impl Condition {
         }
     }
 
-    /// Whether it holds of a packet.
+    /// Whether a packet meets it.
     pub fn holds(&self, dissection: &Dissection<'_>) -> bool
         ensures { result ≡ holds self.now dissection.now }
     {
@@ -212,7 +212,7 @@ fn datagram_has_port(datagram: &UdpSlice<'_>, port: u16) -> bool
     datagram.source_port() == port || datagram.destination_port() == port
 }
 
-/// The conditions that a packet has to meet to be told.
+/// The conditions that a packet has to meet to be shown or counted.
 #[derive(Debug, Drop)]
 pub struct Filter {
     conditions: Vec<Condition>,

@@ -1,5 +1,5 @@
-//! A JSON object for each packet, for programs. The keys are the names of the library's fields. The
-//! functions have no contracts: tests compare the texts.
+//! A JSON object for each packet, for programs. The keys of headers and errors are the names of the
+//! fields of `etherparse`. The functions have no contracts: tests compare the texts.
 
 mod errors;
 mod fragment;

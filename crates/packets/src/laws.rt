@@ -4,8 +4,8 @@ ghost use Rattle.std.specs.Prelude.{List, [], ◌∷◌, Some, None};
 ghost use Rattle.std.specs.Hash as fed;
 ghost use Rattle.captures.specs.declared.packet.Packet.{Packet};
 ghost use Rattle.ep_base.specs.Traits.{IsPlainData, VariantFeeds};
-ghost use Rattle.ep_defrag.specs.PoolCalls.{Lists};
-ghost use Rattle.ep_fragments.specs.Fragments.{Fragment};
+ghost use Rattle.etherparse.specs.PoolCalls.{Lists};
+ghost use Rattle.etherparse.specs.Fragments.{Fragment};
 ghost use Rattle.ep_packet.specs.Class.{FragmentName};
 ghost use Rattle.packets.specs.Courses.{Course, course_after, lists_at, no_course};
 ghost use Rattle.packets.specs.Forgetting.{ComeWithin, ForgetDrops};
@@ -17,8 +17,8 @@ pub mod examples;
 
 use crate::program::Coloring;
 use crate::{
-    ChecksumTallies, Condition, Ending, Headers, Net, NoProgress, Outline, PartState, PartTallies,
-    Reason, ShowOptions, Sizes, Tally, WordError,
+    ChecksumTallies, Condition, Ending, FragmentState, FragmentTallies, Headers, Net, NoProgress,
+    Outline, Reason, ShowOptions, Sizes, Tally, WordError,
 };
 use ep_base::err::Layer;
 use ep_base::laws::traits::Value;
@@ -30,7 +30,7 @@ pub fn types_are_plain_data()
     ensures condition { IsPlainData ⟦<Condition as Value>⟧ }
     ensures word_error { IsPlainData ⟦<WordError as Value>⟧ }
     ensures net { IsPlainData ⟦<Net as Value>⟧ }
-    ensures part_state { IsPlainData ⟦<PartState as Value>⟧ }
+    ensures fragment_state { IsPlainData ⟦<FragmentState as Value>⟧ }
     ensures reason { IsPlainData ⟦<Reason as Value>⟧ }
     ensures no_progress { IsPlainData ⟦<NoProgress as Value>⟧ }
     ensures show_options { IsPlainData ⟦<ShowOptions as Value>⟧ }
@@ -38,27 +38,27 @@ pub fn types_are_plain_data()
     ensures tally { IsPlainData ⟦<Tally as Value>⟧ }
 {}
 
-/// So are values that hold some of these.
+/// The same of values that hold some of these.
 pub fn holders_are_plain_data()
     ensures headers { IsPlainData ⟦<Headers as Value>⟧ }
     ensures checksums { IsPlainData ⟦<ChecksumTallies as Value>⟧ }
-    ensures parts { IsPlainData ⟦<PartTallies as Value>⟧ }
+    ensures parts { IsPlainData ⟦<FragmentTallies as Value>⟧ }
     ensures ending { IsPlainData ⟦<Ending as Value>⟧ }
 {
     types_are_plain_data();
     captures::laws::types_are_plain_data();
 }
 
-/// So are outlines of packets.
+/// The same of outlines of packets.
 pub fn outlines_are_plain_data()
     ensures { IsPlainData ⟦<Outline as Value>⟧ }
 {
     types_are_plain_data();
     holders_are_plain_data();
-    verdicts::laws::verdicts_are_plain_data();
+    checksum_verdicts::laws::verdicts_are_plain_data();
 }
 
-/// A reason feeds a hasher its place, as it is declared, and then the layer that it names.
+/// A reason feeds a hasher its index in the declaration, and then the layer that it names.
 pub fn reasons_hash_all_fields()
     ensures cut_off { VariantFeeds ⟦<Reason as Hash>⟧.hash_input
         0 reason.CutOff ⟦<Layer as Hash>⟧.hash_input }
@@ -67,8 +67,8 @@ pub fn reasons_hash_all_fields()
     ensures memory { ⟦<Reason as Hash>⟧.hash_input reason.FragmentMemory ≡ fed.isize (pos 14) }
 {}
 
-/// While each packet comes less than so many seconds after the last fragment of a message that was
-/// accepted, the message is as if nothing were dropped.
+/// While each packet comes less than so many seconds after the last fragment of a datagram that was
+/// accepted, its fragments wait as if nothing were dropped.
 pub fn forget_keeps()
     ensures { (seconds channel : ℕ) (name : FragmentName) (course : Course) (packets : List Packet)
         → 0 < seconds → ComeWithin seconds name channel course packets
@@ -76,24 +76,24 @@ pub fn forget_keeps()
         ≡ (course_after None course packets).lists name channel }
 {}
 
-/// Where the span that lasts began no later than the last fragment of a message that was accepted,
-/// the message is dropped in time: let a packet come so many seconds after the fragment, and then
-/// one that comes so many seconds after each up to that one.
+/// Where the span that lasts began no later than the last fragment of a datagram that was accepted,
+/// its reassembly is dropped in time: let a packet come so many seconds after the fragment, and
+/// then one that comes so many seconds after each up to that one.
 pub fn forget_drops()
     ensures { ForgetDrops }
 {
     captures::laws::spans::spans_drop();
 }
 
-/// With a packet by which a span has passed, a message is dropped of which no fragment was accepted
-/// since the span began.
+/// With a packet by which a span has passed, a reassembly is dropped of which no fragment was
+/// accepted since the span began.
 pub fn span_drops()
     ensures { (seconds begin time channel : ℕ) (lists : Lists) (name : FragmentName)
         → (lists name channel).time < begin → begin + 1_000_000_000 * seconds ≤ time
         → (lists_at (Some seconds) (Some begin) time lists name channel).fragments ≡ [] }
 {}
 
-/// When the span began that lasts behind packets at 100, 105, 110, 119, 90 and 121 seconds, with
+/// When the span began that lasts after packets at 100, 105, 110, 119, 90 and 121 seconds, with
 /// spans of ten seconds, and what is dropped by the one at 110 seconds.
 pub fn worked_spans()
     ensures first { (packet : ℕ → Packet)

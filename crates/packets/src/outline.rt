@@ -1,21 +1,21 @@
-//! What filters and summaries ask of a packet.
+//! What filters and summaries need of a packet.
 ghost use Rattle.std.specs.Prelude.{◌≡◌};
 ghost use Rattle.std.specs.List.{list_any};
 ghost use Rattle.ep_packet.specs.Readable.{message_at};
 ghost use Rattle.packets.specs.Headers.{has_header, net_addresses, net_number};
 ghost use Rattle.packets.specs.Outlines.{headers_of, is_ethernet, is_macsec, is_vlan};
-ghost use Rattle.packets.specs.Outlines.{message_refusal, net_of, outline_of, part_of};
-ghost use Rattle.packets.specs.Outlines.{part_refusal, refusal_of};
+ghost use Rattle.packets.specs.Outlines.{message_refusal, net_of, outline_of, fragment_state_of};
+ghost use Rattle.packets.specs.Outlines.{fragment_refusal, refusal_of};
 
 use crate::{Dissection, Fragment, Protocol, Reason};
 use captures::Link;
+use checksum_verdicts::Verdict;
 use ep_base::IpNumber;
-use ep_defrag::defrag::IpDefragPayloadVec;
 use ep_packet::{Addresses, NetSlice, SlicedPacket, read_message};
 use ep_tag::LinkExtSlice;
-use verdicts::Verdict;
+use etherparse::defrag::IpDefragPayloadVec;
 
-/// What a summary takes of a packet.
+/// What a summary needs of a packet.
 #[derive(Clone, Copy, Debug, PartialEq, Eq)]
 pub struct Outline {
     /// The number of the packet.
@@ -26,11 +26,11 @@ pub struct Outline {
     pub len: usize,
     /// Its headers, none where it is refused.
     pub headers: Headers,
-    /// Why it is refused, or the message that it completes.
+    /// Why it, or the message that it completes, is refused.
     pub refusal: Option<Reason>,
-    /// What became of it, if it is a part of a message.
-    pub part: Option<PartState>,
-    /// What its checksum tells, if a message was read.
+    /// What became of it, if it is a fragment.
+    pub fragment: Option<FragmentState>,
+    /// The verdict on its checksum, if a message was read.
     pub verdict: Option<Verdict>,
 }
 
@@ -52,16 +52,16 @@ pub struct Headers {
 pub enum Net {
     /// An ARP packet.
     Arp,
-    /// An IP packet, and the protocol of its message.
+    /// An IP packet: its addresses, and the protocol that it carries.
     Ip(Addresses, IpNumber),
 }
 
-/// What became of a part of a message.
+/// What became of a fragment.
 #[derive(Clone, Copy, Debug, PartialEq, Eq)]
-pub enum PartState {
-    /// Its message waits for others.
+pub enum FragmentState {
+    /// Its datagram waits for others.
     Waits,
-    /// It completes its message.
+    /// It completes its datagram.
     Completes,
     /// It is refused.
     Refused,
@@ -78,29 +78,29 @@ impl Outline {
             len: dissection.len,
             headers: Headers::of(dissection),
             refusal: refusal_of(dissection),
-            part: part_of(&dissection.fragment),
+            fragment: fragment_state_of(&dissection.fragment),
             verdict: dissection.verdict,
         }
     }
 }
 
-/// Why a packet is refused: by its headers, as a part of a message, or since the message that it
-/// completes can't be read.
+/// Why a packet is refused: by its headers, as a fragment, or since the message that it completes
+/// can't be read.
 pub(crate) fn refusal_of(dissection: &Dissection<'_>) -> Option<Reason>
     ensures { result ≡ refusal_of dissection.now.layers dissection.now.fragment }
 {
     match &dissection.layers {
         Err(error) => Some(Reason::of(*error)),
-        Ok(_) => part_refusal(&dissection.fragment),
+        Ok(_) => fragment_refusal(&dissection.fragment),
     }
 }
 
-fn part_refusal(fragment: &Option<Fragment>) -> Option<Reason>
-    ensures { result ≡ part_refusal fragment.now }
+fn fragment_refusal(fragment: &Option<Fragment>) -> Option<Reason>
+    ensures { result ≡ fragment_refusal fragment.now }
 {
     match fragment {
         Some(Fragment::Completes { message, .. }) => message_refusal(message),
-        Some(Fragment::Refused { error, .. }) => Some(Reason::of_part(*error)),
+        Some(Fragment::Refused { error, .. }) => Some(Reason::of_fragment(*error)),
         _ => None,
     }
 }
@@ -115,13 +115,13 @@ fn message_refusal(message: &IpDefragPayloadVec) -> Option<Reason>
     }
 }
 
-fn part_of(fragment: &Option<Fragment>) -> Option<PartState>
-    ensures { result ≡ part_of fragment.now }
+fn fragment_state_of(fragment: &Option<Fragment>) -> Option<FragmentState>
+    ensures { result ≡ fragment_state_of fragment.now }
 {
     match fragment {
-        Some(Fragment::Waits { .. }) => Some(PartState::Waits),
-        Some(Fragment::Completes { .. }) => Some(PartState::Completes),
-        Some(Fragment::Refused { .. }) => Some(PartState::Refused),
+        Some(Fragment::Waits { .. }) => Some(FragmentState::Waits),
+        Some(Fragment::Completes { .. }) => Some(FragmentState::Completes),
+        Some(Fragment::Refused { .. }) => Some(FragmentState::Refused),
         None => None,
     }
 }
@@ -158,7 +158,7 @@ impl Headers {
         }
     }
 
-    /// The protocol of the message of an IP packet.
+    /// The protocol that an IP packet carries.
     pub fn carried(&self) -> Option<IpNumber>
         ensures { result ≡ net_number self.now.net }
     {
@@ -168,7 +168,7 @@ impl Headers {
         }
     }
 
-    /// Whether a header of this protocol is there.
+    /// Whether there is a header of this protocol.
     pub fn has(&self, protocol: Protocol) -> bool
         ensures { result ≡ has_header self.now protocol }
     {

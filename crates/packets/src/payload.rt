@@ -3,8 +3,8 @@
 use ep_packet::{NetSlice, SlicedPacket, TransportSlice};
 use ep_tag::{LinkExtSlice, MacsecPayloadSlice};
 
-/// What stands behind the last header of a packet that is read. It has no contract: tests compare
-/// the texts.
+/// What follows the last header of a packet that is read. It has no contract: tests compare the
+/// texts.
 pub(crate) fn payload_of<'a>(layers: &SlicedPacket<'a>) -> &'a [u8] {
     match &layers.transport {
         Some(TransportSlice::Icmpv4(message)) => return message.payload(),
@@ -21,7 +21,7 @@ pub(crate) fn payload_of<'a>(layers: &SlicedPacket<'a>) -> &'a [u8] {
     }
 }
 
-// What stands behind the tags.
+// What follows the tags.
 fn link_payload<'a>(layers: &SlicedPacket<'a>) -> &'a [u8] {
     if let Some(LinkExtSlice::Macsec(tag)) = layers.link_exts.as_slice().last() {
         if let MacsecPayloadSlice::Modified(bytes) = &tag.payload {

@@ -1,11 +1,11 @@
-//! What `packets_cli` does but for the system that it runs on: what its words ask for, what it
-//! writes, and how it ends.
+//! What `packets_cli` does, without the system that it runs on: what its command line requests,
+//! what it writes, and how it ends.
 
 mod ending;
 mod outputs;
 mod words;
 
-pub use command_lines::packets::command;
+pub use capture_programs::packets_arguments::command;
 pub use ending::exit_code;
 pub use outputs::{write_flushed, write_report};
-pub use words::{AskError, Asked, Coloring, Output, asked_for};
+pub use words::{Coloring, Output, RequestError, Requested, requested_by};

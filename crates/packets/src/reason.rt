@@ -5,13 +5,13 @@ ghost use Rattle.packets.specs.Reasons.{ipv4_reason, macsec_reason};
 
 use ep_base::err::Layer;
 use ep_ext::err::{ip_auth, ipv6_exts};
-use ep_fragments::defrag::IpDefragError;
 use ep_ip::err::ipv4;
 use ep_ipslice::err::ip;
 use ep_link::err::linux_sll;
 use ep_packet::err::packet::SliceError;
 use ep_tag::err::macsec;
-use header_texts::show::faults::layer_name;
+use etherparse::defrag::IpDefragError;
+use header_descriptions::show::faults::layer_name;
 use std::fmt;
 
 /// Why a packet is refused.
@@ -19,29 +19,29 @@ use std::fmt;
 pub enum Reason {
     /// Fewer bytes are there than this layer needs.
     CutOff(Layer),
-    /// The header of a Linux cooked capture has a packet type that is not known.
+    /// The header of a Linux cooked capture has an unknown packet type.
     CookedPacketType,
-    /// The header of a Linux cooked capture has a hardware type that is not known.
+    /// The header of a Linux cooked capture has an unknown hardware type.
     CookedHardwareType,
-    /// A MACsec header has another version.
+    /// The version of a MACsec header is not 0.
     MacsecVersion,
-    /// The short length of a MACsec header leaves no room for an ether type.
+    /// The short length of a MACsec header leaves no bytes for an ether type.
     MacsecShortLen,
-    /// An IP header has another version.
+    /// The version of an IP header is not the one expected there, or neither 4 nor 6.
     IpVersion,
     /// The length of an IPv4 header is below the least.
     Ipv4HeaderLen,
     /// The length of an authentication header is below the least.
     AuthHeaderLen,
-    /// Hop-by-hop options stand behind another extension header.
+    /// Hop-by-hop options come after another extension header.
     HopByHopNotFirst,
     /// The data offset of a TCP header is below the least.
     TcpDataOffset,
     /// A fragment that isn't the last has a length that is no multiple of 8.
     FragmentUnaligned,
-    /// A fragment ends behind the greatest length of a message.
+    /// A fragment ends after the greatest length of a datagram.
     FragmentTooLong,
-    /// A fragment disagrees with the end of its message.
+    /// A fragment disagrees with the end of its datagram.
     FragmentEnd,
     /// A fragment overlaps another one where that is refused.
     FragmentOverlap,
@@ -50,7 +50,7 @@ pub enum Reason {
 }
 
 impl Reason {
-    ghost use Rattle.packets.specs.Reasons.{part_reason, reason_of};
+    ghost use Rattle.packets.specs.Reasons.{fragment_reason, reason_of};
 
     /// Why a frame is refused.
     pub fn of(error: SliceError) -> Reason
@@ -69,9 +69,9 @@ impl Reason {
         }
     }
 
-    /// Why a part of a message is refused.
-    pub fn of_part(error: IpDefragError) -> Reason
-        ensures { result ≡ part_reason error }
+    /// Why a fragment is refused.
+    pub fn of_fragment(error: IpDefragError) -> Reason
+        ensures { result ≡ fragment_reason error }
     {
         match error {
             IpDefragError::UnalignedFragmentPayloadLen { .. } => Reason::FragmentUnaligned,

@@ -1,10 +1,10 @@
 //! A line for each packet, for people. The functions have no contracts: tests compare the texts.
 
 mod endpoints;
+mod fragment;
 mod fragment_headers;
 mod link;
 mod message;
 pub(crate) mod options;
 pub(crate) mod packet_line;
-mod part;
 mod refusal;

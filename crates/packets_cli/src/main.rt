@@ -5,10 +5,11 @@ mod progress_line;
 
 use crate::progress_line::ProgressLine;
 use anyhow::Context;
-use capture_inputs::{Input, Look, tell_skipped};
+use capture_programs::{Input, Look, report_skipped};
 use captures::{RunError, Skipped};
 use packets::program::{
-    AskError, Asked, Coloring, Output, asked_for, command, exit_code, write_flushed, write_report,
+    Coloring, Output, RequestError, Requested, command, exit_code, requested_by, write_flushed,
+    write_report,
 };
 use packets::{JsonLines, Report, Rules, ShowOptions, Style, Summary, summarize};
 use std::env::{self, VarError};
@@ -17,7 +18,7 @@ use std::hash::RandomState;
 use std::io::{IsTerminal, Read};
 use std::process::ExitCode;
 
-// What standard error begins with.
+// The start of each error on standard error.
 const PROGRAM: &str = "packets_cli";
 
 fn main(rt: HostRuntime) -> anyhow::Result<ExitCode> {
@@ -32,10 +33,10 @@ fn main(rt: HostRuntime) -> anyhow::Result<ExitCode> {
             return Ok(ExitCode::from(error.exit_code() as u8));
         }
     };
-    match asked_for(alloc, &matches) {
-        Ok(Some(asked)) => tell_file(&rt, asked),
+    match requested_by(alloc, &matches) {
+        Ok(Some(requested)) => run_on_file(&rt, requested),
         Ok(None) => Ok(ExitCode::SUCCESS),
-        Err(AskError::Memory(_)) => {
+        Err(RequestError::Memory(_)) => {
             Ok(exit_code(&rt, PROGRAM, Err(RunError::Memory), Look::Other))
         }
         Err(error) => {
@@ -45,31 +46,31 @@ fn main(rt: HostRuntime) -> anyhow::Result<ExitCode> {
     }
 }
 
-fn tell_file(rt: &HostRuntime, asked: Asked<'_>) -> anyhow::Result<ExitCode> {
-    if asked.name == "-" {
+fn run_on_file(rt: &HostRuntime, requested: Requested<'_>) -> anyhow::Result<ExitCode> {
+    if requested.name == "-" {
         let input = Input::new(rt.alloc(), rt.stdin())?;
-        return tell_input(rt, asked, None, input);
+        return run_on_input(rt, requested, None, input);
     }
-    let file = File::open(rt, asked.name).context("the file cannot be opened")?;
+    let file = File::open(rt, requested.name).context("the file cannot be opened")?;
     let len = match file.metadata() {
         Ok(metadata) if metadata.is_file() => Some(metadata.len()),
         _ => None,
     };
     let input = Input::new(rt.alloc(), file)?;
-    tell_input(rt, asked, len, input)
+    run_on_input(rt, requested, len, input)
 }
 
-fn tell_input<R: Read + Drop>(
+fn run_on_input<R: Read + Drop>(
     rt: &HostRuntime,
-    asked: Asked<'_>,
+    requested: Requested<'_>,
     len: Option<u64>,
     mut input: Input<R>,
 ) -> anyhow::Result<ExitCode> {
     let look = input.look();
     let mut skipped = Skipped::NONE;
-    let rules = &asked.rules;
+    let rules = &requested.rules;
     let alloc = rt.alloc();
-    let told = match &asked.output {
+    let outcome = match &requested.output {
         Output::Show(time, width, coloring) => {
             let lines = ShowOptions {
                 style: style_of(rt, *coloring),
@@ -82,14 +83,14 @@ fn tell_input<R: Read + Drop>(
             let lines = JsonLines::new(alloc, *payload);
             write_flushed(alloc, rules, &lines, input, &mut rt.stdout(), &mut skipped)
         }
-        Output::Summary => tell_summary(rt, rules, len, input, &mut skipped)?,
+        Output::Summary => write_summary(rt, rules, len, input, &mut skipped)?,
     };
-    tell_skipped(rt, PROGRAM, skipped);
-    Ok(exit_code(rt, PROGRAM, told, look))
+    report_skipped(rt, PROGRAM, skipped);
+    Ok(exit_code(rt, PROGRAM, outcome, look))
 }
 
-// Of a capture that is refused, what comes before is told, if anything does.
-fn tell_summary<R: Read + Drop>(
+// Of a capture that is refused, what comes before is reported, if anything does.
+fn write_summary<R: Read + Drop>(
     rt: &HostRuntime,
     rules: &Rules,
     len: Option<u64>,

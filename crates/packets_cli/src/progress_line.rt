@@ -1,4 +1,4 @@
-//! A line on standard error that tells how far a run has come.
+//! A line on standard error that reports how far a run has come.
 use packets::Progress;
 use std::io::IsTerminal;
 
@@ -6,13 +6,13 @@ use std::io::IsTerminal;
 #[derive(Drop)]
 pub struct ProgressLine<'r> {
     rt: &'r HostRuntime,
-    // The bytes of the whole input, where they are known and the line is wanted.
+    // The bytes of the whole input, where they are known and the line is to be shown.
     whole: Option<u64>,
-    begun: bool,
+    started: bool,
 }
 
 impl<'r> ProgressLine<'r> {
-    /// Nothing is told yet. It has no contract: what is told goes to a terminal alone.
+    /// Nothing is reported yet. It has no contract: the reports go to a terminal alone.
     pub fn new(rt: &'r HostRuntime, whole: Option<u64>) -> ProgressLine<'r> {
         let whole = if rt.stderr().is_terminal() {
             whole
@@ -22,22 +22,22 @@ impl<'r> ProgressLine<'r> {
         ProgressLine {
             rt,
             whole,
-            begun: false,
+            started: false,
         }
     }
 
-    /// Takes the line away; it has no contract, as `new`.
+    /// Removes the line; it has no contract, as `new`.
     pub fn end(&mut self) {
-        if self.begun {
+        if self.started {
             let _ = eprint!(self.rt; "\r\x1b[K");
         }
     }
 }
 
 impl Progress for ProgressLine<'_> {
-    fn tell(&mut self, passed: u64) {
+    fn notify(&mut self, passed: u64) {
         if let Some(whole) = self.whole {
-            self.begun = true;
+            self.started = true;
             let (passed, whole) = (passed >> 20, whole >> 20);
             let _ = eprint!(self.rt; "\r{passed} of {whole} MiB");
         }

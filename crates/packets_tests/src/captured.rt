@@ -10,7 +10,7 @@ use std::alloc::Global;
 use std::process::Abort;
 
 /// A capture of the first so many frames.
-pub(super) fn captured_front(rt: impl Abort + Copy, alloc: Global, count: usize) -> Vec<u8> {
+pub(super) fn captured_prefix(rt: impl Abort + Copy, alloc: Global, count: usize) -> Vec<u8> {
     match FRAMES.get(..count) {
         Some(frames) => captured(rt, alloc, 1, frames),
         None => fail(rt, "no so many frames"),
@@ -38,7 +38,7 @@ pub(super) fn first<'a>(rt: impl Abort + Copy, capture: &'a [u8]) -> Packet<'a> 
     packet
 }
 
-/// What is told of a packet.
+/// The dissection of a packet.
 pub(super) fn dissected<'a>(
     rt: impl Abort + Copy,
     dissector: &mut Dissector,

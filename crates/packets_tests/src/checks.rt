@@ -6,9 +6,9 @@ use std::fmt::{Debug, Display};
 use std::process::Abort;
 use std::str;
 
-/// Fails where what is told is not what is wanted, and shows both.
-pub(super) fn equal<T: PartialEq + Debug + Drop>(rt: impl Abort + Copy, told: T, wanted: T) {
-    assert_eq!(rt; told, wanted);
+/// Fails where a value is not the expected one, and shows both.
+pub(super) fn equal<T: PartialEq + Debug + Drop>(rt: impl Abort + Copy, actual: T, wanted: T) {
+    assert_eq!(rt; actual, wanted);
 }
 
 /// Fails where it is not so.
@@ -16,22 +16,22 @@ pub(super) fn holds(rt: impl Abort + Copy, is_so: bool) {
     assert!(rt; is_so);
 }
 
-/// Compares a text, and tells both.
-pub(super) fn is_text(rt: impl Abort + Copy, told: &[u8], wanted: &str) {
-    let Ok(told) = str::from_utf8(told) else {
+/// Compares a text, and shows both where they differ.
+pub(super) fn is_text(rt: impl Abort + Copy, actual: &[u8], wanted: &str) {
+    let Ok(actual) = str::from_utf8(actual) else {
         panic!(rt; "no text");
     };
-    assert_eq!(rt; told, wanted);
+    assert_eq!(rt; actual, wanted);
 }
 
 /// Compares how a value is shown.
 pub(super) fn is_shown_as<T: Display>(
     rt: impl Abort + Copy,
     alloc: Global,
-    told: &T,
+    actual: &T,
     wanted: &str,
 ) {
-    let Ok(text) = format!(in alloc; "{told}") else {
+    let Ok(text) = format!(in alloc; "{actual}") else {
         panic!(rt; "no memory");
     };
     is_text(rt, text.as_bytes(), wanted);

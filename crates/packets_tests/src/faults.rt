@@ -1,6 +1,6 @@
-//! Runs that fail on the way or tell how far they are, and when lines are written.
+//! Runs that fail before the end, reports of how far they are, and when lines are written.
 
-use crate::captured::{captured, captured_front};
+use crate::captured::{captured, captured_prefix};
 use crate::checks::{equal, fail, holds};
 use crate::classic_captures::capture_of;
 use crate::frames::FRAMES;
@@ -23,7 +23,7 @@ const READ_FAILED: Ending = Ending {
     result: Err(RunError::Read),
 };
 
-// Each read gives a byte. That behind the first packet fails.
+// Each read gives a byte. The one after the first packet fails.
 fn is_failed_by_read(rt: impl Abort + Copy, alloc: Global, capture: &[u8], kind: ErrorKind) {
     let rules = every_packet(alloc);
     let fails = Fault::Fails(kind);
@@ -91,19 +91,19 @@ fn what_failing_writers_took(rt: HostRuntime) {
     }
 }
 
-// Tells of each packet in so many bytes, and wants memory at one of them.
+// Describes each packet in so many bytes, and runs out of memory at one of them.
 #[derive(Drop)]
 struct LongLines {
     len: usize,
-    wanting: u64,
+    out_of_memory_at: u64,
 }
 
 impl LineWriter for LongLines {
     // Its texts are compared here.
-    ghost tells = { λ lines packet text. Unit {0} };
+    ghost describes = { λ lines packet text. Unit {0} };
 
     fn write_line(&self, packet: &Dissection<'_>, out: &mut Vec<u8>) -> Result<(), AllocError> {
-        if packet.number == self.wanting {
+        if packet.number == self.out_of_memory_at {
             return Err(AllocError);
         }
         out.resize(self.len, b'x')
@@ -118,7 +118,10 @@ fn no_memory_for_a_line(rt: HostRuntime) {
         rt,
         rt.alloc(),
         &every_packet(rt.alloc()),
-        &LongLines { len: 2, wanting: 4 },
+        &LongLines {
+            len: 2,
+            out_of_memory_at: 4,
+        },
         capture.as_slice(),
         Err(RunError::Memory),
         b"xx\nxx\nxx\n",
@@ -134,14 +137,15 @@ fn is_long_line(line: &[u8]) -> bool {
     }
 }
 
-// Lines wait for a read that isn't there, up to 64 KB: here two lines each time, and then the rest.
+// Lines wait for a read that isn't needed, up to 64 KB: here two lines each time, and then the
+// rest.
 #[test]
-fn long_output_is_written_in_pieces(rt: HostRuntime) {
-    let capture = captured_front(rt, rt.alloc(), 5);
+fn long_output_is_written_in_chunks(rt: HostRuntime) {
+    let capture = captured_prefix(rt, rt.alloc(), 5);
     let rules = every_packet(rt.alloc());
     let lines = LongLines {
         len: 40_000,
-        wanting: 0,
+        out_of_memory_at: 0,
     };
     let mut writer = FaultWriter::new(rt.alloc(), usize::MAX);
     let (result, _) = end_of_lines(rt.alloc(), &rules, &lines, capture.as_slice(), &mut writer);
@@ -156,17 +160,17 @@ struct ThreeLines;
 
 impl LineWriter for ThreeLines {
     // Its text is compared here.
-    ghost tells = { λ lines packet text. Unit {0} };
+    ghost describes = { λ lines packet text. Unit {0} };
 
     fn write_line(&self, _packet: &Dissection<'_>, out: &mut Vec<u8>) -> Result<(), AllocError> {
         out.extend_from_slice(b"\none\ntwo\r\n\n")
     }
 }
 
-// Other ends than that of the line are left out.
+// Newlines other than that at the end of the line are left out.
 #[test]
 fn a_packet_has_one_line(rt: HostRuntime) {
-    let capture = captured_front(rt, rt.alloc(), 2);
+    let capture = captured_prefix(rt, rt.alloc(), 2);
     are_written(
         rt,
         rt.alloc(),
@@ -178,12 +182,12 @@ fn a_packet_has_one_line(rt: HostRuntime) {
     );
 }
 
-// Gives the file header, and then a record a call. Each call finds the lines of all records that
-// were given, or tells that they are late.
+// Gives the file header, and then a record a call. Each call checks that the lines of all records
+// that were given are written, or notes that they are late.
 #[derive(Drop)]
 struct WatchingReader<'a> {
     rest: &'a [u8],
-    piece: usize,
+    chunk_len: usize,
     lines: usize,
     written: &'a Cell<usize>,
     late: &'a Cell<bool>,
@@ -194,14 +198,14 @@ impl Read for WatchingReader<'_> {
         if self.written.get() != self.lines {
             self.late.set(true);
         }
-        let count = self.piece.min(buf.len()).min(self.rest.len());
+        let count = self.chunk_len.min(buf.len()).min(self.rest.len());
         let (given, rest) = self.rest.split_at(count);
         buf[..count].copy_from_slice(given);
         if count == RECORD {
             self.lines = self.lines.saturating_add(LINE);
         }
         self.rest = rest;
-        self.piece = RECORD;
+        self.chunk_len = RECORD;
         Ok(count)
     }
 }
@@ -237,7 +241,7 @@ fn lines_are_written_before_the_next_read(rt: HostRuntime) {
     let (written, late) = (Cell::new(0usize), Cell::new(false));
     let reader = WatchingReader {
         rest: capture.as_slice(),
-        piece: 24,
+        chunk_len: 24,
         lines: 0,
         written: &written,
         late: &late,
@@ -248,7 +252,7 @@ fn lines_are_written_before_the_next_read(rt: HostRuntime) {
     equal(rt, ended, (Ok(()), 4 * LINE, false));
 }
 
-// Keeps what it was told last, and counts.
+// Keeps the last report, and counts them.
 #[derive(Drop)]
 struct Steps {
     count: usize,
@@ -256,7 +260,7 @@ struct Steps {
 }
 
 impl Progress for Steps {
-    fn tell(&mut self, passed: u64) {
+    fn notify(&mut self, passed: u64) {
         self.count = self.count.saturating_add(1);
         self.last = passed;
     }
@@ -282,9 +286,9 @@ fn long_capture(alloc: Global) -> Result<Vec<u8>, FromHexError> {
     Ok(capture)
 }
 
-// Each 4 MiB are told, before the read behind them.
+// Each 4 MiB are reported, before the read after them.
 #[test]
-fn progress_is_told(rt: HostRuntime) {
+fn progress_is_reported(rt: HostRuntime) {
     let Ok(capture) = long_capture(rt.alloc()) else {
         fail(rt, "no memory");
     };

@@ -1,8 +1,8 @@
-//! Frames that many tests are over, written by hand.
+//! Frames that many tests use, written down byte by byte.
 
 /// A TCP segment, a UDP datagram with a wrong checksum, an ARP packet, an ICMPv6 message in a VLAN,
-/// two parts of a UDP datagram, an IPv4 header that is cut off, a TCP header of 4 words, a datagram
-/// without a checksum, and a part of another one.
+/// two fragments of a UDP datagram, an IPv4 header that is cut off, a TCP header of 4 words, a
+/// datagram without a checksum, and a fragment of another one.
 pub const FRAMES: &[&str] = &[
     "02000000000202000000000108004500002800010000400666cd0a0000010a00000201bbc82200000011\
         000000005002ffffd1f10000",
@@ -23,8 +23,8 @@ pub const FRAMES: &[&str] = &[
         0001020304050607",
 ];
 
-/// Two parts of a UDP datagram that ends before its length says, and two of a TCP segment with a
-/// header of 4 words.
+/// Two fragments of a UDP datagram that ends before its length says, and two of a TCP segment with
+/// a header of 4 words.
 pub const REFUSED_WHOLE: &[&str] = &[
     "02000000000202000000000108004500002c20012000401126be0a0000010a000002003514e900c80000\
         000102030405060708090a0b0c0d0e0f",

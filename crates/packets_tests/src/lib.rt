@@ -1,5 +1,5 @@
-//! Tests of `packets` over its public calls. What is told of whole captures are rows of
-//! `tools/packets_rows`.
+//! Tests of `packets` over its public calls. The rows of `tools/packets_rows` compare the output
+//! for whole captures.
 #![tactic(auto)]
 
 #[cfg(test)]

@@ -1,6 +1,6 @@
-//! Without memory. Each of these tests passes as it is, and where one of its growths is refused:
-//! then a call tells of it and of nothing else, what it worked on is as before, and the same call
-//! succeeds after it. All growths are those of the calls.
+//! Runs out of memory. Each of these tests passes as it is, and where one of its growths is
+//! refused: then a call reports that and nothing else, what it worked on is as before, and the same
+//! call succeeds after it. All growths are those of the calls.
 
 use crate::checks::{equal, fail, holds};
 use crate::outcomes::{LINES, every_packet};
@@ -9,7 +9,7 @@ use packets::{Dissection, Dissector, NoProgress, Summary, Tally, summarize, writ
 use std::alloc::Global;
 use std::process::Abort;
 
-/// Two parts of a UDP datagram, and an IPv4 header that is cut off.
+/// Two fragments of a UDP datagram, and an IPv4 header that is cut off.
 pub(super) const CAPTURE: &[u8; 189] = b"\
     \xd4\xc3\xb2\xa1\x02\x00\x04\x00\x00\x00\x00\x00\x00\x00\x00\x00\
     \x00\x00\x04\x00\x01\x00\x00\x00\
@@ -23,13 +23,13 @@ pub(super) const CAPTURE: &[u8; 189] = b"\
     \x00\xf1\x53\x65\x00\x00\x00\x00\x15\x00\x00\x00\x15\x00\x00\x00\
     \x02\x00\x00\x00\x00\x02\x02\x00\x00\x00\x00\x01\x08\x00\x45\x00\x00\x28\x00\x01\x00";
 
-// Twelve bytes of each line, and its end.
+// The first twelve bytes of each line, and the newline that ends it.
 const WANTED: &[u8; 39] = b"    1   0.00\n    2   0.00\n    3   0.00\n";
 
 // Whether a run writes all lines. If not, it found no memory, and what it wrote are whole lines.
 fn are_written(rt: impl Abort + Copy, alloc: Global) -> bool {
-    let mut room = [0u8; 64];
-    let mut left = room.as_mut_slice();
+    let mut buffer = [0u8; 64];
+    let mut left = buffer.as_mut_slice();
     let result = write_lines(
         alloc,
         &every_packet(alloc),
@@ -41,7 +41,7 @@ fn are_written(rt: impl Abort + Copy, alloc: Global) -> bool {
     let written = 64 - left.len().min(64);
     holds(
         rt,
-        WANTED.starts_with(&room[..written]) && written % 13 == 0,
+        WANTED.starts_with(&buffer[..written]) && written % 13 == 0,
     );
     if result.is_ok() {
         holds(rt, written == WANTED.len());
@@ -52,7 +52,7 @@ fn are_written(rt: impl Abort + Copy, alloc: Global) -> bool {
 }
 
 #[test]
-fn lines_want_memory(rt: HostRuntime) {
+fn lines_run_out_of_memory(rt: HostRuntime) {
     let first = are_written(rt, rt.alloc());
     let second = are_written(rt, rt.alloc());
     holds(rt, first || second);
@@ -76,7 +76,7 @@ fn are_counted(rt: impl Abort + Copy, alloc: Global) -> bool {
 }
 
 #[test]
-fn counts_want_memory(rt: HostRuntime) {
+fn counts_run_out_of_memory(rt: HostRuntime) {
     let first = are_counted(rt, rt.alloc());
     let second = are_counted(rt, rt.alloc());
     holds(rt, first || second);
@@ -96,7 +96,7 @@ fn dissected<'a>(
     dissection
 }
 
-// Adds a packet behind so many.
+// Adds a packet after so many.
 fn add(rt: impl Abort + Copy, summary: &mut Summary, packet: &Dissection<'_>, number: u64) {
     if summary.add(packet).is_err() {
         let counted = (summary.all.packets, summary.refused);
@@ -105,9 +105,9 @@ fn add(rt: impl Abort + Copy, summary: &mut Summary, packet: &Dissection<'_>, nu
     }
 }
 
-// Where memory is wanting for a packet, it is told and counted the next time.
+// Where memory runs out for a packet, it is dissected and counted the next time.
 #[test]
-fn packets_want_memory(rt: HostRuntime) {
+fn packets_run_out_of_memory(rt: HostRuntime) {
     let mut dissector = Dissector::new(rt.alloc());
     let mut summary = Summary::new(rt.alloc());
     let mut number = 0u64;

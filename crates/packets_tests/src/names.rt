@@ -9,7 +9,7 @@ use packets::{Protocol, Reason, ip_number_name, ip_number_named};
 use std::process::Abort;
 
 // Where a keyword of the registry is that of a header here (4 IPv4, 41 IPv6, 143 Ethernet), or is
-// less known, another name stands for it.
+// less known, another name is used.
 const NAMES: &[(u8, &str)] = &[
     (0, "HOPOPT"),
     (1, "ICMP"),
@@ -112,7 +112,7 @@ fn names_of_numbers(rt: HostRuntime) {
     holds(rt, at == NAMES.len());
 }
 
-// Other names of numbers, and one of none.
+// Other names of numbers, and one that names none.
 const OTHERS: &[(&str, Option<IpNumber>)] = &[
     ("sctp", Some(IpNumber(132))),
     ("253", Some(IpNumber(253))),
@@ -133,7 +133,7 @@ fn numbers_of_names(rt: HostRuntime) {
     }
 }
 
-// As a summary tells them.
+// As a summary names them.
 const TEXTS_OF_PROTOCOLS: &[(Protocol, &str)] = &[
     (Protocol::Ethernet, "Ethernet"),
     (Protocol::Vlan, "VLAN"),
@@ -213,6 +213,6 @@ fn reasons_of_errors(rt: HostRuntime) {
     for (error, wanted) in REASONS_OF_ERRORS.iter() {
         equal(rt, Reason::of(*error), *wanted);
     }
-    let want = IpDefragError::AllocationFailure { len: 8 };
-    holds(rt, Reason::of_part(want) == Reason::FragmentMemory);
+    let failure = IpDefragError::AllocationFailure { len: 8 };
+    holds(rt, Reason::of_fragment(failure) == Reason::FragmentMemory);
 }

@@ -11,7 +11,7 @@ use std::alloc::Global;
 use std::io::{Read, Write};
 use std::process::Abort;
 
-/// Twelve bytes of each line.
+/// The first twelve bytes of each line.
 pub(super) const LINES: ShowOptions = ShowOptions {
     style: Style::Plain,
     time: TimeForm::SinceFirst,

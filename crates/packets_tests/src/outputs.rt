@@ -1,9 +1,9 @@
-//! Outputs that can't be written or flushed, statuses, and what is told of an error.
+//! Outputs that can't be written or flushed, statuses, and the text of an error.
 
 use crate::checks::{equal, fail, is_text};
 use crate::outcomes::every_packet;
-use capture_inputs::Look;
-use captures::{CaptureError, Place, RunError, Skipped};
+use capture_programs::Look;
+use captures::{CaptureError, Position, RunError, Skipped};
 use fault_devices::UnflushableWriter;
 use packets::program::{exit_code, write_flushed, write_report};
 use packets::{JsonLines, Report, Summary};
@@ -15,7 +15,7 @@ use std::process::{Abort, ExitCode};
 const HEADER: &[u8; 24] = b"\
     \xd4\xc3\xb2\xa1\x02\x00\x04\x00\x00\x00\x00\x00\x00\x00\x00\x00\x00\x00\x04\x00\x01\x00\x00\x00";
 
-const FIRST: Place = Place {
+const FIRST: Position = Position {
     packet: 1,
     offset: 0,
     block: None,
@@ -82,7 +82,7 @@ const STATUSES: &[(RunError, u8)] = &[
     (
         RunError::Capture(
             CaptureError::CutOff,
-            Place {
+            Position {
                 packet: 3,
                 offset: 112,
                 block: None,
@@ -109,8 +109,8 @@ fn errors_have_a_status(rt: HostRuntime) {
 
 #[test]
 #[should_panic(expected = "packets_cli: no capture file: the input is text")]
-fn errors_are_told(rt: HostRuntime) {
+fn errors_are_reported(rt: HostRuntime) {
     let error = RunError::Capture(CaptureError::NotCapture, FIRST);
     let _ = exit_code(&rt, "packets_cli", Err(error), Look::Text);
-    fail(rt, "told");
+    fail(rt, "reported");
 }

@@ -1,6 +1,6 @@
 //! The texts of refusals that no capture leads to here: of the header of a cooked capture and of an
-//! IP header of either version, in whose place an Ethernet II header stands, and of a part of a
-//! message without memory.
+//! IP header of either version, where an Ethernet II header is in its place, and of a fragment
+//! without memory.
 
 use crate::captured::{captured, dissected, first};
 use crate::checks::{holds, is_shown_as, is_text};
@@ -99,7 +99,7 @@ fn of_packets(rt: HostRuntime) {
     }
 }
 
-const PART: &str =
+const FRAGMENT: &str =
     "02000000000202000000000108004500002412342000401134930a0000010a00000200350fa0001cb3ac\
     6162636465666768";
 
@@ -109,14 +109,17 @@ const LINE: &str = "    1   0.000000 10.0.0.1 > 10.0.0.2 UDP fragment at 0 len 1
 const OBJECT_END: &str =
     "\"fragment\":{\"Refused\":{\"error\":{\"AllocationFailure\":{\"len\":8}}}}}";
 
-// A part of a message, for which there is no memory. A run ends then, and tells nothing of it.
+// A fragment for which there is no memory. A run ends then, and reports nothing of it.
 #[test]
-fn of_a_part(rt: HostRuntime) {
-    let capture = captured(rt, rt.alloc(), 1, &[PART]);
+fn of_a_fragment(rt: HostRuntime) {
+    let capture = captured(rt, rt.alloc(), 1, &[FRAGMENT]);
     let packet = first(rt, capture.as_slice());
     let mut dissection = dissected(rt, &mut Dissector::new(rt.alloc()), &packet);
     let error = IpDefragError::AllocationFailure { len: 8 };
-    dissection.fragment = Some(Fragment::Refused { begun: None, error });
+    dissection.fragment = Some(Fragment::Refused {
+        started: None,
+        error,
+    });
     is_line(rt, rt.alloc(), &dissection, LINE);
     let object = object_of(rt, rt.alloc(), &dissection);
     holds(rt, object.as_slice().ends_with(OBJECT_END.as_bytes()));

@@ -1,8 +1,8 @@
-//! Walks over captures whose memory served before. The functions have no contracts: tests alone call
-//! them, and are run.
+//! Walks over captures with buffers that earlier rounds filled. The functions have no contracts:
+//! tests alone call them, and are run.
 //!
-//! `tools/faults_tried` runs each pair of one round and ten rounds: ten have no more growths than one, and
-//! pass with each growth behind those of the first round refused.
+//! `tools/faults_tried` runs each pair of one round and ten rounds: ten have no more growths than
+//! one, and pass with each growth after those of the first round refused.
 
 use crate::checks::{equal, holds};
 use crate::memory::CAPTURE;
@@ -14,7 +14,8 @@ use std::alloc::{AllocError, Global};
 use std::process::Abort;
 use std::test::*;
 
-// Both parts of a datagram and a packet that is cut off, so many times over. It takes one growth.
+// Both fragments of a datagram and a packet that is cut off, so many times over. It takes one
+// growth.
 fn capture(alloc: Global, count: usize) -> Result<Vec<u8>, AllocError> {
     let one = CAPTURE.as_slice();
     let mut capture = Vec::with_capacity(alloc, one.len().saturating_mul(count))?;
@@ -27,8 +28,8 @@ fn capture(alloc: Global, count: usize) -> Result<Vec<u8>, AllocError> {
 
 fn write_rounds(rt: impl Abort + Copy, alloc: Global, count: usize) -> Result<(), AllocError> {
     let capture = capture(alloc, count)?;
-    let mut room = [0u8; 512];
-    let mut left = room.as_mut_slice();
+    let mut buffer = [0u8; 512];
+    let mut left = buffer.as_mut_slice();
     let rules = every_packet(alloc);
     // No read ends two packets, so that in each round one line waits at most.
     let reader = FaultReader::new(capture.as_slice(), 32);

@@ -1,4 +1,4 @@
-//! What is taken of packets and counted, by hand.
+//! What summaries take of packets and count, at literal values.
 
 use crate::captured::{captured, dissected, first};
 use crate::checks::{equal, fail, holds};
@@ -8,31 +8,31 @@ use captures::{Packets, Skipped, Unfit};
 use etherparse::err::Layer;
 use etherparse::{Addresses, IpNumber};
 use packets::{
-    Condition, Dissection, Dissector, Ending, Fragment, Headers, Net, NoProgress, Outline,
-    PartState, Protocol, Rate, Reason, Report, Sizes, Summary, Tally, summarize,
+    Condition, Dissection, Dissector, Ending, Fragment, FragmentState, Headers, Net, NoProgress,
+    Outline, Protocol, Rate, Reason, Report, Sizes, Summary, Tally, summarize,
 };
 use std::alloc::Global;
 use std::hash::{BuildHasher, RandomState};
 use std::process::Abort;
 
-type Taken = (Option<IpNumber>, Option<Reason>, Option<PartState>);
+type Taken = (Option<IpNumber>, Option<Reason>, Option<FragmentState>);
 
 const TAKEN: &[Taken] = &[
     (Some(IpNumber::TCP), None, None),
     (Some(IpNumber::UDP), None, None),
     (None, None, None),
     (Some(IpNumber::IPV6_ICMP), None, None),
-    (Some(IpNumber::UDP), None, Some(PartState::Waits)),
-    (Some(IpNumber::UDP), None, Some(PartState::Completes)),
+    (Some(IpNumber::UDP), None, Some(FragmentState::Waits)),
+    (Some(IpNumber::UDP), None, Some(FragmentState::Completes)),
     (None, Some(Reason::CutOff(Layer::Ipv4Header)), None),
     (None, Some(Reason::TcpDataOffset), None),
     (Some(IpNumber::UDP), None, None),
-    (Some(IpNumber::UDP), None, Some(PartState::Waits)),
+    (Some(IpNumber::UDP), None, Some(FragmentState::Waits)),
 ];
 
 fn taken(packet: &Dissection<'_>) -> Taken {
     let outline = Outline::of(packet);
-    (outline.headers.carried(), outline.refusal, outline.part)
+    (outline.headers.carried(), outline.refusal, outline.fragment)
 }
 
 #[test]
@@ -98,9 +98,9 @@ fn tally_of(packets: u64, bytes: u64, first: u64) -> Tally {
     }
 }
 
-fn is_tally(rt: impl Abort + Copy, told: Tally, wanted: (u64, u64, u64)) {
+fn is_tally(rt: impl Abort + Copy, actual: Tally, wanted: (u64, u64, u64)) {
     let (packets, bytes, first) = wanted;
-    equal(rt, told, tally_of(packets, bytes, first));
+    equal(rt, actual, tally_of(packets, bytes, first));
 }
 
 // Compares the tally of a reason that came as this one, from 0.
@@ -154,7 +154,8 @@ fn are_refused(rt: impl Abort + Copy, summary: &Summary) {
     is_reason(rt, summary, 1, Reason::TcpDataOffset, tally_of(1, 38, 4));
 }
 
-// Parts that complete what can't be read are refused, and are parts that complete a message.
+// Fragments that complete what can't be read are refused, and are fragments that complete a
+// datagram.
 #[test]
 fn messages_that_are_refused(rt: HostRuntime) {
     let capture = captured(rt, rt.alloc(), 1, REFUSED_WHOLE);
@@ -178,7 +179,7 @@ fn outline(number: u64, time: u64, len: usize) -> Outline {
             net: None,
         },
         refusal: None,
-        part: None,
+        fragment: None,
         verdict: None,
     }
 }
@@ -200,7 +201,7 @@ fn counts(rt: HostRuntime) {
     equal(rt, counts, (1, 2, 1));
 }
 
-// 63 and 64 spans of 1/512 second later. Spans are doubled where a packet comes behind the 64th.
+// 63 and 64 spans of 1/512 second later. Spans are doubled where a packet comes after the 64th.
 #[test]
 fn rates(rt: HostRuntime) {
     let mut rate = Rate::new();
@@ -216,40 +217,40 @@ fn rates(rt: HostRuntime) {
     equal(rt, counts, (1, 1, 1));
 }
 
-const PART: &str =
+const FRAGMENT: &str =
     "02000000000202000000000108004500002412342000401134930a0000010a00000200350fa0001cb3ac\
     6162636465666768";
 
-// In which packet the message began for whose rest that of this capture waits.
-fn begun_in(rt: impl Abort + Copy, dissector: &mut Dissector, capture: &[u8]) -> Option<u64> {
+// In which packet the datagram started for whose rest the fragments of this capture wait.
+fn started_in(rt: impl Abort + Copy, dissector: &mut Dissector, capture: &[u8]) -> Option<u64> {
     let dissection = dissected(rt, dissector, &first(rt, capture));
-    let begun = match dissection.fragment {
-        Some(Fragment::Waits { begun }) => Some(begun),
+    let started = match dissection.fragment {
+        Some(Fragment::Waits { started }) => Some(started),
         _ => None,
     };
     dissector.give_back(dissection);
-    begun
+    started
 }
 
-// A part waits until its message is forgotten: one that came at this time is kept.
+// A fragment waits until its reassembly is dropped: one that came at this time is kept.
 #[test]
 fn open_messages(rt: HostRuntime) {
-    let capture = captured(rt, rt.alloc(), 1, &[PART]);
+    let capture = captured(rt, rt.alloc(), 1, &[FRAGMENT]);
     let mut dissector = Dissector::new(rt.alloc());
     let time = 1_700_000_000_000_000_000;
     equal(
         rt,
-        begun_in(rt, &mut dissector, capture.as_slice()),
+        started_in(rt, &mut dissector, capture.as_slice()),
         Some(1),
     );
     dissector.forget_before(time);
     equal(rt, dissector.open(), 1);
     dissector.forget_before(time + 1);
     equal(rt, dissector.open(), 0);
-    // Then it begins anew.
+    // Then it starts anew.
     equal(
         rt,
-        begun_in(rt, &mut dissector, capture.as_slice()),
+        started_in(rt, &mut dissector, capture.as_slice()),
         Some(2),
     );
 }

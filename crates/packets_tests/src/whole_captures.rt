@@ -4,7 +4,7 @@ use crate::captured::captured;
 use crate::checks::equal;
 use crate::frames::FRAMES;
 use crate::outcomes::{LINES, are_counted, are_written, end_of_lines, every_packet, packets_of};
-use captures::{CaptureError, Place, RunError, Skipped, Unfit};
+use captures::{CaptureError, Position, RunError, Skipped, Unfit};
 use fault_devices::FaultReader;
 use packets::{Ending, Rules};
 use std::alloc::Global;
@@ -28,7 +28,7 @@ const ONE_OPEN: Ending = Ending {
     result: Ok(()),
 };
 
-// One message waits at the end, of whose parts the first one came.
+// One datagram is not complete at the end, of whose fragments the first one came.
 #[test]
 fn counts_of_packets_that_are_let_through(rt: HostRuntime) {
     let capture = captured(rt, rt.alloc(), 1, FRAMES);
@@ -37,20 +37,20 @@ fn counts_of_packets_that_are_let_through(rt: HostRuntime) {
     are_counted(rt, rt.alloc(), &rules, reader, ONE_OPEN, 5);
 }
 
-// Bytes that begin like no IP packet, between two that do.
+// Bytes that are not the start of an IP packet, between two packets.
 const RAW: &[&str] = &[
     "450000140001000040fd00000a0000010a000063",
     "00",
     "450000140001000040fd00000a0000020a000063",
 ];
 
-// Behind the file header and the first record.
+// After the file header and the first record.
 const REFUSED: Ending = Ending {
     open: 0,
     skipped: Skipped::NONE,
     result: Err(RunError::Capture(
         CaptureError::NoFrame,
-        Place {
+        Position {
             packet: 2,
             offset: 24 + 16 + 20,
             block: None,

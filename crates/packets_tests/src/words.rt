@@ -1,12 +1,12 @@
-//! What the words of the command line ask for.
+//! What the words of the command line request.
 
 use crate::checks::{equal, fail, is_shown_as, is_text};
 use captures::Unfit;
-use packets::program::{AskError, asked_for, command};
+use packets::program::{RequestError, command, requested_by};
 use std::alloc::{AllocError, Global};
 use std::process::Abort;
 
-// The outputs and their options. Nothing is asked for by the last ones.
+// The outputs and their options. Nothing is requested by the last ones.
 const OUTPUTS: &[(&[&str], &str)] = &[
     (
         &["packets_cli", "show", "x.pcap"],
@@ -35,7 +35,7 @@ const OUTPUTS: &[(&[&str], &str)] = &[
     (&["packets_cli", "summary", "--only", "host=10.0.0.256"], ""),
 ];
 
-// What is asked for, if anything is.
+// What is requested, if anything is.
 fn output_of(alloc: Global, words: &[&str]) -> Option<String> {
     let Ok(command) = command(alloc) else {
         return None;
@@ -43,8 +43,8 @@ fn output_of(alloc: Global, words: &[&str]) -> Option<String> {
     let Ok(matches) = command.try_get_matches_from(words) else {
         return None;
     };
-    match asked_for(alloc, &matches) {
-        Ok(Some(asked)) => format!(in alloc; "{:?}", asked.output).ok(),
+    match requested_by(alloc, &matches) {
+        Ok(Some(requested)) => format!(in alloc; "{:?}", requested.output).ok(),
         _ => None,
     }
 }
@@ -74,7 +74,7 @@ const RULES: &[&str] = &[
     "x",
 ];
 
-// What becomes of packets and messages.
+// What becomes of packets and reassemblies.
 #[test]
 fn words_of_rules(rt: HostRuntime) {
     let Ok(command) = command(rt.alloc()) else {
@@ -83,10 +83,14 @@ fn words_of_rules(rt: HostRuntime) {
     let Ok(matches) = command.try_get_matches_from(RULES) else {
         fail(rt, "refused");
     };
-    let Ok(Some(asked)) = asked_for(rt.alloc(), &matches) else {
+    let Ok(Some(requested)) = requested_by(rt.alloc(), &matches) else {
         fail(rt, "no command");
     };
-    let rules = (asked.name, asked.rules.unfit, asked.rules.forget);
+    let rules = (
+        requested.name,
+        requested.rules.unfit,
+        requested.rules.forget,
+    );
     equal(rt, rules, ("x", Unfit::Skip, Some(7)));
 }
 
@@ -95,7 +99,7 @@ fn no_memory_for_conditions(rt: HostRuntime) {
     is_shown_as(
         rt,
         rt.alloc(),
-        &AskError::Memory(AllocError),
+        &RequestError::Memory(AllocError),
         "out of memory",
     );
 }

@@ -1,5 +1,5 @@
-//! The definitions at values from outside: what the formats' standards and the registry of link
-//! types say, worked out by hand, so that a definition can't change with the code.
+//! The definitions at literal values: what the formats' standards and the registry of link types
+//! say, so that a definition can't change with the code.
 
 pub mod links;
 pub mod pcap;

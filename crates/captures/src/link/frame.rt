@@ -4,8 +4,8 @@ ghost use Rattle.std.specs.Prelude.{◌<◌, IfOk, IfSome, None, Some, MatchOpti
 ghost use Rattle.hex.specs.Hex.{encode_lower};
 ghost use Rattle.captures.specs.Framed.{address_at, cooked_type, family_type};
 ghost use Rattle.captures.specs.Framed.{FrameParts, frame_bytes, frame_parts, own_frame, IsBack};
-ghost use Rattle.captures.specs.Framed.{reason_on, told_frame, told_of};
-ghost use Rattle.captures.specs.Framed.{framed_behind, framed_packet, ip_type};
+ghost use Rattle.captures.specs.Framed.{reason_on, reported_frame, reported_of};
+ghost use Rattle.captures.specs.Framed.{framed_after, framed_packet, ip_type};
 ghost use Rattle.captures.specs.Skipping.{counted};
 ghost use Rattle.captures.specs.declared.link.kind.Link.TheVariants.{Null, Loop, Sll, Sll2};
 
@@ -36,8 +36,8 @@ impl<'a> Model for Frame<'a> {
 }
 
 impl<'a> Frame<'a> {
-    /// The header that was made in place of the link's own. There is none where the packet was
-    /// captured as an Ethernet frame.
+    /// The header that replaces the link's own. There is none where the packet was captured as an
+    /// Ethernet frame.
     pub fn header(&self) -> Option<&Header>
         ensures { MatchOption result (self.now.header ≡ None)
             (λ header. self.now.header ≡ Some header.now) }
@@ -45,14 +45,14 @@ impl<'a> Frame<'a> {
         self.header.as_ref()
     }
 
-    /// The whole frame, or what stands behind a header that was made.
+    /// The whole frame, or what follows a header that was made.
     pub fn bytes(&self) -> &'a [u8]
         ensures { result.now ≡ self.now.bytes }
     {
         self.rest
     }
 
-    /// How many bytes the whole frame has, those of a header that was made among them.
+    /// How many bytes the whole frame has, with those of a header that was made.
     pub fn len(&self) -> usize
         ensures { result ≡ length (frame_bytes self.now) }
     {
@@ -69,8 +69,8 @@ impl<'a> Frame<'a> {
         self.header
     }
 
-    /// What stands behind this header, or the whole frame if there is none.
-    pub(crate) fn behind(header: Option<Header>, bytes: &'a [u8]) -> Frame<'a>
+    /// What follows this header, or the whole frame if there is none.
+    pub(crate) fn following(header: Option<Header>, bytes: &'a [u8]) -> Frame<'a>
         ensures { result ≡ record { header = header; bytes = bytes.now } }
     {
         Frame {
@@ -99,7 +99,7 @@ impl<'a> Frame<'a> {
         }
     }
 
-    /// Puts its hex digits behind the first `used` bytes, and tells how many are used then.
+    /// Puts its hex digits after the first `used` bytes, and returns how many are used then.
     #[inline(always)]
     pub(crate) fn append_hex(&self, out: &mut [u8], used: usize) -> usize
         requires { used + 2 * length (frame_bytes self.now) ≤ length out.old }
@@ -109,28 +109,28 @@ impl<'a> Frame<'a> {
     {
         match self.header {
             Some(header) => {
-                let behind = header.append_hex(out, used);
-                append_hex(out, behind, self.rest)
+                let following = header.append_hex(out, used);
+                append_hex(out, following, self.rest)
             }
             None => append_hex(out, used, self.rest),
         }
     }
 }
 
-/// What is told of a packet of such a link, if it isn't refused, and what is known of those passed
+/// What is reported of a packet of such a link, if it isn't refused, and the counts of those passed
 /// over then: its frame, or no bytes where it is passed over.
 #[inline(always)]
-pub(crate) fn tell<'a>(passing: &mut Passing, link: Link, packet: &'a [u8]) -> Option<Frame<'a>>
-    ensures told { MatchOption result
-        ((told_frame passing.old.unfit link packet.now ≡ None) × (passing.new ≡ passing.old))
-        (λ frame. (told_frame passing.old.unfit link packet.now ≡ Some (frame_bytes frame))
+pub(crate) fn report<'a>(passing: &mut Passing, link: Link, packet: &'a [u8]) -> Option<Frame<'a>>
+    ensures reported { MatchOption result
+        ((reported_frame passing.old.unfit link packet.now ≡ None) × (passing.new ≡ passing.old))
+        (λ frame. (reported_frame passing.old.unfit link packet.now ≡ Some (frame_bytes frame))
         × (passing.new ≡ counted passing.old link packet.now)) }
     ensures parts { IfSome result (λ frame. 0 < length (frame_bytes frame)
         → frame_parts link packet.now ≡ Some frame) }
     ensures back { IfSome result (λ frame. IsBack packet.now frame.bytes) }
     ensures size { IfSome result (λ frame. length (frame_bytes frame) ≤ length packet.now + 14) }
 {
-    match told(link, packet) {
+    match reported(link, packet) {
         Ok(frame) => Some(frame),
         Err(reason) => match passing.unfit {
             Unfit::Refuse => None,
@@ -144,10 +144,10 @@ pub(crate) fn tell<'a>(passing: &mut Passing, link: Link, packet: &'a [u8]) -> O
 
 // The frame of a packet of such a link, or why it has none that a line can hold.
 #[inline(always)]
-fn told(link: Link, packet: &[u8]) -> Result<Frame<'_>, Reason>
-    ensures told { MatchResult result
-        (λ frame. told_of link packet.now ≡ Ok (frame_bytes frame))
-        (λ reason. told_of link packet.now ≡ Err reason) }
+fn reported(link: Link, packet: &[u8]) -> Result<Frame<'_>, Reason>
+    ensures reported { MatchResult result
+        (λ frame. reported_of link packet.now ≡ Ok (frame_bytes frame))
+        (λ reason. reported_of link packet.now ≡ Err reason) }
     ensures parts { IfOk result (λ frame. frame_parts link packet.now ≡ Some frame) }
     ensures back { IfOk result (λ frame. IsBack packet.now frame.bytes) }
     ensures size { IfOk result (λ frame. length (frame_bytes frame) ≤ length packet.now + 14) }
@@ -189,7 +189,7 @@ fn frame_of(link: Link, packet: &[u8]) -> Option<Frame<'_>>
     }
     match link {
         Link::Ethernet => Some(Frame::of(packet)),
-        Link::Ip => framed_behind([0; 6], ip_type(packet), packet),
+        Link::Ip => framed_after([0; 6], ip_type(packet), packet),
         Link::Null => framed_null(packet),
         Link::Loop => framed_loop(packet),
         Link::Sll => framed_sll(packet),
@@ -210,7 +210,7 @@ fn framed_null(packet: &[u8]) -> Option<Frame<'_>>
     } else {
         ByteOrder::Big.word(packet, 0)
     };
-    framed_behind([0; 6], family_type(family), &packet[4..])
+    framed_after([0; 6], family_type(family), &packet[4..])
 }
 
 fn framed_loop(packet: &[u8]) -> Option<Frame<'_>>
@@ -219,7 +219,7 @@ fn framed_loop(packet: &[u8]) -> Option<Frame<'_>>
     if packet.len() < 4 {
         return None;
     }
-    framed_behind(
+    framed_after(
         [0; 6],
         family_type(ByteOrder::Big.word(packet, 0)),
         &packet[4..],
@@ -235,7 +235,7 @@ fn framed_sll(packet: &[u8]) -> Option<Frame<'_>>
     let source = address_at(ByteOrder::Big.half(packet, 4), packet, 6);
     let hardware = ByteOrder::Big.half(packet, 2);
     let ether_type = cooked_type(hardware, ByteOrder::Big.half(packet, 14));
-    framed_behind(source, ether_type, &packet[16..])
+    framed_after(source, ether_type, &packet[16..])
 }
 
 fn framed_sll2(packet: &[u8]) -> Option<Frame<'_>>
@@ -247,12 +247,12 @@ fn framed_sll2(packet: &[u8]) -> Option<Frame<'_>>
     let source = address_at(u16::from(packet[11]), packet, 12);
     let hardware = ByteOrder::Big.half(packet, 8);
     let ether_type = cooked_type(hardware, ByteOrder::Big.half(packet, 0));
-    framed_behind(source, ether_type, &packet[20..])
+    framed_after(source, ether_type, &packet[20..])
 }
 
-// A header with this source and ether type, and the bytes behind it.
-fn framed_behind(source: [u8; 6], ether_type: Option<u16>, rest: &[u8]) -> Option<Frame<'_>>
-    ensures { result ≡ framed_behind source ether_type rest.now }
+// A header with this source and ether type, and the bytes after it.
+fn framed_after(source: [u8; 6], ether_type: Option<u16>, rest: &[u8]) -> Option<Frame<'_>>
+    ensures { result ≡ framed_after source ether_type rest.now }
 {
     let ether_type = ether_type?;
     Some(Frame {
@@ -297,7 +297,7 @@ fn cooked_type(hardware: u16, protocol: u16) -> Option<u16>
     }
 }
 
-// The address at a place of so many bytes, if these are six.
+// The address at an offset, if its length is six bytes; else zeros.
 fn address_at(len: u16, bytes: &[u8], at: usize) -> [u8; 6]
     requires { at + 6 ≤ length bytes.now }
     ensures { result ≡ address_at len bytes.now at }

@@ -1,4 +1,4 @@
-//! The Ethernet II header that is made in place of a link's own.
+//! The Ethernet II header that replaces a link's own.
 ghost use Rattle.std.specs.Prelude.{◌≡◌, ◌≤◌, ◌+◌, ◌*◌, ◌++◌, ◌∷◌, [], length, take};
 ghost use Rattle.hex.specs.Hex.{encode_lower};
 ghost use Rattle.captures.specs.Framed.{ethernet_header};
@@ -10,12 +10,12 @@ pub(crate) const HEADER_LEN: usize = 14;
 
 const BLOCK_LEN: usize = 16;
 
-/// An Ethernet II header that is made in place of a link's own. Its destination is zeros.
+/// An Ethernet II header that replaces a link's own. Its destination is zeros.
 #[derive(Clone, Copy, Debug, PartialEq, Eq)]
 pub struct Header {
-    /// The sender's address, zeros where the link tells none of six bytes.
+    /// The sender's address, zeros where the link gives none of six bytes.
     pub source: [u8; 6],
-    /// What follows the header.
+    /// The type of what follows the header.
     pub ether_type: u16,
 }
 
@@ -27,7 +27,7 @@ impl Header {
         HEADER_LEN
     }
 
-    /// Puts its hex digits behind the first `used` bytes, and tells how many are used then.
+    /// Puts its hex digits after the first `used` bytes, and returns how many are used then.
     #[inline(never)]
     pub(crate) fn append_hex(self, out: &mut [u8], used: usize) -> usize
         requires { used + 2 * length (ethernet_header self.source self.ether_type) ≤ length out.old }
@@ -40,7 +40,7 @@ impl Header {
         append(out, used, &digits[..2 * HEADER_LEN])
     }
 
-    // Its bytes, and zeros behind them: a block is encoded at once.
+    // Its bytes, and zeros after them: a block is encoded at once.
     fn block(&self) -> [u8; BLOCK_LEN]
         ensures { result ≡ ethernet_header self.now.source self.now.ether_type ++ 0 ∷ 0 ∷ [] }
     {

@@ -64,7 +64,7 @@ impl Link {
         }
     }
 
-    /// How many bytes may be captured of a packet that is told or passed over.
+    /// How many bytes may be captured of a packet that is reported or passed over.
     pub(crate) fn taken_limit(self, unfit: Unfit) -> usize
         ensures { result ≡ taken_limit unfit self }
     {

@@ -1,9 +1,9 @@
-//! The unit at the front of some bytes of a capture: a file header, or a packet record.
+//! The unit at the start of some bytes of a capture: a file header, a packet record, or a block.
 ghost use Rattle.std.specs.Prelude.{◌≡◌, ◌≤◌, ◌+◌, ◌*◌, ℕ, List, length, IfOk, IfErr, IfSome};
 ghost use Rattle.std.specs.Prelude.{MatchOption, ◌↔◌, IsTrue};
 ghost use Rattle.captures.specs.Pcap.{IsFileHeader, is_magic};
 ghost use Rattle.captures.specs.Framed.{frame_bytes};
-ghost use Rattle.captures.specs.Units.{IsBegun, Refuses, HasPacket, BeginsSection, StandsAt};
+ghost use Rattle.captures.specs.Units.{IsIncomplete, Refuses, HasPacket, BeginsSection, StandsAt};
 ghost use Rattle.captures.specs.Units.{record_origin};
 ghost use Rattle.captures.specs.declared.byte_order.ByteOrder.{ByteOrder};
 ghost use Rattle.captures.specs.declared.translation.state.State.TheVariants.{Start, Classic};
@@ -11,7 +11,7 @@ ghost use Rattle.captures.specs.declared.translation.state.State.TheVariants.{St
 use crate::CaptureError;
 use crate::byte_order::ByteOrder;
 use crate::limits::FIRST_UNIT_LEN;
-use crate::link::frame::{Frame, tell};
+use crate::link::frame::{Frame, report};
 use crate::link::kind::Link;
 use crate::origin::Origin;
 use crate::pcapng::block::{BYTE_ORDER_MAGIC, SECTION_HEADER};
@@ -31,7 +31,7 @@ pub(crate) struct Unit<'a> {
     pub origin: Origin,
     /// The link that it was captured on.
     pub link: Link,
-    /// So many bytes of the unit are in front of those of the frame.
+    /// How many bytes of the unit come before those of the frame.
     pub at: usize,
     /// The packet's frame: no bytes where the unit has no packet, where none were captured, and
     /// where it is passed over.
@@ -39,14 +39,14 @@ pub(crate) struct Unit<'a> {
     pub rest: &'a [u8],
 }
 
-/// The unit at the front of the bytes, and what the capture is known to be after it. There is none
-/// where more bytes are wanted.
-pub(crate) fn front_unit<'a>(
+/// The unit at the start of the bytes, and the state of the capture after it. There is none where
+/// bytes are missing.
+pub(crate) fn next_unit<'a>(
     state: &mut State,
     bytes: &'a [u8],
 ) -> Result<Option<Unit<'a>>, CaptureError>
     ensures found { IfOk result
-        (λ found. MatchOption found (IsBegun state.old bytes.now × (state.new ≡ state.old))
+        (λ found. MatchOption found (IsIncomplete state.old bytes.now × (state.new ≡ state.old))
         (λ u. HasPacket state.old bytes.now state.new u.origin u.link u.frame u.rest.now)) }
     ensures at { IfOk result
         (λ found. IfSome found (λ u. StandsAt bytes.now u.at u.frame.bytes)) }
@@ -74,7 +74,7 @@ fn first_unit<'a>(
 ) -> Result<Option<Unit<'a>>, CaptureError>
     requires { state.old ≡ Start unfit }
     ensures found { IfOk result
-        (λ found. MatchOption found (IsBegun (Start unfit) bytes.now × (state.new ≡ state.old))
+        (λ found. MatchOption found (IsIncomplete (Start unfit) bytes.now × (state.new ≡ state.old))
         (λ u. HasPacket (Start unfit) bytes.now state.new u.origin u.link u.frame
         u.rest.now)) }
     ensures at { IfOk result
@@ -102,7 +102,7 @@ fn first_block<'a>(
     requires size { FIRST_UNIT_LEN ≤ length bytes.now }
     requires begins { BeginsSection bytes.now }
     ensures found { IfOk result
-        (λ found. MatchOption found (IsBegun (Start unfit) bytes.now × (state.new ≡ state.old))
+        (λ found. MatchOption found (IsIncomplete (Start unfit) bytes.now × (state.new ≡ state.old))
         (λ u. HasPacket (Start unfit) bytes.now state.new u.origin u.link u.frame
         u.rest.now)) }
     ensures at { IfOk result
@@ -132,7 +132,7 @@ fn file_header<'a>(
     requires size { FIRST_UNIT_LEN ≤ length bytes.now }
     requires other { BeginsSection bytes.now → ⊥ }
     ensures found { IfOk result
-        (λ found. MatchOption found (IsBegun (Start unfit) bytes.now × (state.new ≡ state.old))
+        (λ found. MatchOption found (IsIncomplete (Start unfit) bytes.now × (state.new ≡ state.old))
         (λ u. HasPacket (Start unfit) bytes.now state.new u.origin u.link u.frame
         u.rest.now)) }
     ensures at { IfOk result
@@ -213,7 +213,7 @@ fn packet_record<'a>(
 ) -> Result<Option<Unit<'a>>, CaptureError>
     ensures found { IfOk result
         (λ found. MatchOption found
-        (IsBegun (Classic order time_unit link passing.old) bytes.now
+        (IsIncomplete (Classic order time_unit link passing.old) bytes.now
         × (passing.new ≡ passing.old))
         (λ u. HasPacket (Classic order time_unit link passing.old) bytes.now
         (Classic order time_unit link passing.new) u.origin u.link u.frame u.rest.now)) }
@@ -238,7 +238,7 @@ fn packet_record<'a>(
         return Ok(None);
     }
     let (packet, rest) = body.split_at(captured as usize);
-    let Some(frame) = tell(passing, link, packet) else {
+    let Some(frame) = report(passing, link, packet) else {
         return Err(CaptureError::NoFrame);
     };
     Ok(Some(Unit {

@@ -1,12 +1,12 @@
 //! Classic captures, written.
 ghost use Rattle.std.specs.Prelude.{◌≡◌, ◌≤◌, ◌++◌, length};
-ghost use Rattle.runs.specs.Writes.{Delivers};
+ghost use Rattle.device_runs.specs.Writes.{Delivers};
 ghost use Rattle.captures.specs.Endings.{ending_of};
-ghost use Rattle.captures.specs.Spelling.{file_header, record_head};
+ghost use Rattle.captures.specs.Encoding.{file_header, record_head};
 ghost use Rattle.captures.specs.declared.time.time_unit.TimeUnit.TheVariants.{Microseconds};
 
 use crate::{FRAME_LIMIT, RunError, TimeUnit};
-use runs::{Device, write_whole};
+use device_runs::{Device, write_whole};
 
 /// The file header: low byte first, with times in this unit: version 2.4, a snap length of 262,144,
 /// Ethernet.
@@ -61,7 +61,7 @@ impl<D: Device> Writer<D> {
     }
 }
 
-/// The head of a packet record, for a frame of so many bytes that was captured whole.
+/// The head of a packet record, for a frame of `len` bytes that was captured whole.
 pub(crate) fn record_head(seconds: u32, parts: u32, len: u32) -> [u8; 16]
     ensures { result ≡ record_head seconds parts len }
 {

@@ -15,7 +15,7 @@ ghost use Rattle.captures.specs.declared.link.kind.Link.{Link};
 
 use crate::CaptureError;
 use crate::byte_order::ByteOrder;
-use crate::link::frame::{Frame, tell};
+use crate::link::frame::{Frame, report};
 use crate::link::kind::Link;
 use crate::origin::Origin;
 use crate::pcapng::section::{CLOCK_COUNT, ETHERNET, LINKED_INTERFACES, Section};
@@ -33,19 +33,19 @@ const SIMPLE_PACKET: u32 = 3;
 
 const ENHANCED_PACKET: u32 = 6;
 
-/// Whether a block with this front is skipped, whatever it holds.
-pub(crate) fn is_skipped(order: ByteOrder, front: &[u8]) -> bool
-    requires { 12 ≤ length front.now }
-    ensures { IsTrue result ↔ IsSkipped order front.now }
+/// Whether a block that begins so is skipped, whatever it holds.
+pub(crate) fn is_skipped(order: ByteOrder, prefix: &[u8]) -> bool
+    requires { 12 ≤ length prefix.now }
+    ensures { IsTrue result ↔ IsSkipped order prefix.now }
 {
-    ByteOrder::Big.word(front, 0) != SECTION_HEADER && is_other(order, front)
+    ByteOrder::Big.word(prefix, 0) != SECTION_HEADER && is_other(order, prefix)
 }
 
-fn is_other(order: ByteOrder, front: &[u8]) -> bool
-    requires { 12 ≤ length front.now }
-    ensures { IsTrue result ↔ IsOther order front.now }
+fn is_other(order: ByteOrder, prefix: &[u8]) -> bool
+    requires { 12 ≤ length prefix.now }
+    ensures { IsTrue result ↔ IsOther order prefix.now }
 {
-    let kind = order.word(front, 0);
+    let kind = order.word(prefix, 0);
     kind != SECTION_HEADER
         && kind != INTERFACE_DESCRIPTION
         && kind != ENHANCED_PACKET
@@ -58,7 +58,7 @@ fn is_other(order: ByteOrder, front: &[u8]) -> bool
 pub(crate) struct Reading<'a> {
     pub origin: Origin,
     pub link: Link,
-    /// So many bytes of the block are in front of those of the frame.
+    /// How many bytes of the block come before those of the frame.
     pub at: usize,
     pub frame: Frame<'a>,
 }
@@ -242,8 +242,8 @@ fn first_snap_len(section: &Section, described: u32) -> u32
     }
 }
 
-// A packet's bytes, how many they are and how many are in front of them in the block, where and
-// when it was captured, and on which link.
+// A packet's bytes, how many they are and how many come before them in the block, where and when it
+// was captured, and on which link.
 #[derive(Drop)]
 struct Held<'a> {
     origin: Origin,
@@ -276,7 +276,7 @@ fn read_packet<'a>(
     if held.captured as usize > held.link.taken_limit(section.passing.unfit) {
         return Err(CaptureError::FrameTooLong(held.captured));
     }
-    let Some(frame) = tell(&mut section.passing, held.link, held.packet) else {
+    let Some(frame) = report(&mut section.passing, held.link, held.packet) else {
         return Err(CaptureError::NoFrame);
     };
     Ok(Reading {

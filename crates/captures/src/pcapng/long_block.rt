@@ -1,11 +1,11 @@
 //! A block that is skipped, and that is longer than what a run holds of its input.
 ghost use Rattle.std.specs.Prelude.{◌≡◌, ◌≤◌, ◌<◌, List, ℕ, length, MatchOption, Some};
-ghost use Rattle.captures.specs.Dropped.{ComesBehind, IsDropped, IsWithin};
-ghost use Rattle.captures.specs.Units.{IsBegun};
+ghost use Rattle.captures.specs.Dropped.{ComesAfter, IsDropped, IsWithin};
+ghost use Rattle.captures.specs.Units.{IsIncomplete};
 ghost use Rattle.captures.specs.declared.translation.state.State.{State};
 
 use crate::byte_order::ByteOrder;
-use crate::limits::{BLOCK_LIMIT, INPUT_ROOM};
+use crate::limits::{BLOCK_LIMIT, INPUT_CAPACITY};
 use crate::pcapng::block::is_skipped;
 use crate::pcapng::section_unit::BLOCK_MIN_LEN;
 use crate::translation::state::State;
@@ -13,7 +13,7 @@ use crate::translation::state::State;
 /// The bytes of a block's second length.
 const SECOND_LEN: usize = 4;
 
-/// Such a block, after a front of it.
+/// Such a block, after a prefix of it.
 #[derive(Clone, Copy)]
 pub(crate) struct LongBlock {
     pub order: ByteOrder,
@@ -23,47 +23,47 @@ pub(crate) struct LongBlock {
     pub left: u32,
 }
 
-/// What becomes of the bytes that come behind the front of a long block.
+/// What happens to the bytes that follow the prefix of a long block.
 #[derive(Clone, Copy)]
-pub(crate) enum Behind {
-    /// It isn't whole yet. So many of them are held, of its second length.
+pub(crate) enum Following {
+    /// It isn't whole yet. This many of them are held, of its second length.
     Held(LongBlock, usize),
-    /// Its second length, of which so many bytes are left from there on, is another.
+    /// Its second length is another one. This many bytes are left from there on.
     Refused(LongBlock, usize),
-    /// So many follow it.
+    /// This many follow it.
     Passed(usize),
 }
 
 impl LongBlock {
     /// Drops what these bytes have of the block, as far as its second length.
-    pub(crate) fn behind(self, bytes: &[u8]) -> Behind
+    pub(crate) fn following(self, bytes: &[u8]) -> Following
         ensures comes { (state : State) (dropped : List ℕ) → IsDropped state (Some self) dropped
-            → ComesBehind state self dropped bytes.now result }
+            → ComesAfter state self dropped bytes.now result }
         ensures within { IsWithin (length bytes.now) result }
     {
         let dropped = bytes.len().min(self.left as usize);
         let (_, rest) = bytes.split_at(dropped);
-        let begun = LongBlock {
+        let started = LongBlock {
             order: self.order,
             kind: self.kind,
             len: self.len,
             left: self.left - dropped as u32,
         };
         if rest.len() < SECOND_LEN {
-            return Behind::Held(begun, rest.len());
+            return Following::Held(started, rest.len());
         }
         if self.order.word(rest, 0) != self.len {
-            return Behind::Refused(begun, rest.len());
+            return Following::Refused(started, rest.len());
         }
-        Behind::Passed(rest.len() - SECOND_LEN)
+        Following::Passed(rest.len() - SECOND_LEN)
     }
 }
 
-/// Such a block, of which these bytes are the front, if they begin one.
+/// Such a block, of which these bytes are a prefix, if they begin one.
 pub(crate) fn long_block(state: State, bytes: &[u8]) -> Option<LongBlock>
-    requires begun { IsBegun state bytes.now }
-    requires size { length bytes.now ≤ INPUT_ROOM }
-    ensures { MatchOption result (length bytes.now < INPUT_ROOM)
+    requires started { IsIncomplete state bytes.now }
+    requires size { length bytes.now ≤ INPUT_CAPACITY }
+    ensures { MatchOption result (length bytes.now < INPUT_CAPACITY)
         (λ block. IsDropped state (Some block) bytes.now) }
 {
     let State::Pcapng(section) = state else {

@@ -11,10 +11,10 @@ use crate::unfit::Unfit;
 /// The link type of Ethernet frames.
 pub(crate) const ETHERNET: u16 = 1;
 
-/// So many interfaces of a section may have any link that is read, and those behind them Ethernet.
+/// How many interfaces of a section may have any link that is read. Those after them have Ethernet.
 pub(crate) const LINKED_INTERFACES: usize = 32;
 
-/// So many clocks are known: those of these interfaces, and one that all behind them share.
+/// How many clocks are known: those of these interfaces, and one that all after them share.
 pub(crate) const CLOCK_COUNT: usize = LINKED_INTERFACES + 1;
 
 /// What is known of a section after some of its blocks.
@@ -27,15 +27,16 @@ pub(crate) struct Section {
     pub interfaces: u32,
     /// The snap length of its first interface, 0 for no limit.
     pub snap_len: u32,
-    /// The links of its first interfaces. Of those that aren't described yet nothing is told.
+    /// The links of its first interfaces. The values for those that aren't described yet have no
+    /// meaning.
     pub links: [Link; LINKED_INTERFACES],
-    /// Their clocks, and that of the last one behind them.
+    /// Their clocks, and that of the last one after them.
     pub clocks: [Clock; CLOCK_COUNT],
-    /// What becomes of its packets that can't be told.
+    /// What happens to its packets that can't be reported.
     pub passing: Passing,
 }
 
-/// Before the first block of a file: no interface is described, and any byte order serves.
+/// Before the first block of a file: no interface is described, and the byte order has no effect.
 pub(crate) fn no_section(unfit: Unfit) -> Section
     ensures { result ≡ no_section unfit }
 {

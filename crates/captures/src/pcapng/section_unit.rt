@@ -1,9 +1,9 @@
-//! The block at the front of some bytes of a section.
+//! The block at the start of some bytes of a section.
 ghost use Rattle.std.specs.Prelude.{◌≡◌, ◌≤◌, ◌+◌, ◌*◌, ◌↔◌, IsTrue, length, IfOk, IfErr, IfSome};
 ghost use Rattle.std.specs.Prelude.{MatchOption};
 ghost use Rattle.captures.specs.Pcapng.{HasOrder, IsTaken};
 ghost use Rattle.captures.specs.Framed.{frame_bytes};
-ghost use Rattle.captures.specs.Units.{IsBegun, RefusesAt, HasPacket, StandsAt};
+ghost use Rattle.captures.specs.Units.{IsIncomplete, RefusesAt, HasPacket, StandsAt};
 ghost use Rattle.captures.specs.declared.byte_order.ByteOrder.{ByteOrder};
 ghost use Rattle.captures.specs.declared.translation.state.State.TheVariants.{Pcapng};
 
@@ -17,8 +17,8 @@ use crate::pcapng::section::Section;
 /// The bytes of the shortest block.
 pub(crate) const BLOCK_MIN_LEN: usize = 12;
 
-/// The block at the front of the bytes, and what is known of the section after it. There is none
-/// where more bytes are wanted.
+/// The block at the start of the bytes, and what is known of the section after it. There is none
+/// where bytes are missing.
 #[inline(always)]
 pub(crate) fn section_unit<'a>(
     section: &mut Section,
@@ -26,7 +26,7 @@ pub(crate) fn section_unit<'a>(
 ) -> Result<Option<Unit<'a>>, CaptureError>
     ensures found { IfOk result
         (λ found. MatchOption found
-        (IsBegun (Pcapng section.old) bytes.now × (section.new ≡ section.old))
+        (IsIncomplete (Pcapng section.old) bytes.now × (section.new ≡ section.old))
         (λ u. HasPacket (Pcapng section.old) bytes.now (Pcapng section.new) u.origin u.link u.frame
         u.rest.now)) }
     ensures at { IfOk result

@@ -1,13 +1,13 @@
-//! What stands at the front of what a reader holds, without a borrow of it.
+//! What is at the start of what a reader holds, without a borrow of it.
 ghost use Rattle.captures.specs.Readers.{IsAhead};
 
 use crate::CaptureError;
 use crate::link::header::Header;
 use crate::link::kind::Link;
-use crate::reading::front::{Front, front_packet};
+use crate::reading::prefix::{FirstPacket, first_packet};
 use crate::translation::state::State;
 
-/// A packet but for the bytes behind its header.
+/// A packet but for the bytes after its header.
 #[derive(Clone, Copy)]
 pub(crate) struct Found {
     pub interface: u32,
@@ -16,16 +16,16 @@ pub(crate) struct Found {
     pub header: Option<Header>,
 }
 
-/// What stands at the front of some bytes.
+/// What is at the start of some bytes.
 #[derive(Clone, Copy)]
 pub(crate) struct Ahead {
     /// The first packet, if it is whole.
     pub found: Option<Found>,
-    /// So many of the bytes are left from those behind its header on.
+    /// How many of the bytes are left from those after its header on.
     pub from: usize,
-    /// So many these are.
+    /// How many bytes these are.
     pub len: usize,
-    /// So many follow its unit, or the units that hold no packet.
+    /// How many bytes follow its unit, or the units that hold no packet.
     pub left: usize,
     /// Why no unit can follow.
     pub refusal: Option<CaptureError>,
@@ -35,12 +35,12 @@ pub(crate) struct Ahead {
 pub(crate) fn look_ahead(state: &mut State, bytes: &[u8]) -> Ahead
     ensures { IsAhead state.old bytes.now state.new result }
 {
-    let Front {
+    let FirstPacket {
         packet,
         from,
         rest,
         refusal,
-    } = front_packet(state, bytes);
+    } = first_packet(state, bytes);
     let left = rest.len();
     match packet {
         Some(packet) => Ahead {

@@ -4,19 +4,19 @@ ghost use Rattle.std.specs.Prelude.{true, false, Some, None};
 ghost use Rattle.std.specs.Io.KnownBytes.{Consumes};
 ghost use Rattle.captures.specs.Dropped.{IsDropped};
 ghost use Rattle.captures.specs.Numbers.{capped};
-ghost use Rattle.captures.specs.Places.{block_type};
-ghost use Rattle.captures.specs.Readers.{ComesTo, EndsBy, FindsFront, HasRead, HeldTo, IsBeside};
+ghost use Rattle.captures.specs.Positions.{block_type};
+ghost use Rattle.captures.specs.Readers.{ComesTo, EndsBy, FindsPacket, HasRead, HeldTo, IsBeside};
 ghost use Rattle.captures.specs.Readers.{IsRefusedWith, again, packet_at, skipped_by, source_of};
 ghost use Rattle.captures.specs.Runs.{fault_at_end};
-ghost use Rattle.captures.specs.declared.limits.TheConstants.{INPUT_ROOM};
+ghost use Rattle.captures.specs.declared.limits.TheConstants.{INPUT_CAPACITY};
 ghost use Rattle.captures.specs.declared.packet.Packet.{Packet};
 ghost use Rattle.captures.specs.declared.reading.read_error.ReadError.{ReadError};
 ghost use Rattle.captures.specs.declared.unfit.Unfit.{Unfit};
 
 use crate::link::frame::Frame;
 use crate::packet::Packet;
-use crate::pcapng::long_block::{Behind, LongBlock, long_block};
-use crate::place::{Place, place_of};
+use crate::pcapng::long_block::{Following, LongBlock, long_block};
+use crate::position::{Position, position_of};
 use crate::reading::ahead::{Found, look_ahead};
 use crate::reading::read_error::ReadError;
 use crate::reading::window::Window;
@@ -29,10 +29,10 @@ use std::io::Read;
 /// Reads the packets of a capture, one after the other, with one buffer of
 /// [`BLOCK_LIMIT`](crate::BLOCK_LIMIT) bytes.
 ///
-/// A packet of which no byte was captured is not among them, and one that can't be told ends them
-/// or is passed over, as [`Unfit`] says. A read that gives nothing tells the end. Once there is no
-/// further packet, each call answers as the last one did and reads nothing. Any fault that a read
-/// answers ends the packets, an interrupted call too.
+/// A packet of which no byte was captured is not among them, and one that can't be reported ends
+/// them or is passed over, as [`Unfit`] says. A read that gives nothing reports the end. Once there
+/// is no further packet, each call returns the same as the last one did and reads nothing. Any
+/// fault of a read ends the packets, an interrupted call too.
 #[derive(Drop)]
 pub struct PacketReader<R> {
     reader: R,
@@ -41,8 +41,8 @@ pub struct PacketReader<R> {
     // What is held of the input, and the marked bytes of the packet that was found.
     window: Window,
     state: State,
-    // A long block that is begun, of which nothing is held.
-    begun: Option<LongBlock>,
+    // A long block that is started, of which nothing is held.
+    started: Option<LongBlock>,
     // How many packets were given.
     count: u64,
     // How many bytes were passed: those of whole units.
@@ -64,7 +64,7 @@ impl<R: Read + Drop> PacketReader<R> {
             reads: 0,
             window: Window::new(alloc)?,
             state: State::Start(unfit),
-            begun: None,
+            started: None,
             count: 0,
             passed: 0,
             found: None,
@@ -83,7 +83,7 @@ impl<R: Read + Drop> PacketReader<R> {
         }
     }
 
-    /// Goes on to the next packet, and tells whether there is one.
+    /// Advances to the next packet, and returns whether there is one.
     pub fn advance(&mut self) -> Result<bool, ReadError>
         ensures comes { (unfit : Unfit) (read : List ℕ) (given : List Packet)
             → HasRead unfit self.old read given → (more : List ℕ)
@@ -102,7 +102,7 @@ impl<R: Read + Drop> PacketReader<R> {
         }
         self.found = None;
         'reads: loop {
-            match self.take_front() {
+            match self.take_next() {
                 Ok(true) => return Ok(true),
                 Ok(false) => {}
                 Err(error) => return self.refuse(error),
@@ -118,7 +118,7 @@ impl<R: Read + Drop> PacketReader<R> {
         }
     }
 
-    /// The packet that the last call went on to, if it did.
+    /// The packet that the last call advanced to, if it did.
     pub fn packet(&self) -> Option<Packet<'_>>
         ensures { result ≡ packet_at self.now }
     {
@@ -127,13 +127,13 @@ impl<R: Read + Drop> PacketReader<R> {
             interface: found.interface,
             time: found.time,
             link: found.link,
-            frame: Frame::behind(found.header, self.window.marked()),
+            frame: Frame::following(found.header, self.window.marked()),
         })
     }
 
-    /// Goes on to the next packet if it is held whole, and tells whether it is. Nothing is read: so
-    /// a caller does what is due before a read that may wait, and goes on by
-    /// [`PacketReader::advance`]. Where it is not, the reader stands at no packet.
+    /// Advances to the next packet if it is held whole, and returns whether it is. Nothing is read:
+    /// so a caller does what is due before a read that may wait, and continues by
+    /// [`PacketReader::advance`]. Where it is not, the reader has no current packet.
     pub fn advance_held(&mut self) -> Result<bool, ReadError>
         ensures source { source_of self.new ≡ source_of self.old }
         ensures comes { (unfit : Unfit) (read : List ℕ) (given : List Packet)
@@ -148,7 +148,7 @@ impl<R: Read + Drop> PacketReader<R> {
             return Ok(false);
         }
         self.found = None;
-        match self.take_front() {
+        match self.take_next() {
             Ok(found) => Ok(found),
             Err(error) => self.refuse(error),
         }
@@ -169,42 +169,42 @@ impl<R: Read + Drop> PacketReader<R> {
         self.passed
     }
 
-    // Finds the packet at the front of what is held, and tells whether it is there. Units without
-    // one in front of it are passed, and what a long block has of it is dropped.
-    fn take_front(&mut self) -> Result<bool, CaptureError>
+    // Finds the packet at the start of what is held, and returns whether it is there. Units without
+    // one before it are passed, and what a long block has of it is dropped.
+    fn take_next(&mut self) -> Result<bool, CaptureError>
         ensures finds { (unfit : Unfit) (read : List ℕ) (given : List Packet)
-            → HasRead unfit self.old read given → FindsFront unfit self.new read given result }
-        ensures room { result ≡ Ok false → length self.new.window.held < INPUT_ROOM }
+            → HasRead unfit self.old read given → FindsPacket unfit self.new read given result }
+        ensures room { result ≡ Ok false → length self.new.window.held < INPUT_CAPACITY }
         ensures same { IsBeside self.old self.new }
         ensures none { (result ≡ Ok true → ⊥) → self.new.found ≡ self.old.found }
     {
-        match self.begun {
-            Some(block) => self.take_behind(block),
+        match self.started {
+            Some(block) => self.take_after(block),
             None => self.take_packet(),
         }
     }
 
-    fn take_behind(&mut self, block: LongBlock) -> Result<bool, CaptureError>
-        requires { self.old.begun ≡ Some block }
+    fn take_after(&mut self, block: LongBlock) -> Result<bool, CaptureError>
+        requires { self.old.started ≡ Some block }
         ensures finds { (unfit : Unfit) (read : List ℕ) (given : List Packet)
-            → HasRead unfit self.old read given → FindsFront unfit self.new read given result }
-        ensures room { result ≡ Ok false → length self.new.window.held < INPUT_ROOM }
+            → HasRead unfit self.old read given → FindsPacket unfit self.new read given result }
+        ensures room { result ≡ Ok false → length self.new.window.held < INPUT_CAPACITY }
         ensures same { IsBeside self.old self.new }
         ensures none { (result ≡ Ok true → ⊥) → self.new.found ≡ self.old.found }
     {
-        match block.behind(self.window.held()) {
-            Behind::Held(begun, left) => {
-                self.begun = Some(begun);
+        match block.following(self.window.held()) {
+            Following::Held(started, left) => {
+                self.started = Some(started);
                 self.window.keep(left);
                 Ok(false)
             }
-            Behind::Refused(begun, left) => {
-                self.begun = Some(begun);
+            Following::Refused(started, left) => {
+                self.started = Some(started);
                 self.window.keep(left);
                 Err(CaptureError::BadBlock)
             }
-            Behind::Passed(left) => {
-                self.begun = None;
+            Following::Passed(left) => {
+                self.started = None;
                 self.passed = self.passed.saturating_add(u64::from(block.len));
                 self.window.keep(left);
                 self.take_packet()
@@ -213,10 +213,10 @@ impl<R: Read + Drop> PacketReader<R> {
     }
 
     fn take_packet(&mut self) -> Result<bool, CaptureError>
-        requires { self.old.begun ≡ None }
+        requires { self.old.started ≡ None }
         ensures finds { (unfit : Unfit) (read : List ℕ) (given : List Packet)
-            → HasRead unfit self.old read given → FindsFront unfit self.new read given result }
-        ensures room { result ≡ Ok false → length self.new.window.held < INPUT_ROOM }
+            → HasRead unfit self.old read given → FindsPacket unfit self.new read given result }
+        ensures room { result ≡ Ok false → length self.new.window.held < INPUT_CAPACITY }
         ensures same { IsBeside self.old self.new }
         ensures none { (result ≡ Ok true → ⊥) → self.new.found ≡ self.old.found }
     {
@@ -236,7 +236,7 @@ impl<R: Read + Drop> PacketReader<R> {
         }
         match long_block(self.state, self.window.held()) {
             Some(block) => {
-                self.begun = Some(block);
+                self.started = Some(block);
                 self.window.keep(0);
                 Ok(false)
             }
@@ -244,17 +244,17 @@ impl<R: Read + Drop> PacketReader<R> {
         }
     }
 
-    fn place(&self) -> Place
+    fn position(&self) -> Position
         ensures packet { result.packet ≡ capped (self.now.count + 1) }
         ensures offset { result.offset ≡ self.now.passed }
-        ensures block { (dropped : List ℕ) → IsDropped self.now.state self.now.begun dropped
+        ensures block { (dropped : List ℕ) → IsDropped self.now.state self.now.started dropped
             → result.block ≡ block_type self.now.state (dropped ++ self.now.window.held) }
     {
-        place_of(
+        position_of(
             self.count,
             self.passed,
             self.state,
-            self.begun,
+            self.started,
             self.window.held(),
         )
     }
@@ -262,16 +262,16 @@ impl<R: Read + Drop> PacketReader<R> {
     fn refuse(&mut self, error: CaptureError) -> Result<bool, ReadError>
         ensures { IsRefusedWith self.old self.new error result }
     {
-        self.stop(ReadError::Capture(error, self.place()))
+        self.stop(ReadError::Capture(error, self.position()))
     }
 
     fn end(&mut self) -> Result<bool, ReadError>
-        ensures ends { (dropped : List ℕ) → IsDropped self.old.state self.old.begun dropped
+        ensures ends { (dropped : List ℕ) → IsDropped self.old.state self.old.started dropped
             → EndsBy self.old self.new
             (fault_at_end self.old.state (length (dropped ++ self.old.window.held))) result }
         ensures same { (self.new.found ≡ self.old.found) × (self.new.reader ≡ self.old.reader) }
     {
-        match end(self.state, self.begun, self.window.held().len()) {
+        match end(self.state, self.started, self.window.held().len()) {
             Ok(()) => {
                 self.ended = Some(Ok(()));
                 Ok(false)

@@ -2,21 +2,21 @@
 ghost use Rattle.std.specs.Prelude.{◌≡◌, ◌≤◌, ◌<◌, ◌+◌, ◌*◌, length, IfSome, None};
 ghost use Rattle.std.specs.Iterator.{at_most};
 ghost use Rattle.captures.specs.Framed.{frame_bytes};
-ghost use Rattle.captures.specs.Fronts.{StepsTo};
+ghost use Rattle.captures.specs.PacketSteps.{StepsTo};
 ghost use Rattle.captures.specs.Units.{skipped_in};
 ghost use Rattle.captures.specs.declared.translation.state.State.TheVariants.{Start};
 
 use crate::packet::Packet;
-use crate::reading::front::front_packet;
+use crate::reading::prefix::first_packet;
 use crate::translation::state::State;
 use crate::{CaptureError, Skipped, Unfit};
 
-/// An iterator over the whole packets at the front of some bytes of a capture, which reads and
+/// An iterator over the whole packets at the start of some bytes of a capture, which reads and
 /// allocates nothing.
 ///
-/// A packet of which no byte was captured is not among them, and one that can't be told ends them
-/// or is passed over, as [`Unfit`] says. Once it has answered `None` it answers no other, and what
-/// it left can be asked for.
+/// A packet of which no byte was captured is not among them, and one that can't be reported ends
+/// them or is passed over, as [`Unfit`] says. Once it has returned `None` it returns no other
+/// packet. What it left, [`Packets::rest`] and [`Packets::refusal`] return.
 #[derive(Drop)]
 pub struct Packets<'a> {
     state: State,
@@ -30,11 +30,11 @@ impl<'a> Packets<'a> {
         ensures state { result.state ≡ Start unfit }
         ensures rest { result.rest.now ≡ bytes.now }
     {
-        Packets::behind(State::Start(unfit), bytes)
+        Packets::following(State::Start(unfit), bytes)
     }
 
-    /// The packets of what follows units after which a capture is known to be this.
-    pub(crate) fn behind(state: State, bytes: &'a [u8]) -> Packets<'a>
+    /// The packets of what follows some units, with the state of the capture after them.
+    pub(crate) fn following(state: State, bytes: &'a [u8]) -> Packets<'a>
         ensures state { result.state ≡ state }
         ensures rest { result.rest.now ≡ bytes.now }
     {
@@ -45,7 +45,7 @@ impl<'a> Packets<'a> {
         }
     }
 
-    /// The bytes behind the packets that it has given: in the end those of a packet or block that
+    /// The bytes after the packets that it has given: in the end those of a packet or block that
     /// isn't whole, or that is refused.
     #[inline(always)]
     pub fn rest(&self) -> &'a [u8]
@@ -54,8 +54,8 @@ impl<'a> Packets<'a> {
         self.rest
     }
 
-    /// Why nothing can follow, once it has answered `None`. If nothing is refused, the bytes end
-    /// the capture or more are wanted behind them.
+    /// Why nothing can follow, once it has returned `None`. If nothing is refused, the bytes end
+    /// the capture or more must follow them.
     #[inline(always)]
     pub fn refusal(&self) -> Option<CaptureError>
         ensures { result ≡ self.now.refusal }
@@ -70,12 +70,12 @@ impl<'a> Packets<'a> {
         self.state.skipped()
     }
 
-    /// Goes on where this left off: `bytes` are its rest and more behind it.
+    /// Continues where this left off: `bytes` are its rest and more after it.
     pub fn go_on<'b>(self, bytes: &'b [u8]) -> Packets<'b>
         ensures state { result.state ≡ self.entry.state }
         ensures rest { result.rest.now ≡ bytes.now }
     {
-        Packets::behind(self.state, bytes)
+        Packets::following(self.state, bytes)
     }
 
     #[inline(always)]
@@ -93,10 +93,10 @@ impl<'a> Packets<'a> {
         ensures room { IfSome result (λ packet. 46 + 2 * length (frame_bytes packet.frame)
             + 5 * length self.new.rest.now ≤ 5 * length self.old.rest.now) }
     {
-        let front = front_packet(&mut self.state, self.rest);
-        self.rest = front.rest;
-        self.refusal = front.refusal;
-        front.packet
+        let prefix = first_packet(&mut self.state, self.rest);
+        self.rest = prefix.rest;
+        self.refusal = prefix.refusal;
+        prefix.packet
     }
 }
 

@@ -2,7 +2,7 @@
 ghost use Rattle.std.specs.Prelude.{◌≡◌};
 ghost use Rattle.captures.specs.Endings.{cause, read_cause};
 
-use crate::place::Place;
+use crate::position::Position;
 use crate::{CaptureError, RunError};
 use std::error::Error;
 use std::fmt;
@@ -10,10 +10,10 @@ use std::fmt;
 /// Why a [`PacketReader`](crate::PacketReader) gives no further packet.
 #[derive(Clone, Copy, Debug, PartialEq, Eq)]
 pub enum ReadError {
-    /// A read answered a fault, of whatever kind.
+    /// A read failed, for whatever reason.
     Read,
-    /// The input is no capture whose packets can be told, or is cut off, at this place.
-    Capture(CaptureError, Place),
+    /// The input is no capture whose packets can be reported, or is cut off, at this position.
+    Capture(CaptureError, Position),
     /// As many reads as a reader may make gave bytes.
     TooManyReads,
 }
@@ -24,7 +24,7 @@ impl From<ReadError> for RunError {
     fn from(error: ReadError) -> RunError {
         match error {
             ReadError::Read => RunError::Read,
-            ReadError::Capture(error, place) => RunError::Capture(error, place),
+            ReadError::Capture(error, position) => RunError::Capture(error, position),
             ReadError::TooManyReads => RunError::TooManyReads,
         }
     }

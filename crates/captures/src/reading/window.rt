@@ -4,24 +4,24 @@ ghost use Rattle.std.specs.Prelude.{IfOk, OnErr, vec_len};
 ghost use Rattle.std.specs.Io.KnownBytes.{Consumes, IsAtEnd, Keeps};
 ghost use Rattle.captures.specs.Dropped.{last_of};
 ghost use Rattle.captures.specs.Held.{HeldBytes};
-ghost use Rattle.captures.specs.declared.limits.TheConstants.{INPUT_ROOM};
+ghost use Rattle.captures.specs.declared.limits.TheConstants.{INPUT_CAPACITY};
 
-use crate::limits::INPUT_ROOM;
+use crate::limits::INPUT_CAPACITY;
 use std::alloc::{AllocError, Global};
 use std::io;
 use std::io::Read;
 use std::marker::Model;
 
-/// The bytes that are held of those that were read, in one buffer. Some of them, or of those in
-/// front of them, are marked.
+/// The bytes that are held of those that were read, in one buffer. Some of them, or of those before
+/// them, are marked.
 #[derive(Drop)]
 pub(crate) struct Window {
     input: Vec<u8>,
-    // What is held stands from here
+    // The offset in the buffer of what is held,
     start: usize,
-    // up to here.
+    // and of its end.
     end: usize,
-    // What is marked stands from here, and has so many bytes.
+    // The offset of what is marked, and how many bytes it has.
     mark: usize,
     mark_len: usize,
 }
@@ -34,8 +34,8 @@ impl Model for Window {
       marked = take window.mark_len (drop window.mark window.input.items);
     } };
 
-    ghost invariant = { λ window. (vec_len window.input ≡ INPUT_ROOM) × (window.start ≤ window.end)
-        × (window.end ≤ INPUT_ROOM) × (window.mark + window.mark_len ≤ INPUT_ROOM) };
+    ghost invariant = { λ window. (vec_len window.input ≡ INPUT_CAPACITY) × (window.start ≤ window.end)
+        × (window.end ≤ INPUT_CAPACITY) × (window.mark + window.mark_len ≤ INPUT_CAPACITY) };
 }
 
 impl Window {
@@ -45,7 +45,7 @@ impl Window {
         ensures marked { IfOk result (λ window. window.marked ≡ []) }
     {
         Ok(Window {
-            input: vec![in alloc; 0; INPUT_ROOM]?,
+            input: vec![in alloc; 0; INPUT_CAPACITY]?,
             start: 0,
             end: 0,
             mark: 0,
@@ -56,7 +56,7 @@ impl Window {
     /// What is held.
     pub(crate) fn held(&self) -> &[u8]
         ensures held { result.now ≡ self.now.held }
-        ensures size { length self.now.held ≤ INPUT_ROOM }
+        ensures size { length self.now.held ≤ INPUT_CAPACITY }
     {
         &self.input[self.start..self.end]
     }
@@ -68,7 +68,7 @@ impl Window {
         &self.input[self.mark..self.mark + self.mark_len]
     }
 
-    /// Marks so many bytes of what is held, of which `from` are left from the first marked one on.
+    /// Marks `len` bytes of what is held, of which `from` are left from the first marked one on.
     pub(crate) fn mark(&mut self, from: usize, len: usize)
         requires len { len ≤ from }
         requires from { from ≤ length self.old.held }
@@ -79,7 +79,7 @@ impl Window {
         self.mark_len = len;
     }
 
-    /// Holds no more than the last bytes, so many.
+    /// Holds no more than the last `left` bytes.
     pub(crate) fn keep(&mut self, left: usize)
         requires { left ≤ length self.old.held }
         ensures held { self.new.held ≡ last_of left self.old.held }
@@ -88,19 +88,19 @@ impl Window {
         self.start = self.end - left;
     }
 
-    /// Reads behind what is held, and tells how many bytes came. Nothing is marked then.
+    /// Reads after what is held, and returns how many bytes came. Nothing is marked then.
     pub(crate) fn fill<R: Read>(&mut self, reader: &mut R) -> io::Result<usize>
-        requires { length self.old.held < INPUT_ROOM }
-        ensures given { IfOk result (λ given. (piece : List ℕ)
-            × (self.new.held ≡ self.old.held ++ piece) × (length piece ≡ given)
-            × Consumes (R.remaining reader.old) (R.remaining reader.new) piece
+        requires { length self.old.held < INPUT_CAPACITY }
+        ensures given { IfOk result (λ given. (chunk : List ℕ)
+            × (self.new.held ≡ self.old.held ++ chunk) × (length chunk ≡ given)
+            × Consumes (R.remaining reader.old) (R.remaining reader.new) chunk
             × (given ≡ 0 → IsAtEnd (R.remaining reader.new))) }
         ensures failed { OnErr result ((self.new.held ≡ self.old.held)
             × Keeps (R.remaining reader.old) (R.remaining reader.new)) }
         ensures marked { self.new.marked ≡ [] }
     {
         let left = self.end - self.start;
-        let filled = fill_behind(reader, self.input.as_mut_slice(), self.start, self.end);
+        let filled = fill_after(reader, self.input.as_mut_slice(), self.start, self.end);
         self.start = 0;
         self.mark = 0;
         self.mark_len = 0;
@@ -117,8 +117,8 @@ impl Window {
     }
 }
 
-// Moves what is held to the front, and reads behind it.
-fn fill_behind<R: Read>(
+// Moves what is held to the start, and reads after it.
+fn fill_after<R: Read>(
     reader: &mut R,
     input: &mut [u8],
     start: usize,
@@ -127,10 +127,10 @@ fn fill_behind<R: Read>(
     requires ordered { start ≤ end }
     requires fits { end ≤ length input.old }
     requires room { end - start < length input.old }
-    ensures given { IfOk result (λ given. (piece : List ℕ)
-        × (take (end - start + given) input.new ≡ take (end - start) (drop start input.old) ++ piece)
-        × (length piece ≡ given)
-        × Consumes (R.remaining reader.old) (R.remaining reader.new) piece
+    ensures given { IfOk result (λ given. (chunk : List ℕ)
+        × (take (end - start + given) input.new ≡ take (end - start) (drop start input.old) ++ chunk)
+        × (length chunk ≡ given)
+        × Consumes (R.remaining reader.old) (R.remaining reader.new) chunk
         × (given ≡ 0 → IsAtEnd (R.remaining reader.new))) }
     ensures bound { IfOk result (λ given. end - start + given ≤ length input.old) }
     ensures failed { OnErr result

@@ -1,8 +1,8 @@
-//! How far the lines of a run have come.
+//! How far the lines of a run have come: their number, and the span of time that is running.
 ghost use Rattle.std.specs.Prelude.{◌≡◌, ◌+◌, ◌*◌, ◌≤◌, ◌++◌, length, take};
 ghost use Rattle.captures.specs.Framed.{frame_bytes};
 ghost use Rattle.captures.specs.Lines.{blank, counted_by, forget_text, has_passed, noted, noted_as};
-ghost use Rattle.captures.specs.Lines.{told, told_as};
+ghost use Rattle.captures.specs.Lines.{reported, reported_as};
 ghost use Rattle.captures.specs.declared.extra.Extra.TheVariants.{Forget};
 
 use crate::Extra;
@@ -36,9 +36,9 @@ impl Ledger {
         }
     }
 
-    /// Puts the lines of a packet behind the first `used` bytes, and tells how many are used then.
+    /// Puts the lines of a packet after the first `used` bytes, and returns how many are used then.
     #[inline(always)]
-    pub(crate) fn tell(
+    pub(crate) fn report(
         &mut self,
         out: &mut [u8],
         used: usize,
@@ -48,7 +48,7 @@ impl Ledger {
         requires { used + 46 + 2 * length (frame_bytes frame.now) ≤ length out.old }
         ensures end { result ≤ used + 46 + 2 * length (frame_bytes frame.now) }
         ensures text { take result out.new ≡ take used out.old
-            ++ told self.old (record { origin = origin; frame = frame_bytes frame.now }) }
+            ++ reported self.old (record { origin = origin; frame = frame_bytes frame.now }) }
         ensures noted { self.new ≡ noted self.old (record { origin = origin; frame = frame_bytes frame.now }) }
         ensures extra { self.new.extra ≡ self.old.extra }
     {

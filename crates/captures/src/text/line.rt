@@ -3,14 +3,14 @@ ghost use Rattle.std.specs.Prelude.{◌≡◌, ◌+◌, ◌*◌, ◌<◌, ◌≤
 ghost use Rattle.hex.specs.Hex.{encode_lower};
 ghost use Rattle.captures.specs.Framed.{frame_bytes};
 ghost use Rattle.captures.specs.Lines.{forget_line, line_of};
-ghost use Rattle.commands.specs.Written.{nanoseconds_text, time_text};
+ghost use Rattle.line_grammar.specs.Written.{nanoseconds_text, time_text};
 ghost use Rattle.captures.specs.Lines.{timed_line_of};
 
 use crate::link::frame::Frame;
 use crate::origin::Origin;
 use itoa::Buffer;
 
-/// Puts the line that hands a frame in behind the first `used` bytes, and tells how many are used
+/// Puts the line that gives a frame after the first `used` bytes, and returns how many are used
 /// then.
 #[inline(always)]
 pub(crate) fn append_line(out: &mut [u8], used: usize, origin: Origin, frame: &Frame<'_>) -> usize
@@ -41,7 +41,7 @@ pub(crate) fn append_timed_line(
     append(out, time, b"\n")
 }
 
-/// The same of the line that has messages dropped.
+/// The same of the line that has reassemblies dropped.
 pub(crate) fn append_forget_line(out: &mut [u8], used: usize, number: u64) -> usize
     requires { used + 28 ≤ length out.old }
     ensures end { result ≤ used + 28 }
@@ -122,7 +122,7 @@ fn append_nanoseconds(out: &mut [u8], used: usize, nanoseconds: u32) -> usize
     append(out, space, Buffer::new().format(nanoseconds).as_bytes())
 }
 
-/// Puts a text behind the first `used` bytes, and tells how many are used then.
+/// Puts a text after the first `used` bytes, and returns how many are used then.
 #[inline(always)]
 pub(crate) fn append(out: &mut [u8], used: usize, text: &[u8]) -> usize
     requires { used + length text.now ≤ length out.old }

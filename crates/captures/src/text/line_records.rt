@@ -1,32 +1,32 @@
-//! All whole lines at the front of some bytes, as the packet records of their frames.
+//! All whole lines at the start of some bytes, as the packet records of their frames.
 ghost use Rattle.std.specs.Prelude.{◌≡◌, ◌≤◌, ◌+◌, ◌*◌, ◌++◌, length, take, position, MatchOption};
 ghost use Rattle.std.specs.Prelude.{IfSome, None, Some};
-ghost use Rattle.commands.specs.TimedLines.{timed_frame_of};
-ghost use Rattle.captures.specs.Spelling.{record_of};
-ghost use Rattle.commands.specs.TimedLines.{TimedFrame};
+ghost use Rattle.line_grammar.specs.TimedLines.{timed_frame_of};
+ghost use Rattle.captures.specs.Encoding.{record_of};
+ghost use Rattle.line_grammar.specs.TimedLines.{TimedFrame};
 ghost use Rattle.captures.specs.Texts.{TakesLines, is_newline};
 
 use crate::FRAME_LIMIT;
 use crate::pcap::writer::record_head;
 use crate::text::line::append;
 use crate::time::time_unit::TimeUnit;
-use commands::{TIMED_LINE_LIMIT, read_timed_line};
+use line_grammar::{TIMED_LINE_LIMIT, read_timed_line};
 
-/// What is known after the lines at the front of some bytes.
+/// What is known after the lines at the start of some bytes.
 #[derive(Drop)]
 pub(crate) struct TakenLines<'a> {
-    /// How many lines hand frames in, before one that doesn't.
+    /// How many lines give frames, before one that doesn't.
     pub count: usize,
     /// What follows them.
     pub rest: &'a [u8],
     /// How many bytes the records of their frames have.
     pub used: usize,
-    /// Whether a line that hands no frame in follows.
+    /// Whether a line that gives no frame follows.
     pub is_bad: bool,
 }
 
-/// Takes all whole lines of some bytes up to a bad one, and puts the records of their frames into
-/// the front of `out`.
+/// Takes all whole lines of some bytes up to a bad one, and puts the records of their frames at the
+/// start of `out`.
 pub(crate) fn take_lines<'a>(time_unit: TimeUnit, bytes: &'a [u8], out: &mut [u8]) -> TakenLines<'a>
     requires { 2 * length bytes.now ≤ length out.old }
     ensures fits { result.used ≤ length out.new }
@@ -65,8 +65,8 @@ fn newline_in(bytes: &[u8]) -> Option<usize>
     bytes.iter().position(|byte| *byte == b'\n')
 }
 
-/// Puts the record of a line's frame behind the first `used` bytes, and tells how many are used
-/// then: none where the line hands no frame in.
+/// Puts the record of a line's frame after the first `used` bytes, and returns how many are used
+/// then: none where the line gives no frame.
 fn append_record(time_unit: TimeUnit, out: &mut [u8], used: usize, line: &[u8]) -> Option<usize>
     requires { used + 2 * length line.now ≤ length out.old }
     ensures record { MatchOption result (timed_frame_of line.now ≡ None)

@@ -1,4 +1,4 @@
-//! How an interface of a pcapng file tells times.
+//! How an interface of a pcapng file counts times.
 ghost use Rattle.std.specs.Prelude.{◌≡◌, ◌<◌, ◌≤◌, ◌+◌, ◌*◌, ◌^◌, false, length, min};
 ghost use Rattle.captures.specs.Times.{clock_of, clock_time, ends_options, long_word, moved};
 ghost use Rattle.captures.specs.Times.{nanoseconds_of, option_len, with_option};
@@ -11,11 +11,11 @@ const RESOLUTION: u16 = 9;
 
 const OFFSET: u16 = 14;
 
-/// How an interface tells times.
+/// How an interface counts times.
 #[derive(Clone, Copy)]
 pub(crate) struct Clock {
-    /// A second has so many parts: a power of ten with this exponent, or of two, where 128 is added
-    /// to the exponent.
+    /// How many units make a second: a power of ten with this exponent, or of two, where 128 is
+    /// added to the exponent.
     pub resolution: u8,
     /// The seconds between 1970 and what it counts from, in two's complement.
     pub offset: u64,
@@ -28,7 +28,7 @@ impl Clock {
         offset: 0,
     };
 
-    /// The clock that an interface's options tell.
+    /// The clock that an interface's options state.
     pub(crate) fn of(order: ByteOrder, options: &[u8]) -> Clock
         ensures { result ≡ clock_of order options.now }
     {
@@ -43,7 +43,7 @@ impl Clock {
         clock
     }
 
-    /// A time that it tells, in nanoseconds.
+    /// A time on this clock, in nanoseconds.
     pub(crate) fn time(self, high: u32, low: u32) -> u64
         ensures { result ≡ clock_time self high low }
     {
@@ -56,14 +56,14 @@ impl Clock {
     }
 }
 
-// A time that the usual clock tells.
+// A time on the usual clock.
 fn usual_time(count: u64) -> u64
     ensures { result ≡ min (1000 * count) TIME_LIMIT }
 {
     count.saturating_mul(1000).min(TIME_LIMIT)
 }
 
-// A time that any clock tells.
+// A time on any clock.
 fn other_time(clock: Clock, count: u64) -> u64
     ensures { result ≡ min (moved clock.offset (nanoseconds_of clock.resolution count)) TIME_LIMIT }
 {
@@ -78,7 +78,7 @@ fn nanoseconds_of(resolution: u8, count: u64) -> u128
     } else if resolution < 29 {
         u128::from(count / power_of_ten(resolution - 9))
     } else if resolution < 128 {
-        // No count of 64 bits has so many parts.
+        // A second has more units than any count of 64 bits reaches.
         0
     } else {
         (1_000_000_000 * u128::from(count)) >> u32::from(resolution - 128)

@@ -1,10 +1,10 @@
-//! The parts of a second that a classic capture tells times in.
+//! The unit in which a classic capture counts the fraction of a second.
 ghost use Rattle.std.specs.Prelude.{◌≡◌};
 ghost use Rattle.captures.specs.Times.{nanoseconds_in, record_time, unit_of};
 
 use crate::limits::TIME_LIMIT;
 
-/// The parts of a second that a classic capture tells times in.
+/// The unit in which a classic capture counts the fraction of a second.
 #[derive(Clone, Copy, Debug, PartialEq, Eq)]
 pub enum TimeUnit {
     /// Magic number a1b2c3d4.
@@ -34,7 +34,7 @@ impl TimeUnit {
         }
     }
 
-    /// So many seconds and parts of one, in nanoseconds.
+    /// This many seconds and units, in nanoseconds.
     pub(crate) fn time(self, seconds: u32, parts: u32) -> u64
         ensures { result ≡ record_time self seconds parts }
     {

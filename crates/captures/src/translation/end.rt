@@ -8,12 +8,12 @@ use crate::limits::FIRST_UNIT_LEN;
 use crate::pcapng::long_block::LongBlock;
 use crate::translation::state::State;
 
-/// What the end makes of so many bytes that are held.
-pub(crate) fn end(state: State, begun: Option<LongBlock>, left: usize) -> Result<(), CaptureError>
-    ensures { (dropped : List ℕ) → IsDropped state begun dropped
+/// How a capture ends with this many bytes held.
+pub(crate) fn end(state: State, started: Option<LongBlock>, left: usize) -> Result<(), CaptureError>
+    ensures { (dropped : List ℕ) → IsDropped state started dropped
         → result ≡ fault_at_end state (length dropped + left) }
 {
-    if begun.is_some() {
+    if started.is_some() {
         return Err(CaptureError::CutOff);
     }
     match state {

@@ -1,11 +1,11 @@
-//! What a run takes of its input, piece by piece.
+//! What a run takes of its input, chunk by chunk.
 ghost use Rattle.std.specs.Prelude.{◌≡◌, ◌≤◌, ◌<◌, ◌+◌, ◌*◌, ◌++◌, ℕ, List, length, take};
 ghost use Rattle.std.specs.Prelude.{None, Some};
 ghost use Rattle.captures.specs.Dropped.{IsDropped, Leaves, dropped_len, last_of};
 
 use crate::CaptureError;
-use crate::limits::INPUT_ROOM;
-use crate::pcapng::long_block::{Behind, LongBlock, long_block};
+use crate::limits::INPUT_CAPACITY;
+use crate::pcapng::long_block::{Following, LongBlock, long_block};
 use crate::text::ledger::Ledger;
 use crate::translation::state::State;
 use crate::translation::units::take_units;
@@ -15,13 +15,13 @@ use crate::translation::units::take_units;
 pub(crate) struct Progress<'a> {
     /// What the capture is known to be.
     pub after: State,
-    /// A long block that is begun, of which what was read so far is dropped.
-    pub begun: Option<LongBlock>,
+    /// A long block that is started, of which what was read so far is dropped.
+    pub started: Option<LongBlock>,
     /// What is to be held of the bytes.
     pub rest: &'a [u8],
     /// How many bytes are passed: those of whole units.
     pub passed: u64,
-    /// How many packets of the units are told.
+    /// How many packets of the units are reported.
     pub count: usize,
     /// How many bytes the lines of the packets have.
     pub used: usize,
@@ -31,53 +31,53 @@ pub(crate) struct Progress<'a> {
     pub refusal: Option<CaptureError>,
 }
 
-/// Takes all whole units of these bytes, which come behind what was dropped of a begun block, and
-/// puts the lines of their packets into the front of `out`.
-pub(crate) fn take_piece<'a>(
+/// Takes all whole units of these bytes, which follow what was dropped of a started block, and puts
+/// the lines of their packets at the start of `out`.
+pub(crate) fn take_chunk<'a>(
     state: State,
     ledger: Ledger,
-    begun: Option<LongBlock>,
+    started: Option<LongBlock>,
     bytes: &'a [u8],
     out: &mut [u8],
 ) -> Progress<'a>
-    requires size { length bytes.now ≤ INPUT_ROOM }
+    requires size { length bytes.now ≤ INPUT_CAPACITY }
     requires out { 5 * length bytes.now ≤ length out.old }
     ensures fits { result.used ≤ length out.new }
-    ensures takes { (dropped : List ℕ) → IsDropped state begun dropped
-        → Leaves ledger state (dropped ++ bytes.now) result.after result.begun result.rest.now
+    ensures takes { (dropped : List ℕ) → IsDropped state started dropped
+        → Leaves ledger state (dropped ++ bytes.now) result.after result.started result.rest.now
         result.count (take result.used out.new) result.refusal result.ledger }
     ensures extra { result.ledger.extra ≡ ledger.extra }
-    ensures passed { (dropped : List ℕ) → IsDropped state begun dropped
-        → result.passed + dropped_len result.begun + length result.rest.now
+    ensures passed { (dropped : List ℕ) → IsDropped state started dropped
+        → result.passed + dropped_len result.started + length result.rest.now
         ≡ length dropped + length bytes.now }
-    ensures parts { (front : List ℕ) × (bytes.now ≡ front ++ result.rest.now) }
-    ensures room { result.refusal ≡ None → length result.rest.now < INPUT_ROOM }
+    ensures parts { (prefix : List ℕ) × (bytes.now ≡ prefix ++ result.rest.now) }
+    ensures room { result.refusal ≡ None → length result.rest.now < INPUT_CAPACITY }
 {
-    match begun {
-        Some(block) => take_behind(state, ledger, block, bytes, out),
+    match started {
+        Some(block) => take_after(state, ledger, block, bytes, out),
         None => take_whole(state, ledger, bytes, out),
     }
 }
 
 // Takes units alone. Where a long block follows them, all that was read of it is dropped.
 fn take_whole<'a>(state: State, ledger: Ledger, bytes: &'a [u8], out: &mut [u8]) -> Progress<'a>
-    requires size { length bytes.now ≤ INPUT_ROOM }
+    requires size { length bytes.now ≤ INPUT_CAPACITY }
     requires out { 5 * length bytes.now ≤ length out.old }
     ensures fits { result.used ≤ length out.new }
-    ensures takes { Leaves ledger state bytes.now result.after result.begun result.rest.now
+    ensures takes { Leaves ledger state bytes.now result.after result.started result.rest.now
         result.count (take result.used out.new) result.refusal result.ledger }
     ensures extra { result.ledger.extra ≡ ledger.extra }
-    ensures passed { result.passed + dropped_len result.begun + length result.rest.now
+    ensures passed { result.passed + dropped_len result.started + length result.rest.now
         ≡ length bytes.now }
-    ensures parts { (front : List ℕ) × (bytes.now ≡ front ++ result.rest.now) }
-    ensures room { result.refusal ≡ None → length result.rest.now < INPUT_ROOM }
+    ensures parts { (prefix : List ℕ) × (bytes.now ≡ prefix ++ result.rest.now) }
+    ensures room { result.refusal ≡ None → length result.rest.now < INPUT_CAPACITY }
 {
     let taken = take_units(state, ledger, bytes, out);
     let passed = (bytes.len() - taken.rest.len()) as u64;
     if taken.refusal.is_some() {
         return Progress {
             after: taken.after,
-            begun: None,
+            started: None,
             rest: taken.rest,
             passed,
             count: taken.count,
@@ -89,7 +89,7 @@ fn take_whole<'a>(state: State, ledger: Ledger, bytes: &'a [u8], out: &mut [u8])
     match long_block(taken.after, taken.rest) {
         Some(block) => Progress {
             after: taken.after,
-            begun: Some(block),
+            started: Some(block),
             rest: &[],
             passed,
             count: taken.count,
@@ -99,7 +99,7 @@ fn take_whole<'a>(state: State, ledger: Ledger, bytes: &'a [u8], out: &mut [u8])
         },
         None => Progress {
             after: taken.after,
-            begun: None,
+            started: None,
             rest: taken.rest,
             passed,
             count: taken.count,
@@ -110,31 +110,31 @@ fn take_whole<'a>(state: State, ledger: Ledger, bytes: &'a [u8], out: &mut [u8])
     }
 }
 
-// Takes the units behind a long block, once its second length is there.
-fn take_behind<'a>(
+// Takes the units after a long block, once its second length is there.
+fn take_after<'a>(
     state: State,
     ledger: Ledger,
     block: LongBlock,
     bytes: &'a [u8],
     out: &mut [u8],
 ) -> Progress<'a>
-    requires size { length bytes.now ≤ INPUT_ROOM }
+    requires size { length bytes.now ≤ INPUT_CAPACITY }
     requires out { 5 * length bytes.now ≤ length out.old }
     ensures fits { result.used ≤ length out.new }
     ensures takes { (dropped : List ℕ) → IsDropped state (Some block) dropped
-        → Leaves ledger state (dropped ++ bytes.now) result.after result.begun result.rest.now
+        → Leaves ledger state (dropped ++ bytes.now) result.after result.started result.rest.now
         result.count (take result.used out.new) result.refusal result.ledger }
     ensures extra { result.ledger.extra ≡ ledger.extra }
     ensures passed { (dropped : List ℕ) → IsDropped state (Some block) dropped
-        → result.passed + dropped_len result.begun + length result.rest.now
+        → result.passed + dropped_len result.started + length result.rest.now
         ≡ length dropped + length bytes.now }
-    ensures parts { (front : List ℕ) × (bytes.now ≡ front ++ result.rest.now) }
-    ensures room { result.refusal ≡ None → length result.rest.now < INPUT_ROOM }
+    ensures parts { (prefix : List ℕ) × (bytes.now ≡ prefix ++ result.rest.now) }
+    ensures room { result.refusal ≡ None → length result.rest.now < INPUT_CAPACITY }
 {
-    match block.behind(bytes) {
-        Behind::Held(begun, left) => Progress {
+    match block.following(bytes) {
+        Following::Held(started, left) => Progress {
             after: state,
-            begun: Some(begun),
+            started: Some(started),
             rest: last(bytes, left),
             passed: 0,
             count: 0,
@@ -142,9 +142,9 @@ fn take_behind<'a>(
             ledger,
             refusal: None,
         },
-        Behind::Refused(begun, left) => Progress {
+        Following::Refused(started, left) => Progress {
             after: state,
-            begun: Some(begun),
+            started: Some(started),
             rest: last(bytes, left),
             passed: 0,
             count: 0,
@@ -152,11 +152,11 @@ fn take_behind<'a>(
             ledger,
             refusal: Some(CaptureError::BadBlock),
         },
-        Behind::Passed(left) => {
+        Following::Passed(left) => {
             let taken = take_whole(state, ledger, last(bytes, left), out);
             Progress {
                 after: taken.after,
-                begun: taken.begun,
+                started: taken.started,
                 rest: taken.rest,
                 passed: u64::from(block.len) + taken.passed,
                 count: taken.count,
@@ -171,7 +171,7 @@ fn take_behind<'a>(
 fn last(bytes: &[u8], left: usize) -> &[u8]
     requires { left ≤ length bytes.now }
     ensures last { result.now ≡ last_of left bytes.now }
-    ensures parts { (front : List ℕ) × (bytes.now ≡ front ++ result.now) }
+    ensures parts { (prefix : List ℕ) × (bytes.now ≡ prefix ++ result.now) }
     ensures size { length result.now ≡ left }
 {
     let (_, last) = bytes.split_at(bytes.len() - left);

@@ -1,12 +1,12 @@
 //! Why the input of a run is refused.
 use crate::CaptureError;
-use crate::place::Place;
+use crate::position::Position;
 
 /// Why the input of a run is refused.
 #[derive(Drop)]
 pub(crate) enum Refusal {
-    /// As a capture, at this place.
-    InCapture(CaptureError, Place),
-    /// As a text: the line with this number hands in no frame.
+    /// As a capture, at this position.
+    InCapture(CaptureError, Position),
+    /// As a text: the line with this number gives no frame.
     InLine(u64),
 }

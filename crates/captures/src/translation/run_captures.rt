@@ -2,42 +2,42 @@
 ghost use Rattle.std.specs.Prelude.{◌≡◌, ◌≤◌, ◌+◌, ◌-◌, ◌*◌, ◌^◌, ◌++◌, ℕ, List, length};
 ghost use Rattle.std.specs.Prelude.{OnOk, IfSome, IsErrOf, None};
 ghost use Rattle.std.specs.Io.KnownBytes.{Appends, Consumes, IsAtEnd};
-ghost use Rattle.runs.specs.Known.{KnownCall, Transfers, known_of};
+ghost use Rattle.device_runs.specs.Known.{KnownCall, Transfers, known_of};
 ghost use Rattle.captures.specs.declared.extra.Extra.{Extra};
 ghost use Rattle.captures.specs.Dropped.{IsDropped};
 ghost use Rattle.captures.specs.Endings.{ending_of};
 ghost use Rattle.captures.specs.Lines.{Packet, blank, lines_of};
 ghost use Rattle.captures.specs.Numbers.{capped};
-ghost use Rattle.captures.specs.Places.{block_type};
+ghost use Rattle.captures.specs.Positions.{block_type};
 ghost use Rattle.captures.specs.Runs.{ArePassedOver, IsCapture, PassesOver, Runs};
 ghost use Rattle.captures.specs.Runs.{capture_to_lines, result_at_end};
 ghost use Rattle.captures.specs.Skipping.{none_skipped};
 ghost use Rattle.captures.specs.Framed.{unfit_by};
 ghost use Rattle.captures.specs.Units.{Takes, skipped_in};
-ghost use Rattle.captures.specs.declared.limits.TheConstants.{INPUT_ROOM};
+ghost use Rattle.captures.specs.declared.limits.TheConstants.{INPUT_CAPACITY};
 ghost use Rattle.captures.specs.declared.translation.state.State.TheVariants.{Start};
 
 use crate::pcapng::long_block::LongBlock;
-use crate::place::{Place, place_of};
+use crate::position::{Position, position_of};
 use crate::text::ledger::Ledger;
 use crate::translation::end::end;
-use crate::translation::progress::take_piece;
+use crate::translation::progress::take_chunk;
 use crate::translation::refusal::Refusal;
 use crate::translation::skipped::Skipped;
 use crate::translation::state::State;
 use crate::translation::translator::{Finished, Translated, Translator, run_translator};
 use crate::{Extra, READ_COUNT_LIMIT, RunError, Unfit};
-use runs::{Device, ReaderWriter};
+use device_runs::{Device, ReaderWriter};
 use std::alloc::Global;
 use std::io::{Read, Write};
 
 /// Writes the line of each packet of a capture, up to the end of the reader.
 ///
-/// What lines tell beside frames, `extra` says. The lines of a packet are written before the next
-/// read. A packet of which no byte was captured has no line. A packet that can't be told ends the run or is passed over, as `unfit` says, and
-/// `skipped` becomes how many are passed over. A read that gives nothing tells the end, and nothing
-/// is read after it. Any fault that a read or a write answers ends the run, an interrupted call
-/// too.
+/// What lines hold beside frames, `extra` says. The lines of a packet are written before the next
+/// read. A packet of which no byte was captured has no line. A packet that can't be reported ends
+/// the run or is passed over, as `unfit` says, and `skipped` becomes how many are passed over. A
+/// read that gives nothing reports the end, and nothing is read after it. Any fault of a read or a
+/// write ends the run, an interrupted call too.
 pub fn run<R: Read, W: Write>(
     alloc: Global,
     extra: Extra,
@@ -46,7 +46,7 @@ pub fn run<R: Read, W: Write>(
     writer: &mut W,
     skipped: &mut Skipped,
 ) -> Result<(), RunError>
-    // All packets are told or passed over, and no byte is left to read.
+    // All packets are reported or passed over, and no byte is left to read.
     ensures ok { OnOk result
         (IfSome (R.remaining reader.old) (λ bytes. (packets : List Packet)
         × IsCapture unfit bytes packets skipped.new
@@ -63,7 +63,7 @@ pub fn run<R: Read, W: Write>(
         (known_of (R.remaining reader.old) (W.contents writer.old))
         (known_of (R.remaining reader.new) (W.contents writer.new)) result }
 
-    // However it ends: in the whole units of the bytes read so many packets were passed over.
+    // However it ends: in the whole units of the bytes read this many packets were passed over.
     ensures passed { (read : List ℕ)
         × Consumes (R.remaining reader.old) (R.remaining reader.new) read
         × ArePassedOver unfit skipped.new read }
@@ -84,7 +84,7 @@ pub fn run<R: Read, W: Write>(
     result
 }
 
-/// A run of at most so many reads over any device: each call that it makes, in its order, and how
+/// A run of at most `reads` reads over any device: each call that it makes, in its order, and how
 /// these calls end it.
 pub fn run_over<D: Device>(
     alloc: Global,
@@ -95,7 +95,7 @@ pub fn run_over<D: Device>(
     skipped: &mut Skipped,
 ) -> Result<(), RunError>
     ensures runs { Runs extra unfit skipped.new D.transition reads device.old device.new result }
-    // However it ends: of what these calls read so many packets were passed over.
+    // However it ends: of what these calls read this many packets were passed over.
     ensures passed { PassesOver unfit skipped.new D.transition device.old device.new }
 {
     match unfit {
@@ -115,10 +115,10 @@ fn run_by<const SKIPS: bool, D: Device>(
         result }
     ensures passed { PassesOver (unfit_by SKIPS) skipped.new D.transition device.old device.new }
 {
-    let mut teller: PacketTeller<SKIPS> = PacketTeller {
+    let mut teller: PacketWriter<SKIPS> = PacketWriter {
         state: State::Start(Unfit::by(SKIPS)),
         ledger: Ledger::blank(extra),
-        begun: None,
+        started: None,
         count: 0,
         passed: 0,
     };
@@ -127,33 +127,34 @@ fn run_by<const SKIPS: bool, D: Device>(
     result
 }
 
-// Tells the packets of a capture. Those that can't be told are passed over, or refused.
+// Writes the packets of a capture as lines. Those that can't be reported are passed over, or
+// refused.
 #[derive(Drop)]
-struct PacketTeller<const SKIPS: bool> {
+struct PacketWriter<const SKIPS: bool> {
     state: State,
     // How far its lines have come.
     ledger: Ledger,
-    // A long block that is begun, of which nothing is held.
-    begun: Option<LongBlock>,
-    // How many packets were told.
+    // A long block that is started, of which nothing is held.
+    started: Option<LongBlock>,
+    // How many packets were reported.
     count: u64,
     // How many bytes were passed: those of whole units.
     passed: u64,
 }
 
-impl<const SKIPS: bool> PacketTeller<SKIPS> {
-    // The place of what comes next, of which this is held.
-    fn place(&self, held: &[u8]) -> Place
+impl<const SKIPS: bool> PacketWriter<SKIPS> {
+    // The position of what comes next, of which this is held.
+    fn position(&self, held: &[u8]) -> Position
         ensures packet { result.packet ≡ capped (self.now.count + 1) }
         ensures offset { result.offset ≡ self.now.passed }
-        ensures block { (dropped : List ℕ) → IsDropped self.now.state self.now.begun dropped
+        ensures block { (dropped : List ℕ) → IsDropped self.now.state self.now.started dropped
             → result.block ≡ block_type self.now.state (dropped ++ held.now) }
     {
-        place_of(self.count, self.passed, self.state, self.begun, held)
+        position_of(self.count, self.passed, self.state, self.started, held)
     }
 }
 
-impl<const SKIPS: bool> Translator for PacketTeller<SKIPS> {
+impl<const SKIPS: bool> Translator for PacketWriter<SKIPS> {
     ghost task = { λ teller. capture_to_lines teller.ledger.extra (unfit_by SKIPS)
         (skipped_in teller.state) };
 
@@ -161,10 +162,10 @@ impl<const SKIPS: bool> Translator for PacketTeller<SKIPS> {
 
     ghost kept = { λ teller. teller.ledger.extra };
 
-    ghost most = { INPUT_ROOM * 2 ^ 64 };
+    ghost most = { INPUT_CAPACITY * 2 ^ 64 };
 
     ghost shows = { λ teller held read written. (dropped : List ℕ)
-        × IsDropped teller.state teller.begun dropped
+        × IsDropped teller.state teller.started dropped
         × (count : ℕ)
         × Takes (blank teller.ledger.extra) (Start (unfit_by SKIPS)) read teller.state
         (dropped ++ held) count written None teller.ledger
@@ -172,17 +173,17 @@ impl<const SKIPS: bool> Translator for PacketTeller<SKIPS> {
         × (teller.passed ≡ capped (length read - length (dropped ++ held))) };
 
     fn translate<'a>(&mut self, bytes: &'a [u8], out: &mut [u8]) -> Translated<'a> {
-        let progress = take_piece(self.state, self.ledger, self.begun, bytes, out);
+        let progress = take_chunk(self.state, self.ledger, self.started, bytes, out);
         self.state = progress.after;
         self.ledger = progress.ledger;
-        self.begun = progress.begun;
+        self.started = progress.started;
         self.count = self.count.saturating_add(progress.count as u64);
         self.passed = self.passed.saturating_add(progress.passed);
         match progress.refusal {
             Some(error) => Translated {
                 used: progress.used,
                 rest: progress.rest,
-                refusal: Some(Refusal::InCapture(error, self.place(progress.rest))),
+                refusal: Some(Refusal::InCapture(error, self.position(progress.rest))),
             },
             None => Translated {
                 used: progress.used,
@@ -193,15 +194,15 @@ impl<const SKIPS: bool> Translator for PacketTeller<SKIPS> {
     }
 
     fn finish(&mut self, input: &mut [u8], left: usize, _out: &mut [u8]) -> Finished {
-        let place = self.place(&input[..left]);
-        match end(self.state, self.begun, left) {
+        let position = self.position(&input[..left]);
+        match end(self.state, self.started, left) {
             Ok(()) => Finished {
                 used: 0,
                 result: Ok(()),
             },
             Err(error) => Finished {
                 used: 0,
-                result: Err(Refusal::InCapture(error, place)),
+                result: Err(Refusal::InCapture(error, position)),
             },
         }
     }

@@ -1,22 +1,22 @@
-//! Why a run ends before all packets are told, or all frames written.
+//! Why a run ends before all packets are reported, or all frames written.
 ghost use Rattle.std.specs.Prelude.{◌≡◌};
-ghost use Rattle.runs.specs.Endings.{Refused, Stopped};
+ghost use Rattle.device_runs.specs.Endings.{Refused, Stopped};
 ghost use Rattle.captures.specs.Endings.{cause};
 ghost use Rattle.captures.specs.declared.translation.run_error.RunError.TheVariants as run_error;
 
 use crate::CaptureError;
-use crate::place::Place;
+use crate::position::Position;
 use crate::translation::refusal::Refusal;
-use runs::Fault;
+use device_runs::Fault;
 use thiserror::Error;
 
-/// Why a run ends before all packets are told, or all frames written.
+/// Why a run ends before all packets are reported, or all frames written.
 #[derive(Clone, Copy, Debug, PartialEq, Eq, Error)]
 pub enum RunError {
-    /// A read answered a fault, of whatever kind.
+    /// A read failed, for whatever reason.
     #[error("the input cannot be read")]
     Read,
-    /// A write answered a fault, of whatever kind.
+    /// A write failed, for whatever reason.
     #[error("the output cannot be written")]
     Write,
     /// A write of some bytes took none of them.
@@ -28,12 +28,12 @@ pub enum RunError {
     /// As many reads as a run may make gave bytes.
     #[error("too many reads")]
     TooManyReads,
-    /// The input of [`run`](crate::run) is no capture whose packets can be told, or is cut off, at
-    /// this place.
+    /// The input of [`run`](crate::run) is no capture whose packets can be reported, or is cut off,
+    /// at this position.
     #[error("{1}: {0}")]
-    Capture(CaptureError, Place),
+    Capture(CaptureError, Position),
     /// The line with this number, counted from 1, of the input of
-    /// [`write_capture`](crate::write_capture) hands in no frame, or one that a line of `run` can't
+    /// [`write_capture`](crate::write_capture) gives no frame, or one that a line of `run` can't
     /// hold.
     #[error("line {0} hands in no frame")]
     BadLine(u64),
@@ -56,7 +56,7 @@ impl From<Refusal> for RunError {
 
     fn from(refusal: Refusal) -> RunError {
         match refusal {
-            Refusal::InCapture(error, place) => RunError::Capture(error, place),
+            Refusal::InCapture(error, position) => RunError::Capture(error, position),
             Refusal::InLine(number) => RunError::BadLine(number),
         }
     }

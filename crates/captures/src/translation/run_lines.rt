@@ -1,25 +1,25 @@
-//! A run the other way: reads of lines, and the packet records of the frames that they hand in.
+//! A run the other way: reads of lines, and the packet records of the frames that they give.
 ghost use Rattle.std.specs.Prelude.{◌≡◌, ◌≤◌, ◌*◌, List, length, OnOk, IfSome, IsErrOf};
 ghost use Rattle.std.specs.Io.KnownBytes.{Appends, IsAtEnd};
-ghost use Rattle.runs.specs.Known.{KnownCall, Transfers, known_of};
+ghost use Rattle.device_runs.specs.Known.{KnownCall, Transfers, known_of};
 ghost use Rattle.captures.specs.Endings.{ending_of};
-ghost use Rattle.captures.specs.Spelling.{capture_of};
-ghost use Rattle.commands.specs.TimedLines.{TimedFrame};
-ghost use Rattle.captures.specs.Texts.{Hands, IsBegunLine, IsText, WritesCapture, lines_to_capture};
+ghost use Rattle.captures.specs.Encoding.{capture_of};
+ghost use Rattle.line_grammar.specs.TimedLines.{TimedFrame};
+ghost use Rattle.captures.specs.Texts.{GivesFrames, IsIncompleteLine, IsText, WritesCapture, lines_to_capture};
 ghost use Rattle.captures.specs.declared.time.time_unit.TimeUnit.{TimeUnit};
-ghost use Rattle.captures.specs.declared.limits.TheConstants.{INPUT_ROOM};
-ghost use Rattle.runs.specs.declared.limits.TheConstants.{READ_COUNT_LIMIT};
+ghost use Rattle.captures.specs.declared.limits.TheConstants.{INPUT_CAPACITY};
+ghost use Rattle.device_runs.specs.declared.limits.TheConstants.{READ_COUNT_LIMIT};
 
 use crate::pcap::writer::file_header;
 use crate::text::line_records::take_lines;
 use crate::translation::refusal::Refusal;
 use crate::translation::translator::{Finished, Translated, Translator, run_translator};
 use crate::{READ_COUNT_LIMIT, RunError, TimeUnit};
-use runs::{Device, ReaderWriter};
+use device_runs::{Device, ReaderWriter};
 use std::alloc::Global;
 use std::io::{Read, Write};
 
-/// Writes a classic capture of the frames that the lines of the reader hand in, up to its end:
+/// Writes a classic capture of the frames that the lines of the reader give, up to its end:
 /// Ethernet, with times in this unit.
 ///
 /// A line is `frame CHANNEL HEX`, as [`run`](crate::run) writes it, or `frame CHANNEL HEX SECONDS
@@ -30,8 +30,8 @@ use std::io::{Read, Write};
 /// [`FRAME_LIMIT`](crate::FRAME_LIMIT), ends the run, after the packets before it are written.
 ///
 /// The file header is written before the first read, and the packets of all whole lines before the
-/// next read. A read that gives nothing tells the end, and nothing is read after it. Any fault that
-/// a read or a write answers ends the run, an interrupted call too.
+/// next read. A read that gives nothing reports the end, and nothing is read after it. Any fault of
+/// a read or a write ends the run, an interrupted call too.
 pub fn write_capture<R: Read, W: Write>(
     alloc: Global,
     time_unit: TimeUnit,
@@ -69,7 +69,7 @@ pub fn write_capture<R: Read, W: Write>(
     result
 }
 
-/// A run of [`write_capture`] of at most so many reads over any device: each call that it makes, in
+/// A run of [`write_capture`] of at most `reads` reads over any device: each call that it makes, in
 /// its order, and how these calls end it.
 pub fn write_capture_over<D: Device>(
     alloc: Global,
@@ -87,11 +87,11 @@ pub fn write_capture_over<D: Device>(
     run_translator(alloc, &mut writer, &file_header(time_unit), device, reads)
 }
 
-// Writes the frames that lines hand in.
+// Writes the frames that lines give.
 #[derive(Drop)]
 struct FrameWriter {
     time_unit: TimeUnit,
-    // How many lines handed one in.
+    // How many lines gave one.
     count: u64,
 }
 
@@ -102,11 +102,11 @@ impl Translator for FrameWriter {
 
     ghost kept = { λ writer. writer.time_unit };
 
-    ghost most = { INPUT_ROOM * READ_COUNT_LIMIT };
+    ghost most = { INPUT_CAPACITY * READ_COUNT_LIMIT };
 
     ghost shows = { λ writer held read written. (frames : List TimedFrame)
-        × Hands read writer.count frames held
-        × IsBegunLine held × (written ≡ capture_of writer.time_unit frames) };
+        × GivesFrames read writer.count frames held
+        × IsIncompleteLine held × (written ≡ capture_of writer.time_unit frames) };
 
     fn translate<'a>(&mut self, bytes: &'a [u8], out: &mut [u8]) -> Translated<'a> {
         let taken = take_lines(self.time_unit, bytes, out);
@@ -125,7 +125,7 @@ impl Translator for FrameWriter {
         }
     }
 
-    // A line that is begun is ended.
+    // An incomplete line is ended.
     fn finish(&mut self, input: &mut [u8], left: usize, out: &mut [u8]) -> Finished {
         if left == 0 {
             return Finished {

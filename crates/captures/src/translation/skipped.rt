@@ -69,7 +69,7 @@ impl Skipped {
     }
 }
 
-/// What becomes of packets that can't be told, and how many were passed over so far.
+/// What happens to packets that can't be reported, and how many were passed over so far.
 #[derive(Clone, Copy)]
 pub(crate) struct Passing {
     pub unfit: Unfit,

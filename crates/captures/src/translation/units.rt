@@ -1,4 +1,4 @@
-//! All whole units at the front of some bytes.
+//! All whole units at the start of some bytes.
 ghost use Rattle.std.specs.Prelude.{◌≡◌, ◌≤◌, ◌*◌, length, take};
 ghost use Rattle.captures.specs.Units.{Takes};
 
@@ -14,18 +14,17 @@ pub(crate) struct Taken<'a> {
     pub after: State,
     /// What follows the units.
     pub rest: &'a [u8],
-    /// How many packets of them are told.
+    /// How many packets of them are reported.
     pub count: usize,
     /// How many bytes the lines of their packets have.
     pub used: usize,
-    /// How far the lines have come.
+    /// How far the lines are then.
     pub ledger: Ledger,
     /// Why no unit can follow.
     pub refusal: Option<CaptureError>,
 }
 
-/// Takes all whole units of some bytes, and puts the lines of their packets into the front of
-/// `out`.
+/// Takes all whole units of some bytes, and puts the lines of their packets at the start of `out`.
 pub(crate) fn take_units<'a>(
     state: State,
     ledger: Ledger,
@@ -39,12 +38,12 @@ pub(crate) fn take_units<'a>(
         (take result.used out.new) result.refusal result.ledger }
     ensures extra { result.ledger.extra ≡ ledger.extra }
 {
-    let mut packets = Packets::behind(state, bytes);
+    let mut packets = Packets::following(state, bytes);
     let mut count = 0;
     let mut used = 0;
     let mut noted = ledger;
     'lines: while let Some(packet) = packets.step() {
-        used = noted.tell(out, used, packet.origin(), &packet.frame);
+        used = noted.report(out, used, packet.origin(), &packet.frame);
         count += 1;
     }
     Taken {

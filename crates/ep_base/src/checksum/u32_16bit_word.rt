@@ -1,7 +1,7 @@
 //! The sum of 16-bit words in a number of 32 bits, whose carry is added back.
 //!
-//! Such a number stands for the sum `accumulator_sum`, high byte first, of its words, which are
-//! added to it low byte first. It may begin at any number.
+//! The meaning of such a number is `accumulator_sum`: the sum, high byte first, of the words that
+//! were added to it low byte first. It may start at any number.
 
 ghost use Rattle.std.specs.Prelude.{◌≡◌, ◌+◌, ◌-◌};
 ghost use Rattle.std.specs.Int.{swap_bytes, w16};
@@ -45,7 +45,7 @@ pub fn ones_complement(sum: u32) -> u16
     u64_16bit_word::ones_complement(u64::from(sum))
 }
 
-/// The same with ffff in the place of 0.
+/// The same with ffff instead of 0.
 pub fn ones_complement_with_no_zero(sum: u32) -> u16
     ensures { result ≡ swap_bytes w16 (no_zero (65535 - accumulator_sum sum)) }
 {

@@ -1,7 +1,7 @@
 //! The sum of 16-bit words in a number of 64 bits, whose carry is added back.
 //!
-//! Such a number stands for the sum `accumulator_sum`, high byte first, of its words, which are
-//! added to it low byte first. It may begin at any number.
+//! The meaning of such a number is `accumulator_sum`: the sum, high byte first, of the words that
+//! were added to it low byte first. It may start at any number.
 
 ghost use Rattle.std.specs.Prelude.{◌≡◌, ◌+◌, ◌-◌, ◌<◌, ◌≤◌, ◌^◌};
 ghost use Rattle.std.specs.Int.{swap_bytes, w16};
@@ -58,7 +58,7 @@ fn add_words(start: u64, slice: &[u8]) -> u64
     }
 }
 
-// The same by four bytes at once, for the few behind blocks of eight.
+// The same by four bytes at once, for the few after blocks of eight.
 fn add_rest(start: u64, slice: &[u8]) -> u64
     ensures { accumulator_sum result ≡ fold (accumulator_sum start + total slice.now) }
 {
@@ -70,7 +70,7 @@ fn add_rest(start: u64, slice: &[u8]) -> u64
     add_words(sum, rest)
 }
 
-// The words of a block, with room for all carries: 128 bits hold those of 2^64 blocks.
+// The words of a block, in 128 bits, which hold the sum of 2^64 blocks with all carries.
 fn add_wide(sum: u128, value: [u8; 8]) -> u128
     requires { sum + 2 ^ 64 ≤ 2 ^ 128 }
     ensures sum { accumulator_sum result ≡ fold (accumulator_sum sum + total value) }
@@ -142,7 +142,7 @@ pub fn ones_complement(sum: u64) -> u16
     !to_word(sum)
 }
 
-/// The same with ffff in the place of 0.
+/// The same with ffff instead of 0.
 pub fn ones_complement_with_no_zero(sum: u64) -> u16
     ensures { result ≡ swap_bytes w16 (no_zero (65535 - accumulator_sum sum)) }
 {

@@ -1,4 +1,4 @@
-//! A want of room in a slice that is written to.
+//! Too little space in a slice that is written to.
 
 use super::Layer;
 use std::{error, fmt};

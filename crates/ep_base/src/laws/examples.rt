@@ -1,5 +1,5 @@
-//! The definitions and laws at values from outside: each clause is what a standard or a hand gives,
-//! so that a definition can't change with the code.
+//! The definitions and laws at values from outside: each clause states a value of a standard or one
+//! that was calculated by hand, so that a definition can't change with the code.
 
 ghost use Rattle.std.specs.Prelude.{◌≡◌, ◌==◌, ◌%◌, ℕ, ⊤, [], ◌∷◌, true, false, Ok, Err, pos};
 ghost use Rattle.std.specs.Hash as fed;
@@ -28,8 +28,8 @@ use crate::LenSource;
 use crate::err::{Layer, ValueType};
 use std::hash::Hash;
 
-/// Numbers are spelled high byte first, and past the end stands 0. Bytes are 0 to 255.
-pub fn numbers_by_place()
+/// Numbers are encoded high byte first, and bytes past the end are read as 0. Bytes are 0 to 255.
+pub fn numbers_by_offset()
     ensures one { num (1 ∷ 2 ∷ 3 ∷ 4 ∷ []) 3 1 ≡ 4 }
     ensures two { num (1 ∷ 2 ∷ 3 ∷ 4 ∷ []) 1 2 ≡ 515 }
     ensures four { num (1 ∷ 2 ∷ 3 ∷ 4 ∷ []) 0 4 ≡ 16909060 }
@@ -53,10 +53,10 @@ pub fn bounded_numbers()
     ensures known { IsKnown 44 (Ok name.VoiceAdmit) }
 {}
 
-/// A want of bytes at the front, and further on: from byte 14 as far as to the last place that a
-/// `usize` names. A fault of the content is at no place.
-pub fn places_further_on()
-    ensures front { too_few_bytes layer.Ipv4Header 20 19
+/// Too few bytes at the start, and further on: from byte 14 up to the greatest offset that a
+/// `usize` holds. An error in the content has no offset.
+pub fn offsets_further_on()
+    ensures prefix { too_few_bytes layer.Ipv4Header 20 19
         ≡ record {
           required_len = 20;
           len = 19;
@@ -98,14 +98,13 @@ pub fn places_further_on()
     ensures len { (e : LenError) → slice_error.offset_by {C = ℕ} (error.Len e) 4
         ≡ error.Len (offset_by e 4) }
     ensures content { slice_error.offset_by {C = ℕ} (error.Content 7) 4 ≡ error.Content 7 }
-    ensures len_place { slice_error.content_offset {C = ℕ}
+    ensures offset_of_len { slice_error.content_offset {C = ℕ}
         (error.Len (offset_by (too_few_bytes layer.Ipv4Header 20 19) 14)) ≡ 14 }
-    ensures content_place { slice_error.content_offset {C = ℕ} (error.Content 7) ≡ 0 }
+    ensures offset_of_content { slice_error.content_offset {C = ℕ} (error.Content 7) ≡ 0 }
 {}
 
-/// What the words on traits rule out: a copy of every value, equality modulo 2, the order turned
-/// round, copies of 0 alone, a hasher that is fed nothing, and a default that may be
-/// anything.
+/// What the definitions of traits rule out: a copy of every value, equality modulo 2, the order
+/// reversed, copies of 0 alone, a hasher that is fed nothing, and a default that may be anything.
 pub fn traits_ruled_out()
     ensures copies { ¬ (CopyIsValue (λ (value copy : ℕ). ⊤)) }
     ensures equals { ¬ (EqualIsSame (λ (a b : ℕ). a % 2 == b % 2)) }
@@ -117,7 +116,7 @@ pub fn traits_ruled_out()
 {}
 
 /// What a hasher is fed of a layer, a kind of number and the source of a length, as Rust's derive
-/// does: the place of the variant among those that are declared, from 0 on.
+/// does: the index of the variant among those that are declared, from 0 on.
 pub fn hashes_of_variants()
     ensures first { ⟦<Layer as Hash>⟧.hash_input layer.LinuxSllHeader ≡ fed.isize (pos 0) }
     ensures last { ⟦<Layer as Hash>⟧.hash_input layer.Arp ≡ fed.isize (pos 24) }
@@ -170,16 +169,16 @@ pub fn checksums_with_no_zero()
     ensures greatest { no_zero 65535 ≡ 65535 }
 {}
 
-/// A zero byte makes an odd piece whole words, and a text may be cut between words alone.
-pub fn pieces_of_words()
+/// A zero byte fills an odd chunk up to whole words, and a text may be cut between words alone.
+pub fn chunks_of_words()
     ensures odd { whole_words (1 ∷ 2 ∷ 3 ∷ []) ≡ 1 ∷ 2 ∷ 3 ∷ 0 ∷ [] }
     ensures even { whole_words (1 ∷ 2 ∷ []) ≡ 1 ∷ 2 ∷ [] }
     ensures cut { IsCutAtWords ((1 ∷ 2 ∷ []) ∷ (3 ∷ 4 ∷ 5 ∷ []) ∷ []) }
     ensures no_cut { ¬ (IsCutAtWords ((1 ∷ []) ∷ (2 ∷ []) ∷ [])) }
 {}
 
-/// [`fold_of_pieces`] where the last piece is odd and comes first.
-pub fn odd_last_piece_comes_first()
+/// [`fold_of_pieces`] where the last chunk is odd and comes first.
+pub fn odd_last_chunk_comes_first()
     ensures { fold (total (flat_map whole_words ((3 ∷ 4 ∷ 5 ∷ []) ∷ (1 ∷ 2 ∷ []) ∷ [])))
         ≡ fold (total (1 ∷ 2 ∷ 3 ∷ 4 ∷ 5 ∷ [])) }
 {

@@ -11,12 +11,12 @@ ghost use Rattle.ep_base.specs.declared.net.ip_dscp_unknown_value_error.IpDscpUn
 ghost use Rattle.ep_base.specs.declared.net.ip_ecn.IpEcn.TheVariants.{NotEct};
 ghost use Rattle.ep_base.specs.IpDscpKnown.{code_point};
 ghost use Rattle.ep_base.specs.IpEcn.{ecn_number};
-ghost use Rattle.ep_base.specs.Layer.{layer_place};
-ghost use Rattle.ep_base.specs.LenSource.{source_place};
+ghost use Rattle.ep_base.specs.Layer.{layer_index};
+ghost use Rattle.ep_base.specs.LenSource.{source_index};
 ghost use Rattle.ep_base.specs.Traits.{CopyIsValue, CopyNeverFails, DefaultIs, EqualIsSame};
-ghost use Rattle.ep_base.specs.Traits.{HashIsOf, HashIsOfPlace, IsPlainData, OrderIsOf};
+ghost use Rattle.ep_base.specs.Traits.{HashIsOf, HashIsOfIndex, IsPlainData, OrderIsOf};
 ghost use Rattle.ep_base.specs.Traits.{VariantFeeds};
-ghost use Rattle.ep_base.specs.ValueType.{kind_place};
+ghost use Rattle.ep_base.specs.ValueType.{kind_index};
 
 use crate::checksum::Sum16BitWords;
 use crate::err::{Layer, LenError, SliceError, SliceWriteSpaceError, ValueTooBigError, ValueType};
@@ -64,8 +64,8 @@ pub fn value_too_big_errors<T: Clone + PartialEq + Hash>()
         ⟦<ValueTooBigError<T> as Hash>⟧.hash_input }
 {}
 
-/// An error of a slice is copied, compared and hashed as what it holds is, whatever the format: a
-/// want of bytes comes as 0, what is wrong with the content as 1.
+/// An error of a slice is copied, compared and hashed as what it holds is, whatever the format. A
+/// hasher is fed 0 before an error of too few bytes, and 1 before an error in the content.
 pub fn slice_errors<C: Clone + PartialEq + Hash>()
     requires copies { CopyIsValue C.is_clone }
     requires never_fails { CopyNeverFails C.is_infallible }
@@ -89,7 +89,7 @@ pub fn orders_are_of_numbers()
     ensures ip_number { OrderIsOf (λ number. number.0) ⟦<IpNumber as Ord>⟧.cmp }
     ensures ipv6_flow_label { OrderIsOf (λ n. n) ⟦<Ipv6FlowLabel as Ord>⟧.cmp }
     ensures ether_type { OrderIsOf (λ ether_type. ether_type.0) ⟦<EtherType as Ord>⟧.cmp }
-    ensures len_source { OrderIsOf source_place ⟦<LenSource as Ord>⟧.cmp }
+    ensures len_source { OrderIsOf source_index ⟦<LenSource as Ord>⟧.cmp }
 {}
 
 /// The number 0 is the default, as a notification too.
@@ -113,10 +113,10 @@ pub fn hashes_are_of_numbers()
     ensures ipv6_flow_label { HashIsOf fed.u32 ⟦<Ipv6FlowLabel as Hash>⟧.hash_input }
     ensures ether_type { HashIsOf (λ ether_type. fed.u16 ether_type.0)
         ⟦<EtherType as Hash>⟧.hash_input }
-    ensures ip_ecn { HashIsOfPlace ecn_number ⟦<IpEcn as Hash>⟧.hash_input }
-    ensures len_source { HashIsOfPlace source_place ⟦<LenSource as Hash>⟧.hash_input }
-    ensures layer { HashIsOfPlace layer_place ⟦<Layer as Hash>⟧.hash_input }
-    ensures value_type { HashIsOfPlace kind_place ⟦<ValueType as Hash>⟧.hash_input }
+    ensures ip_ecn { HashIsOfIndex ecn_number ⟦<IpEcn as Hash>⟧.hash_input }
+    ensures len_source { HashIsOfIndex source_index ⟦<LenSource as Hash>⟧.hash_input }
+    ensures layer { HashIsOfIndex layer_index ⟦<Layer as Hash>⟧.hash_input }
+    ensures value_type { HashIsOfIndex kind_index ⟦<ValueType as Hash>⟧.hash_input }
 {}
 
 /// An error feeds a hasher all its fields.

@@ -2,8 +2,8 @@
 
 ghost use Rattle.std.specs.Prelude.{◌≡◌};
 
-/// An ether type, as the registry of IEEE assigns them: what stands behind an Ethernet II header or
-/// a tag. In a frame its two bytes stand high byte first.
+/// An ether type, as the registry of IEEE assigns them: what follows an Ethernet II header or
+/// a tag. A frame holds it in two bytes, high byte first.
 #[derive(Clone, Copy, Debug, Default, PartialEq, Eq, Hash, PartialOrd, Ord)]
 pub struct EtherType(pub u16);
 

@@ -7,8 +7,8 @@ use ep_base::err::{Layer, LenError};
 use std::io::Read;
 use std::marker::Model;
 
-/// A reader from which no more than a number of bytes is read, as the headers of a packet before
-/// them allow. It counts what was read of the layer that is read now.
+/// A reader from which at most a given number of bytes is read: the limit that earlier headers of a
+/// packet set. It counts what was read of the layer that is read now.
 ///
 /// A contract sees the reader inside, the limit with its source, the layer with its offset, and the
 /// number of bytes read of it.
@@ -39,7 +39,7 @@ impl<T> Model for LimitedReader<T> {
 
 impl<T> LimitedReader<T> {
     /// A reader that gives at most `max_len` bytes of a layer, which starts `layer_offset` bytes
-    /// behind the start of the packet.
+    /// after the start of the packet.
     pub fn new(
         reader: T,
         max_len: usize,
@@ -105,7 +105,7 @@ impl<T> LimitedReader<T> {
         self.read_len
     }
 
-    /// Begins a layer after the bytes that were read. The limit goes down by them, the offset up.
+    /// Starts a layer after the bytes that were read. The limit goes down by them, the offset up.
     pub fn start_layer(&mut self, layer: Layer)
         ensures { self.new ≡ at_next_layer self.old layer }
     {
@@ -133,8 +133,8 @@ impl<T> LimitedReader<T> {
 
 impl<T: Read> LimitedReader<T> {
     /// Fills `buf`. Refused with `Len`, and nothing is read, where the bytes that were read of the
-    /// layer and those asked for go beyond the limit; with `Io` where a read fails or the reader
-    /// ends, and then none of them count as read.
+    /// layer and those requested are more than the limit; with `Io` where a read fails or the
+    /// reader ends, and then none of them count as read.
     pub fn read_exact(&mut self, buf: &mut [u8]) -> Result<(), LimitedReadError>
         ensures read { MatchResult result (λ _. Takes T.remaining self.old buf.new self.new)
             (λ e. Refuses self.old (length buf.old) e self.new) }

@@ -1,17 +1,17 @@
-//! Laws of headers in a row, under any order of places.
+//! Laws of headers in a row, under any order of slots.
 ghost use Rattle.std.specs.Prelude.{◌≡◌, ◌≤◌, ◌<◌, ◌+◌, ◌^◌, ℕ, List, [], ◌∷◌, ◌++◌, length, Some};
 ghost use Rattle.std.specs.Prelude.{None, Ok, Err, IsOkAnd, false};
 ghost use Rattle.ep_ip.specs.Skip.{is_skipped, skip};
 ghost use Rattle.ep_base.specs.Bytes.{num};
 ghost use Rattle.ep_ext.specs.Auth.{auth_at};
-ghost use Rattle.ep_ext.specs.Chain.{Chain, Fault, IsEnd, IsPiece, Row, fault_of, front_of};
+ghost use Rattle.ep_ext.specs.Chain.{Chain, Fault, IsEnd, IsPiece, Row, fault_of, prefix_of};
 ghost use Rattle.ep_base.specs.SliceError.{CanMove};
-ghost use Rattle.ep_ext.specs.Place.{KeepsNumbers, Order, place_of};
-ghost use Rattle.ep_ext.specs.Value.{Piece, bytes_of, places};
+ghost use Rattle.ep_ext.specs.Slot.{KeepsNumbers, Order, slot_of};
+ghost use Rattle.ep_ext.specs.Value.{Piece, bytes_of, slots};
 ghost use Rattle.ep_base.specs.declared.err.slice_error.SliceError.{SliceError};
 ghost use Rattle.ep_ext.specs.declared.err.ip_auth.header_error.HeaderError.{HeaderError as AuthError};
 ghost use Rattle.ep_ext.specs.declared.err.ipv6_exts.header_error.HeaderError.{HeaderError};
-ghost use Rattle.ep_ext.specs.declared.net.ipv6_ext_place.Ipv6ExtPlace.{Ipv6ExtPlace};
+ghost use Rattle.ep_ext.specs.declared.net.ipv6_ext_slot.Ipv6ExtSlot.{Ipv6ExtSlot};
 
 use ep_base::IpNumber;
 use ep_base::err::LenError;
@@ -28,43 +28,43 @@ pub fn chain_is_alone()
 /// A whole header of the number that a row names last makes the row longer.
 pub fn row_grows_by_a_header()
     ensures row { (order : Order) (first : ℕ) (pieces : List Piece) (last : ℕ)
-        (place : Ipv6ExtPlace) (header : List ℕ)
-        → Row order [] first pieces last → order (places pieces) last ≡ Some place
-        → IsPiece place header
-        → Row order [] first (pieces ++ (place, header) ∷ []) (num header 0 1) }
-    ensures places { (pieces : List Piece) (place : Ipv6ExtPlace) (header : List ℕ)
-        → places (pieces ++ (place, header) ∷ []) ≡ places pieces ++ place ∷ [] }
-    ensures bytes { (pieces : List Piece) (place : Ipv6ExtPlace) (header : List ℕ)
-        → bytes_of (pieces ++ (place, header) ∷ []) ≡ bytes_of pieces ++ header }
+        (slot : Ipv6ExtSlot) (header : List ℕ)
+        → Row order [] first pieces last → order (slots pieces) last ≡ Some slot
+        → IsPiece slot header
+        → Row order [] first (pieces ++ (slot, header) ∷ []) (num header 0 1) }
+    ensures slots { (pieces : List Piece) (slot : Ipv6ExtSlot) (header : List ℕ)
+        → slots (pieces ++ (slot, header) ∷ []) ≡ slots pieces ++ slot ∷ [] }
+    ensures bytes { (pieces : List Piece) (slot : Ipv6ExtSlot) (header : List ℕ)
+        → bytes_of (pieces ++ (slot, header) ∷ []) ≡ bytes_of pieces ++ header }
 {}
 
-/// A row ends at a number that its order has no place for, and at one of which no whole header
-/// begins the rest.
+/// A row ends at a number that its order has no slot for, and at one of which the rest starts with
+/// no whole header.
 pub fn row_ends_where_none_is_taken()
-    ensures closed { (order : Order) (passed : List Ipv6ExtPlace) (last : ℕ) (rest : List ℕ)
+    ensures closed { (order : Order) (passed : List Ipv6ExtSlot) (last : ℕ) (rest : List ℕ)
         → order passed last ≡ None → IsEnd order passed last rest }
-    ensures fault { (order : Order) (passed : List Ipv6ExtPlace) (last : ℕ)
-        (rest : List ℕ) (place : Ipv6ExtPlace)
-        (error : SliceError HeaderError) → order passed last ≡ Some place
-        → front_of place rest ≡ Err error
+    ensures fault { (order : Order) (passed : List Ipv6ExtSlot) (last : ℕ)
+        (rest : List ℕ) (slot : Ipv6ExtSlot)
+        (error : SliceError HeaderError) → order passed last ≡ Some slot
+        → prefix_of slot rest ≡ Err error
         → IsEnd order passed last rest }
 {}
 
-/// A whole header at the front of some bytes is found, whatever follows it, and has 8 bytes at
+/// A whole header at the start of some bytes is found, whatever follows it, and has 8 bytes at
 /// least.
 pub fn whole_header_is_found()
-    ensures found { (place : Ipv6ExtPlace) (header rest : List ℕ)
-        → IsPiece place header → front_of place (header ++ rest) ≡ Ok header }
-    ensures least { (place : Ipv6ExtPlace) (header : List ℕ)
-        → IsPiece place header → 8 ≤ length header }
+    ensures found { (slot : Ipv6ExtSlot) (header rest : List ℕ)
+        → IsPiece slot header → prefix_of slot (header ++ rest) ≡ Ok header }
+    ensures least { (slot : Ipv6ExtSlot) (header : List ℕ)
+        → IsPiece slot header → 8 ≤ length header }
 {}
 
-/// The place of a fault is within the bytes, so that it can be moved by what stands in front of
-/// them: of a header at the front, alone and as an authentication header, the place is 0; of
+/// The offset of a fault is within the bytes, so that the length of what comes before them can be
+/// added to it. It is 0 for a header at the start, alone and as an authentication header; for
 /// headers in a row it is that of the header at which the row stops.
 pub fn faults_can_be_moved()
-    ensures front { (place : Ipv6ExtPlace) (bytes : List ℕ) (error : SliceError HeaderError) (n : ℕ)
-        → front_of place bytes ≡ Err error → n < 2 ^ 64 → CanMove error n }
+    ensures prefix { (slot : Ipv6ExtSlot) (bytes : List ℕ) (error : SliceError HeaderError) (n : ℕ)
+        → prefix_of slot bytes ≡ Err error → n < 2 ^ 64 → CanMove error n }
     ensures row { (order : Order) (first : ℕ) (bytes : List ℕ) (pieces : List Piece)
         (last : ℕ) (rest : List ℕ)
         (fault : Fault) (n : ℕ) → Chain order first bytes pieces last rest
@@ -74,17 +74,17 @@ pub fn faults_can_be_moved()
         → auth_at bytes ≡ Err error → n < 2 ^ 64 → CanMove error n }
 {}
 
-/// Where bytes are headers in a row and a rest, and the walk over all skipped headers doesn't skip the
-/// number behind them, it ends at that number and rest.
+/// Where bytes are headers in a row and a rest, and the walk over all skipped headers doesn't skip
+/// the number after them, it ends at that number and rest.
 pub fn skip_agrees_with_chain()
     ensures value { (first : ℕ) (bytes : List ℕ) (pieces : List Piece) (last : ℕ)
-        (rest : List ℕ) → Chain place_of first bytes pieces last rest
+        (rest : List ℕ) → Chain slot_of first bytes pieces last rest
         → is_skipped last ≡ false → skip first bytes ≡ Ok (last, rest) }
-    // So it does under any order in which headers take places of their own numbers.
+    // So it does under any order in which headers take slots of their own numbers.
     ensures any { (order : Order) (first : ℕ) (bytes : List ℕ) (pieces : List Piece) (last : ℕ)
         (rest : List ℕ) → KeepsNumbers order → Chain order first bytes pieces last rest
         → is_skipped last ≡ false → skip first bytes ≡ Ok (last, rest) }
-    ensures own { KeepsNumbers place_of }
+    ensures own { KeepsNumbers slot_of }
 {
     ep_ip::laws::ipv6::skip_follows_every_walk();
 }

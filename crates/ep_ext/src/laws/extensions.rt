@@ -1,9 +1,9 @@
 //! Laws of the extension headers that one value holds.
 ghost use Rattle.std.specs.Prelude.{◌≡◌, ◌≢◌, Ok, ℕ, List, ◌∷◌, ◌++◌, IsOkAnd, false, None, []};
 ghost use Rattle.std.specs.Prelude.{length};
-ghost use Rattle.ep_ext.specs.Follow.{Follows, IsReadAgain, has_place, walk_fault};
-ghost use Rattle.ep_ext.specs.Place.{place_of};
-ghost use Rattle.ep_ext.specs.Ipv4Exts.{NamesBehind, auth_number, ipv4_exts_of, ipv4_exts_spelling};
+ghost use Rattle.ep_ext.specs.Follow.{Follows, IsReadAgain, has_slot, walk_fault};
+ghost use Rattle.ep_ext.specs.Slot.{slot_of};
+ghost use Rattle.ep_ext.specs.Ipv4Exts.{NamesAfter, auth_number, ipv4_exts_of, ipv4_exts_encoding};
 ghost use Rattle.ep_ext.specs.Chain.{Chain, Row, fault_of};
 ghost use Rattle.ep_ext.specs.Value.{Piece, bytes_of, value_of};
 ghost use Rattle.ep_ext.specs.declared.net.ipv4_extensions.Ipv4Extensions.{Ipv4Extensions as Ipv4Value};
@@ -14,15 +14,15 @@ use crate::err::ipv6_exts::{ExtsWalkError, HeaderSliceError};
 use crate::{Ipv4Extensions, Ipv6Extensions, Ipv6RoutingExtensions};
 use ep_base::IpNumber;
 
-/// Headers of a value that all follow one another, up to a number of no header that has a place, are
-/// read again from their bytes, whatever follows these: they are headers in a row and that rest,
-/// without a fault, and the headers of that value alone.
+/// Headers of a value that all follow one another, up to a number that has no slot, are read again
+/// from their bytes, whatever follows these: they are headers in a row and that rest, without a
+/// fault, and the headers of that value alone.
 pub fn written_chain_reads_back()
     ensures { (value : Ipv6Value) (first : ℕ) (pieces : List Piece) (last : ℕ) (rest : List ℕ)
         → IsReadAgain value → Follows value first pieces last
-        → walk_fault value pieces last ≡ None → has_place last ≡ false
-        → Chain place_of first (bytes_of pieces ++ rest) pieces last rest
-        × (fault_of place_of pieces last rest ≡ None) × (value_of pieces ≡ value) }
+        → walk_fault value pieces last ≡ None → has_slot last ≡ false
+        → Chain slot_of first (bytes_of pieces ++ rest) pieces last rest
+        × (fault_of slot_of pieces last rest ≡ None) × (value_of pieces ≡ value) }
 {}
 
 /// The same of the call that reads: what `write` appends from a first number is read again from that
@@ -34,7 +34,7 @@ pub fn read_call_gives_written_chain<'a>(
 ) -> Result<(Ipv6Extensions, IpNumber, &'a [u8]), HeaderSliceError>
     ensures { (pieces : List Piece) (last : ℕ) (rest : List ℕ)
         → Follows headers.now first.0 pieces last → walk_fault headers.now pieces last ≡ None
-        → has_place last ≡ false → slice.now ≡ bytes_of pieces ++ rest
+        → has_slot last ≡ false → slice.now ≡ bytes_of pieces ++ rest
         → IsOkAnd result (λ r. (r.0 ≡ headers.now) × (r.1.0 ≡ last) × (r.2.now ≡ rest)) }
 {
     written_chain_reads_back();
@@ -51,13 +51,13 @@ pub fn written_chain_has_header_len(headers: &Ipv6Extensions) -> usize
     headers.header_len()
 }
 
-/// A value that was read from headers in a row is followed along that row: the number behind it is
-/// the row's.
+/// A value that was read from headers in a row names them in that row: the number after it is the
+/// row's.
 pub fn read_chain_is_followed(
     headers: &Ipv6Extensions,
     first: IpNumber,
 ) -> Result<IpNumber, ExtsWalkError>
-    ensures { (pieces : List Piece) (last : ℕ) → Row place_of [] first.0 pieces last
+    ensures { (pieces : List Piece) (last : ℕ) → Row slot_of [] first.0 pieces last
         → headers.now ≡ value_of pieces → IsOkAnd result (λ number. number.0 ≡ last) }
 {
     headers.next_header(first)
@@ -82,9 +82,9 @@ pub fn written_ipv4_chain_reads_back<'a>(
     first: IpNumber,
     slice: &'a [u8],
 ) -> Result<(Ipv4Extensions, IpNumber, &'a [u8]), ip_auth::HeaderSliceError>
-    ensures { (number : IpNumber) (rest : List ℕ) → NamesBehind headers.now first.0 (Ok number)
+    ensures { (number : IpNumber) (rest : List ℕ) → NamesAfter headers.now first.0 (Ok number)
         → (headers.now.auth ≡ None → first.0 ≢ auth_number)
-        → slice.now ≡ ipv4_exts_spelling headers.now ++ rest
+        → slice.now ≡ ipv4_exts_encoding headers.now ++ rest
         → IsOkAnd result (λ r. (r.0 ≡ headers.now) × (r.1.0 ≡ number.0) × (r.2.now ≡ rest)) }
 {
     headers.has_whole_header();
@@ -100,7 +100,7 @@ pub fn default_holds_no_header()
 {}
 
 /// The least and the greatest length in bytes: of the extension headers of IPv4, of those of IPv6,
-/// and of a routing header with the options behind it.
+/// and of a routing header with its final destination options.
 pub fn chain_lengths() -> [usize; 6]
     ensures { result ≡ 0 ∷ 1028 ∷ 0 ∷ 9228 ∷ 8 ∷ 4096 ∷ [] }
 {

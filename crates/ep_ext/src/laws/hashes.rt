@@ -2,9 +2,9 @@
 //! then what it holds.
 ghost use Rattle.std.specs.Prelude.{◌≡◌, [], pos};
 ghost use Rattle.std.specs.Hash as fed;
-ghost use Rattle.ep_base.specs.Traits.{HashIsOfPlace, VariantFeeds};
+ghost use Rattle.ep_base.specs.Traits.{HashIsOfIndex, VariantFeeds};
 ghost use Rattle.ep_base.specs.declared.net.ip_number.IpNumber.{IpNumber};
-ghost use Rattle.ep_ext.specs.Place.{rank};
+ghost use Rattle.ep_ext.specs.Slot.{rank};
 ghost use Rattle.ep_ext.specs.declared.err.ip_auth.header_error.HeaderError.{HeaderError as AuthError};
 ghost use Rattle.ep_ext.specs.declared.err.ip_auth.icv_len_error.IcvLenError.TheVariants as icv;
 ghost use Rattle.ep_ext.specs.declared.err.ipv4_exts.exts_walk_error.ExtsWalkError.TheVariants as ipv4_walk;
@@ -16,7 +16,7 @@ ghost use Rattle.ep_ext.specs.declared.err.ipv6_exts.header_write_error.HeaderWr
 ghost use Rattle.ep_ext.specs.declared.err.ip_exts.exts_walk_error.ExtsWalkError.TheVariants as walk;
 ghost use Rattle.ep_ext.specs.declared.err.ip_exts.header_error.HeaderError.TheVariants as exts;
 
-use crate::Ipv6ExtPlace;
+use crate::Ipv6ExtSlot;
 use crate::err::{ip_auth, ip_exts, ipv4_exts, ipv6_exts};
 use ep_base::IpNumber;
 use std::hash::Hash;
@@ -63,7 +63,7 @@ pub fn write_errors_hash_all_fields()
 {}
 
 /// What is wrong with the content of headers; of both versions, with that of the version. The one
-/// fault of an authentication header tells nothing more.
+/// fault of an authentication header feeds nothing more.
 pub fn content_errors_hash_all_fields()
     ensures auth { (e : AuthError) → ⟦<ip_auth::HeaderError as Hash>⟧.hash_input e ≡ [] }
     ensures start { ⟦<ipv6_exts::HeaderError as Hash>⟧.hash_input ipv6.HopByHopNotAtStart
@@ -76,7 +76,7 @@ pub fn content_errors_hash_all_fields()
         1 exts.Ipv6Ext ⟦<ipv6_exts::HeaderError as Hash>⟧.hash_input }
 {}
 
-/// A place of an extension header comes as its rank in the order in which they are declared.
-pub fn places_hash_as_ranks()
-    ensures { HashIsOfPlace rank ⟦<Ipv6ExtPlace as Hash>⟧.hash_input }
+/// A slot of an extension header feeds its index in the order in which they are declared.
+pub fn slots_hash_as_ranks()
+    ensures { HashIsOfIndex rank ⟦<Ipv6ExtSlot as Hash>⟧.hash_input }
 {}

@@ -2,11 +2,11 @@
 ghost use Rattle.std.specs.Prelude.{◌≡◌, ◌+◌, ℕ, true, false, List, [], ◌∷◌, ◌++◌, map, Some, None};
 ghost use Rattle.std.specs.Prelude.{IsOkAnd, Ok, Err};
 ghost use Rattle.ep_base.specs.Bytes.{IsBytes};
-ghost use Rattle.ep_ext.specs.Auth.{IsAuth, auth_of, auth_at, auth_spelling, auth_cleared};
+ghost use Rattle.ep_ext.specs.Auth.{IsAuth, auth_of, auth_at, auth_encoding, auth_cleared};
 ghost use Rattle.ep_ext.specs.Auth.{icv_fault};
-ghost use Rattle.ep_ext.specs.Fragment.{IsFragment, fragment_of, fragment_spelling};
+ghost use Rattle.ep_ext.specs.Fragment.{IsFragment, fragment_of, fragment_encoding};
 ghost use Rattle.ep_ext.specs.Fragment.{fragment_cleared, fragment_at};
-ghost use Rattle.ep_ext.specs.Raw.{IsRawExt, raw_of, raw_at, raw_spelling, is_raw_number};
+ghost use Rattle.ep_ext.specs.Raw.{IsRawExt, raw_of, raw_at, raw_encoding, is_raw_number};
 ghost use Rattle.ep_ext.specs.Raw.{payload_fault};
 ghost use Rattle.ep_base.specs.LenError.{too_few_bytes};
 ghost use Rattle.ep_base.specs.declared.err.slice_error.SliceError.TheVariants as slice_error;
@@ -36,29 +36,29 @@ pub fn header_lengths() -> [usize; 8]
 
 /// Raw extension headers and their bytes are each other's.
 pub fn raw_headers_are_their_bytes(header: &Ipv6RawExtHeader)
-    ensures header { IsRawExt (raw_spelling header.now) }
-    ensures fields { raw_of (raw_spelling header.now) ≡ header.now }
-    ensures again { (bytes : List ℕ) → IsRawExt bytes → raw_spelling (raw_of bytes) ≡ bytes }
+    ensures header { IsRawExt (raw_encoding header.now) }
+    ensures fields { raw_of (raw_encoding header.now) ≡ header.now }
+    ensures again { (bytes : List ℕ) → IsRawExt bytes → raw_encoding (raw_of bytes) ≡ bytes }
 {
     let _len = header.header_len();
 }
 
 /// Fragment headers and their bytes are each other's, reserved bits aside.
 pub fn fragment_headers_are_their_bytes(header: &Ipv6FragmentHeader)
-    ensures header { IsFragment (fragment_spelling header.now) }
-    ensures fields { fragment_of (fragment_spelling header.now) ≡ header.now }
+    ensures header { IsFragment (fragment_encoding header.now) }
+    ensures fields { fragment_of (fragment_encoding header.now) ≡ header.now }
     ensures again { (bytes : List ℕ) → IsFragment bytes → IsBytes bytes
-        → fragment_spelling (fragment_of bytes) ≡ fragment_cleared bytes }
+        → fragment_encoding (fragment_of bytes) ≡ fragment_cleared bytes }
 {
     let _len = header.header_len();
 }
 
 /// Authentication headers and their bytes are each other's, reserved bytes aside.
 pub fn auth_headers_are_their_bytes(header: &IpAuthHeader)
-    ensures header { IsAuth (auth_spelling header.now) }
-    ensures fields { auth_of (auth_spelling header.now) ≡ header.now }
+    ensures header { IsAuth (auth_encoding header.now) }
+    ensures fields { auth_of (auth_encoding header.now) ≡ header.now }
     ensures again { (bytes : List ℕ) → IsAuth bytes → IsBytes bytes
-        → auth_spelling (auth_of bytes) ≡ auth_cleared bytes }
+        → auth_encoding (auth_of bytes) ≡ auth_cleared bytes }
 {
     let _len = header.header_len();
 }
@@ -68,7 +68,7 @@ pub fn raw_header_is_read_again<'a>(
     header: &Ipv6RawExtHeader,
     slice: &'a [u8],
 ) -> Result<(Ipv6RawExtHeader, &'a [u8]), LenError>
-    ensures { (rest : List ℕ) → slice.now ≡ raw_spelling header.now ++ rest
+    ensures { (rest : List ℕ) → slice.now ≡ raw_encoding header.now ++ rest
         → IsOkAnd result (λ r. (r.0 ≡ header.now) × (r.1.now ≡ rest)) }
 {
     let _len = header.header_len();
@@ -80,7 +80,7 @@ pub fn fragment_header_is_read_again<'a>(
     header: &Ipv6FragmentHeader,
     slice: &'a [u8],
 ) -> Result<(Ipv6FragmentHeader, &'a [u8]), LenError>
-    ensures { (rest : List ℕ) → slice.now ≡ fragment_spelling header.now ++ rest
+    ensures { (rest : List ℕ) → slice.now ≡ fragment_encoding header.now ++ rest
         → IsOkAnd result (λ r. (r.0 ≡ header.now) × (r.1.now ≡ rest)) }
 {
     let _len = header.header_len();
@@ -92,14 +92,14 @@ pub fn auth_header_is_read_again<'a>(
     header: &IpAuthHeader,
     slice: &'a [u8],
 ) -> Result<(IpAuthHeader, &'a [u8]), HeaderSliceError>
-    ensures { (rest : List ℕ) → slice.now ≡ auth_spelling header.now ++ rest
+    ensures { (rest : List ℕ) → slice.now ≡ auth_encoding header.now ++ rest
         → IsOkAnd result (λ r. (r.0 ≡ header.now) × (r.1.now ≡ rest)) }
 {
     let _len = header.header_len();
     IpAuthHeader::from_slice(slice)
 }
 
-/// A layer that begins doesn't move the offset at which a reader's limit lies.
+/// A new layer doesn't move the offset at which a reader's limit lies.
 pub fn new_layer_keeps_the_end<T>(reader: &mut LimitedReader<T>, layer: Layer)
     ensures { reader.new.layer_offset + reader.new.max_len
         ≡ reader.old.layer_offset + reader.old.max_len }
@@ -108,14 +108,14 @@ pub fn new_layer_keeps_the_end<T>(reader: &mut LimitedReader<T>, layer: Layer)
     reader.start_layer(layer);
 }
 
-/// Worked values: a routing header, a fragment header and an authentication header of some bytes,
-/// and what fewer bytes want (RFC 8200, sections 4.4 and 4.5; RFC 4302, section 2).
+/// Literal values: a routing header, a fragment header and an authentication header of some bytes,
+/// and the errors of fewer bytes (RFC 8200, sections 4.4 and 4.5; RFC 4302, section 2).
 pub fn worked_headers()
     ensures raw { raw_of (17 ∷ 0 ∷ 1 ∷ 4 ∷ 2 ∷ 3 ∷ 5 ∷ 6 ∷ [])
         ≡ record { next_header = record { 0 = 17 }; payload = 1 ∷ 4 ∷ 2 ∷ 3 ∷ 5 ∷ 6 ∷ [] } }
-    ensures raw_front { raw_at (17 ∷ 0 ∷ 1 ∷ 4 ∷ 2 ∷ 3 ∷ 5 ∷ 6 ∷ 170 ∷ [])
+    ensures raw_prefix { raw_at (17 ∷ 0 ∷ 1 ∷ 4 ∷ 2 ∷ 3 ∷ 5 ∷ 6 ∷ 170 ∷ [])
         ≡ Ok (17 ∷ 0 ∷ 1 ∷ 4 ∷ 2 ∷ 3 ∷ 5 ∷ 6 ∷ []) }
-    ensures raw_want { raw_at (17 ∷ 1 ∷ 1 ∷ 4 ∷ 2 ∷ 3 ∷ 5 ∷ 6 ∷ [])
+    ensures raw_too_short { raw_at (17 ∷ 1 ∷ 1 ∷ 4 ∷ 2 ∷ 3 ∷ 5 ∷ 6 ∷ [])
         ≡ Err (too_few_bytes Layer.Ipv6ExtHeader 16 8) }
     ensures fragment { fragment_of (58 ∷ 255 ∷ 171 ∷ 205 ∷ 18 ∷ 52 ∷ 86 ∷ 120 ∷ [])
         ≡ record {
@@ -124,9 +124,9 @@ pub fn worked_headers()
           more_fragments = true;
           identification = 305419896;
         } }
-    ensures fragment_spelled { fragment_cleared (58 ∷ 255 ∷ 171 ∷ 205 ∷ 18 ∷ 52 ∷ 86 ∷ 120 ∷ [])
+    ensures fragment_encoded { fragment_cleared (58 ∷ 255 ∷ 171 ∷ 205 ∷ 18 ∷ 52 ∷ 86 ∷ 120 ∷ [])
         ≡ 58 ∷ 0 ∷ 171 ∷ 201 ∷ 18 ∷ 52 ∷ 86 ∷ 120 ∷ [] }
-    ensures fragment_want { fragment_at (58 ∷ 0 ∷ [])
+    ensures fragment_too_short { fragment_at (58 ∷ 0 ∷ [])
         ≡ Err (too_few_bytes Layer.Ipv6FragHeader 8 2) }
     ensures auth { auth_of (6 ∷ 2 ∷ 255 ∷ 238 ∷ 1 ∷ 2 ∷ 3 ∷ 4 ∷ 5 ∷ 6 ∷ 7 ∷
         8 ∷ 9 ∷ 10 ∷ 11 ∷ 12 ∷ [])
@@ -136,16 +136,16 @@ pub fn worked_headers()
           sequence_number = 84281096;
           icv = 9 ∷ 10 ∷ 11 ∷ 12 ∷ [];
         } }
-    ensures auth_spelled { auth_cleared (6 ∷ 1 ∷ 255 ∷ 238 ∷ 1 ∷ 2 ∷ 3 ∷ 4 ∷ 5 ∷ 6 ∷ 7 ∷ 8 ∷ [])
+    ensures auth_encoded { auth_cleared (6 ∷ 1 ∷ 255 ∷ 238 ∷ 1 ∷ 2 ∷ 3 ∷ 4 ∷ 5 ∷ 6 ∷ 7 ∷ 8 ∷ [])
         ≡ 6 ∷ 1 ∷ 0 ∷ 0 ∷ 1 ∷ 2 ∷ 3 ∷ 4 ∷ 5 ∷ 6 ∷ 7 ∷ 8 ∷ [] }
-    ensures auth_want { auth_at (6 ∷ 2 ∷ 0 ∷ 0 ∷ 1 ∷ 2 ∷ 3 ∷ 4 ∷ 5 ∷ 6 ∷ 7 ∷ 8 ∷ [])
+    ensures auth_too_short { auth_at (6 ∷ 2 ∷ 0 ∷ 0 ∷ 1 ∷ 2 ∷ 3 ∷ 4 ∷ 5 ∷ 6 ∷ 7 ∷ 8 ∷ [])
         ≡ Err (slice_error.Len (too_few_bytes Layer.IpAuthHeader 16 12)) }
     ensures auth_zero { auth_at (6 ∷ 0 ∷ 0 ∷ 0 ∷ 1 ∷ 2 ∷ 3 ∷ 4 ∷ 5 ∷ 6 ∷ 7 ∷ 8 ∷ [])
         ≡ Err (slice_error.Content HeaderError.ZeroPayloadLen) }
 {}
 
-/// Worked lengths: of payloads of raw extension headers and of check values, those taken and those
-/// beside them; and which numbers have the raw layout.
+/// Literal lengths: of payloads of raw extension headers and of check values, those accepted and
+/// those next to them; and which numbers have the raw layout.
 pub fn worked_lengths()
     ensures payloads { map payload_fault (5 ∷ 6 ∷ 7 ∷ 14 ∷ 2046 ∷ 2054 ∷ [])
         ≡ Some (ExtPayloadLenError.TooSmall 5) ∷ None ∷ Some (ExtPayloadLenError.Unaligned 7) ∷

@@ -4,7 +4,7 @@ ghost use Rattle.ep_base.specs.Traits.{IsPlainData};
 
 use crate::err::{ip_auth, ip_exts, ipv4_exts, ipv6_exts};
 use crate::{
-    IpAuthHeader, IpAuthHeaderSlice, Ipv4Extensions, Ipv6ExtPlace, Ipv6Extensions,
+    IpAuthHeader, IpAuthHeaderSlice, Ipv4Extensions, Ipv6ExtSlot, Ipv6Extensions,
     Ipv6FragmentHeader, Ipv6FragmentHeaderSlice, Ipv6RawExtHeader, Ipv6RawExtHeaderSlice,
     Ipv6RoutingExtensions,
 };
@@ -21,7 +21,7 @@ pub fn types_are_plain_data<'a>()
     ensures ip_auth_header_slice { IsPlainData ⟦<IpAuthHeaderSlice<'a> as Value>⟧ }
     ensures ipv4_extensions { IsPlainData ⟦<Ipv4Extensions as Value>⟧ }
     ensures ipv6_routing_extensions { IsPlainData ⟦<Ipv6RoutingExtensions as Value>⟧ }
-    ensures ipv6_ext_place { IsPlainData ⟦<Ipv6ExtPlace as Value>⟧ }
+    ensures ipv6_ext_slot { IsPlainData ⟦<Ipv6ExtSlot as Value>⟧ }
     ensures ip_auth_header_error { IsPlainData ⟦<ip_auth::HeaderError as Value>⟧ }
     ensures icv_len_error { IsPlainData ⟦<ip_auth::IcvLenError as Value>⟧ }
     ensures ipv4_exts_walk_error { IsPlainData ⟦<ipv4_exts::ExtsWalkError as Value>⟧ }

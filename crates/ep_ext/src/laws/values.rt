@@ -1,4 +1,4 @@
-//! What laws want of extension headers, and every value has.
+//! What laws require of extension headers, and every value satisfies.
 ghost use Rattle.ep_ext.specs.Follow.{IsReadAgain};
 
 use crate::Ipv6Extensions;

@@ -2,8 +2,8 @@ ghost use Rattle.std.specs.Prelude.{◌≡◌, ℕ, List, [], ◌++◌, IfOk, If
 ghost use Rattle.std.specs.Option.{option_map};
 ghost use Rattle.ep_base.specs.Bytes.{num};
 ghost use Rattle.ep_ext.specs.Borrowed.{Finds, Holds, with_slice_at};
-ghost use Rattle.ep_ext.specs.Chain.{Chain, IsPiece, fault_at, front_of, of_auth, of_len};
-ghost use Rattle.ep_ext.specs.Place.{place_of};
+ghost use Rattle.ep_ext.specs.Chain.{Chain, IsPiece, fault_at, prefix_of, of_auth, of_len};
+ghost use Rattle.ep_ext.specs.Slot.{slot_of};
 ghost use Rattle.ep_ext.specs.Auth.{IsAuth, auth_at, auth_of};
 ghost use Rattle.ep_ext.specs.Fragment.{IsFragment, fragment_at};
 ghost use Rattle.ep_ext.specs.Raw.{IsRawExt, raw_at, raw_of};
@@ -11,7 +11,7 @@ ghost use Rattle.ep_ext.specs.Value.{Piece, value_of};
 
 use super::passed::Passed;
 use super::{
-    IpAuthHeader, IpAuthHeaderSlice, Ipv6ExtPlace, Ipv6Extensions, Ipv6FragmentHeaderSlice,
+    IpAuthHeader, IpAuthHeaderSlice, Ipv6ExtSlot, Ipv6Extensions, Ipv6FragmentHeaderSlice,
     Ipv6RawExtHeader, Ipv6RawExtHeaderSlice, Ipv6RoutingExtensions,
 };
 use crate::err::ip_auth;
@@ -19,7 +19,7 @@ use crate::err::ipv6_exts::{HeaderError, HeaderSliceError};
 use ep_base::IpNumber;
 use ep_base::err::Layer;
 
-/// Extension headers of an IPv6 packet, borrowed, each in its slot. An `Ipv6Extensions` has room
+/// Extension headers of an IPv6 packet, borrowed, each in its slot. An `Ipv6Extensions` has space
 /// for each header in its greatest length, so a walk keeps these, and makes the value at its end.
 #[derive(Drop)]
 pub struct BorrowedExtensions<'a> {
@@ -46,8 +46,8 @@ impl<'a> BorrowedExtensions<'a> {
         }
     }
 
-    /// Finds the headers in a row, up to the first fault, and gives the number and the bytes behind
-    /// them.
+    /// Finds the headers in a row, up to the first fault, and returns the number and the bytes
+    /// after them.
     #[inline(never)]
     pub fn fill(
         &mut self,
@@ -56,21 +56,21 @@ impl<'a> BorrowedExtensions<'a> {
     ) -> (IpNumber, &'a [u8], Option<(HeaderSliceError, Layer)>)
         requires { Holds self.old [] }
         ensures { (pieces : List Piece) × (last : ℕ) × (rest : List ℕ)
-            × Chain place_of first.0 slice.now pieces last rest × Finds pieces last rest self.new result }
+            × Chain slot_of first.0 slice.now pieces last rest × Finds pieces last rest self.new result }
     {
         let mut passed = Passed::nothing();
         let mut number = first;
         let mut rest = slice;
-        'pieces: while let Some(place) = passed.place_of(number) {
-            match self.take(place, rest) {
-                Ok((next, behind)) => {
+        'pieces: while let Some(slot) = passed.slot_of(number) {
+            match self.take(slot, rest) {
+                Ok((next, following)) => {
                     number = next;
-                    rest = behind;
-                    passed = passed.with(place);
+                    rest = following;
+                    passed = passed.with(slot);
                 }
                 Err(error) => {
                     let offset = slice.len() - rest.len();
-                    let fault = (error.add_slice_offset(offset), place.layer());
+                    let fault = (error.add_slice_offset(offset), slot.layer());
                     return (number, rest, Some(fault));
                 }
             }
@@ -78,26 +78,26 @@ impl<'a> BorrowedExtensions<'a> {
         (number, rest, misplaced_options(number))
     }
 
-    // Takes the header at the front of the slice, and gives the number that it names and what
+    // Takes the header at the start of the slice, and returns the number that it names and what
     // follows it.
     fn take(
         &mut self,
-        place: Ipv6ExtPlace,
+        slot: Ipv6ExtSlot,
         slice: &'a [u8],
     ) -> Result<(IpNumber, &'a [u8]), HeaderSliceError>
-        ensures found { IfOk result (λ r. (header : List ℕ) × IsPiece place header
+        ensures found { IfOk result (λ r. (header : List ℕ) × IsPiece slot header
             × (slice.now ≡ header ++ r.1.now) × (r.0.0 ≡ num header 0 1)
-            × (self.new ≡ with_slice_at self.old place header)) }
-        ensures err { IfErr result (λ e. front_of place slice.now ≡ Err e) }
+            × (self.new ≡ with_slice_at self.old slot header)) }
+        ensures err { IfErr result (λ e. prefix_of slot slice.now ≡ Err e) }
         ensures kept { OnErr result (self.new ≡ self.old) }
     {
-        match place {
-            Ipv6ExtPlace::HopByHop => take_raw(&mut self.hop_by_hop_options, slice),
-            Ipv6ExtPlace::Destination => take_raw(&mut self.destination_options, slice),
-            Ipv6ExtPlace::Routing => take_raw(&mut self.routing, slice),
-            Ipv6ExtPlace::Fragment => take_fragment(&mut self.fragment, slice),
-            Ipv6ExtPlace::Authentication => take_auth(&mut self.auth, slice),
-            Ipv6ExtPlace::FinalDestination => take_raw(&mut self.final_destination_options, slice),
+        match slot {
+            Ipv6ExtSlot::HopByHop => take_raw(&mut self.hop_by_hop_options, slice),
+            Ipv6ExtSlot::Destination => take_raw(&mut self.destination_options, slice),
+            Ipv6ExtSlot::Routing => take_raw(&mut self.routing, slice),
+            Ipv6ExtSlot::Fragment => take_fragment(&mut self.fragment, slice),
+            Ipv6ExtSlot::Authentication => take_auth(&mut self.auth, slice),
+            Ipv6ExtSlot::FinalDestination => take_raw(&mut self.final_destination_options, slice),
         }
     }
 
@@ -128,22 +128,22 @@ impl<'a> BorrowedExtensions<'a> {
     }
 }
 
-// Takes the header at the front of the slice, and gives the number that it names and what follows
+// Takes the header at the start of the slice, and returns the number that it names and what follows
 // it.
 fn take_raw<'a>(
-    place: &mut Option<Ipv6RawExtHeaderSlice<'a>>,
+    slot: &mut Option<Ipv6RawExtHeaderSlice<'a>>,
     slice: &'a [u8],
 ) -> Result<(IpNumber, &'a [u8]), HeaderSliceError>
     ensures found { IfOk result (λ r. (header : List ℕ) × IsRawExt header
-        × (slice.now ≡ header ++ r.1.now) × (r.0.0 ≡ num header 0 1) × (place.new ≡ Some header)) }
+        × (slice.now ≡ header ++ r.1.now) × (r.0.0 ≡ num header 0 1) × (slot.new ≡ Some header)) }
     ensures err { IfErr result (λ e. of_len (raw_at slice.now) ≡ Err e) }
-    ensures kept { OnErr result (place.new ≡ place.old) }
+    ensures kept { OnErr result (slot.new ≡ slot.old) }
 {
     match Ipv6RawExtHeaderSlice::from_slice(slice) {
         Ok(header) => {
             let next = header.next_header();
             let rest = &slice[header.slice().len()..];
-            *place = Some(header);
+            *slot = Some(header);
             Ok((next, rest))
         }
         Err(error) => Err(HeaderSliceError::Len(error)),
@@ -152,18 +152,18 @@ fn take_raw<'a>(
 
 // The same of a fragment header.
 fn take_fragment<'a>(
-    place: &mut Option<Ipv6FragmentHeaderSlice<'a>>,
+    slot: &mut Option<Ipv6FragmentHeaderSlice<'a>>,
     slice: &'a [u8],
 ) -> Result<(IpNumber, &'a [u8]), HeaderSliceError>
     ensures found { IfOk result (λ r. (header : List ℕ) × IsFragment header
-        × (slice.now ≡ header ++ r.1.now) × (r.0.0 ≡ num header 0 1) × (place.new ≡ Some header)) }
+        × (slice.now ≡ header ++ r.1.now) × (r.0.0 ≡ num header 0 1) × (slot.new ≡ Some header)) }
     ensures err { IfErr result (λ e. of_len (fragment_at slice.now) ≡ Err e) }
-    ensures kept { OnErr result (place.new ≡ place.old) }
+    ensures kept { OnErr result (slot.new ≡ slot.old) }
 {
     match Ipv6FragmentHeaderSlice::split(slice) {
         Ok((fragment, rest)) => {
             let next = fragment.next_header();
-            *place = Some(fragment);
+            *slot = Some(fragment);
             Ok((next, rest))
         }
         Err(error) => Err(HeaderSliceError::Len(error)),
@@ -172,18 +172,18 @@ fn take_fragment<'a>(
 
 // The same of an authentication header.
 fn take_auth<'a>(
-    place: &mut Option<IpAuthHeaderSlice<'a>>,
+    slot: &mut Option<IpAuthHeaderSlice<'a>>,
     slice: &'a [u8],
 ) -> Result<(IpNumber, &'a [u8]), HeaderSliceError>
     ensures found { IfOk result (λ r. (header : List ℕ) × IsAuth header
-        × (slice.now ≡ header ++ r.1.now) × (r.0.0 ≡ num header 0 1) × (place.new ≡ Some header)) }
+        × (slice.now ≡ header ++ r.1.now) × (r.0.0 ≡ num header 0 1) × (slot.new ≡ Some header)) }
     ensures err { IfErr result (λ e. of_auth (auth_at slice.now) ≡ Err e) }
-    ensures kept { OnErr result (place.new ≡ place.old) }
+    ensures kept { OnErr result (slot.new ≡ slot.old) }
 {
     match IpAuthHeaderSlice::split(slice) {
         Ok((auth, rest)) => {
             let next = auth.next_header();
-            *place = Some(auth);
+            *slot = Some(auth);
             Ok((next, rest))
         }
         Err(ip_auth::HeaderSliceError::Len(error)) => Err(HeaderSliceError::Len(error)),
@@ -204,50 +204,50 @@ fn misplaced_options(number: IpNumber) -> Option<(HeaderSliceError, Layer)>
     None
 }
 
-// Puts a header into its place: first an empty one, whose room is then written, so that no bytes are
-// moved on. Not inlined, since a function clears the room of its values at its start.
+// Puts a header into its slot: first an empty one, whose bytes are then written there, so that none
+// are moved. Not inlined, since a function clears the stack space of its values at its start.
 #[inline(never)]
-fn put_raw(place: &mut Option<Ipv6RawExtHeader>, header: &Ipv6RawExtHeaderSlice)
-    ensures { place.new ≡ Some (raw_of header.now) }
+fn put_raw(slot: &mut Option<Ipv6RawExtHeader>, header: &Ipv6RawExtHeaderSlice)
+    ensures { slot.new ≡ Some (raw_of header.now) }
 {
-    *place = Some(Ipv6RawExtHeader::shortest());
-    if let Some(place) = place {
-        place.fill(header.slice());
+    *slot = Some(Ipv6RawExtHeader::shortest());
+    if let Some(slot) = slot {
+        slot.fill(header.slice());
     }
 }
 
-// The same of a routing header and the options behind it.
+// The same of a routing header and its final destination options.
 #[inline(never)]
 fn put_routing(
-    place: &mut Option<Ipv6RoutingExtensions>,
+    slot: &mut Option<Ipv6RoutingExtensions>,
     header: &Ipv6RawExtHeaderSlice,
     options: &Option<Ipv6RawExtHeaderSlice>,
 )
-    ensures { place.new
+    ensures { slot.new
         ≡ Some (record {
           routing = raw_of header.now;
           final_destination_options = option_map raw_of options.now;
         }) }
 {
-    *place = Some(Ipv6RoutingExtensions {
+    *slot = Some(Ipv6RoutingExtensions {
         routing: Ipv6RawExtHeader::shortest(),
         final_destination_options: None,
     });
-    if let Some(place) = place {
-        place.routing.fill(header.slice());
+    if let Some(slot) = slot {
+        slot.routing.fill(header.slice());
         if let Some(options) = options {
-            put_raw(&mut place.final_destination_options, options);
+            put_raw(&mut slot.final_destination_options, options);
         }
     }
 }
 
 // The same of an authentication header.
 #[inline(never)]
-fn put_auth(place: &mut Option<IpAuthHeader>, header: &IpAuthHeaderSlice)
-    ensures { place.new ≡ Some (auth_of header.now) }
+fn put_auth(slot: &mut Option<IpAuthHeader>, header: &IpAuthHeaderSlice)
+    ensures { slot.new ≡ Some (auth_of header.now) }
 {
-    *place = Some(IpAuthHeader::shortest());
-    if let Some(place) = place {
-        header.put_into(place);
+    *slot = Some(IpAuthHeader::shortest());
+    if let Some(slot) = slot {
+        header.put_into(slot);
     }
 }

@@ -14,9 +14,9 @@ use ep_base::err::Layer;
 use std::io::Read;
 
 impl IpAuthHeader {
-    /// Reads a header, and leaves what is behind it. `Content` is the refusal of a length byte of
-    /// 0, after 12 bytes; `Io` stands where a read fails or the reader ends within the header, and
-    /// then part of the header may have been read.
+    /// Reads a header, and leaves what follows it. `Content` is the refusal of a length byte of 0,
+    /// after 12 bytes; `Io` comes where a read fails or the reader ends within the header, and then
+    /// some bytes of the header may have been read.
     pub fn read<R: Read>(reader: &mut R) -> Result<IpAuthHeader, HeaderReadError>
         // The reader gave a header, and it is read so.
         ensures found { IfOk result (λ h. (header : List ℕ) × IsAuth header
@@ -39,7 +39,7 @@ impl IpAuthHeader {
     }
 
     /// Reads a header as the next layer, `IpAuthHeader`, of a reader with a limit, and leaves what
-    /// is behind it. Refused are, in this order, a limit below 12 bytes, a length byte of 0, and a
+    /// follows it. Refused are, in this order, a limit below 12 bytes, a length byte of 0, and a
     /// limit below the length by the length byte, each with nothing read beyond; `Io` is as in
     /// `read`.
     pub fn read_limited<R: Read>(
@@ -67,7 +67,7 @@ impl IpAuthHeader {
     }
 }
 
-// Reads the bytes of a header into the front of `bytes`, and answers how many they are.
+// Reads the bytes of a header into `bytes` from its start, and returns how many they are.
 fn read_bytes<R: Read>(reader: &mut R, bytes: &mut [u8]) -> Result<usize, HeaderReadError>
     requires { length bytes.old ≡ 1028 }
     ensures found { IfOk result (λ len. (len ≤ 1028) × IsAuth (take len bytes.new)

@@ -27,12 +27,12 @@ impl<'a> Model for IpAuthHeaderSlice<'a> {
 }
 
 impl<'a> IpAuthHeaderSlice<'a> {
-    /// The header at the front of the slice. It is refused as by `IpAuthHeader::from_slice`.
+    /// The header at the start of the slice. It is refused as by `IpAuthHeader::from_slice`.
     pub fn from_slice(slice: &'a [u8]) -> Result<IpAuthHeaderSlice<'a>, HeaderSliceError>
-        // What is taken is a header, and a front of the slice.
+        // What is taken is a header, and a prefix of the slice.
         ensures found { IfOk result (λ header. IsAuth header
             × ((rest : List ℕ) × (slice.now ≡ header ++ rest))) }
-        // A front that is a header is taken.
+        // A prefix that is a header is taken.
         ensures only { (header rest : List ℕ) → IsAuth header → slice.now ≡ header ++ rest
             → result ≡ Ok header }
         // Else it is the first fault.
@@ -44,7 +44,7 @@ impl<'a> IpAuthHeaderSlice<'a> {
         }
     }
 
-    // The header at the front of the slice, and what follows it.
+    // The header at the start of the slice, and what follows it.
     pub(crate) fn split(
         slice: &'a [u8],
     ) -> Result<(IpAuthHeaderSlice<'a>, &'a [u8]), HeaderSliceError>
@@ -69,8 +69,8 @@ impl<'a> IpAuthHeaderSlice<'a> {
                 slice.len(),
             )));
         }
-        let (front, rest) = slice.split_at(len);
-        Ok((Self::of_bytes(front), rest))
+        let (prefix, rest) = slice.split_at(len);
+        Ok((Self::of_bytes(prefix), rest))
     }
 
     /// The header that these bytes are, for a caller who has tested them: nothing is tested again.
@@ -117,7 +117,7 @@ impl<'a> IpAuthHeaderSlice<'a> {
         &self.slice[12..]
     }
 
-    // Puts the fields into their places. Nothing is moved but the bytes.
+    // Writes the fields into the header. Nothing is moved but the bytes.
     pub(super) fn put_into(&self, header: &mut IpAuthHeader)
         ensures { header.new ≡ auth_of self.now }
     {

@@ -1,12 +1,12 @@
 ghost use Rattle.std.specs.Prelude.{◌≡◌, ◌+◌, ◌≤◌, ◌<◌, ◌^◌, ℕ, List, IfOk, IfErr, IsOkAnd};
 ghost use Rattle.std.specs.Prelude.{MatchOption, Err, Ok, None, Some, Option, is_some, is_none};
 ghost use Rattle.std.specs.Prelude.{if◌then◌else◌, length, vec_len, vec_capacity};
-ghost use Rattle.ep_ext.specs.Auth.{IsAuth, auth_of, auth_spelling};
+ghost use Rattle.ep_ext.specs.Auth.{IsAuth, auth_of, auth_encoding};
 ghost use Rattle.ep_base.specs.SliceError.{CanMove};
 ghost use Rattle.ep_ext.specs.declared.net.ip_auth_header.IpAuthHeader.{IpAuthHeader};
-ghost use Rattle.ep_ext.specs.Ipv4Exts.{Ipv4Chain, auth_behind, ipv4_exts_of, number_behind};
-ghost use Rattle.ep_ext.specs.Ipv4Exts.{ipv4_exts_spelling, ipv4_with_link, ipv4_walk_fault};
-ghost use Rattle.ep_ext.specs.Ipv4Exts.{NamesBehind, AppendsNamed};
+ghost use Rattle.ep_ext.specs.Ipv4Exts.{Ipv4Chain, auth_after, ipv4_exts_of, number_after};
+ghost use Rattle.ep_ext.specs.Ipv4Exts.{ipv4_exts_encoding, ipv4_with_link, ipv4_walk_fault};
+ghost use Rattle.ep_ext.specs.Ipv4Exts.{NamesAfter, AppendsNamed};
 ghost use Rattle.ep_ext.specs.declared.err.ipv4_exts.header_write_error.HeaderWriteError.TheVariants.{Memory};
 
 use super::IpAuthHeader;
@@ -29,7 +29,7 @@ impl Ipv4Extensions {
     /// The greatest length in bytes.
     pub const MAX_LEN: usize = 1028;
 
-    /// The extension headers at the front of the slice behind the number `first`, the number behind
+    /// The extension headers at the start of the slice after the number `first`, the number after
     /// them and the rest.
     ///
     /// A number other than 51 leaves all of the slice as the rest. At 51 it is refused with `Len`
@@ -41,14 +41,14 @@ impl Ipv4Extensions {
     ) -> Result<(Ipv4Extensions, IpNumber, &[u8]), HeaderSliceError>
         ensures found { IfOk result (λ r. (auth : Option (List ℕ))
             × Ipv4Chain first.0 slice.now auth r.2.now
-            × (r.0 ≡ ipv4_exts_of auth) × (r.1.0 ≡ number_behind first.0 auth)) }
+            × (r.0 ≡ ipv4_exts_of auth) × (r.1.0 ≡ number_after first.0 auth)) }
         ensures only { (auth : Option (List ℕ)) (rest : List ℕ)
             → Ipv4Chain first.0 slice.now auth rest
             → IsOkAnd result (λ r. (r.0 ≡ ipv4_exts_of auth)
-            × (r.1.0 ≡ number_behind first.0 auth) × (r.2.now ≡ rest)) }
-        ensures err { IfErr result (λ e. auth_behind first.0 slice.now ≡ Err e) }
-        // A want of bytes is that of a header at the start of the slice.
-        ensures place { IfErr result (λ e. (n : ℕ) → n < 2 ^ 64 → CanMove e n) }
+            × (r.1.0 ≡ number_after first.0 auth) × (r.2.now ≡ rest)) }
+        ensures err { IfErr result (λ e. auth_after first.0 slice.now ≡ Err e) }
+        // An error of too few bytes is that of a header at the start of the slice.
+        ensures offset { IfErr result (λ e. (n : ℕ) → n < 2 ^ 64 → CanMove e n) }
     {
         if first != IpNumber::AUTHENTICATION_HEADER {
             return Ok((Ipv4Extensions { auth: None }, first, slice));
@@ -70,12 +70,12 @@ impl Ipv4Extensions {
     ) -> (Ipv4Extensions, IpNumber, &[u8], Option<HeaderSliceError>)
         ensures found { MatchOption result.3
             ((auth : Option (List ℕ)) × Ipv4Chain first.0 slice.now auth result.2.now
-            × (result.0 ≡ ipv4_exts_of auth) × (result.1.0 ≡ number_behind first.0 auth))
-            (λ e. (auth_behind first.0 slice.now ≡ Err e)
+            × (result.0 ≡ ipv4_exts_of auth) × (result.1.0 ≡ number_after first.0 auth))
+            (λ e. (auth_after first.0 slice.now ≡ Err e)
             × (result.0 ≡ ipv4_exts_of None) × (result.1 ≡ first) × (result.2.now ≡ slice.now)) }
         ensures only { (auth : Option (List ℕ)) (rest : List ℕ)
             → Ipv4Chain first.0 slice.now auth rest
-            → (result.0 ≡ ipv4_exts_of auth) × (result.1.0 ≡ number_behind first.0 auth)
+            → (result.0 ≡ ipv4_exts_of auth) × (result.1.0 ≡ number_after first.0 auth)
             × (result.2.now ≡ rest) × (result.3 ≡ None) }
     {
         match Self::from_slice(first, slice) {
@@ -84,10 +84,10 @@ impl Ipv4Extensions {
         }
     }
 
-    /// The number behind the header, or `first` where there is none. A header that `first` doesn't
+    /// The number after the header, or `first` where there is none. A header that `first` doesn't
     /// name is refused.
     pub fn next_header(&self, first: IpNumber) -> Result<IpNumber, ExtsWalkError>
-        ensures { NamesBehind self.now first.0 result }
+        ensures { NamesAfter self.now first.0 result }
     {
         match &self.auth {
             None => Ok(first),
@@ -104,12 +104,12 @@ impl Ipv4Extensions {
     }
 
     /// Appends the header, if there is one. A header that `first` doesn't name is refused before
-    /// memory is asked for; on `Err` the buffer keeps its bytes.
+    /// memory is allocated; on `Err` the buffer keeps its bytes.
     pub fn write(&self, buffer: &mut Vec<u8>, first: IpNumber) -> Result<(), HeaderWriteError>
         ensures appends { AppendsNamed self.now first.0 buffer.old.items buffer.new.items result }
-        // Memory is wanted only where room was missing, and room never shrinks.
+        // It runs out of memory only where the capacity was too small; the capacity never shrinks.
         ensures memory { result ≡ Err Memory
-            → vec_capacity buffer.old < vec_len buffer.old + length (ipv4_exts_spelling self.now) }
+            → vec_capacity buffer.old < vec_len buffer.old + length (ipv4_exts_encoding self.now) }
         ensures capacity { vec_capacity buffer.old ≤ vec_capacity buffer.new }
     {
         if let Err(fault) = self.next_header(first) {
@@ -126,7 +126,7 @@ impl Ipv4Extensions {
 
     /// The length of the header in bytes, 0 where there is none.
     pub fn header_len(&self) -> usize
-        ensures value { result ≡ length (ipv4_exts_spelling self.now) }
+        ensures value { result ≡ length (ipv4_exts_encoding self.now) }
         ensures most { result ≤ 1028 }
     {
         match &self.auth {
@@ -135,12 +135,12 @@ impl Ipv4Extensions {
         }
     }
 
-    /// Makes the header name `last`, and answers the number that names the header; `last` itself
+    /// Makes the header name `last`, and returns the number that names the header; `last` itself
     /// where there is no header.
     pub fn set_next_headers(&mut self, last: IpNumber) -> IpNumber
         ensures linked { self.new ≡ ipv4_with_link self.old last.0 }
         ensures first { result.0 ≡ (if is_some self.old.auth then 51 else last.0) }
-        ensures chained { NamesBehind self.new result.0 (Ok last) }
+        ensures chained { NamesAfter self.new result.0 (Ok last) }
     {
         match &mut self.auth {
             Some(header) => {
@@ -161,7 +161,7 @@ impl Ipv4Extensions {
     // A header that is held has whole bytes, which are read as that header.
     pub(crate) fn has_whole_header(&self)
         ensures { (header : IpAuthHeader) → self.now.auth ≡ Some header
-            → IsAuth (auth_spelling header) × (auth_of (auth_spelling header) ≡ header) }
+            → IsAuth (auth_encoding header) × (auth_of (auth_encoding header) ≡ header) }
     {
         if let Some(header) = &self.auth {
             header.header_len();

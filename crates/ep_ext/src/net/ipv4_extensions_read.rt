@@ -2,11 +2,11 @@
 
 ghost use Rattle.std.specs.Prelude.{◌≡◌, ◌≤◌, ◌-◌, ℕ, List, ◌++◌, length, IfOk, IfErr, MatchResult};
 ghost use Rattle.std.specs.Prelude.{Option, Some};
-ghost use Rattle.ep_ext.specs.Ipv4Exts.{IsAuthBehind, auth_bytes, auth_number, ipv4_exts_of};
-ghost use Rattle.ep_ext.specs.Ipv4Exts.{number_behind};
+ghost use Rattle.ep_ext.specs.Ipv4Exts.{IsAuthAfter, auth_bytes, auth_number, ipv4_exts_of};
+ghost use Rattle.ep_ext.specs.Ipv4Exts.{number_after};
 ghost use Rattle.ep_ext.specs.Limited.{at_next_layer};
 ghost use Rattle.ep_ext.specs.Reads.{IsAuthIo, IsAuthLimitedIo, RefusesAuth, RefusesAuthWithin};
-ghost use Rattle.ep_ext.specs.ReadsIpv4Exts.{ReadsAuthBehind, ReadsAuthWithin};
+ghost use Rattle.ep_ext.specs.ReadsIpv4Exts.{ReadsAuthAfter, ReadsAuthWithin};
 
 use super::{IpAuthHeader, Ipv4Extensions};
 use crate::err::ip_auth::{HeaderLimitedReadError, HeaderReadError};
@@ -16,20 +16,20 @@ use ep_base::err::Layer;
 use std::io::Read;
 
 impl Ipv4Extensions {
-    /// Reads the authentication header behind the number 51, as `IpAuthHeader::read` does, and
-    /// leaves what is behind it; behind any other number it reads nothing. The answer has the
-    /// number behind the header too, or `first`.
+    /// Reads the authentication header after the number 51, as `IpAuthHeader::read` does, and
+    /// leaves what follows it; after any other number it reads nothing. The result has the number
+    /// after the header too, or `first`.
     pub fn read<R: Read>(
         reader: &mut R,
         first: IpNumber,
     ) -> Result<(Ipv4Extensions, IpNumber), HeaderReadError>
         ensures found { IfOk result
-            (ReadsAuthBehind first.0 (R.remaining reader.old) (R.remaining reader.new)) }
+            (ReadsAuthAfter first.0 (R.remaining reader.old) (R.remaining reader.new)) }
         // Where a header is next, or none is named, it is read, or a read failed.
-        ensures only { (auth : Option (List ℕ)) (rest : List ℕ) → IsAuthBehind first.0 auth
+        ensures only { (auth : Option (List ℕ)) (rest : List ℕ) → IsAuthAfter first.0 auth
             → R.remaining reader.old ≡ Some (auth_bytes auth ++ rest)
             → MatchResult result (λ r. (r.0 ≡ ipv4_exts_of auth)
-            × (r.1.0 ≡ number_behind first.0 auth)
+            × (r.1.0 ≡ number_after first.0 auth)
             × (R.remaining reader.new ≡ Some rest)) IsAuthIo }
         // Else a read failed, or what was read is no header.
         ensures err { IfErr result (λ e. (first.0 ≡ auth_number)
@@ -44,8 +44,8 @@ impl Ipv4Extensions {
         }
     }
 
-    /// Reads the authentication header behind the number 51 as the next layer of a reader with a
-    /// limit, as `IpAuthHeader::read_limited` does; behind any other number it leaves the reader as
+    /// Reads the authentication header after the number 51 as the next layer of a reader with a
+    /// limit, as `IpAuthHeader::read_limited` does; after any other number it leaves the reader as
     /// it is.
     pub fn read_limited<R: Read>(
         reader: &mut LimitedReader<R>,
@@ -54,11 +54,11 @@ impl Ipv4Extensions {
         ensures found { IfOk result (ReadsAuthWithin R.remaining first.0 reader.old reader.new) }
         // Where a header is next and within the limit, or none is named, it is read, or a read
         // failed.
-        ensures only { (auth : Option (List ℕ)) (rest : List ℕ) → IsAuthBehind first.0 auth
+        ensures only { (auth : Option (List ℕ)) (rest : List ℕ) → IsAuthAfter first.0 auth
             → R.remaining reader.old.reader ≡ Some (auth_bytes auth ++ rest)
             → length (auth_bytes auth) ≤ reader.old.max_len - reader.old.read_len
             → MatchResult result (λ r. (r.0 ≡ ipv4_exts_of auth)
-            × (r.1.0 ≡ number_behind first.0 auth)
+            × (r.1.0 ≡ number_after first.0 auth)
             × (R.remaining reader.new.reader ≡ Some rest)) IsAuthLimitedIo }
         // Else a read failed, the limit is too low, or what was read is no header.
         ensures err { IfErr result (λ e. (first.0 ≡ auth_number)

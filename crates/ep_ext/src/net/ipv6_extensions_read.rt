@@ -5,10 +5,10 @@ ghost use Rattle.std.specs.Io.KnownBytes.{Consumes};
 ghost use Rattle.ep_base.specs.Bytes.{num};
 ghost use Rattle.ep_ext.specs.Chain.{IsPiece};
 ghost use Rattle.ep_ext.specs.ReadsExts.{IsExtsIo, IsWholeRow, ReadsRow, RefusesExt, RefusesRow};
-ghost use Rattle.ep_ext.specs.Value.{Piece, bytes_of, with_header_in_place, value_of};
+ghost use Rattle.ep_ext.specs.Value.{Piece, bytes_of, with_header_in_slot, value_of};
 
 use super::passed::Passed;
-use super::{IpAuthHeader, Ipv6ExtPlace, Ipv6Extensions, Ipv6FragmentHeader, Ipv6RawExtHeader};
+use super::{IpAuthHeader, Ipv6ExtSlot, Ipv6Extensions, Ipv6FragmentHeader, Ipv6RawExtHeader};
 use crate::err::ip_auth;
 use crate::err::ipv6_exts::{HeaderError, HeaderReadError};
 use ep_base::IpNumber;
@@ -16,12 +16,12 @@ use std::io::Read;
 
 impl Ipv6Extensions {
     /// Reads the extension headers in a row of which the first has the number `first`, as
-    /// `from_slice` takes them from a slice, and leaves what is behind them. The answer has the
-    /// number behind the headers too.
+    /// `from_slice` takes them from a slice, and leaves what follows them. The result has the
+    /// number after the headers too.
     ///
-    /// It refuses a number 0 behind a header with `HopByHopNotAtStart` before it reads further, and
-    /// an authentication header of a length field of 0 after its 12 bytes. `Io` stands where a read
-    /// fails or the reader ends within a header; then part of the header may have been read.
+    /// It refuses a number 0 after a header with `HopByHopNotAtStart` before it reads further, and
+    /// an authentication header of a length field of 0 after its 12 bytes. `Io` comes where a read
+    /// fails or the reader ends within a header; then some bytes of the header may have been read.
     pub fn read<R: Read>(
         reader: &mut R,
         first: IpNumber,
@@ -58,7 +58,7 @@ impl Ipv6Extensions {
         }
     }
 
-    // Reads the headers in a row into their places.
+    // Reads the headers in a row into their slots.
     fn fill_from<R: Read>(
         &mut self,
         reader: &mut R,
@@ -73,11 +73,11 @@ impl Ipv6Extensions {
     {
         let mut passed = Passed::nothing();
         let mut number = first;
-        'pieces: while let Some(place) = passed.place_of(number) {
-            match self.read_at(reader, place) {
+        'pieces: while let Some(slot) = passed.slot_of(number) {
+            match self.read_at(reader, slot) {
                 Ok(next) => {
                     number = next;
-                    passed = passed.with(place);
+                    passed = passed.with(slot);
                 }
                 Err(error) => return Err(error),
             }
@@ -88,20 +88,20 @@ impl Ipv6Extensions {
         Ok(number)
     }
 
-    // Reads a header into its place, and gives the number that it names.
+    // Reads a header into its slot, and returns the number that it names.
     fn read_at<R: Read>(
         &mut self,
         reader: &mut R,
-        place: Ipv6ExtPlace,
+        slot: Ipv6ExtSlot,
     ) -> Result<IpNumber, HeaderReadError>
-        ensures found { IfOk result (λ n. (header : List ℕ) × IsPiece place header
+        ensures found { IfOk result (λ n. (header : List ℕ) × IsPiece slot header
             × Consumes (R.remaining reader.old) (R.remaining reader.new) header
-            × (n.0 ≡ num header 0 1) × (self.new ≡ with_header_in_place self.old place header)) }
+            × (n.0 ≡ num header 0 1) × (self.new ≡ with_header_in_slot self.old slot header)) }
         ensures err { IfErr result (λ e. (number : ℕ)
-            → RefusesExt (Some place) number (R.remaining reader.old) e (R.remaining reader.new)) }
+            → RefusesExt (Some slot) number (R.remaining reader.old) e (R.remaining reader.new)) }
     {
-        match place {
-            Ipv6ExtPlace::Fragment => match Ipv6FragmentHeader::read(reader) {
+        match slot {
+            Ipv6ExtSlot::Fragment => match Ipv6FragmentHeader::read(reader) {
                 Ok(header) => {
                     let next = header.next_header;
                     self.fragment = Some(header);
@@ -109,7 +109,7 @@ impl Ipv6Extensions {
                 }
                 Err(error) => Err(HeaderReadError::Io(error)),
             },
-            Ipv6ExtPlace::Authentication => match IpAuthHeader::read(reader) {
+            Ipv6ExtSlot::Authentication => match IpAuthHeader::read(reader) {
                 Ok(header) => {
                     let next = header.next_header;
                     self.auth = Some(header);
@@ -121,7 +121,7 @@ impl Ipv6Extensions {
                 )),
             },
             _ => match Ipv6RawExtHeader::read(reader) {
-                Ok(header) => Ok(self.put_raw(place, header)),
+                Ok(header) => Ok(self.put_raw(slot, header)),
                 Err(error) => Err(HeaderReadError::Io(error)),
             },
         }

@@ -8,10 +8,10 @@ ghost use Rattle.ep_ext.specs.Limited.{at_next_layer, Takes};
 ghost use Rattle.ep_ext.specs.ReadsExts.{IsExtsLimitedIo, IsWholeRow, ReadsRowWithin};
 ghost use Rattle.ep_ext.specs.ReadsExts.{RefusesExtWithin, RefusesRowWithin, auth_exts_error};
 ghost use Rattle.ep_ext.specs.ReadsExts.{bytes_error, read_layer};
-ghost use Rattle.ep_ext.specs.Value.{Piece, bytes_of, with_header_in_place, value_of};
+ghost use Rattle.ep_ext.specs.Value.{Piece, bytes_of, with_header_in_slot, value_of};
 
 use super::passed::Passed;
-use super::{IpAuthHeader, Ipv6ExtPlace, Ipv6Extensions, Ipv6FragmentHeader, Ipv6RawExtHeader};
+use super::{IpAuthHeader, Ipv6ExtSlot, Ipv6Extensions, Ipv6FragmentHeader, Ipv6RawExtHeader};
 use crate::err::io::LimitedReadError;
 use crate::err::ip_auth;
 use crate::err::ipv6_exts::{HeaderError, HeaderLimitedReadError};
@@ -25,7 +25,7 @@ impl Ipv6Extensions {
     /// `Ipv6FragHeader` or `IpAuthHeader`.
     ///
     /// A header that goes beyond the limit is refused with `Len`, before the bytes beyond are read:
-    /// first the 8 bytes (12 of an authentication header) that tell its length, then all of them.
+    /// first the 8 bytes (12 of an authentication header) that hold its length, then all of them.
     pub fn read_limited<R: Read>(
         reader: &mut LimitedReader<R>,
         first: IpNumber,
@@ -61,7 +61,7 @@ impl Ipv6Extensions {
         }
     }
 
-    // Reads the headers in a row into their places.
+    // Reads the headers in a row into their slots.
     fn fill_within<R: Read>(
         &mut self,
         reader: &mut LimitedReader<R>,
@@ -75,11 +75,11 @@ impl Ipv6Extensions {
     {
         let mut passed = Passed::nothing();
         let mut number = first;
-        'pieces: while let Some(place) = passed.place_of(number) {
-            match self.read_within(reader, place) {
+        'pieces: while let Some(slot) = passed.slot_of(number) {
+            match self.read_within(reader, slot) {
                 Ok(next) => {
                     number = next;
-                    passed = passed.with(place);
+                    passed = passed.with(slot);
                 }
                 Err(error) => return Err(error),
             }
@@ -91,20 +91,20 @@ impl Ipv6Extensions {
         Ok(number)
     }
 
-    // Reads a header into its place, and gives the number that it names.
+    // Reads a header into its slot, and returns the number that it names.
     fn read_within<R: Read>(
         &mut self,
         reader: &mut LimitedReader<R>,
-        place: Ipv6ExtPlace,
+        slot: Ipv6ExtSlot,
     ) -> Result<IpNumber, HeaderLimitedReadError>
-        ensures found { IfOk result (λ n. (header : List ℕ) × IsPiece place header
-            × Takes R.remaining (at_next_layer reader.old (read_layer place)) header reader.new
-            × (n.0 ≡ num header 0 1) × (self.new ≡ with_header_in_place self.old place header)) }
+        ensures found { IfOk result (λ n. (header : List ℕ) × IsPiece slot header
+            × Takes R.remaining (at_next_layer reader.old (read_layer slot)) header reader.new
+            × (n.0 ≡ num header 0 1) × (self.new ≡ with_header_in_slot self.old slot header)) }
         ensures err { IfErr result (λ e. (number : ℕ)
-            → RefusesExtWithin R.remaining (Some place) number reader.old e reader.new) }
+            → RefusesExtWithin R.remaining (Some slot) number reader.old e reader.new) }
     {
-        match place {
-            Ipv6ExtPlace::Fragment => match Ipv6FragmentHeader::read_limited(reader) {
+        match slot {
+            Ipv6ExtSlot::Fragment => match Ipv6FragmentHeader::read_limited(reader) {
                 Ok(header) => {
                     let next = header.next_header;
                     self.fragment = Some(header);
@@ -112,7 +112,7 @@ impl Ipv6Extensions {
                 }
                 Err(error) => Err(of_bytes(error)),
             },
-            Ipv6ExtPlace::Authentication => match IpAuthHeader::read_limited(reader) {
+            Ipv6ExtSlot::Authentication => match IpAuthHeader::read_limited(reader) {
                 Ok(header) => {
                     let next = header.next_header;
                     self.auth = Some(header);
@@ -121,7 +121,7 @@ impl Ipv6Extensions {
                 Err(error) => Err(of_auth(error)),
             },
             _ => match Ipv6RawExtHeader::read_limited(reader) {
-                Ok(header) => Ok(self.put_raw(place, header)),
+                Ok(header) => Ok(self.put_raw(slot, header)),
                 Err(error) => Err(of_bytes(error)),
             },
         }

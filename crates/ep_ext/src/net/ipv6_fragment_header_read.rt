@@ -14,8 +14,8 @@ use std::io;
 use std::io::Read;
 
 impl Ipv6FragmentHeader {
-    /// Reads a header, and leaves what is behind it. It fails where a read fails or the reader ends
-    /// within the header; then part of the header may have been read.
+    /// Reads a header, and leaves what follows it. It fails where a read fails or the reader ends
+    /// within the header; then some bytes of the header may have been read.
     pub fn read<R: Read>(reader: &mut R) -> io::Result<Ipv6FragmentHeader>
         // The reader gave a header, and it is read so.
         ensures found { IfOk result (λ h. (header : List ℕ) × IsFragment header
@@ -34,7 +34,7 @@ impl Ipv6FragmentHeader {
     }
 
     /// Reads a header as the next layer, `Ipv6FragHeader`, of a reader with a limit, and leaves
-    /// what is behind it. A limit below 8 bytes is refused with nothing read; `Io` is as in `read`.
+    /// what follows it. A limit below 8 bytes is refused with nothing read; `Io` is as in `read`.
     pub fn read_limited<R: Read>(
         reader: &mut LimitedReader<R>,
     ) -> Result<Ipv6FragmentHeader, LimitedReadError>

@@ -25,16 +25,16 @@ impl<'a> Model for Ipv6FragmentHeaderSlice<'a> {
 }
 
 impl<'a> Ipv6FragmentHeaderSlice<'a> {
-    /// The header at the front of the slice. A slice of fewer than 8 bytes is refused, with the
+    /// The header at the start of the slice. A slice of fewer than 8 bytes is refused, with the
     /// layer `Ipv6FragHeader`.
     pub fn from_slice(slice: &'a [u8]) -> Result<Ipv6FragmentHeaderSlice<'a>, LenError>
-        // What is taken is a header, and a front of the slice.
+        // What is taken is a header, and a prefix of the slice.
         ensures found { IfOk result (λ header. IsFragment header
             × ((rest : List ℕ) × (slice.now ≡ header ++ rest))) }
-        // A front that is a header is taken.
+        // A prefix that is a header is taken.
         ensures only { (header rest : List ℕ) → IsFragment header → slice.now ≡ header ++ rest
             → result ≡ Ok header }
-        // Else it is the want of bytes.
+        // Else it is the error of too few bytes.
         ensures exact { result ≡ fragment_at slice.now }
     {
         match Self::split(slice) {
@@ -43,7 +43,7 @@ impl<'a> Ipv6FragmentHeaderSlice<'a> {
         }
     }
 
-    // The header at the front of the slice, and what follows it.
+    // The header at the start of the slice, and what follows it.
     pub(crate) fn split(
         slice: &'a [u8],
     ) -> Result<(Ipv6FragmentHeaderSlice<'a>, &'a [u8]), LenError>
@@ -57,8 +57,8 @@ impl<'a> Ipv6FragmentHeaderSlice<'a> {
                 slice.len(),
             ));
         }
-        let (front, rest) = slice.split_at(Ipv6FragmentHeader::LEN);
-        Ok((Self::of_bytes(front), rest))
+        let (prefix, rest) = slice.split_at(Ipv6FragmentHeader::LEN);
+        Ok((Self::of_bytes(prefix), rest))
     }
 
     /// The header that these bytes are, for a caller who has tested them: nothing is tested again.
@@ -84,7 +84,7 @@ impl<'a> Ipv6FragmentHeaderSlice<'a> {
         IpNumber(self.slice[0])
     }
 
-    /// The offset of the payload in the message, in units of 8 bytes.
+    /// The offset of the payload in the datagram's payload, in units of 8 bytes.
     pub fn fragment_offset(&self) -> IpFragOffset
         ensures { result ≡ (fragment_of self.now).fragment_offset }
     {
@@ -99,7 +99,7 @@ impl<'a> Ipv6FragmentHeaderSlice<'a> {
         self.slice[3] & 1 != 0
     }
 
-    /// The identification that the fragments of one message share.
+    /// The identification that the fragments of one datagram share.
     pub fn identification(&self) -> u32
         ensures { result ≡ (fragment_of self.now).identification }
     {

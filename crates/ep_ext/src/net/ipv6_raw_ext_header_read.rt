@@ -15,8 +15,8 @@ use std::io;
 use std::io::Read;
 
 impl Ipv6RawExtHeader {
-    /// Reads a header, and leaves what is behind it. It fails where a read fails or the reader ends
-    /// within the header; then part of the header may have been read.
+    /// Reads a header, and leaves what follows it. It fails where a read fails or the reader ends
+    /// within the header; then some bytes of the header may have been read.
     pub fn read<R: Read>(reader: &mut R) -> io::Result<Ipv6RawExtHeader>
         // The reader gave a header, and it is read so.
         ensures found { IfOk result (λ h. (header : List ℕ) × IsRawExt header
@@ -33,7 +33,7 @@ impl Ipv6RawExtHeader {
     }
 
     /// Reads a header as the next layer, `Ipv6ExtHeader`, of a reader with a limit, and leaves what
-    /// is behind it. Refused are, in this order, a limit below 8 bytes, and one below the length by
+    /// follows it. Refused are, in this order, a limit below 8 bytes, and one below the length by
     /// the length byte, each with nothing read beyond; `Io` is as in `read`.
     pub fn read_limited<R: Read>(
         reader: &mut LimitedReader<R>,
@@ -60,7 +60,7 @@ impl Ipv6RawExtHeader {
     }
 }
 
-// Reads the bytes of a header into the front of `bytes`, and answers how many they are.
+// Reads the bytes of a header into `bytes` from its start, and returns how many they are.
 fn read_bytes<R: Read>(reader: &mut R, bytes: &mut [u8]) -> io::Result<usize>
     requires { length bytes.old ≡ 2048 }
     ensures { IfOk result (λ len. (len ≤ 2048) × IsRawExt (take len bytes.new)

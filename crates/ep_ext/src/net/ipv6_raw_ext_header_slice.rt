@@ -33,19 +33,19 @@ impl<'a> Ipv6RawExtHeaderSlice<'a> {
         Ipv6RawExtHeader::header_type_supported(next_header)
     }
 
-    /// The header at the front of the slice. It is refused as by `Ipv6RawExtHeader::from_slice`.
+    /// The header at the start of the slice. It is refused as by `Ipv6RawExtHeader::from_slice`.
     pub fn from_slice(slice: &'a [u8]) -> Result<Ipv6RawExtHeaderSlice<'a>, LenError>
-        // What is taken is a header, and a front of the slice.
+        // What is taken is a header, and a prefix of the slice.
         ensures found { IfOk result (λ header. IsRawExt header
             × ((rest : List ℕ) × (slice.now ≡ header ++ rest))) }
-        // A front that is a header is taken.
+        // A prefix that is a header is taken.
         ensures only { (header rest : List ℕ) → IsRawExt header → slice.now ≡ header ++ rest
             → result ≡ Ok header }
         // Else it is the first fault.
         ensures exact { result ≡ raw_at slice.now }
     {
         match Ipv6RawExtHeader::split(slice) {
-            Ok((front, _rest)) => Ok(Ipv6RawExtHeaderSlice { slice: front }),
+            Ok((prefix, _rest)) => Ok(Ipv6RawExtHeaderSlice { slice: prefix }),
             Err(error) => Err(error),
         }
     }
@@ -73,7 +73,7 @@ impl<'a> Ipv6RawExtHeaderSlice<'a> {
         IpNumber(self.slice[0])
     }
 
-    /// The bytes behind the first two.
+    /// The bytes after the first two.
     pub fn payload(&self) -> &'a [u8]
         ensures { result.now ≡ drop 2 self.now }
     {

@@ -1,5 +1,5 @@
-//! The definitions at values from outside: each clause is what a standard or a hand gives, so that
-//! a definition can't change with the code.
+//! The definitions at literal values: each clause is what a standard gives, or was worked out
+//! independently of the code, so that a definition can't change with the code.
 
 ghost use Rattle.std.specs.Prelude.{◌≡◌, ℕ, [], ◌∷◌, ◌++◌, replicate, true, false, Ok, Err};
 ghost use Rattle.ep_base.specs.LenError.{too_few_bytes};
@@ -33,7 +33,7 @@ pub fn icmpv4_headers()
     }) }
     ensures unknown { v4.type_of (3 ∷ 16 ∷ 0 ∷ 0 ∷ 1 ∷ 2 ∷ 3 ∷ 4 ∷ [])
         ≡ kind_4.Unknown 3 16 (1 ∷ 2 ∷ 3 ∷ 4 ∷ []) }
-    ensures spelled { v4.spelling (record {
+    ensures encoded { v4.encoding (record {
       icmp_type = kind_4.DestinationUnreachable (unreachable_4.FragmentationNeeded 1500);
       checksum = 258;
     }) ≡ 3 ∷ 4 ∷ 1 ∷ 2 ∷ 0 ∷ 0 ∷ 5 ∷ 220 ∷ [] }
@@ -54,7 +54,7 @@ pub fn icmpv4_numbers()
 
 /// Where ICMPv4 messages end: a timestamp message, which carries no data, has 20 bytes.
 pub fn icmpv4_lengths()
-    ensures front { v4_fault.message_at (replicate 7 8) ≡ Err (too_few_bytes layer.Icmpv4 8 7) }
+    ensures prefix { v4_fault.message_at (replicate 7 8) ≡ Err (too_few_bytes layer.Icmpv4 8 7) }
     ensures whole { v4_fault.message_at ping ≡ Ok ping }
     ensures request { v4_fault.message_at (13 ∷ replicate 7 0)
         ≡ Err (too_few_bytes layer.Icmpv4Timestamp 20 8) }
@@ -78,7 +78,7 @@ pub fn icmpv4_checksums()
 pub fn icmpv6_headers()
     ensures too_big { v6.icmpv6_header_of (too_big ++ three_bytes)
         ≡ record { icmp_type = kind_6.PacketTooBig 1500; checksum = 38999 } }
-    ensures spelled { v6.spelling
+    ensures encoded { v6.encoding
         (record { icmp_type = kind_6.PacketTooBig 1500; checksum = 38999 }) ≡ too_big }
     ensures unknown { v6.type_of (135 ∷ 0 ∷ 0 ∷ 0 ∷ 1 ∷ 2 ∷ 3 ∷ 4 ∷ [])
         ≡ kind_6.Unknown 135 0 (1 ∷ 2 ∷ 3 ∷ 4 ∷ []) }

@@ -1,4 +1,4 @@
-//! What an echo request and its reply carry in front of the data.
+//! What an echo request and its reply carry before the data.
 ghost use Rattle.ep_icmp.specs.Fields.{EchoFits, echo_bytes, echo_in};
 ghost use Rattle.std.specs.Prelude.{◌≡◌};
 
@@ -27,7 +27,7 @@ impl IcmpEchoHeader {
         [i0, i1, s0, s1]
     }
 
-    /// The fields that these bytes spell.
+    /// The fields that these bytes encode.
     pub fn from_bytes(bytes: [u8; 4]) -> IcmpEchoHeader
         ensures { result ≡ echo_in bytes 0 }
     {

@@ -1,11 +1,11 @@
 //! The header of an ICMPv4 message.
 ghost use Rattle.std.specs.Prelude.{◌≡◌, ◌+◌, ◌≤◌, ◌++◌, length, IfOk, IfErr, IsOk, OnOk, OnErr};
 ghost use Rattle.std.specs.Prelude.{Err, vec_len, vec_capacity};
-ghost use Rattle.ep_icmp.specs.Icmpv4.{HeaderFits, IsRead, IsSpelledOut, ReadableIcmpv4};
+ghost use Rattle.ep_icmp.specs.Icmpv4.{HeaderFits, IsRead, IsCanonical, ReadableIcmpv4};
 ghost use Rattle.ep_icmp.specs.Icmpv4.{icmpv4_with_checksum};
 ghost use Rattle.ep_icmp.specs.Icmpv4.{fixed_payload_size, header_len, icmpv4_header_of};
 ghost use Rattle.ep_icmp.specs.Icmpv4.{right_checksum};
-ghost use Rattle.ep_icmp.specs.Icmpv4.{spelling};
+ghost use Rattle.ep_icmp.specs.Icmpv4.{encoding};
 ghost use Rattle.ep_icmp.specs.Icmpv4Fault.{message_at};
 
 use super::{Icmpv4Slice, Icmpv4Type};
@@ -13,7 +13,7 @@ use arrayvec::ArrayVec;
 use ep_base::err::LenError;
 use std::alloc::AllocError;
 
-/// The header of an ICMPv4 message (RFC 792): its kind and its checksum. In its bytes numbers stand
+/// The header of an ICMPv4 message (RFC 792): its kind and its checksum. In its bytes numbers are
 /// high byte first.
 #[derive(Clone, Debug, PartialEq, Eq, Drop)]
 pub struct Icmpv4Header {
@@ -51,7 +51,7 @@ impl Icmpv4Header {
         }
     }
 
-    /// The header of the message that is this slice, and the bytes behind it. Refused are, in this
+    /// The header of the message that is this slice, and the bytes after it. Refused are, in this
     /// order, a slice of fewer than 8 bytes (layer `Icmpv4`), and a timestamp request or reply,
     /// which carries no data, of other than 20 bytes (layers `Icmpv4Timestamp` and
     /// `Icmpv4TimestampReply`).
@@ -88,27 +88,27 @@ impl Icmpv4Header {
         self.checksum = self.icmp_type.calc_checksum(payload);
     }
 
-    /// The bytes of the header, with the checksum as it stands.
+    /// The bytes of the header, with the checksum as it is.
     ///
-    /// They spell the header again, unless it is an `Unknown` of a type and code that has another
-    /// variant.
+    /// They are parsed as the header again, unless it is an `Unknown` of a type and code that has
+    /// another variant.
     pub fn to_bytes(&self) -> ArrayVec<u8, 20>
-        ensures bytes { result.items ≡ spelling self.now }
+        ensures bytes { result.items ≡ encoding self.now }
         ensures len { length result.items ≡ header_len self.now.icmp_type }
         ensures fits { HeaderFits self.now }
     {
-        self.icmp_type.spelled_with(self.checksum)
+        self.icmp_type.encoded_with(self.checksum)
     }
 
-    /// Appends the bytes of the header, with the checksum as it stands.
+    /// Appends the bytes of the header, with the checksum as it is.
     ///
     /// Where no memory is left for them, the buffer keeps its bytes.
     pub fn write(&self, buffer: &mut Vec<u8>) -> Result<(), AllocError>
-        ensures ok { OnOk result (buffer.new.items ≡ buffer.old.items ++ spelling self.now) }
+        ensures ok { OnOk result (buffer.new.items ≡ buffer.old.items ++ encoding self.now) }
         ensures len { OnOk result (vec_len buffer.new
             ≡ vec_len buffer.old + header_len self.now.icmp_type) }
         ensures err { OnErr result (buffer.new.items ≡ buffer.old.items) }
-        // It fails only where room was missing, and room never shrinks.
+        // It fails only where capacity was missing, and capacity never shrinks.
         ensures succeeds { vec_len buffer.old + header_len self.now.icmp_type
             ≤ vec_capacity buffer.old → IsOk result }
         ensures capacity { vec_capacity buffer.old ≤ vec_capacity buffer.new }

@@ -4,7 +4,7 @@ ghost use Rattle.std.specs.Option.{option_copied};
 ghost use Rattle.ep_base.specs.Sum.{fold, total};
 ghost use Rattle.ep_icmp.specs.Icmpv4.{FieldsFit, Fits, fixed_payload_size, header_len, layout_of};
 ghost use Rattle.ep_icmp.specs.Icmpv4.{right_checksum, timestamp_of};
-ghost use Rattle.ep_icmp.specs.Layout.{front, bytes_of_layout, bytes_of_fields};
+ghost use Rattle.ep_icmp.specs.Layout.{prefix, bytes_of_layout, bytes_of_fields};
 
 use super::icmpv4::{
     DestUnreachableHeader, ParameterProblemHeader, RedirectHeader, TimeExceededCode,
@@ -14,11 +14,11 @@ use super::{IcmpEchoHeader, Icmpv4Header};
 use arrayvec::ArrayVec;
 use ep_base::checksum::{Sum16BitWords, message_sum};
 
-/// The kind of an ICMPv4 message: its type, its code and what stands in its header behind the
-/// checksum (RFC 792).
+/// The kind of an ICMPv4 message: its type, its code and what follows the checksum in its header
+/// (RFC 792).
 #[derive(Clone, Debug, PartialEq, Eq, Drop)]
 pub enum Icmpv4Type {
-    /// A type and code for which no other variant stands.
+    /// A type and code that no other variant has.
     Unknown {
         /// The type.
         type_u8: u8,
@@ -39,7 +39,7 @@ pub enum Icmpv4Type {
     TimeExceeded(TimeExceededCode),
     /// A packet's header has a fault (type 12, codes 0 to 2).
     ParameterProblem(ParameterProblemHeader),
-    /// Asks for the receiver's time (type 13, code 0).
+    /// A request for the receiver's time (type 13, code 0).
     TimestampRequest(TimestampMessage),
     /// The reply to a timestamp request (type 14, code 0).
     TimestampReply(TimestampMessage),
@@ -83,20 +83,20 @@ impl Icmpv4Type {
     fn sum_with(&self, payload: &[u8]) -> Sum16BitWords
         ensures { result ≡ fold (total (bytes_of_layout (layout_of self.now) 0 ++ payload.now)) }
     {
-        let front = self.front_with(0);
+        let prefix = self.prefix_with(0);
         match self.timestamp() {
             Some(message) => message_sum(
                 Sum16BitWords::new(),
-                &front,
+                &prefix,
                 &message.to_bytes()[4..],
             ).add_slice(payload),
-            None => message_sum(Sum16BitWords::new(), &front, payload),
+            None => message_sum(Sum16BitWords::new(), &prefix, payload),
         }
     }
 
     // The first eight bytes of the header, with this checksum.
-    fn front_with(&self, checksum: u16) -> [u8; 8]
-        ensures bytes { result ≡ front (layout_of self.now) checksum }
+    fn prefix_with(&self, checksum: u16) -> [u8; 8]
+        ensures bytes { result ≡ prefix (layout_of self.now) checksum }
         ensures fits { Fits self.now }
     {
         let [c0, c1] = checksum.to_be_bytes();
@@ -105,14 +105,14 @@ impl Icmpv4Type {
     }
 
     // The header with this checksum.
-    pub(crate) fn spelled_with(&self, checksum: u16) -> ArrayVec<u8, 20>
+    pub(crate) fn encoded_with(&self, checksum: u16) -> ArrayVec<u8, 20>
         ensures bytes { result.items ≡ bytes_of_layout (layout_of self.now) checksum }
         ensures len { length result.items ≡ header_len self.now }
         ensures fits { Fits self.now }
     {
         let mut bytes = ArrayVec::new();
         bytes
-            .try_extend_from_slice(&self.front_with(checksum))
+            .try_extend_from_slice(&self.prefix_with(checksum))
             .unwrap();
         if let Some(message) = self.timestamp() {
             bytes

@@ -3,7 +3,7 @@ ghost use Rattle.std.specs.Prelude.{◌≡◌, ◌+◌, ◌≤◌, ◌++◌, ◌
 ghost use Rattle.std.specs.Prelude.{MatchResult, None, OnOk, OnErr, Err, vec_len, vec_capacity};
 ghost use Rattle.ep_base.specs.Bounded.{too_big};
 ghost use Rattle.ep_icmp.specs.Icmpv6.{HeaderFits, IsRead, ReadableIcmpv6, icmpv6_with_checksum};
-ghost use Rattle.ep_icmp.specs.Icmpv6.{spelling};
+ghost use Rattle.ep_icmp.specs.Icmpv6.{encoding};
 ghost use Rattle.ep_icmp.specs.Icmpv6Fault.{message_at};
 ghost use Rattle.ep_icmp.specs.Limit.{IsWithin, greatest_payload};
 
@@ -13,7 +13,7 @@ use ep_base::err::{LenError, ValueTooBigError, ValueType};
 use std::alloc::AllocError;
 
 /// The header of an ICMPv6 message (RFC 4443, section 2.1): its kind and its checksum. In its bytes
-/// numbers stand high byte first.
+/// numbers are high byte first.
 #[derive(Clone, Debug, PartialEq, Eq, Drop)]
 pub struct Icmpv6Header {
     /// The type and code, and what goes with them.
@@ -26,7 +26,7 @@ impl Icmpv6Header {
     /// The length of each header in bytes.
     pub const MIN_LEN: usize = 8;
 
-    /// How many bytes `to_bytes` has room for.
+    /// How many bytes `to_bytes` has space for.
     pub const MAX_LEN: usize = 40;
 
     /// The header of this kind with checksum 0.
@@ -57,7 +57,7 @@ impl Icmpv6Header {
         })
     }
 
-    /// The header of the message that is this slice, and the bytes behind it. A slice of fewer than
+    /// The header of the message that is this slice, and the bytes after it. A slice of fewer than
     /// 8 bytes is refused (layer `Icmpv6`).
     pub fn from_slice(slice: &[u8]) -> Result<(Icmpv6Header, &[u8]), LenError>
         ensures found { IfOk result (λ r. IsRead slice.now r.0 r.1.now) }
@@ -103,30 +103,30 @@ impl Icmpv6Header {
         Ok(())
     }
 
-    /// The bytes of the header, with the checksum as it stands.
+    /// The bytes of the header, with the checksum as it is.
     ///
-    /// They spell the header again, unless it is an `Unknown` of a type and code that has another
-    /// variant.
+    /// They are parsed as the header again, unless it is an `Unknown` of a type and code that has
+    /// another variant.
     pub fn to_bytes(&self) -> ArrayVec<u8, 40>
-        ensures bytes { result.items ≡ spelling self.now }
+        ensures bytes { result.items ≡ encoding self.now }
         ensures len { length result.items ≡ 8 }
         ensures fits { HeaderFits self.now }
     {
         let mut bytes = ArrayVec::new();
         bytes
-            .try_extend_from_slice(&self.icmp_type.spelled_with(self.checksum))
+            .try_extend_from_slice(&self.icmp_type.encoded_with(self.checksum))
             .unwrap();
         bytes
     }
 
-    /// Appends the bytes of the header, with the checksum as it stands.
+    /// Appends the bytes of the header, with the checksum as it is.
     ///
     /// Where no memory is left for them, the buffer keeps its bytes.
     pub fn write(&self, buffer: &mut Vec<u8>) -> Result<(), AllocError>
-        ensures ok { OnOk result (buffer.new.items ≡ buffer.old.items ++ spelling self.now) }
+        ensures ok { OnOk result (buffer.new.items ≡ buffer.old.items ++ encoding self.now) }
         ensures len { OnOk result (vec_len buffer.new ≡ vec_len buffer.old + 8) }
         ensures err { OnErr result (buffer.new.items ≡ buffer.old.items) }
-        // It fails only where room was missing, and room never shrinks.
+        // It fails only where capacity was missing, and capacity never shrinks.
         ensures succeeds { vec_len buffer.old + 8 ≤ vec_capacity buffer.old → IsOk result }
         ensures capacity { vec_capacity buffer.old ≤ vec_capacity buffer.new }
     {

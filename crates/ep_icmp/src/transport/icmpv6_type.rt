@@ -19,7 +19,7 @@ use ep_ip::checksum::pseudo_sum_v6;
 /// section 2.1). The kinds of neighbor discovery (types 133 to 137) are `Unknown`.
 #[derive(Clone, Debug, PartialEq, Eq, Drop)]
 pub enum Icmpv6Type {
-    /// A type and code for which no other variant stands.
+    /// A type and code that no other variant has.
     Unknown {
         /// The type.
         type_u8: u8,
@@ -116,22 +116,22 @@ impl Icmpv6Type {
         }
         let len = (self.header_len() + payload.len()) as u32;
         let pseudo = pseudo_sum_v6(source, destination, ip_number::IPV6_ICMP, len);
-        let sum = self.sum_behind(pseudo, payload);
+        let sum = self.sum_after(pseudo, payload);
         Ok(sum.ones_complement().swap_bytes())
     }
 
-    // The sum of the message with this payload, its checksum as 0, behind a pseudo header with this
+    // The sum of the message with this payload, its checksum as 0, after a pseudo header with this
     // sum.
-    fn sum_behind(&self, pseudo: Sum16BitWords, payload: &[u8]) -> Sum16BitWords
-        ensures { (front : List ℕ) → SumsWords pseudo front
-            → result ≡ fold (total (front ++ bytes_of_layout (layout_of self.now) 0
+    fn sum_after(&self, pseudo: Sum16BitWords, payload: &[u8]) -> Sum16BitWords
+        ensures { (prefix : List ℕ) → SumsWords pseudo prefix
+            → result ≡ fold (total (prefix ++ bytes_of_layout (layout_of self.now) 0
             ++ payload.now)) }
     {
-        message_sum(pseudo, &self.spelled_with(0), payload)
+        message_sum(pseudo, &self.encoded_with(0), payload)
     }
 
     // The header with this checksum.
-    pub(crate) fn spelled_with(&self, checksum: u16) -> [u8; 8]
+    pub(crate) fn encoded_with(&self, checksum: u16) -> [u8; 8]
         ensures bytes { result ≡ bytes_of_layout (layout_of self.now) checksum }
         ensures fits { Fits self.now }
     {
@@ -154,7 +154,7 @@ impl Icmpv6Type {
         Icmpv6Header::with_checksum(self, source, destination, payload)
     }
 
-    // What stands behind the checksum.
+    // What follows the checksum.
     fn bytes5to8(&self) -> [u8; 4]
         ensures bytes { result ≡ bytes_of_fields (layout_of self.now).fields }
         ensures fits { FieldsFit self.now }

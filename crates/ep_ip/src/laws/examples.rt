@@ -1,5 +1,5 @@
-//! The definitions and laws at values from outside: each clause is what a standard or a hand gives,
-//! so that a definition can't change with the code.
+//! The definitions and laws at values from outside: each clause states a value of a standard or one
+//! that was calculated by hand, so that a definition can't change with the code.
 
 ghost use Rattle.std.specs.Prelude.{◌≡◌, [], ◌∷◌, ◌++◌, replicate, take, length, true, false, Ok};
 ghost use Rattle.std.specs.Prelude.{Err};
@@ -23,8 +23,8 @@ ghost use Rattle.ep_ip.specs.Skip as walk;
 use super::ipv4::same_fields_from_same_bytes;
 use super::ipv6::skip_follows_every_walk;
 
-/// An IPv4 header is found whatever follows it, and each fault has its fields and its place in the
-/// order: fewer than 20 bytes, the version, the length field, fewer bytes than it says.
+/// An IPv4 header is found whatever follows it, and each fault has its fields and its position in
+/// the order: fewer than 20 bytes, the version, the length field, fewer bytes than it says.
 pub fn ipv4_headers_found()
     ensures found { v4_fault.header_at (ipv4_with_options ++ 170 ∷ 187 ∷ [])
         ≡ Ok ipv4_with_options }
@@ -65,7 +65,7 @@ pub fn ipv4_fields()
       destination = 10 ∷ 0 ∷ 0 ∷ 2 ∷ [];
       options = 1 ∷ 1 ∷ 1 ∷ 0 ∷ [];
     } }
-    ensures bytes { v4.spelling (v4.ipv4_header_of ipv4_with_options) ≡ ipv4_with_options }
+    ensures bytes { v4.encoding (v4.ipv4_header_of ipv4_with_options) ≡ ipv4_with_options }
     ensures reserved { v4.with_reserved_bit_zero ipv4_with_reserved_bit ≡ ipv4_with_options }
 {}
 
@@ -86,7 +86,7 @@ pub fn fragments()
     ensures middle { v4.is_fragmenting true 8191 ≡ true }
 {}
 
-/// The length of a payload is what the total length leaves behind the header, if only 0; a total
+/// The length of a payload is what the total length leaves after the header, if only 0; a total
 /// length below the header's is refused with both.
 pub fn ipv4_payload_lengths()
     ensures some { v4_fault.IsPayloadLen 24 30 (Ok 6) }
@@ -134,14 +134,14 @@ pub fn ipv6_fields()
       source = 253 ∷ (replicate 14 0 ++ 1 ∷ []);
       destination = 253 ∷ (replicate 14 0 ++ 2 ∷ []);
     } }
-    ensures bytes { v6.spelling (v6.ipv6_header_of ipv6_example) ≡ ipv6_example }
+    ensures bytes { v6.encoding (v6.ipv6_header_of ipv6_example) ≡ ipv6_example }
     ensures code_point { v6.dscp_in 171 ≡ 42 }
     ensures notification { v6.ecn_in 171 ≡ notification.CongestionExperienced }
     ensures other_notification { v6.ecn_in 169 ≡ notification.Ect1 }
 {}
 
 /// The layout of pseudo headers: over IPv4 (RFC 768) a zero byte, the number and a length of 2
-/// bytes behind the addresses, over IPv6 (RFC 8200, section 8.1) a length of 4 bytes, three zero
+/// bytes after the addresses, over IPv6 (RFC 8200, section 8.1) a length of 4 bytes, three zero
 /// bytes and the number.
 pub fn pseudo_headers()
     ensures v4 { pseudo_v4 (10 ∷ 0 ∷ 0 ∷ 1 ∷ []) (10 ∷ 0 ∷ 0 ∷ 2 ∷ []) 17 4660
@@ -153,7 +153,7 @@ pub fn pseudo_headers()
 {}
 
 /// How long the header of a number is: a fragment header has 8 bytes whatever its second one, an
-/// authentication header words of 4 behind the first 8 bytes, every other words of 8. Without a
+/// authentication header words of 4 after the first 8 bytes, every other words of 8. Without a
 /// second byte two are needed.
 pub fn lengths_of_skipped_headers()
     ensures fragment { walk.skipped_len 44 (17 ∷ 255 ∷ []) ≡ 8 }
@@ -180,7 +180,7 @@ pub fn whole_headers()
 
 /// The walk over two headers: its end, where the second is cut off, where a header has no second
 /// byte, and at a number of an extension header that isn't skipped.
-#[tactic(auto, unfolding(crate::specs::Skip::headers_within, crate::specs::Skip::named_behind))]
+#[tactic(auto, unfolding(crate::specs::Skip::headers_within, crate::specs::Skip::next_number_after))]
 pub fn walks()
     ensures headers { walk.skipped_headers 0
         (60 ∷ (replicate 7 0 ++ 17 ∷ (replicate 7 0 ++ 170 ∷ 187 ∷ []))) ≡ two_headers }
@@ -204,7 +204,7 @@ pub fn walks()
     ensures none { walk.skip 59 [] ≡ Ok (59, []) }
 {}
 
-/// [`same_fields_from_same_bytes`] at two headers that only the reserved bit tells apart.
+/// [`same_fields_from_same_bytes`] at two headers that differ in the reserved bit alone.
 pub fn fields_without_the_reserved_bit()
     ensures { v4.ipv4_header_of ipv4_with_reserved_bit ≡ v4.ipv4_header_of ipv4_with_options }
 {

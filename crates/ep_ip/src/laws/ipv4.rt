@@ -4,7 +4,7 @@ ghost use Rattle.std.specs.Hash as fed;
 ghost use Rattle.std.specs.Ordering.{nat_cmp};
 ghost use Rattle.std.specs.Cmp.Lexicographic.{slice_cmp};
 ghost use Rattle.ep_base.specs.Bytes.{IsBytes};
-ghost use Rattle.ep_ip.specs.Ipv4.{IsIpv4Header, ipv4_header_of, ihl_of, total_len_of, spelling};
+ghost use Rattle.ep_ip.specs.Ipv4.{IsIpv4Header, ipv4_header_of, ihl_of, total_len_of, encoding};
 ghost use Rattle.ep_ip.specs.Ipv4.{with_reserved_bit_zero};
 ghost use Rattle.ep_ip.specs.Ipv4Fault.{IsPayloadLen};
 
@@ -33,7 +33,7 @@ pub fn header_is_read_again<'a>(
     header: &Ipv4Header,
     slice: &'a [u8],
 ) -> Result<(Ipv4Header, &'a [u8]), HeaderSliceError>
-    ensures { (rest : List ℕ) → slice.now ≡ spelling header.now ++ rest
+    ensures { (rest : List ℕ) → slice.now ≡ encoding header.now ++ rest
         → IsOkAnd result (λ r. (r.0 ≡ header.now) × (r.1.now ≡ rest)) }
 {
     // For the proof alone, which reads its contract.

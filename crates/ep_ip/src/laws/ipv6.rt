@@ -5,7 +5,7 @@ ghost use Rattle.std.specs.List.{concat, list_any};
 ghost use Rattle.ep_base.specs.Bytes.{IsBytes};
 ghost use Rattle.ep_base.specs.IpEcn.{ecn_number};
 ghost use Rattle.ep_base.specs.IpNumber.{ext_header_numbers};
-ghost use Rattle.ep_ip.specs.Ipv6.{IsIpv6Header, ipv6_header_of, spelling, dscp_in, ecn_in};
+ghost use Rattle.ep_ip.specs.Ipv6.{IsIpv6Header, ipv6_header_of, encoding, dscp_in, ecn_in};
 ghost use Rattle.ep_ip.specs.Skip.{Walk, is_skipped, skipped_headers, outcome, skip};
 
 use crate::err::ipv6::HeaderSliceError;
@@ -20,12 +20,12 @@ pub fn header_lengths() -> [usize; 2]
 }
 
 /// Headers and lists of 40 bytes whose first half byte is 6 are each other's: a header's bytes are
-/// such a list, which spells the header, and such a list spells a header whose bytes it is.
+/// such a list, which encodes the header, and such a list encodes a header whose bytes it is.
 pub fn headers_are_their_bytes(header: &Ipv6Header)
-    ensures header { IsIpv6Header (spelling header.now) }
-    ensures fields { ipv6_header_of (spelling header.now) ≡ header.now }
+    ensures header { IsIpv6Header (encoding header.now) }
+    ensures fields { ipv6_header_of (encoding header.now) ≡ header.now }
     ensures again { (bytes : List ℕ) → IsIpv6Header bytes → IsBytes bytes
-        → spelling (ipv6_header_of bytes) ≡ bytes }
+        → encoding (ipv6_header_of bytes) ≡ bytes }
 {
     // For the proof alone, which reads its contract.
     let _bytes = header.to_bytes();
@@ -36,7 +36,7 @@ pub fn header_is_read_again<'a>(
     header: &Ipv6Header,
     slice: &'a [u8],
 ) -> Result<(Ipv6Header, &'a [u8]), HeaderSliceError>
-    ensures { (rest : List ℕ) → slice.now ≡ spelling header.now ++ rest
+    ensures { (rest : List ℕ) → slice.now ≡ encoding header.now ++ rest
         → IsOkAnd result (λ r. (r.0 ≡ header.now) × (r.1.now ≡ rest)) }
 {
     // For the proof alone, which reads its contract.

@@ -26,7 +26,7 @@ pub fn types_are_plain_data<'a>()
     ensures ipv6_header_error { IsPlainData ⟦<ipv6::HeaderError as Value>⟧ }
 {}
 
-/// A hasher is fed all fields of an error, and in front of them, where there are several, which of
+/// A hasher is fed all fields of an error, and before them, where there are several, which of
 /// the errors it is, as they are declared.
 pub fn errors_hash_all_fields()
     ensures version { VariantFeeds ⟦<ipv4::HeaderError as Hash>⟧.hash_input

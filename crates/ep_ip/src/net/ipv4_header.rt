@@ -5,7 +5,7 @@ ghost use Rattle.std.specs.Prelude.{IfErr, IsOkAnd, OnOk, OnErr, IsOk, IsTrue, O
 ghost use Rattle.std.specs.Prelude.{vec_capacity};
 ghost use Rattle.ep_ip.specs.Ipv4.{IsIpv4Header, IsRead, default_header, ipv4_header_of};
 ghost use Rattle.ep_ip.specs.Ipv4.{header_len};
-ghost use Rattle.ep_ip.specs.Ipv4.{ihl, flags_and_offset, spelling, Fits, is_fragmenting};
+ghost use Rattle.ep_ip.specs.Ipv4.{ihl, flags_and_offset, encoding, Fits, is_fragmenting};
 ghost use Rattle.ep_base.specs.Bounded.{too_big};
 ghost use Rattle.ep_base.specs.Sum.{all_ones};
 ghost use Rattle.ep_ip.specs.Ipv4Checksum.{right_checksum, HasRightChecksum};
@@ -34,13 +34,13 @@ pub struct Ipv4Header {
     pub ecn: IpEcn,
     /// The length of header and payload in bytes.
     pub total_len: u16,
-    /// The identification that the fragments of one message share.
+    /// The identification that the fragments of one datagram share.
     pub identification: u16,
     /// Whether the packet may not be fragmented.
     pub dont_fragment: bool,
     /// Whether more fragments follow this one.
     pub more_fragments: bool,
-    /// The offset of the payload in the message, in units of 8 bytes.
+    /// The offset of the payload in the datagram's payload, in units of 8 bytes.
     pub fragment_offset: IpFragOffset,
     /// The time to live, in hops.
     pub time_to_live: u8,
@@ -72,7 +72,7 @@ impl Ipv4Header {
     /// A header with no options for a payload of this length, with don't-fragment set, and 0 in
     /// every field that is not given, the checksum among them.
     ///
-    /// A payload above 65515 bytes, which no total length leaves room for, is refused.
+    /// A payload above 65515 bytes, which no total length can state, is refused.
     pub fn new(
         payload_len: u16,
         time_to_live: u8,
@@ -108,16 +108,16 @@ impl Ipv4Header {
         })
     }
 
-    /// The header at the front of the slice, and what follows it.
+    /// The header at the start of the slice, and what follows it.
     ///
     /// Refused as `Ipv4HeaderSlice::from_slice` refuses. The checksum and the total length are
     /// not tested, and what follows is all that the slice has.
     pub fn from_slice(slice: &[u8]) -> Result<(Ipv4Header, &[u8]), HeaderSliceError>
-        // The front of the slice is a header, and is read so.
+        // The start of the slice is a header, and is read so.
         ensures found { IfOk result (λ r. IsRead slice.now r.0 r.1.now) }
-        // A front that is a header is read.
-        ensures only { (front rest : List ℕ) → IsIpv4Header front → slice.now ≡ front ++ rest
-            → IsOkAnd result (λ r. (r.0 ≡ ipv4_header_of front) × (r.1.now ≡ rest)) }
+        // A prefix that is a header is read.
+        ensures only { (prefix rest : List ℕ) → IsIpv4Header prefix → slice.now ≡ prefix ++ rest
+            → IsOkAnd result (λ r. (r.0 ≡ ipv4_header_of prefix) × (r.1.now ≡ rest)) }
         // Else it is the first fault.
         ensures err { IfErr result (λ e. header_at slice.now ≡ Err e) }
     {
@@ -129,19 +129,19 @@ impl Ipv4Header {
     /// The older name of [`Ipv4Header::from_slice`].
     pub fn read_from_slice(slice: &[u8]) -> Result<(Ipv4Header, &[u8]), HeaderSliceError>
         ensures found { IfOk result (λ r. IsRead slice.now r.0 r.1.now) }
-        ensures only { (front rest : List ℕ) → IsIpv4Header front → slice.now ≡ front ++ rest
-            → IsOkAnd result (λ r. (r.0 ≡ ipv4_header_of front) × (r.1.now ≡ rest)) }
+        ensures only { (prefix rest : List ℕ) → IsIpv4Header prefix → slice.now ≡ prefix ++ rest
+            → IsOkAnd result (λ r. (r.0 ≡ ipv4_header_of prefix) × (r.1.now ≡ rest)) }
         ensures err { IfErr result (λ e. header_at slice.now ≡ Err e) }
     {
         Ipv4Header::from_slice(slice)
     }
 
-    /// The bytes of the header: the reserved bit is 0, and the checksum is the field as it stands.
+    /// The bytes of the header: the reserved bit is 0, and the checksum is the value of the field.
     ///
     /// The length field comes from the options. Where the checksum field holds
     /// [`Ipv4Header::calc_header_checksum`], the bytes sum to all ones, as a receiver tests it.
     pub fn to_bytes(&self) -> ArrayVec<u8, 60>
-        ensures bytes { result.items ≡ spelling self.now }
+        ensures bytes { result.items ≡ encoding self.now }
         ensures len { length result.items ≡ header_len self.now }
         // They are a header, with these fields.
         ensures header { IsIpv4Header result.items }
@@ -156,7 +156,7 @@ impl Ipv4Header {
     // The bytes of the header with this checksum.
     #[inline(always)]
     fn bytes_with_checksum(&self, header_checksum: u16) -> ArrayVec<u8, 60>
-        ensures bytes { result.items ≡ spelling
+        ensures bytes { result.items ≡ encoding
             (record self.now { header_checksum = header_checksum }) }
         ensures len { length result.items ≡ header_len self.now }
         ensures fits { Fits (record self.now { header_checksum = header_checksum }) }
@@ -202,7 +202,7 @@ impl Ipv4Header {
     /// The checksum that belongs to the other fields: the complement of the ones-complement sum of
     /// the header's 16-bit words, with its own field as 0 (RFC 791, section 3.1; RFC 1071).
     ///
-    /// It is never ffff, since the first byte is never 0, and the field's value has no part in it.
+    /// It is never ffff, since the first byte is never 0, and the field's value doesn't affect it.
     #[inline(always)]
     pub fn calc_header_checksum(&self) -> u16
         ensures value { result ≡ right_checksum self.now }
@@ -221,10 +221,10 @@ impl Ipv4Header {
     #[inline(always)]
     pub fn write(&self, buffer: &mut Vec<u8>) -> Result<(), AllocError>
         ensures ok { OnOk result (buffer.new.items ≡ buffer.old.items
-            ++ spelling (record self.now { header_checksum = right_checksum self.now })) }
+            ++ encoding (record self.now { header_checksum = right_checksum self.now })) }
         ensures len { OnOk result (vec_len buffer.new ≡ vec_len buffer.old + header_len self.now) }
         ensures err { OnErr result (buffer.new.items ≡ buffer.old.items) }
-        // It fails only where room was missing, and room never shrinks.
+        // It fails only where capacity was missing, and capacity never shrinks.
         ensures succeeds { vec_len buffer.old + header_len self.now ≤ vec_capacity buffer.old
             → IsOk result }
         ensures capacity { vec_capacity buffer.old ≤ vec_capacity buffer.new }
@@ -233,14 +233,14 @@ impl Ipv4Header {
         buffer.extend_from_slice(bytes.as_slice())
     }
 
-    /// Appends the bytes of the header, with the checksum as it stands.
+    /// Appends the bytes of the header, with the checksum that its field holds.
     ///
     /// Where no memory is left for them, the buffer keeps its bytes.
     pub fn write_raw(&self, buffer: &mut Vec<u8>) -> Result<(), AllocError>
-        ensures ok { OnOk result (buffer.new.items ≡ buffer.old.items ++ spelling self.now) }
+        ensures ok { OnOk result (buffer.new.items ≡ buffer.old.items ++ encoding self.now) }
         ensures len { OnOk result (vec_len buffer.new ≡ vec_len buffer.old + header_len self.now) }
         ensures err { OnErr result (buffer.new.items ≡ buffer.old.items) }
-        // It fails only where room was missing, and room never shrinks.
+        // It fails only where capacity was missing, and capacity never shrinks.
         ensures succeeds { vec_len buffer.old + header_len self.now ≤ vec_capacity buffer.old
             → IsOk result }
         ensures capacity { vec_capacity buffer.old ≤ vec_capacity buffer.new }
@@ -266,7 +266,7 @@ impl Ipv4Header {
         20 + self.options.len()
     }
 
-    /// The length of the payload in bytes: what the total length leaves behind the header.
+    /// The length of the payload in bytes: what the total length leaves after the header.
     ///
     /// A total length below the header's own is a `LenError` of the layer `Ipv4Packet` with the
     /// source `Ipv4HeaderTotalLen`.
@@ -300,7 +300,7 @@ impl Ipv4Header {
         Ok(())
     }
 
-    /// The length in bytes of the longest payload that a total length can name behind this header.
+    /// The length in bytes of the longest payload that a total length can state after this header.
     pub fn max_payload_len(&self) -> u16
         ensures { header_len self.now + result ≡ 65535 }
     {
@@ -315,7 +315,7 @@ impl Ipv4Header {
         self.options.as_slice()
     }
 
-    /// Makes these bytes the options. The header gets the length that goes with them, and its
+    /// Makes these bytes the options. The header gets the length that results, and its
     /// total length stays as it is.
     ///
     /// Refused, with the header unchanged, where their number is no multiple of 4 up to 40.
@@ -329,7 +329,7 @@ impl Ipv4Header {
         Ok(())
     }
 
-    /// Whether the payload is a part of a message: more fragments follow, or the offset is not 0.
+    /// Whether the packet is a fragment: more fragments follow, or the offset is not 0.
     pub fn is_fragmenting_payload(&self) -> bool
         ensures { result ≡ is_fragmenting self.now.more_fragments self.now.fragment_offset }
     {

@@ -38,16 +38,16 @@ impl<'a> Model for Ipv4HeaderSlice<'a> {
 
 #[tactic(auto, using(ep_base::proofs::Bits::masks))]
 impl<'a> Ipv4HeaderSlice<'a> {
-    /// The header at the front of the slice. It ignores what follows.
+    /// The header at the start of the slice. It ignores what follows.
     ///
     /// Tested in this order: 20 bytes are there (`Len`), the version is 4 (`UnexpectedVersion`),
     /// the length field is at least 5 (`HeaderLengthSmallerThanHeader`), and as many words of
     /// 4 bytes are there as it says (`Len`).
     pub fn from_slice(slice: &'a [u8]) -> Result<Ipv4HeaderSlice<'a>, HeaderSliceError>
-        // What is taken is a header, and a front of the slice.
+        // What is taken is a header, and a prefix of the slice.
         ensures found { IfOk result (λ header. IsIpv4Header header
             × ((rest : List ℕ) × (slice.now ≡ header ++ rest))) }
-        // A front that is a header is taken.
+        // A prefix that is a header is taken.
         ensures only { (header rest : List ℕ) → IsIpv4Header header
             → slice.now ≡ header ++ rest → result ≡ Ok header }
         // Else it is the first fault.
@@ -127,7 +127,7 @@ impl<'a> Ipv4HeaderSlice<'a> {
         u16::from_be_bytes([self.slice[2], self.slice[3]])
     }
 
-    /// The length of the payload in bytes: what the total length leaves behind the header.
+    /// The length of the payload in bytes: what the total length leaves after the header.
     ///
     /// A total length below the header's own is a `LenError` of the layer `Ipv4Packet` with the
     /// source `Ipv4HeaderTotalLen`.
@@ -138,7 +138,7 @@ impl<'a> Ipv4HeaderSlice<'a> {
         payload_len_of(self.slice.len() as u16, self.total_len())
     }
 
-    /// The identification that the fragments of one message share.
+    /// The identification that the fragments of one datagram share.
     pub fn identification(&self) -> u16
         ensures { result ≡ identification_of self.now }
     {
@@ -159,7 +159,7 @@ impl<'a> Ipv4HeaderSlice<'a> {
         self.slice[6] & 0x20 != 0
     }
 
-    /// The offset of the payload in the message, in units of 8 bytes.
+    /// The offset of the payload in the datagram's payload, in units of 8 bytes.
     pub fn fragments_offset(&self) -> IpFragOffset
         ensures { result ≡ fragment_offset_of self.now }
     {
@@ -167,7 +167,7 @@ impl<'a> Ipv4HeaderSlice<'a> {
         IpFragOffset::try_new(flags_and_offset & 0x1fff).unwrap()
     }
 
-    /// Whether the payload is a part of a message: more fragments follow, or the offset is not 0.
+    /// Whether the packet is a fragment: more fragments follow, or the offset is not 0.
     pub fn is_fragmenting_payload(&self) -> bool
         ensures { result ≡ is_fragmenting (more_fragments_of self.now)
             (fragment_offset_of self.now) }
@@ -189,7 +189,7 @@ impl<'a> Ipv4HeaderSlice<'a> {
         IpNumber(self.slice[9])
     }
 
-    /// The header checksum, as it stands.
+    /// The header checksum, as the field holds it.
     pub fn header_checksum(&self) -> u16
         ensures { result ≡ header_checksum_of self.now }
     {
@@ -220,7 +220,7 @@ impl<'a> Ipv4HeaderSlice<'a> {
         ]
     }
 
-    /// The options: what stands behind the first 20 bytes.
+    /// The options: what follows the first 20 bytes.
     pub fn options(&self) -> &'a [u8]
         ensures bytes { result.now ≡ options_of self.now }
         ensures options { IsIpv4Options result.now }

@@ -11,7 +11,7 @@ use std::marker::Model;
 /// The options of an IPv4 header: whole words of 4 bytes, at most ten of them
 /// (RFC 791, section 3.1). A contract sees them as their bytes.
 ///
-/// What the bytes mean, and how the last word is padded, is the caller's affair.
+/// What the bytes mean, and how the last word is padded, is not tested.
 #[derive(Clone, Debug, PartialEq, Eq, Hash, PartialOrd, Ord, Drop)]
 pub struct Ipv4Options {
     bytes: ArrayVec<u8, 40>,

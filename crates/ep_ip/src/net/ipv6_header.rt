@@ -1,4 +1,4 @@
-//! IPv6 headers as values, and the walk over the extension headers behind them.
+//! IPv6 headers as values, and the walk over the extension headers after them.
 
 ghost use Rattle.std.specs.Prelude.{◌≡◌, ℕ, ◌+◌, ◌*◌, ◌^◌, ◌/◌, ◌<◌, ◌≤◌, List, ◌++◌, length, IfOk};
 ghost use Rattle.std.specs.Prelude.{IfErr, IsOkAnd, OnOk, OnErr, IsOk, MatchResult, Err, vec_len};
@@ -7,7 +7,7 @@ ghost use Rattle.std.specs.List.{concat};
 ghost use Rattle.ep_base.specs.Bounded.{too_big};
 ghost use Rattle.ep_base.specs.Bytes.{num};
 ghost use Rattle.ep_ip.specs.Ipv6Fault.{header_at};
-ghost use Rattle.ep_ip.specs.Ipv6.{IsIpv6Header, IsRead, ipv6_header_of, spelling, Fits, dscp_in};
+ghost use Rattle.ep_ip.specs.Ipv6.{IsIpv6Header, IsRead, ipv6_header_of, encoding, Fits, dscp_in};
 ghost use Rattle.ep_ip.specs.Ipv6.{ecn_in};
 ghost use Rattle.ep_ip.specs.Skip as walk;
 
@@ -17,7 +17,7 @@ use ep_base::err::{Layer, LenError, ValueTooBigError, ValueType};
 use ep_base::{IpDscp, IpEcn, IpNumber, Ipv6FlowLabel};
 use std::alloc::AllocError;
 
-/// An IPv6 header (RFC 8200, section 3). In its 40 bytes numbers stand high byte first.
+/// An IPv6 header (RFC 8200, section 3). Its 40 bytes hold numbers high byte first.
 #[derive(Clone, Debug, PartialEq, Eq, Drop)]
 pub struct Ipv6Header {
     /// The differentiated services code point in the upper 6 bits (RFC 2474, section 3), explicit
@@ -44,14 +44,14 @@ impl Ipv6Header {
     /// The same as `LEN`.
     pub const SERIALIZED_SIZE: usize = Ipv6Header::LEN;
 
-    /// The header at the front of the slice, and the bytes behind it. Refused are, in this order, a
+    /// The header at the start of the slice, and the bytes after it. Refused are, in this order, a
     /// slice of fewer than 40 bytes and a version other than 6.
     pub fn from_slice(slice: &[u8]) -> Result<(Ipv6Header, &[u8]), HeaderSliceError>
-        // The front of the slice is a header, and is read so.
+        // The start of the slice is a header, and is read so.
         ensures found { IfOk result (λ r. IsRead slice.now r.0 r.1.now) }
-        // A front that is a header is read.
-        ensures only { (front rest : List ℕ) → IsIpv6Header front → slice.now ≡ front ++ rest
-            → IsOkAnd result (λ r. (r.0 ≡ ipv6_header_of front) × (r.1.now ≡ rest)) }
+        // A prefix that is a header is read.
+        ensures only { (prefix rest : List ℕ) → IsIpv6Header prefix → slice.now ≡ prefix ++ rest
+            → IsOkAnd result (λ r. (r.0 ≡ ipv6_header_of prefix) × (r.1.now ≡ rest)) }
         // Else it is the first fault.
         ensures err { IfErr result (λ e. header_at slice.now ≡ Err e) }
     {
@@ -63,8 +63,8 @@ impl Ipv6Header {
     /// The same as `from_slice`.
     pub fn read_from_slice(slice: &[u8]) -> Result<(Ipv6Header, &[u8]), HeaderSliceError>
         ensures found { IfOk result (λ r. IsRead slice.now r.0 r.1.now) }
-        ensures only { (front rest : List ℕ) → IsIpv6Header front → slice.now ≡ front ++ rest
-            → IsOkAnd result (λ r. (r.0 ≡ ipv6_header_of front) × (r.1.now ≡ rest)) }
+        ensures only { (prefix rest : List ℕ) → IsIpv6Header prefix → slice.now ≡ prefix ++ rest
+            → IsOkAnd result (λ r. (r.0 ≡ ipv6_header_of prefix) × (r.1.now ≡ rest)) }
         ensures err { IfErr result (λ e. header_at slice.now ≡ Err e) }
     {
         Ipv6Header::from_slice(slice)
@@ -132,7 +132,7 @@ impl Ipv6Header {
     /// The bytes of the header.
     #[inline(always)]
     pub fn to_bytes(&self) -> [u8; 40]
-        ensures bytes { result ≡ spelling self.now }
+        ensures bytes { result ≡ encoding self.now }
         // They are a header, with these fields.
         ensures header { IsIpv6Header result }
         ensures fields { ipv6_header_of result ≡ self.now }
@@ -143,7 +143,7 @@ impl Ipv6Header {
     // Apart from `to_bytes`, whose other clauses follow from these.
     #[inline(always)]
     fn field_bytes(&self) -> [u8; 40]
-        ensures bytes { result ≡ spelling self.now }
+        ensures bytes { result ≡ encoding self.now }
         ensures fits { Fits self.now }
     {
         let payload_length = self.payload_length.to_be_bytes();
@@ -157,7 +157,7 @@ impl Ipv6Header {
         bytes
     }
 
-    // Version, traffic class and flow label, as the first 4 bytes spell them.
+    // Version, traffic class and flow label, as the first 4 bytes encode them.
     #[inline(always)]
     fn first_word(&self) -> u32
         ensures value { result ≡ 6 * 2 ^ 28 + self.now.traffic_class * 2 ^
@@ -172,18 +172,18 @@ impl Ipv6Header {
     /// Appends the bytes of the header.
     #[inline(always)]
     pub fn write(&self, buffer: &mut Vec<u8>) -> Result<(), AllocError>
-        ensures ok { OnOk result (buffer.new.items ≡ buffer.old.items ++ spelling self.now) }
+        ensures ok { OnOk result (buffer.new.items ≡ buffer.old.items ++ encoding self.now) }
         ensures len { OnOk result (vec_len buffer.new ≡ vec_len buffer.old + 40) }
         ensures err { OnErr result (buffer.new.items ≡ buffer.old.items) }
-        // It fails only where room was missing, and room never shrinks.
+        // It fails only where capacity was missing, and capacity never shrinks.
         ensures succeeds { vec_len buffer.old + 40 ≤ vec_capacity buffer.old → IsOk result }
         ensures capacity { vec_capacity buffer.old ≤ vec_capacity buffer.new }
     {
         buffer.extend_from_slice(&self.to_bytes())
     }
 
-    /// Skips one IPv6 extension header at the front of the slice, whatever its number, and answers
-    /// the number that its first byte names and the bytes behind it. The length goes by the number:
+    /// Skips one IPv6 extension header at the start of the slice, whatever its number, and returns
+    /// the number that its first byte names and the bytes after it. The number decides the length:
     /// 8 bytes for a fragment header (44), for an authentication header (51) four times its second
     /// byte and 8 more, for every other number eight times its second byte and 8 more (RFC 8200,
     /// section 4; RFC 4302, section 2.2; RFC 6564, section 4).
@@ -228,19 +228,19 @@ impl Ipv6Header {
         Ok((IpNumber(slice[0]), &slice[required_len..]))
     }
 
-    /// Skips the IPv6 extension headers in a row at the front of the slice, of which the first has
-    /// the given number, and answers the first number that is none of 0, 43, 44, 51, 60, 135, 139
-    /// and 140, and the bytes behind the headers. A header of one of these numbers that is not
+    /// Skips the IPv6 extension headers in a row at the start of the slice, of which the first has
+    /// the given number, and returns the first number that is none of 0, 43, 44, 51, 60, 135, 139
+    /// and 140, and the bytes after the headers. A header of one of these numbers that is not
     /// whole is refused, with its offset in the slice.
     pub fn skip_all_header_extensions_in_slice(
         slice: &[u8],
         next_header: IpNumber,
     ) -> Result<(IpNumber, &[u8]), LenError>
-        // The slice is headers in a row and what the answer gives.
+        // The slice is headers in a row and what the result gives.
         ensures found { (headers : List (List ℕ)) × (last : ℕ) × (rest : List ℕ)
             × walk.Walk next_header.0 slice.now headers last rest
             × walk.Gives (walk.outcome (length (concat headers)) last rest) result }
-        // However the slice is headers in a row and a rest, the answer gives that.
+        // However the slice is headers in a row and a rest, the result gives that.
         ensures only { (headers : List (List ℕ)) (last : ℕ) (rest : List ℕ)
             → walk.Walk next_header.0 slice.now headers last rest
             → walk.Gives (walk.outcome (length (concat headers)) last rest) result }
@@ -255,11 +255,11 @@ impl Ipv6Header {
         slice: &[u8],
         next_header: IpNumber,
     ) -> (Result<(IpNumber, &[u8]), LenError>, usize)
-        // The slice is headers in a row and what the answer gives.
+        // The slice is headers in a row and what the result gives.
         ensures found { (headers : List (List ℕ)) × (last : ℕ) × (rest : List ℕ)
             × walk.Walk next_header.0 slice.now headers last rest
             × walk.Ends headers last rest result.0 result.1 }
-        // However the slice is headers in a row and a rest, the answer gives that.
+        // However the slice is headers in a row and a rest, the result gives that.
         ensures only { (headers : List (List ℕ)) (last : ℕ) (rest : List ℕ)
             → walk.Walk next_header.0 slice.now headers last rest
             → walk.Ends headers last rest result.0 result.1 }
@@ -279,9 +279,9 @@ impl Ipv6Header {
         let mut turns = 1;
         'headers: while let Some(required_len) = skipped_len(rest, number) {
             match Self::skip_by(rest, number, required_len) {
-                Ok((next, behind)) => {
+                Ok((next, following)) => {
                     number = next;
-                    rest = behind;
+                    rest = following;
                 }
                 Err(error) => {
                     let offset = slice.len() - rest.len();
@@ -295,7 +295,7 @@ impl Ipv6Header {
 }
 
 // How the length of the header of each number is counted: `o` in words of 8 bytes, `a` as that of an
-// authentication header, `f` as that of a fragment header. A dot stands for a number that is not
+// authentication header, `f` as that of a fragment header. A dot is at each number that is not
 // skipped.
 static LENGTH_KINDS: [u8; 256] = *b"\
     o...............................\

@@ -32,13 +32,13 @@ impl<'a> Model for Ipv6HeaderSlice<'a> {
 
 #[tactic(auto, using(ep_base::proofs::Bits::masks, crate::proofs::Ipv6Bits::shared_bits))]
 impl<'a> Ipv6HeaderSlice<'a> {
-    /// The header at the front of the slice. Refused are, in this order, a slice of fewer than 40
+    /// The header at the start of the slice. Refused are, in this order, a slice of fewer than 40
     /// bytes and a version other than 6.
     pub fn from_slice(slice: &'a [u8]) -> Result<Ipv6HeaderSlice<'a>, HeaderSliceError>
-        // What is taken is a header, and a front of the slice.
+        // What is taken is a header, and a prefix of the slice.
         ensures found { IfOk result (λ header. IsIpv6Header header
             × ((rest : List ℕ) × (slice.now ≡ header ++ rest))) }
-        // A front that is a header is taken.
+        // A prefix that is a header is taken.
         ensures only { (header rest : List ℕ) → IsIpv6Header header → slice.now ≡ header ++ rest
             → result ≡ Ok header }
         // Else it is the first fault.
@@ -122,8 +122,8 @@ impl<'a> Ipv6HeaderSlice<'a> {
         Ipv6FlowLabel::try_new(word & Ipv6FlowLabel::MAX_U32).unwrap()
     }
 
-    /// How many bytes follow the header: its extension headers and the payload. 0 also stands for a
-    /// jumbo payload.
+    /// How many bytes follow the header: its extension headers and the payload. 0 is also the
+    /// value of a jumbo payload.
     pub fn payload_length(&self) -> u16
         ensures { result ≡ payload_length_of self.now }
     {

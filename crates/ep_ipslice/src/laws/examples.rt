@@ -1,5 +1,5 @@
-//! The definitions at packets from outside, by the RFCs' layouts, so that a definition can't change
-//! with the code.
+//! The definitions at literal packets by the RFCs' layouts, so that a definition can't change with
+//! the code.
 ghost use Rattle.std.specs.Prelude.{◌≡◌, true, false, [], ◌∷◌, Ok, Some};
 ghost use Rattle.std.specs.Hash as fed;
 ghost use Rattle.ep_base.specs.declared.len_source.LenSource.TheVariants as source;
@@ -11,7 +11,7 @@ ghost use Rattle.ep_ipslice.specs.Ipv4Packet.{ipv4_packet_at};
 ghost use Rattle.ep_ipslice.specs.Packet.{IsIpv4Packet, IsIpv6Packet, ipv4_fragment_fields};
 ghost use Rattle.ep_ipslice.specs.Packet.{ipv4_payload, ipv6_fragment_fields, is_ipv4_fragment};
 
-/// The parts of one IPv4 packet with an authentication header and padding, and what it tells of its
+/// The parts of one IPv4 packet with an authentication header and padding, and what it says of its
 /// payload.
 pub fn ipv4_packet_at_a_literal()
     ensures found { ipv4_packet_at example_ipv4 ≡ Ok example_ipv4_packet }
@@ -30,14 +30,14 @@ pub fn ipv4_packet_at_a_literal()
 {}
 
 /// The parts of one IPv6 packet with hop-by-hop options, a fragment header and padding, and what it
-/// tells of the message that its payload is a part of.
+/// says of its payload as a fragment.
 pub fn ipv6_packet_at_a_literal()
     ensures packet { IsIpv6Packet example_ipv6 example_ipv6_packet }
     ensures fragment { ipv6_fragment_fields example_pieces
         ≡ Some (record { identification = 16909060; offset = 1; more = true }) }
 {}
 
-/// What a hasher is fed of one payload: number, flag, the place of its length's source among the
+/// What a hasher is fed of one payload: number, flag, the index of its length's source among the
 /// sources, and the bytes.
 pub fn payload_hash_at_a_literal()
     ensures { hashed_as example_ipv6_packet.payload

@@ -14,7 +14,7 @@ use ep_base::err;
 use ep_ext::err::{ip_auth, ipv6_exts};
 use std::hash::Hash;
 
-/// Why there is no packet of one version: a want of bytes, a fault of the header, or one of the
+/// Why there is no packet of one version: too few bytes, a fault of the header, or one of the
 /// extension headers.
 pub fn packet_errors_hash_all_fields()
     ensures ipv4_len { VariantFeeds ⟦<ipv4::SliceError as Hash>⟧.hash_input
@@ -31,8 +31,8 @@ pub fn packet_errors_hash_all_fields()
         2 ipv6_packet.Exts ⟦<ipv6_exts::HeaderError as Hash>⟧.hash_input }
 {}
 
-/// Why there is no packet of either version, or no headers of one: a want of bytes, or what is
-/// wrong with the content.
+/// Why there is no packet of either version, or no headers of one: too few bytes, or what is wrong
+/// with the content.
 pub fn ip_errors_hash_all_fields()
     ensures len { VariantFeeds ⟦<ip::SliceError as Hash>⟧.hash_input
         0 packet.Len ⟦<err::LenError as Hash>⟧.hash_input }

@@ -7,14 +7,14 @@ ghost use Rattle.ep_ip.specs.Skip.{is_skipped};
 ghost use Rattle.ep_base.specs.declared.len_source.LenSource.{LenSource};
 ghost use Rattle.ep_ext.specs.Chain.{Chain, Fault, Row, fault_of};
 ghost use Rattle.ep_ext.specs.Fragment.{fragments};
-ghost use Rattle.ep_ext.specs.Place.{KeepsNumbers, Order, place_of};
+ghost use Rattle.ep_ext.specs.Slot.{KeepsNumbers, Order, slot_of};
 ghost use Rattle.ep_ext.specs.Value.{Piece, bytes_of, value_of};
-ghost use Rattle.ep_ext.specs.declared.net.ipv6_ext_place.Ipv6ExtPlace.TheVariants as place;
-ghost use Rattle.ep_ipslice.specs.FaultPlace.{ip_place, ipv4_place, ipv6_place};
+ghost use Rattle.ep_ext.specs.declared.net.ipv6_ext_slot.Ipv6ExtSlot.TheVariants as slot;
+ghost use Rattle.ep_ipslice.specs.FaultOffset.{ip_offset, ipv4_offset, ipv6_offset};
 ghost use Rattle.ep_ipslice.specs.IpSlice.{IsIpFault, IsIpFaultIn, IsWhole, ip_packet_at};
 ghost use Rattle.ep_ipslice.specs.Ipv4Packet.{ipv4_packet_at};
 ghost use Rattle.ep_ipslice.specs.Ipv6Packet.{body_of, extensions_in, ipv6_packet_at};
-ghost use Rattle.ep_ipslice.specs.Ipv6Packet.{number_behind, rest_behind};
+ghost use Rattle.ep_ipslice.specs.Ipv6Packet.{number_after, rest_after};
 ghost use Rattle.ep_ipslice.specs.Ipv6Walk.{pieces_within};
 ghost use Rattle.ep_ipslice.specs.Ipv6Fault.{IsFaultIn, IsIpv6Fault, IsRowFault, of_exts_fault};
 ghost use Rattle.ep_ipslice.specs.declared.err.ip.slice_error.SliceError.{SliceError as IpFault};
@@ -30,7 +30,7 @@ use ep_base::err::LenError;
 use ep_base::{IpFragOffset, IpNumber};
 use ep_ext::laws;
 
-/// A slice begins with one IPv4 packet at most.
+/// A slice starts with one IPv4 packet at most.
 pub fn ipv4_packet_is_alone(slice: &[u8])
     ensures { (p q : Ipv4Packet) → IsIpv4Packet slice.now p → IsIpv4Packet slice.now q → p ≡ q }
 {
@@ -38,7 +38,7 @@ pub fn ipv4_packet_is_alone(slice: &[u8])
     let _packet = Ipv4Slice::from_slice(slice);
 }
 
-/// A slice begins with one IPv6 packet at most.
+/// A slice starts with one IPv6 packet at most.
 pub fn ipv6_packet_is_alone(slice: &[u8])
     ensures { (p q : Ipv6Packet) → IsIpv6Packet slice.now p → IsIpv6Packet slice.now q → p ≡ q }
 {
@@ -57,8 +57,8 @@ pub fn faults_are_alone()
     laws::chain_is_alone();
 }
 
-/// What a header's payload length gives it lies within the bytes, and a fault at which extension
-/// headers in it end, under whatever order, is one of the bytes.
+/// The body that a header's payload length bounds lies within the bytes, and a fault at which
+/// extension headers in it end, under whatever order, is one of the bytes.
 pub fn bodies_lie_within()
     ensures within { (bytes header : List ℕ) (source : LenSource) (body : List ℕ)
         → IsIpv6Body bytes header source body → 40 + length body ≤ length bytes }
@@ -70,7 +70,7 @@ pub fn bodies_lie_within()
         → IsRowFault order bytes header (of_exts_fault source fault.0) }
 {}
 
-/// The packet that is found at the front of bytes is one that they begin with, and one that they
+/// The packet that is found at the start of bytes is one that they begin with, and one that they
 /// begin with is found.
 pub fn packets_are_their_parts(slice: &[u8])
     ensures ipv4 { (packet : Ipv4Packet) → (ipv4_packet_at slice.now ≡ Ok packet)
@@ -83,13 +83,13 @@ pub fn packets_are_their_parts(slice: &[u8])
     let _ipv6 = Ipv6Slice::from_slice(slice);
 }
 
-/// The IPv6 packet that is found at the front of bytes is one that they begin with.
+/// The IPv6 packet that is found at the start of bytes is one that they begin with.
 pub fn ipv6_packet_found_is_there()
     ensures { (bytes : List ℕ) (packet : Ipv6Packet) → ipv6_packet_at bytes ≡ Ok packet
         → IsIpv6Packet bytes packet }
 {}
 
-/// Where no packet is found at the front of bytes, the fault that is found is the first one; and so
+/// Where no packet is found at the start of bytes, the fault that is found is the first one; and so
 /// is that at which extension headers end, under whatever order.
 pub fn faults_found_are_first()
     ensures ipv6 { (bytes : List ℕ) (e : Ipv6Fault) → ipv6_packet_at bytes ≡ Err e
@@ -99,24 +99,25 @@ pub fn faults_found_are_first()
         → body_len header (length bytes - 40) ≤ length bytes - 40 → (pieces : List Piece)
         → pieces ≡ pieces_within (length (body_of bytes header)) order []
         (next_header_of header) (body_of bytes header)
-        → fault_of order pieces (number_behind (next_header_of header) pieces)
-        (rest_behind bytes header pieces) ≡ Some fault
+        → fault_of order pieces (number_after (next_header_of header) pieces)
+        (rest_after bytes header pieces) ≡ Some fault
         → IsRowFault order bytes header
         (of_exts_fault (body_source header (length bytes - 40)) fault.0) }
 {
     laws::row_ends_where_none_is_taken();
 }
 
-/// Headers in a row, each at a place of its own, are headers in a row of a view, with the same
-/// bytes. One of these is that of a part of a message where the fragment header of a value is.
-pub fn placed_rows_are_views()
-    ensures { (first : ℕ) (pieces : List Piece) (last : ℕ) → Row place_of [] first pieces last
+/// Headers in a row, each in a slot of its own, are headers in a row of a view, with the same
+/// bytes. One of these is the fragment header of a fragment where the fragment header of a value
+/// is.
+pub fn rows_in_slots_are_views()
+    ensures { (first : ℕ) (pieces : List Piece) (last : ℕ) → Row slot_of [] first pieces last
         → (q : List Piece) × Row view_order [] first q last × (bytes_of q ≡ bytes_of pieces)
         × (is_any_fragmenting q ≡ option_map_or fragments (value_of pieces).fragment false) }
 {}
 
-/// Headers in a row in front of a rest, as far as the order has a place for one, are those that are
-/// found one by one.
+/// Headers in a row before a rest, as far as the order has a slot for one, are those that are found
+/// one by one.
 pub fn rows_are_found()
     ensures { (order : Order) (first : ℕ) (bytes : List ℕ) (pieces : List Piece)
         (last : ℕ) (rest : List ℕ)
@@ -126,20 +127,20 @@ pub fn rows_are_found()
     laws::whole_header_is_found();
 }
 
-/// The place of a fault lies within the bytes, so that it can be moved by what stands in front of
-/// them.
+/// The offset of a fault lies within the bytes, so that the length of what comes before them can be
+/// added to it.
 pub fn faults_can_be_moved()
     ensures ipv4 { (bytes : List ℕ) (e : Ipv4Fault) → ipv4_packet_at bytes ≡ Err e
-        → (n : ℕ) → length bytes + n < 2 ^ 64 → ipv4_place e + n < 2 ^ 64 }
+        → (n : ℕ) → length bytes + n < 2 ^ 64 → ipv4_offset e + n < 2 ^ 64 }
     ensures ipv6 { (bytes : List ℕ) (e : Ipv6Fault) → IsIpv6Fault bytes e
-        → (n : ℕ) → length bytes + n < 2 ^ 64 → ipv6_place e + n < 2 ^ 64 }
+        → (n : ℕ) → length bytes + n < 2 ^ 64 → ipv6_offset e + n < 2 ^ 64 }
     ensures ip { (bytes : List ℕ) (e : IpFault) → IsIpFault bytes e
-        → (n : ℕ) → length bytes + n < 2 ^ 64 → ip_place e + n < 2 ^ 64 }
+        → (n : ℕ) → length bytes + n < 2 ^ 64 → ip_offset e + n < 2 ^ 64 }
     // The same under any order of extension headers.
     ensures ipv6_in { (order : Order) (bytes : List ℕ) (e : Ipv6Fault) → IsFaultIn order bytes e
-        → (n : ℕ) → length bytes + n < 2 ^ 64 → ipv6_place e + n < 2 ^ 64 }
+        → (n : ℕ) → length bytes + n < 2 ^ 64 → ipv6_offset e + n < 2 ^ 64 }
     ensures ip_in { (order : Order) (bytes : List ℕ) (e : IpFault) → IsIpFaultIn order bytes e
-        → (n : ℕ) → length bytes + n < 2 ^ 64 → ip_place e + n < 2 ^ 64 }
+        → (n : ℕ) → length bytes + n < 2 ^ 64 → ip_offset e + n < 2 ^ 64 }
 {
     laws::faults_can_be_moved();
 }
@@ -158,21 +159,21 @@ pub fn skip_agrees_with_view(first: IpNumber, body: &[u8]) -> Result<(IpNumber, 
     laws::skip_call_agrees_with_chain(first, body)
 }
 
-/// The numbers of the headers that a view takes, in front and behind another header.
+/// The numbers of the headers that a view takes, first and after another header.
 #[tactic(auto, unfolding(crate::specs::Ipv6Exts::view_order))]
 pub fn numbers_of_a_view()
-    ensures first { view_order [] 0 ≡ Some place.HopByHop }
-    ensures behind { view_order (place.Fragment ∷ []) 0 ≡ None }
-    ensures routing { view_order (place.Routing ∷ []) 43 ≡ Some place.Routing }
-    ensures fragment { view_order (place.Fragment ∷ []) 44 ≡ Some place.Fragment }
-    ensures auth { view_order [] 51 ≡ Some place.Authentication }
-    ensures destination { view_order (place.Destination ∷ []) 60 ≡ Some place.Destination }
+    ensures first { view_order [] 0 ≡ Some slot.HopByHop }
+    ensures following { view_order (slot.Fragment ∷ []) 0 ≡ None }
+    ensures routing { view_order (slot.Routing ∷ []) 43 ≡ Some slot.Routing }
+    ensures fragment { view_order (slot.Fragment ∷ []) 44 ≡ Some slot.Fragment }
+    ensures auth { view_order [] 51 ≡ Some slot.Authentication }
+    ensures destination { view_order (slot.Destination ∷ []) 60 ≡ Some slot.Destination }
     ensures other { view_order [] 135 ≡ None }
     ensures own { KeepsNumbers view_order }
     ensures without_a_length { body_len (replicate 40 0) 7 ≡ 7 }
 {}
 
-/// An IP packet begins its own bytes: what every caller knows of the view of one.
+/// The bytes of an IP packet start with that packet, as every caller knows of a view.
 pub fn ip_packet_is_whole(packet: &IpSlice)
     ensures { IsWhole packet.now }
 {
@@ -195,8 +196,8 @@ pub fn extensions_of_a_packet()
     laws::whole_header_is_found();
 }
 
-/// What an IPv4 packet's getters tell of the message that its payload is a part of: identification,
-/// offset in units of 8 bytes, and whether more fragments follow.
+/// What an IPv4 packet's getters return of its payload as a fragment: identification, offset in
+/// units of 8 bytes, and whether more fragments follow.
 pub fn ipv4_fragment_fields(packet: &Ipv4Slice) -> (u16, IpFragOffset, bool)
     ensures { ipv4_fragment_fields packet.now.header
         ≡ record { identification = result.0; offset = result.1; more = result.2 } }
@@ -209,7 +210,7 @@ pub fn ipv4_fragment_fields(packet: &Ipv4Slice) -> (u16, IpFragOffset, bool)
     )
 }
 
-/// The same of an IPv6 packet, which tells it by its first fragment header, if there is one.
+/// The same of an IPv6 packet, which has it in its first fragment header, if there is one.
 pub fn ipv6_fragment_fields(packet: &Ipv6Slice) -> Option<(u32, IpFragOffset, bool)>
     ensures { (bytes : List ℕ) (is : IsIpv6Packet bytes packet.now) → ipv6_fragment_fields is.pieces
         ≡ option_map fragment_fields result }

@@ -3,9 +3,9 @@
 ghost use Rattle.std.specs.Prelude.{◌≡◌, ◌↔◌, IsTrue, List, [], None, fold};
 ghost use Rattle.std.specs.Cmp.Lexicographic.{slice_cmp};
 ghost use Rattle.std.specs.Ordering.{nat_cmp, ordering_then};
-ghost use Rattle.ep_base.specs.LenSource.{source_place};
+ghost use Rattle.ep_base.specs.LenSource.{source_index};
 ghost use Rattle.ep_base.specs.Traits.{CopyIsValue, CopyNeverFails, EqualIsSame, IsPlainData};
-ghost use Rattle.ep_ipslice.specs.Compared.{bool_place, hashed_as, lax_told};
+ghost use Rattle.ep_ipslice.specs.Compared.{bool_index, hashed_as, lax_value};
 ghost use Rattle.ep_ipslice.specs.Ipv6Walk.{HeadersLeft, headers_left};
 ghost use Rattle.ep_ipslice.specs.Packet.{IpPayload};
 ghost use Rattle.ep_ipslice.specs.declared.net.ipv4_extensions_slice.Ipv4ExtensionsSlice.{Ipv4ExtensionsSlice};
@@ -41,7 +41,7 @@ pub fn types_are_plain_data<'a>()
     ep_ext::laws::traits::types_are_plain_data();
 }
 
-/// A copy is the value: of a view the bytes and what it tells of them.
+/// A copy is the value: of a view the bytes and its fields.
 pub fn copies_are_values<'a>()
     ensures lax_ip_payload_slice { CopyIsValue ⟦<LaxIpPayloadSlice<'a> as Clone>⟧.is_clone }
     ensures ip_slice { CopyIsValue ⟦<IpSlice<'a> as Clone>⟧.is_clone }
@@ -60,15 +60,16 @@ pub fn equal_packets_are_same<'a>()
     types_are_plain_data();
 }
 
-/// Payloads that may have been cut off are equal where all that they tell is the same.
-pub fn lax_payloads_are_equal_as_told<'a>()
+/// Payloads that may have been cut off are equal where all their fields are the same.
+pub fn lax_payloads_are_equal_by_value<'a>()
     ensures { (a b : LaxIpPayloadSlice) → IsTrue (⟦<LaxIpPayloadSlice<'a> as PartialEq>⟧.eq a b)
-        ↔ (lax_told a ≡ lax_told b) }
+        ↔ (lax_value a ≡ lax_value b) }
 {
     ep_base::laws::traits::types_are_plain_data();
 }
 
-/// No header is the default of extension headers, and nothing more that of going over them.
+/// No header is the default of extension headers, and an iterator with no header left that of the
+/// iterator over them.
 pub fn defaults_hold_no_header<'a>()
     ensures ipv4_extensions_slice { (value : Ipv4ExtensionsSlice)
         → ⟦<Ipv4ExtensionsSlice<'a> as Default>⟧.is_default value → value.auth ≡ None }
@@ -82,8 +83,8 @@ pub fn defaults_hold_no_header<'a>()
 pub fn payloads_are_ordered_by_fields<'a>()
     ensures { (a b : IpPayload) → ⟦<IpPayloadSlice<'a> as Ord>⟧.cmp a b
         ≡ ordering_then (nat_cmp a.ip_number.0 b.ip_number.0) (
-        ordering_then (nat_cmp (bool_place a.fragmented) (bool_place b.fragmented)) (
-        ordering_then (nat_cmp (source_place a.len_source) (source_place b.len_source))
+        ordering_then (nat_cmp (bool_index a.fragmented) (bool_index b.fragmented)) (
+        ordering_then (nat_cmp (source_index a.len_source) (source_index b.len_source))
         (slice_cmp nat_cmp a.payload b.payload))) }
 {}
 

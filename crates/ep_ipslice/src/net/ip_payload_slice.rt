@@ -15,12 +15,12 @@ use std::cmp::Ordering;
 use std::hash::{Hash, Hasher};
 use std::marker::Model;
 
-/// The payload of an IP packet, behind its extension headers, borrowed.
+/// The payload of an IP packet, after its extension headers, borrowed.
 #[derive(Clone, Debug, Drop)]
 pub struct IpPayloadSlice<'a> {
-    /// The number of the protocol that the payload begins with.
+    /// The number of the protocol that the payload starts with.
     pub ip_number: IpNumber,
-    /// Whether the payload is a part of a message, of which other packets hold the rest.
+    /// Whether the payload is a fragment: other packets hold the rest of the datagram.
     pub fragmented: bool,
     /// What the payload's length came from.
     pub len_source: LenSource,
@@ -68,8 +68,8 @@ impl<'a> Ord for IpPayloadSlice<'a> {
     fn cmp(&self, other: &Self) -> Ordering {
         let bytes = self.payload.cmp(other.payload);
         let source = self.len_source.cmp(&other.len_source).then(bytes);
-        let part = self.fragmented.cmp(&other.fragmented).then(source);
-        self.ip_number.cmp(&other.ip_number).then(part)
+        let fragment_flag = self.fragmented.cmp(&other.fragmented).then(source);
+        self.ip_number.cmp(&other.ip_number).then(fragment_flag)
     }
 }
 

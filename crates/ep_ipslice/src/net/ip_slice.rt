@@ -24,9 +24,9 @@ pub enum IpSlice<'a> {
 }
 
 impl<'a> IpSlice<'a> {
-    /// The packet at the front of the slice, of the version that the upper half of its first byte
-    /// tells. Refused are, in this order, a slice of no bytes, a version that is neither 4 nor 6,
-    /// and what [`Ipv4Slice::from_slice`] or [`Ipv6Slice::from_slice`] refuses.
+    /// The packet at the start of the slice, of the version in the upper half of its first byte.
+    /// Refused are, in this order, a slice of no bytes, a version that is neither 4 nor 6, and what
+    /// [`Ipv4Slice::from_slice`] or [`Ipv6Slice::from_slice`] refuses.
     pub fn from_slice(slice: &'a [u8]) -> Result<IpSlice<'a>, SliceError>
         // The slice begins with what is taken.
         ensures found { IfOk result (λ packet. IsIpPacket slice.now packet) }
@@ -77,7 +77,7 @@ impl<'a> IpSlice<'a> {
         }
     }
 
-    /// Whether the payload is a part of a message.
+    /// Whether the payload is a fragment.
     pub fn is_fragmenting_payload(&self) -> bool
         ensures { result ≡ fragmented_of self.now }
     {
@@ -117,7 +117,7 @@ impl<'a> IpSlice<'a> {
         }
     }
 
-    /// The number of the protocol that the payload begins with, behind the extension headers.
+    /// The number of the protocol that the payload starts with, after the extension headers.
     pub fn payload_ip_number(&self) -> IpNumber
         ensures { result ≡ (payload_of self.now).ip_number }
     {

@@ -5,7 +5,7 @@ ghost use Rattle.std.specs.Prelude.{Err, is_none};
 ghost use Rattle.std.specs.Option.{option_map};
 ghost use Rattle.ep_ext.specs.Auth.{auth_of};
 ghost use Rattle.ep_ipslice.specs.Ipv4Lax.{IsLaxAnswer};
-ghost use Rattle.ep_ext.specs.Ipv4Exts.{IsAuthBehind, auth_behind, auth_bytes, number_behind};
+ghost use Rattle.ep_ext.specs.Ipv4Exts.{IsAuthAfter, auth_after, auth_bytes, number_after};
 
 use ep_base::IpNumber;
 use ep_ext::err::ip_auth::HeaderSliceError;
@@ -20,23 +20,23 @@ pub struct Ipv4ExtensionsSlice<'a> {
 }
 
 impl<'a> Ipv4ExtensionsSlice<'a> {
-    /// The extension header at the front of the slice, if the number names one, the number behind
-    /// it and the bytes behind it. The errors are those of [`IpAuthHeaderSlice::from_slice`].
+    /// The extension header at the start of the slice, if the number names one, the number after it
+    /// and the bytes after it. The errors are those of [`IpAuthHeaderSlice::from_slice`].
     pub fn from_slice(
         first: IpNumber,
         slice: &'a [u8],
     ) -> Result<(Ipv4ExtensionsSlice<'a>, IpNumber, &'a [u8]), HeaderSliceError>
-        // What is taken stands at the front of the slice.
-        ensures found { IfOk result (λ r. IsAuthBehind first.0 r.0.auth
+        // The slice starts with what is taken.
+        ensures found { IfOk result (λ r. IsAuthAfter first.0 r.0.auth
             × (slice.now ≡ auth_bytes r.0.auth ++ r.2.now)
-            × (r.1.0 ≡ number_behind first.0 r.0.auth)) }
-        // Where one stands there, or none is named, it is taken.
-        ensures only { (auth : Option (List ℕ)) (rest : List ℕ) → IsAuthBehind first.0 auth
+            × (r.1.0 ≡ number_after first.0 r.0.auth)) }
+        // Where the slice starts with one, or none is named, it is taken.
+        ensures only { (auth : Option (List ℕ)) (rest : List ℕ) → IsAuthAfter first.0 auth
             → slice.now ≡ auth_bytes auth ++ rest
             → IsOkAnd result (λ r. (r.0.auth ≡ auth) × (r.2.now ≡ rest)) }
         // Else it is the fault of the header.
-        ensures exact { MatchResult result (λ r. auth_behind first.0 slice.now ≡ Ok r.0.auth)
-            (λ e. auth_behind first.0 slice.now ≡ Err e) }
+        ensures exact { MatchResult result (λ r. auth_after first.0 slice.now ≡ Ok r.0.auth)
+            (λ e. auth_after first.0 slice.now ≡ Err e) }
     {
         if first != IpNumber::AUTHENTICATION_HEADER {
             return Ok((Ipv4ExtensionsSlice { auth: None }, first, slice));
@@ -52,7 +52,7 @@ impl<'a> Ipv4ExtensionsSlice<'a> {
     }
 
     /// The same up to the first fault, and the fault: where the header isn't whole or breaks its
-    /// format, there is none, and number and bytes are those that were handed in.
+    /// format, there is none, and number and bytes are those that were passed.
     pub fn from_slice_lax(
         first: IpNumber,
         slice: &'a [u8],

@@ -23,8 +23,8 @@ use ep_ip::err::ipv4::HeaderSliceError;
 use std::marker::Model;
 
 /// An IPv4 packet (RFC 791, section 3.1): its header, an authentication header where the protocol
-/// number names one (RFC 4302), and the payload, borrowed. What stands behind the total length is
-/// no part of it.
+/// number names one (RFC 4302), and the payload, borrowed. The bytes after the total length don't
+/// belong to it.
 ///
 /// A contract sees the value as these parts.
 #[derive(Clone, Debug, Drop)]
@@ -45,7 +45,7 @@ impl<'a> Model for Ipv4Slice<'a> {
 }
 
 impl<'a> Ipv4Slice<'a> {
-    /// The packet at the front of the slice. Refused are, in this order, what
+    /// The packet at the start of the slice. Refused are, in this order, what
     /// [`Ipv4HeaderSlice::from_slice`] refuses, a total length below the header's own, one above
     /// the bytes that are there, and an authentication header that isn't whole within the total
     /// length or breaks its format.
@@ -60,15 +60,15 @@ impl<'a> Ipv4Slice<'a> {
     {
         laws::whole_header_is_found();
         match Ipv4HeaderSlice::from_slice(slice) {
-            Ok(header) => Self::behind_header(header, slice),
+            Ok(header) => Self::after_header(header, slice),
             Err(HeaderSliceError::Len(error)) => Err(SliceError::Len(error)),
             Err(HeaderSliceError::Content(error)) => Err(SliceError::Header(error)),
         }
     }
 
-    // The packet of this header, which begins the slice.
+    // The packet of this header, with which the slice starts.
     #[inline(always)]
-    fn behind_header(
+    fn after_header(
         header: Ipv4HeaderSlice<'a>,
         slice: &'a [u8],
     ) -> Result<Ipv4Slice<'a>, SliceError>
@@ -141,14 +141,14 @@ impl<'a> Ipv4Slice<'a> {
         &self.payload
     }
 
-    /// The number of the protocol that the payload begins with, behind the authentication header.
+    /// The number of the protocol that the payload starts with, after the authentication header.
     pub fn payload_ip_number(&self) -> IpNumber
         ensures { result ≡ (ipv4_payload self.now).ip_number }
     {
         self.payload.ip_number
     }
 
-    /// Whether the payload is a part of a message: more fragments follow, or its offset isn't 0.
+    /// Whether the payload is a fragment: more fragments follow, or its offset isn't 0.
     pub fn is_payload_fragmented(&self) -> bool
         ensures { result ≡ is_ipv4_fragment self.now.header }
     {
@@ -164,7 +164,7 @@ impl<'a> PartialEq for Ipv4Slice<'a> {
     ghost laws = { Prim.search (comparing, rules) depth 9 };
 
     fn eq(&self, other: &Self) -> bool {
-        // Number, flag and source of the payload are told by the headers.
+        // The headers determine number, flag and source of the payload.
         self.header == other.header
             && self.exts == other.exts
             && self.payload.payload == other.payload.payload
@@ -175,7 +175,7 @@ impl<'a> Eq for Ipv4Slice<'a> {
     ghost laws = { Prim.search (comparing, rules) };
 }
 
-// A want of bytes behind the header, in what the total length bounds.
+// An error of too few bytes after the header, in what the total length bounds.
 fn in_total_len(error: LenError, offset: usize) -> LenError
     requires { CanMove error offset }
     ensures { result ≡ in_total_len offset error }

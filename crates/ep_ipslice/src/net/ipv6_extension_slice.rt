@@ -1,14 +1,14 @@
 //! One extension header of an IPv6 packet.
 
 ghost use Rattle.std.specs.Prelude.{◌≡◌, ◌<◌, List, ℕ, ◌++◌, length, IfOk, IfErr, Err};
-ghost use Rattle.ep_ext.specs.Chain.{IsPiece, front_of};
+ghost use Rattle.ep_ext.specs.Chain.{IsPiece, prefix_of};
 ghost use Rattle.ep_ipslice.specs.Ipv6Ext.{ext_at, ext_len, ext_of, piece_of};
 ghost use Rattle.ep_ipslice.specs.Ipv6Exts.{is_fragmenting_piece};
 
 use ep_ext::err::ip_auth;
 use ep_ext::err::ipv6_exts::{HeaderError, HeaderSliceError};
 use ep_ext::{
-    IpAuthHeaderSlice, Ipv6ExtPlace, Ipv6FragmentHeader, Ipv6FragmentHeaderSlice,
+    IpAuthHeaderSlice, Ipv6ExtSlot, Ipv6FragmentHeader, Ipv6FragmentHeaderSlice,
     Ipv6RawExtHeaderSlice,
 };
 
@@ -28,38 +28,38 @@ pub enum Ipv6ExtensionSlice<'a> {
 }
 
 impl<'a> Ipv6ExtensionSlice<'a> {
-    // The header of this place at the front of the slice.
+    // The header of this slot at the start of the slice.
     pub(crate) fn from_slice(
-        place: Ipv6ExtPlace,
+        slot: Ipv6ExtSlot,
         slice: &'a [u8],
     ) -> Result<Ipv6ExtensionSlice<'a>, HeaderSliceError>
-        ensures exact { result ≡ ext_at place slice.now }
-        ensures found { IfOk result (λ ext. IsPiece place (piece_of ext).1
+        ensures exact { result ≡ ext_at slot slice.now }
+        ensures found { IfOk result (λ ext. IsPiece slot (piece_of ext).1
             × ((rest : List ℕ) × (slice.now ≡ (piece_of ext).1 ++ rest))) }
         ensures fragmenting { IfOk result (λ ext. is_fragmenting_piece (piece_of ext)
-            ≡ is_fragmenting_piece (place, (piece_of ext).1)) }
-        ensures err { IfErr result (λ e. front_of place slice.now ≡ Err e) }
+            ≡ is_fragmenting_piece (slot, (piece_of ext).1)) }
+        ensures err { IfErr result (λ e. prefix_of slot slice.now ≡ Err e) }
     {
-        match place {
-            Ipv6ExtPlace::HopByHop => match Ipv6RawExtHeaderSlice::from_slice(slice) {
+        match slot {
+            Ipv6ExtSlot::HopByHop => match Ipv6RawExtHeaderSlice::from_slice(slice) {
                 Ok(header) => Ok(Ipv6ExtensionSlice::HopByHop(header)),
                 Err(error) => Err(HeaderSliceError::Len(error)),
             },
-            Ipv6ExtPlace::Routing => match Ipv6RawExtHeaderSlice::from_slice(slice) {
+            Ipv6ExtSlot::Routing => match Ipv6RawExtHeaderSlice::from_slice(slice) {
                 Ok(header) => Ok(Ipv6ExtensionSlice::Routing(header)),
                 Err(error) => Err(HeaderSliceError::Len(error)),
             },
-            Ipv6ExtPlace::Fragment => match Ipv6FragmentHeaderSlice::from_slice(slice) {
+            Ipv6ExtSlot::Fragment => match Ipv6FragmentHeaderSlice::from_slice(slice) {
                 Ok(header) => Ok(Ipv6ExtensionSlice::Fragment(header)),
                 Err(error) => Err(HeaderSliceError::Len(error)),
             },
-            Ipv6ExtPlace::Destination | Ipv6ExtPlace::FinalDestination => {
+            Ipv6ExtSlot::Destination | Ipv6ExtSlot::FinalDestination => {
                 match Ipv6RawExtHeaderSlice::from_slice(slice) {
                     Ok(header) => Ok(Ipv6ExtensionSlice::DestinationOptions(header)),
                     Err(error) => Err(HeaderSliceError::Len(error)),
                 }
             }
-            Ipv6ExtPlace::Authentication => match IpAuthHeaderSlice::from_slice(slice) {
+            Ipv6ExtSlot::Authentication => match IpAuthHeaderSlice::from_slice(slice) {
                 Ok(header) => Ok(Ipv6ExtensionSlice::Authentication(header)),
                 Err(ip_auth::HeaderSliceError::Len(error)) => Err(HeaderSliceError::Len(error)),
                 Err(ip_auth::HeaderSliceError::Content(error)) => {
@@ -69,25 +69,25 @@ impl<'a> Ipv6ExtensionSlice<'a> {
         }
     }
 
-    // The header of this place that these bytes are.
-    pub(super) fn of_bytes(place: Ipv6ExtPlace, header: &'a [u8]) -> Ipv6ExtensionSlice<'a>
-        requires { IsPiece place header.now }
-        ensures { result ≡ ext_of place header.now }
+    // The header of this slot that these bytes are.
+    pub(super) fn of_bytes(slot: Ipv6ExtSlot, header: &'a [u8]) -> Ipv6ExtensionSlice<'a>
+        requires { IsPiece slot header.now }
+        ensures { result ≡ ext_of slot header.now }
     {
-        match place {
-            Ipv6ExtPlace::HopByHop => {
+        match slot {
+            Ipv6ExtSlot::HopByHop => {
                 Ipv6ExtensionSlice::HopByHop(Ipv6RawExtHeaderSlice::of_bytes(header))
             }
-            Ipv6ExtPlace::Routing => {
+            Ipv6ExtSlot::Routing => {
                 Ipv6ExtensionSlice::Routing(Ipv6RawExtHeaderSlice::of_bytes(header))
             }
-            Ipv6ExtPlace::Fragment => {
+            Ipv6ExtSlot::Fragment => {
                 Ipv6ExtensionSlice::Fragment(Ipv6FragmentHeaderSlice::of_bytes(header))
             }
-            Ipv6ExtPlace::Destination | Ipv6ExtPlace::FinalDestination => {
+            Ipv6ExtSlot::Destination | Ipv6ExtSlot::FinalDestination => {
                 Ipv6ExtensionSlice::DestinationOptions(Ipv6RawExtHeaderSlice::of_bytes(header))
             }
-            Ipv6ExtPlace::Authentication => {
+            Ipv6ExtSlot::Authentication => {
                 Ipv6ExtensionSlice::Authentication(IpAuthHeaderSlice::of_bytes(header))
             }
         }
@@ -106,7 +106,7 @@ impl<'a> Ipv6ExtensionSlice<'a> {
         }
     }
 
-    // Whether it is the fragment header of a part of a message.
+    // Whether it is the fragment header of a fragment.
     pub(crate) fn is_fragmenting(&self) -> bool
         ensures { result ≡ is_fragmenting_piece (piece_of self.now) }
     {
@@ -117,14 +117,15 @@ impl<'a> Ipv6ExtensionSlice<'a> {
     }
 }
 
-// How many bytes the header of this place has that begins the slice, by its own length field.
-pub(super) fn ext_len(place: Ipv6ExtPlace, slice: &[u8]) -> usize
+// The length in bytes of the header of this slot with which the slice starts, by its own length
+// field.
+pub(super) fn ext_len(slot: Ipv6ExtSlot, slice: &[u8]) -> usize
     requires { 1 < length slice.now }
-    ensures { result ≡ ext_len place slice.now }
+    ensures { result ≡ ext_len slot slice.now }
 {
-    match place {
-        Ipv6ExtPlace::Fragment => Ipv6FragmentHeader::LEN,
-        Ipv6ExtPlace::Authentication => (usize::from(slice[1]) + 2) * 4,
+    match slot {
+        Ipv6ExtSlot::Fragment => Ipv6FragmentHeader::LEN,
+        Ipv6ExtSlot::Authentication => (usize::from(slice[1]) + 2) * 4,
         _ => (usize::from(slice[1]) + 1) * 8,
     }
 }

@@ -1,4 +1,4 @@
-//! Going over the extension headers of an IPv6 packet.
+//! The iterator over the extension headers of an IPv6 packet.
 
 ghost use Rattle.std.specs.Prelude.{◌≡◌, [], ◌∷◌, MatchOption, nat_eq};
 ghost use Rattle.std.specs.Cmp.Lexicographic.{pointwise};
@@ -13,7 +13,7 @@ ghost use Rattle.ep_ipslice.specs.Ipv6Walk.{HeadersLeft, IsLeft, headers_left, p
 
 use super::Ipv6ExtensionSlice;
 use super::ipv6_extension_slice::ext_len;
-use super::ipv6_extensions_slice::place_of;
+use super::ipv6_extensions_slice::slot_of;
 use ep_base::IpNumber;
 use ep_ext::laws;
 use std::marker::Model;
@@ -59,9 +59,9 @@ impl<'a> Iterator for Ipv6ExtensionSliceIter<'a> {
 
     fn next(&mut self) -> Option<Ipv6ExtensionSlice<'a>> {
         match first_header(self.next_header, self.rest) {
-            Some((header, next_header, behind)) => {
+            Some((header, next_header, following)) => {
                 self.next_header = next_header;
-                self.rest = behind;
+                self.rest = following;
                 Some(header)
             }
             None => None,
@@ -94,7 +94,7 @@ impl<'a> Eq for Ipv6ExtensionSliceIter<'a> {
     ghost laws = { Prim.search (comparing, rules) };
 }
 
-// The first of the headers that are left, the number that it names and what stands behind it.
+// The first of the headers that are left, the number that it names and what follows it.
 fn first_header(number: IpNumber, rest: &[u8]) -> Option<(Ipv6ExtensionSlice<'_>, IpNumber, &[u8])>
     requires { IsLeft number.0 rest.now }
     ensures { MatchOption result (pieces_left number.0 rest.now ≡ [])
@@ -105,8 +105,8 @@ fn first_header(number: IpNumber, rest: &[u8]) -> Option<(Ipv6ExtensionSlice<'_>
     if rest.is_empty() {
         return None;
     }
-    let place = place_of(false, number).unwrap();
-    let (front, behind) = rest.split_at(ext_len(place, rest));
-    let header = Ipv6ExtensionSlice::of_bytes(place, front);
-    Some((header, IpNumber(front[0]), behind))
+    let slot = slot_of(false, number).unwrap();
+    let (prefix, following) = rest.split_at(ext_len(slot, rest));
+    let header = Ipv6ExtensionSlice::of_bytes(slot, prefix);
+    Some((header, IpNumber(prefix[0]), following))
 }

@@ -10,24 +10,24 @@ ghost use Rattle.ep_ipslice.specs.Compared.{compared_as};
 ghost use Rattle.ep_ext.specs.Chain.{Chain, Row, fault_at};
 ghost use Rattle.ep_base.specs.SliceError.{CanMove};
 ghost use Rattle.ep_ext.specs.Value.{Piece, bytes_of, piece_at};
-ghost use Rattle.ep_ext.specs.declared.net.ipv6_ext_place.Ipv6ExtPlace.TheVariants as place;
+ghost use Rattle.ep_ext.specs.declared.net.ipv6_ext_slot.Ipv6ExtSlot.TheVariants as slot;
 ghost use Rattle.ep_ipslice.specs.Ipv6Exts.{Answers, Ipv6Exts, IsView, IsViewOf, Stops, exts_of};
-ghost use Rattle.ep_ipslice.specs.Ipv6Exts.{is_any_fragmenting, is_begun, place_behind, view_order};
+ghost use Rattle.ep_ipslice.specs.Ipv6Exts.{is_any_fragmenting, is_started, slot_after, view_order};
 ghost use Rattle.ep_ipslice.specs.Ipv6Walk.{headers_left};
 
 use super::{Ipv6ExtensionSlice, Ipv6ExtensionSliceIter};
 use ep_base::IpNumber;
 use ep_base::err::Layer;
 use ep_ext::err::ipv6_exts::{HeaderError, HeaderSliceError};
-use ep_ext::{Ipv6ExtPlace, Ipv6FragmentHeaderSlice, laws};
+use ep_ext::{Ipv6ExtSlot, Ipv6FragmentHeaderSlice, laws};
 use std::marker::Model;
 
-/// The extension headers behind an IPv6 header (RFC 8200, section 4), borrowed: hop-by-hop options
-/// as the first, routing, fragment, authentication headers and destination options in any order
-/// and number. They were tested when the value was made.
+/// The extension headers after an IPv6 header (RFC 8200, section 4), borrowed: hop-by-hop options
+/// as the first, routing, fragment, authentication headers and destination options in any order and
+/// number. They were tested when the value was made.
 ///
 /// A contract sees the value as the number of its first header, whether one of them is the fragment
-/// header of a part of a message, and the bytes of all.
+/// header of a fragment, and the bytes of all.
 #[derive(Clone, Debug, Drop)]
 pub struct Ipv6ExtensionsSlice<'a> {
     first_header: Option<IpNumber>,
@@ -46,11 +46,11 @@ impl<'a> Model for Ipv6ExtensionsSlice<'a> {
 }
 
 impl<'a> Ipv6ExtensionsSlice<'a> {
-    /// The extension headers in a row at the front of the slice, of which the first has this
-    /// number, the number behind them and the bytes behind them.
+    /// The extension headers in a row at the start of the slice, of which the first has this
+    /// number, the number after them and the bytes after them.
     ///
     /// Refused is the first header that isn't whole, or breaks its format, and hop-by-hop options
-    /// behind another header.
+    /// after another header.
     #[inline(always)]
     pub fn from_slice(
         first: IpNumber,
@@ -63,8 +63,8 @@ impl<'a> Ipv6ExtensionsSlice<'a> {
         ensures only { (pieces : List Piece) (last : ℕ) (rest : List ℕ)
             → Chain view_order first.0 slice.now pieces last rest
             → Answers first.0 pieces last rest result }
-        // The place of a want of bytes lies within the slice.
-        ensures place { IfErr result (λ e. (n : ℕ) → length slice.now + n < 2 ^ 64 → CanMove e n) }
+        // The offset of an error of too few bytes lies within the slice.
+        ensures offset { IfErr result (λ e. (n : ℕ) → length slice.now + n < 2 ^ 64 → CanMove e n) }
     {
         laws::chain_is_alone();
         laws::faults_can_be_moved();
@@ -110,29 +110,34 @@ impl<'a> Ipv6ExtensionsSlice<'a> {
         laws::row_grows_by_a_header();
         laws::row_ends_where_none_is_taken();
         laws::faults_can_be_moved();
-        let mut begun = false;
+        let mut has_header = false;
         let mut number = first;
         let mut fragmented = false;
         let mut rest = slice;
-        'headers: while let Some(place) = place_of(begun, number) {
-            match Ipv6ExtensionSlice::from_slice(place, rest) {
+        'headers: while let Some(slot) = slot_of(has_header, number) {
+            match Ipv6ExtensionSlice::from_slice(slot, rest) {
                 Ok(header) => {
-                    let (front, behind) = rest.split_at(header.bytes().len());
-                    begun = true;
-                    number = IpNumber(front[0]);
+                    let (prefix, following) = rest.split_at(header.bytes().len());
+                    has_header = true;
+                    number = IpNumber(prefix[0]);
                     fragmented |= header.is_fragmenting();
-                    rest = behind;
+                    rest = following;
                 }
                 Err(error) => {
                     let offset = slice.len() - rest.len();
-                    let extensions = Self::of_parts(first, begun, fragmented, &slice[..offset]);
-                    let fault = (error.add_slice_offset(offset), place.layer());
+                    let extensions = Self::of_parts(
+                        first,
+                        has_header,
+                        fragmented,
+                        &slice[..offset],
+                    );
+                    let fault = (error.add_slice_offset(offset), slot.layer());
                     return (extensions, number, rest, Some(fault));
                 }
             }
         }
         let len = slice.len() - rest.len();
-        let extensions = Self::of_parts(first, begun, fragmented, &slice[..len]);
+        let extensions = Self::of_parts(first, has_header, fragmented, &slice[..len]);
         (extensions, number, rest, misplaced(number))
     }
 
@@ -140,16 +145,16 @@ impl<'a> Ipv6ExtensionsSlice<'a> {
     #[inline(always)]
     fn of_parts(
         first: IpNumber,
-        begun: bool,
+        has_header: bool,
         fragmented: bool,
         slice: &'a [u8],
     ) -> Ipv6ExtensionsSlice<'a>
-        requires { IsViewOf first begun fragmented slice.now }
-        ensures { (pieces : List Piece) → slice.now ≡ bytes_of pieces → begun ≡ is_begun pieces
+        requires { IsViewOf first has_header fragmented slice.now }
+        ensures { (pieces : List Piece) → slice.now ≡ bytes_of pieces → has_header ≡ is_started pieces
             → fragmented ≡ is_any_fragmenting pieces → result ≡ exts_of first.0 pieces }
     {
         Ipv6ExtensionsSlice {
-            first_header: if begun { Some(first) } else { None },
+            first_header: if has_header { Some(first) } else { None },
             fragmented,
             slice,
         }
@@ -170,10 +175,11 @@ impl<'a> Ipv6ExtensionsSlice<'a> {
         }
     }
 
-    /// The first fragment header, if there is one: it tells which part of a message the payload is.
+    /// The first fragment header, if there is one: it has identification and offset of the payload
+    /// as a fragment.
     pub fn first_fragment_header(&self) -> Option<Ipv6FragmentHeaderSlice<'a>>
         ensures { (first : ℕ) (pieces : List Piece) (last : ℕ) → Row view_order [] first pieces last
-            → self.now ≡ exts_of first pieces → result ≡ piece_at pieces place.Fragment }
+            → self.now ≡ exts_of first pieces → result ≡ piece_at pieces slot.Fragment }
     {
         for header in self.iter() {
             if let Ipv6ExtensionSlice::Fragment(fragment) = header {
@@ -183,8 +189,8 @@ impl<'a> Ipv6ExtensionsSlice<'a> {
         None
     }
 
-    /// Whether one of the headers is the fragment header of a part of a message: more fragments
-    /// follow, or its offset isn't 0.
+    /// Whether one of the headers is the fragment header of a fragment: more fragments follow, or
+    /// its offset isn't 0.
     pub fn is_fragmenting_payload(&self) -> bool
         ensures { result ≡ self.now.fragmented }
     {
@@ -244,17 +250,17 @@ impl<'a> Eq for Ipv6ExtensionsSlice<'a> {
     ghost laws = { Prim.search (comparing, rules) };
 }
 
-// The place of a header of this number: hop-by-hop options stand in front of all.
-pub(super) fn place_of(begun: bool, number: IpNumber) -> Option<Ipv6ExtPlace>
-    ensures { result ≡ place_behind begun number.0 }
+// The slot of a header of this number: hop-by-hop options come before all others.
+pub(super) fn slot_of(has_header: bool, number: IpNumber) -> Option<Ipv6ExtSlot>
+    ensures { result ≡ slot_after has_header number.0 }
 {
     match number {
-        IpNumber::IPV6_HEADER_HOP_BY_HOP if begun => None,
-        IpNumber::IPV6_HEADER_HOP_BY_HOP => Some(Ipv6ExtPlace::HopByHop),
-        IpNumber::IPV6_ROUTE_HEADER => Some(Ipv6ExtPlace::Routing),
-        IpNumber::IPV6_FRAGMENTATION_HEADER => Some(Ipv6ExtPlace::Fragment),
-        IpNumber::AUTHENTICATION_HEADER => Some(Ipv6ExtPlace::Authentication),
-        IpNumber::IPV6_DESTINATION_OPTIONS => Some(Ipv6ExtPlace::Destination),
+        IpNumber::IPV6_HEADER_HOP_BY_HOP if has_header => None,
+        IpNumber::IPV6_HEADER_HOP_BY_HOP => Some(Ipv6ExtSlot::HopByHop),
+        IpNumber::IPV6_ROUTE_HEADER => Some(Ipv6ExtSlot::Routing),
+        IpNumber::IPV6_FRAGMENTATION_HEADER => Some(Ipv6ExtSlot::Fragment),
+        IpNumber::AUTHENTICATION_HEADER => Some(Ipv6ExtSlot::Authentication),
+        IpNumber::IPV6_DESTINATION_OPTIONS => Some(Ipv6ExtSlot::Destination),
         _ => None,
     }
 }

@@ -11,7 +11,7 @@ ghost use Rattle.ep_ip.specs.Ipv6Fault.{header_at};
 ghost use Rattle.ep_ipslice.specs.Compared.{compared_as, ordered_as};
 ghost use Rattle.ep_ipslice.specs.Packet.{Ipv6Packet, IsIpv6Body, IsIpv6Packet, IsWholeIpv6};
 ghost use Rattle.ep_ipslice.specs.Packet.{body_len, body_source};
-ghost use Rattle.ep_ipslice.specs.Ipv6Fault.{IsCutOff, IsFrontFault, IsIpv6Fault};
+ghost use Rattle.ep_ipslice.specs.Ipv6Fault.{IsCutOff, IsPrefixFault, IsIpv6Fault};
 ghost use Rattle.ep_ipslice.specs.Ipv6Packet.{ipv6_packet_at};
 
 use super::{IpPayloadSlice, Ipv6ExtensionsSlice};
@@ -22,12 +22,12 @@ use ep_ext::laws;
 use ep_ip::{Ipv6Header, Ipv6HeaderSlice};
 use std::marker::Model;
 
-/// An IPv6 packet (RFC 8200, section 3): its header, the extension headers behind it and the
+/// An IPv6 packet (RFC 8200, section 3): its header, the extension headers after it and the
 /// payload, borrowed.
 ///
-/// Where the payload length is 0 and bytes stand behind the header, the packet takes all of them
-/// (RFC 2675, section 3, leaves the length to others). Else what stands behind the payload length
-/// is no part of it.
+/// Where the payload length is 0 and bytes follow the header, the packet takes all of them (RFC
+/// 2675, section 3: the length is in a jumbo payload option, which isn't read). Else the bytes
+/// after the payload length don't belong to it.
 #[derive(Clone, Debug, Drop)]
 pub struct Ipv6Slice<'a> {
     header: Ipv6HeaderSlice<'a>,
@@ -45,10 +45,10 @@ impl<'a> Model for Ipv6Slice<'a> {
 }
 
 impl<'a> Ipv6Slice<'a> {
-    /// The packet at the front of the slice. Refused are, in this order, what
+    /// The packet at the start of the slice. Refused are, in this order, what
     /// [`Ipv6HeaderSlice::from_slice`] refuses, a payload length above the bytes that are there,
-    /// and the first extension header that isn't whole within that length, breaks its format or
-    /// is out of order.
+    /// and the first extension header that isn't whole within that length, breaks its format or is
+    /// out of order.
     #[inline(always)]
     pub fn from_slice(slice: &'a [u8]) -> Result<Ipv6Slice<'a>, SliceError>
         // The slice begins with what is taken.
@@ -83,7 +83,7 @@ impl<'a> Ipv6Slice<'a> {
         }
     }
 
-    /// The header at the front of the slice, and the bytes behind it that are extension headers and
+    /// The header at the start of the slice, and the bytes after it that are extension headers and
     /// payload, with what their length came from. Refused are, in this order, what
     /// [`Ipv6HeaderSlice::from_slice`] refuses, and a payload length above the bytes that are
     /// there.
@@ -98,16 +98,16 @@ impl<'a> Ipv6Slice<'a> {
             → IsIpv6Body slice.now header source body
             → IsOkAnd result (λ r. (r.0 ≡ header) × (r.1 ≡ source) × (r.2.now ≡ body)) }
         // Else it is the first fault.
-        ensures refused { IfErr result (λ e. IsFrontFault slice.now e) }
+        ensures refused { IfErr result (λ e. IsPrefixFault slice.now e) }
     {
         match Ipv6HeaderSlice::from_slice(slice) {
-            Ok(header) => Self::body_behind(header, slice),
+            Ok(header) => Self::body_after(header, slice),
             Err(error) => Err(SliceError::of_header(error)),
         }
     }
 
-    // This header, which begins the slice, and what its payload length gives it.
-    fn body_behind(
+    // This header, with which the slice starts, and the body that its payload length bounds.
+    fn body_after(
         header: Ipv6HeaderSlice<'a>,
         slice: &'a [u8],
     ) -> Result<(Ipv6HeaderSlice<'a>, LenSource, &'a [u8]), SliceError>
@@ -116,18 +116,18 @@ impl<'a> Ipv6Slice<'a> {
             × IsIpv6Body slice.now header.entry r.1 r.2.now) }
         ensures refused { IfErr result (λ e. IsCutOff slice.now header.entry e) }
     {
-        // The header that begins the slice has its 40 bytes.
+        // The header with which the slice starts has 40 bytes.
         let header_len = header.slice().len();
-        let (_, behind) = slice.split_at(header_len);
-        let (len_source, body_len) = body(&header, behind.len());
-        if behind.len() < body_len {
+        let (_, following) = slice.split_at(header_len);
+        let (len_source, body_len) = body(&header, following.len());
+        if following.len() < body_len {
             return Err(SliceError::Len(LenError::too_few_bytes(
                 Layer::Ipv6Packet,
                 Ipv6Header::LEN + body_len,
                 slice.len(),
             )));
         }
-        let (body, _padding) = behind.split_at(body_len);
+        let (body, _padding) = following.split_at(body_len);
         Ok((header, len_source, body))
     }
 
@@ -154,15 +154,15 @@ impl<'a> Ipv6Slice<'a> {
         &self.payload
     }
 
-    /// The number of the protocol that the payload begins with, behind the extension headers.
+    /// The number of the protocol that the payload starts with, after the extension headers.
     pub fn payload_ip_number(&self) -> IpNumber
         ensures { result ≡ self.now.payload.ip_number }
     {
         self.payload.ip_number
     }
 
-    /// Whether the payload is a part of a message: one of the extension headers is the fragment
-    /// header of one.
+    /// Whether the payload is a fragment: one of the extension headers is the fragment header of
+    /// one.
     pub fn is_payload_fragmented(&self) -> bool
         ensures { result ≡ self.now.payload.fragmented }
     {
@@ -186,14 +186,14 @@ impl<'a> Eq for Ipv6Slice<'a> {
     ghost laws = { Prim.search (comparing, rules) };
 }
 
-// How many bytes of those behind the header are extension headers and payload, and what says so.
-fn body(header: &Ipv6HeaderSlice<'_>, behind: usize) -> (LenSource, usize)
-    ensures source { result.0 ≡ body_source header.now behind }
-    ensures len { result.1 ≡ body_len header.now behind }
+// How many bytes of those after the header are extension headers and payload, and what says so.
+fn body(header: &Ipv6HeaderSlice<'_>, following: usize) -> (LenSource, usize)
+    ensures source { result.0 ≡ body_source header.now following }
+    ensures len { result.1 ≡ body_len header.now following }
 {
     let payload_length = header.payload_length();
-    if payload_length == 0 && behind > 0 {
-        (LenSource::Slice, behind)
+    if payload_length == 0 && following > 0 {
+        (LenSource::Slice, following)
     } else {
         (LenSource::Ipv6HeaderPayloadLen, usize::from(payload_length))
     }

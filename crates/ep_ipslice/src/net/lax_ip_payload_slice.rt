@@ -2,17 +2,17 @@
 
 use ep_base::{IpNumber, LenSource};
 
-/// The payload of an IP packet, behind its extension headers, borrowed; it may be a front of it,
-/// where fewer bytes were there than the packet's own length says.
+/// The payload of an IP packet, after its extension headers, borrowed; only a prefix of it where
+/// fewer bytes were there than the packet's own length says.
 ///
 /// It is data alone: no call makes one yet, since none takes a packet that was cut off.
 #[derive(Clone, Debug, PartialEq, Eq, Drop)]
 pub struct LaxIpPayloadSlice<'a> {
     /// Whether bytes of the payload are missing.
     pub incomplete: bool,
-    /// The number of the protocol that the payload begins with.
+    /// The number of the protocol that the payload starts with.
     pub ip_number: IpNumber,
-    /// Whether the payload is a part of a message, of which other packets hold the rest.
+    /// Whether the payload is a fragment: other packets hold the rest of the datagram.
     pub fragmented: bool,
     /// What the payload's length came from.
     pub len_source: LenSource,

@@ -2,7 +2,7 @@
 ghost use Rattle.std.specs.Prelude.{◌≡◌, ℕ, List, [], ◌∷◌, ◌++◌, map, Ok, Err};
 ghost use Rattle.ep_base.specs.Bytes.{IsBytes};
 ghost use Rattle.ep_base.specs.declared.err.layer.Layer.TheVariants as layer;
-ghost use Rattle.ep_link.specs.Arp.{IsArpPacket, addresses_cut, fields_of, packet_at, spelling};
+ghost use Rattle.ep_link.specs.Arp.{IsArpPacket, addresses_cut, fields_of, packet_at, encoding};
 ghost use Rattle.ep_base.specs.LenError.{too_few_bytes};
 
 use crate::{ArpHardwareId, ArpOperation, ArpPacket};
@@ -26,28 +26,28 @@ pub fn arp_constants()
         ≡ 1 ∷ 2 ∷ [] }
 {}
 
-/// A packet's bytes are one, and spell its fields; the bytes of a packet spell fields that spell it
-/// again.
+/// A packet encodes to bytes that are a packet with its fields; the bytes of a packet have fields
+/// that encode it again.
 pub fn packets_are_their_bytes(packet: &ArpPacket)
-    ensures packet { IsArpPacket (spelling packet.now) }
-    ensures fields { fields_of (spelling packet.now) ≡ packet.now }
+    ensures packet { IsArpPacket (encoding packet.now) }
+    ensures fields { fields_of (encoding packet.now) ≡ packet.now }
     ensures again { (bytes : List ℕ) → IsArpPacket bytes → IsBytes bytes
-        → spelling (fields_of bytes) ≡ bytes }
+        → encoding (fields_of bytes) ≡ bytes }
 {
     let _bytes = packet.to_bytes();
 }
 
 /// What `to_bytes` gives is read again, whatever follows it.
 pub fn packet_is_read_again(packet: &ArpPacket, slice: &[u8]) -> Result<ArpPacket, LenError>
-    ensures { (rest : List ℕ) → slice.now ≡ spelling packet.now ++ rest → result ≡ Ok packet.now }
+    ensures { (rest : List ℕ) → slice.now ≡ encoding packet.now ++ rest → result ≡ Ok packet.now }
 {
     let _bytes = packet.to_bytes();
     ArpPacket::from_slice(slice)
 }
 
-/// A reply with hardware addresses of two bytes and protocol addresses of one, with a byte behind
-/// it; and the two wants of bytes.
-pub fn fields_by_hand()
+/// A reply with hardware addresses of two bytes and protocol addresses of one, with a byte after
+/// it; and the two errors of too few bytes.
+pub fn fields_at_literals()
     ensures fields { fields_of (0 ∷ 1 ∷ 8 ∷ 0 ∷ 2 ∷ 1 ∷ 0 ∷ 2 ∷ 11 ∷ 12 ∷ 13 ∷ 14 ∷ 15 ∷
         16 ∷ 17 ∷ []) ≡ record {
           hw_addr_type = record { 0 = 1 };

@@ -5,7 +5,7 @@ ghost use Rattle.ep_link.specs.declared.link.arp_hardware_id.ArpHardwareId.{ArpH
 ghost use Rattle.ep_link.specs.declared.link.linux_sll_protocol_type.LinuxSllProtocolType.TheVariants as protocol;
 ghost use Rattle.ep_link.specs.Sll.{IsSllHeader, NamesProtocol, sll_header_of, number_of};
 ghost use Rattle.ep_link.specs.Sll.{protocol_of};
-ghost use Rattle.ep_link.specs.Sll.{spelling, with_number};
+ghost use Rattle.ep_link.specs.Sll.{encoding, with_number};
 
 use crate::err::linux_sll::HeaderSliceError;
 use crate::{LinuxSllHeader, LinuxSllPacketType};
@@ -32,13 +32,13 @@ pub fn packet_type_constants() -> [LinuxSllPacketType; 5]
     ]
 }
 
-/// A header's bytes are one, and spell its fields where hardware type and number name the protocol;
-/// the bytes of a header spell fields that spell it again.
+/// A header encodes to bytes that are a header, with its fields where hardware type and number name
+/// the protocol; the bytes of a header have fields that encode it again.
 pub fn headers_are_their_bytes(header: &LinuxSllHeader)
-    ensures header { IsSllHeader (spelling header.now) }
-    ensures fields { NamesProtocol header.now → sll_header_of (spelling header.now) ≡ header.now }
+    ensures header { IsSllHeader (encoding header.now) }
+    ensures fields { NamesProtocol header.now → sll_header_of (encoding header.now) ≡ header.now }
     ensures again { (bytes : List ℕ) → IsSllHeader bytes → IsBytes bytes
-        → spelling (sll_header_of bytes) ≡ bytes }
+        → encoding (sll_header_of bytes) ≡ bytes }
 {
     let _bytes = header.to_bytes();
 }
@@ -49,7 +49,7 @@ pub fn header_is_read_again<'a>(
     header: &LinuxSllHeader,
     slice: &'a [u8],
 ) -> Result<(LinuxSllHeader, &'a [u8]), HeaderSliceError>
-    ensures { (rest : List ℕ) → NamesProtocol header.now → slice.now ≡ spelling header.now ++ rest
+    ensures { (rest : List ℕ) → NamesProtocol header.now → slice.now ≡ encoding header.now ++ rest
         → IsOkAnd result (λ r. (r.0 ≡ header.now) × (r.1.now ≡ rest)) }
 {
     let _bytes = header.to_bytes();
@@ -62,7 +62,7 @@ pub fn number_stays()
 {}
 
 /// What hardware types make of a number, and the number set anew.
-pub fn protocols_by_hand()
+pub fn protocols_at_literals()
     ensures netlink { protocol_of (record { 0 = 824 }) 0x0800
         ≡ protocol.NetlinkProtocolType 0x0800 }
     ensures encapsulation { protocol_of (record { 0 = 778 }) 0x0800

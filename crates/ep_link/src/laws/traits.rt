@@ -6,7 +6,7 @@ ghost use Rattle.std.specs.Hash as fed;
 ghost use Rattle.std.specs.Ordering.{nat_cmp};
 ghost use Rattle.ep_base.specs.Traits.{DefaultIs, HashIsOf, IsPlainData, OrderIsOf, VariantFeeds};
 ghost use Rattle.ep_link.specs.Sll.{number_of};
-ghost use Rattle.ep_link.specs.SllPayload.{kind_place, protocol_ordered_as};
+ghost use Rattle.ep_link.specs.SllPayload.{kind_index, protocol_ordered_as};
 ghost use Rattle.ep_link.specs.declared.err.arp.arp_hw_addr_error.ArpHwAddrError.TheVariants as hardware;
 ghost use Rattle.ep_link.specs.declared.err.arp.arp_new_error.ArpNewError.TheVariants as new;
 ghost use Rattle.ep_link.specs.declared.err.arp.arp_proto_addr_error.ArpProtoAddrError.TheVariants as protocol;
@@ -63,7 +63,7 @@ pub fn orders_are_of_numbers()
 pub fn protocols_by_kind_and_number()
     ensures order { (a b : LinuxSllProtocolType) → ⟦<LinuxSllProtocolType as Ord>⟧.cmp a b
         ≡ slice_cmp nat_cmp (protocol_ordered_as a) (protocol_ordered_as b) }
-    ensures hash { HashIsOf (λ p. fed.isize (pos (kind_place p)) ++ fed.u16 (number_of p))
+    ensures hash { HashIsOf (λ p. fed.isize (pos (kind_index p)) ++ fed.u16 (number_of p))
         ⟦<LinuxSllProtocolType as Hash>⟧.hash_input }
 {}
 

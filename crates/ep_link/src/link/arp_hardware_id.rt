@@ -4,7 +4,7 @@ ghost use Rattle.std.specs.Fmt.{decimal};
 use std::fmt;
 
 /// The type of a link, as IANA numbers the hardware types of ARP (RFC 826) and Linux adds to them
-/// (`ARPHRD_` in `if_arp.h`). In a packet its two bytes stand high byte first.
+/// (`ARPHRD_` in `if_arp.h`). A packet holds it in two bytes, high byte first.
 #[derive(Clone, Copy, Debug, Default, PartialEq, Eq, Hash, PartialOrd, Ord)]
 pub struct ArpHardwareId(pub u16);
 

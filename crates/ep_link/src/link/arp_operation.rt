@@ -1,14 +1,14 @@
 ghost use Rattle.std.specs.Prelude.{◌≡◌};
 
-/// What an ARP packet is for (RFC 826). In a packet its two bytes stand high byte first.
+/// What an ARP packet is for (RFC 826). A packet holds it in two bytes, high byte first.
 #[derive(Clone, Copy, Debug, Default, PartialEq, Eq, Hash, PartialOrd, Ord)]
 pub struct ArpOperation(pub u16);
 
 impl ArpOperation {
-    /// Asks for the target's hardware address.
+    /// A request for the target's hardware address.
     pub const REQUEST: ArpOperation = ArpOperation(1);
 
-    /// Tells the sender's hardware address.
+    /// A reply that states the sender's hardware address.
     pub const REPLY: ArpOperation = ArpOperation(2);
 }
 

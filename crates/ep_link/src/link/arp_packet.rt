@@ -1,8 +1,8 @@
 ghost use Rattle.std.specs.Prelude.{◌≡◌, ◌+◌, ◌*◌, ◌≤◌, ℕ, List, ◌++◌, length, Ok, Err, OnOk};
 ghost use Rattle.std.specs.Prelude.{OnErr, IsOk, IfOk, IfErr, IsOkAnd, vec_len, vec_capacity};
 ghost use Rattle.arrayvec.specs.ArrayVec.{array_vec_len};
-ghost use Rattle.ep_link.specs.Arp.{ArpFields, IsArp, IsArpPacket, Fits, fields_of, fixed_spelling};
-ghost use Rattle.ep_link.specs.Arp.{packet_at, packet_len_in, spelling, IsRead};
+ghost use Rattle.ep_link.specs.Arp.{ArpFields, IsArp, IsArpPacket, Fits, fields_of, fixed_encoding};
+ghost use Rattle.ep_link.specs.Arp.{packet_at, packet_len_in, encoding, IsRead};
 ghost use Rattle.ep_link.specs.ArpNew.{new_at};
 
 use super::{ArpHardwareId, ArpOperation, ArpPacketSlice};
@@ -145,18 +145,18 @@ impl ArpPacket {
         }
     }
 
-    /// The packet at the front of the slice. Refused are, in this order, a slice of fewer than
+    /// The packet at the start of the slice. Refused are, in this order, a slice of fewer than
     /// 8 bytes, and one that the four addresses don't fit, whose length is then bounded by
     /// `ArpAddrLengths`.
     pub fn from_slice(slice: &[u8]) -> Result<ArpPacket, LenError>
-        // The front of the slice is a packet, and is read so.
+        // The start of the slice is a packet, and is read so.
         ensures found { IfOk result (λ a. IsRead slice.now a) }
-        // A front that is a packet is read.
-        ensures only { (front rest : List ℕ) → IsArpPacket front → slice.now ≡ front ++ rest
-            → result ≡ Ok (fields_of front) }
-        // Else it is the first want of bytes.
+        // A prefix that is a packet is read.
+        ensures only { (prefix rest : List ℕ) → IsArpPacket prefix → slice.now ≡ prefix ++ rest
+            → result ≡ Ok (fields_of prefix) }
+        // Else it is the first error of too few bytes.
         ensures err { IfErr result (λ e. packet_at slice.now ≡ Err e) }
-        ensures place { IfErr result (λ e. e.layer_start_offset ≡ 0) }
+        ensures offset { IfErr result (λ e. e.layer_start_offset ≡ 0) }
     {
         let packet = ArpPacketSlice::from_slice(slice)?;
         Ok(packet.to_packet())
@@ -216,16 +216,16 @@ impl ArpPacket {
 
     /// The bytes of the packet.
     pub fn to_bytes(&self) -> ArrayVec<u8, 1028>
-        ensures bytes { result.items ≡ spelling self.now }
+        ensures bytes { result.items ≡ encoding self.now }
         // They are a packet, with these fields.
         ensures packet { IsArpPacket result.items }
         ensures fields { fields_of result.items ≡ self.now }
     {
-        self.spelled()
+        self.encoded()
     }
 
-    fn spelled(&self) -> ArrayVec<u8, 1028>
-        ensures bytes { result.items ≡ spelling self.now }
+    fn encoded(&self) -> ArrayVec<u8, 1028>
+        ensures bytes { result.items ≡ encoding self.now }
         ensures fits { Fits self.now }
         ensures arp { IsArp self.now }
     {
@@ -245,7 +245,7 @@ impl ArpPacket {
     }
 
     fn fixed_part(&self) -> [u8; 8]
-        ensures bytes { result ≡ fixed_spelling self.now }
+        ensures bytes { result ≡ fixed_encoding self.now }
         ensures fits { Fits self.now }
     {
         let hw_type = self.hw_addr_type.0.to_be_bytes();
@@ -265,11 +265,11 @@ impl ArpPacket {
 
     /// Appends the bytes of the packet.
     pub fn write(&self, buffer: &mut Vec<u8>) -> Result<(), AllocError>
-        ensures ok { OnOk result (buffer.new.items ≡ buffer.old.items ++ spelling self.now) }
+        ensures ok { OnOk result (buffer.new.items ≡ buffer.old.items ++ encoding self.now) }
         ensures len { OnOk result (vec_len buffer.new
             ≡ vec_len buffer.old + packet_len_in self.now) }
         ensures err { OnErr result (buffer.new.items ≡ buffer.old.items) }
-        // It fails only where room was missing, and room never shrinks.
+        // It fails only where capacity was missing, and capacity never shrinks.
         ensures succeeds { vec_len buffer.old + packet_len_in self.now ≤ vec_capacity buffer.old
             → IsOk result }
         ensures capacity { vec_capacity buffer.old ≤ vec_capacity buffer.new }

@@ -4,10 +4,10 @@ ghost use Rattle.std.specs.Cmp.Rules.{comparing};
 ghost use Rattle.std.proofs.Common.{rules};
 ghost use Rattle.ep_link.specs.Arp.{IsArpPacket, packet_at, packet_len_of, hw_len_of, proto_len_of};
 ghost use Rattle.ep_link.specs.Arp.{hw_type_of, proto_type_of, operation_of, addresses_of};
-ghost use Rattle.ep_link.specs.Arp.{behind_sender_hw, behind_sender, behind_target_hw};
+ghost use Rattle.ep_link.specs.Arp.{after_sender_hw, after_sender, after_target_hw};
 ghost use Rattle.ep_link.specs.Arp.{sender_hw_of, sender_proto_of, target_hw_of, target_proto_of};
 ghost use Rattle.ep_link.specs.Arp.{addresses_cut, fields_of};
-ghost use Rattle.ep_base.specs.Fronts.{TakesFront};
+ghost use Rattle.ep_base.specs.Prefixes.{TakesPrefix};
 
 use super::{ArpHardwareId, ArpOperation, ArpPacket};
 use ep_base::err::{Layer, LenError};
@@ -31,22 +31,22 @@ impl<'a> Model for ArpPacketSlice<'a> {
 }
 
 impl<'a> ArpPacketSlice<'a> {
-    /// The packet at the front of the slice. Refused are, in this order, a slice of fewer than
+    /// The packet at the start of the slice. Refused are, in this order, a slice of fewer than
     /// 8 bytes, and one that the four addresses don't fit, whose length is then bounded by
     /// `ArpAddrLengths`.
     pub fn from_slice(slice: &'a [u8]) -> Result<ArpPacketSlice<'a>, LenError>
-        // What is taken is a packet at the front of the slice, and one that stands there is taken.
-        ensures takes { TakesFront IsArpPacket slice.now result }
-        // Else it is the first want of bytes.
+        // What is taken is a packet at the start of the slice, and one that is there is taken.
+        ensures takes { TakesPrefix IsArpPacket slice.now result }
+        // Else it is the first error of too few bytes.
         ensures exact { result ≡ packet_at slice.now }
-        ensures place { IfErr result (λ e. e.layer_start_offset ≡ 0) }
+        ensures offset { IfErr result (λ e. e.layer_start_offset ≡ 0) }
     {
         Self::tested(slice)
     }
 
     fn tested(slice: &'a [u8]) -> Result<ArpPacketSlice<'a>, LenError>
         ensures exact { result ≡ packet_at slice.now }
-        ensures place { IfErr result (λ e. e.layer_start_offset ≡ 0) }
+        ensures offset { IfErr result (λ e. e.layer_start_offset ≡ 0) }
     {
         if slice.len() < 8 {
             return Err(LenError::too_few_bytes(Layer::Arp, 8, slice.len()));
@@ -121,7 +121,7 @@ impl<'a> ArpPacketSlice<'a> {
         ensures most { length result.now ≤ 255 }
     {
         let proto_len = usize::from(self.slice[5]);
-        let (address, _) = self.behind_sender_hw().split_at(proto_len);
+        let (address, _) = self.after_sender_hw().split_at(proto_len);
         address
     }
 
@@ -132,7 +132,7 @@ impl<'a> ArpPacketSlice<'a> {
         ensures most { length result.now ≤ 255 }
     {
         let hw_len = usize::from(self.slice[4]);
-        let (address, _) = self.behind_sender().split_at(hw_len);
+        let (address, _) = self.after_sender().split_at(hw_len);
         address
     }
 
@@ -143,11 +143,11 @@ impl<'a> ArpPacketSlice<'a> {
         ensures most { length result.now ≤ 255 }
     {
         let proto_len = usize::from(self.slice[5]);
-        let (address, _) = self.behind_target_hw().split_at(proto_len);
+        let (address, _) = self.after_target_hw().split_at(proto_len);
         address
     }
 
-    // The four addresses, one behind the other, and what is left of them behind each.
+    // The four addresses, one after the other, and what is left of them after each.
 
     fn addresses(&self) -> &'a [u8]
         ensures bytes { result.now ≡ addresses_of self.now }
@@ -157,8 +157,8 @@ impl<'a> ArpPacketSlice<'a> {
         rest
     }
 
-    fn behind_sender_hw(&self) -> &'a [u8]
-        ensures bytes { result.now ≡ behind_sender_hw self.now }
+    fn after_sender_hw(&self) -> &'a [u8]
+        ensures bytes { result.now ≡ after_sender_hw self.now }
         ensures len { length result.now ≡ hw_len_of self.now + 2 * proto_len_of self.now }
     {
         let hw_len = usize::from(self.slice[4]);
@@ -166,21 +166,21 @@ impl<'a> ArpPacketSlice<'a> {
         rest
     }
 
-    fn behind_sender(&self) -> &'a [u8]
-        ensures bytes { result.now ≡ behind_sender self.now }
+    fn after_sender(&self) -> &'a [u8]
+        ensures bytes { result.now ≡ after_sender self.now }
         ensures len { length result.now ≡ hw_len_of self.now + proto_len_of self.now }
     {
         let proto_len = usize::from(self.slice[5]);
-        let (_, rest) = self.behind_sender_hw().split_at(proto_len);
+        let (_, rest) = self.after_sender_hw().split_at(proto_len);
         rest
     }
 
-    fn behind_target_hw(&self) -> &'a [u8]
-        ensures bytes { result.now ≡ behind_target_hw self.now }
+    fn after_target_hw(&self) -> &'a [u8]
+        ensures bytes { result.now ≡ after_target_hw self.now }
         ensures len { length result.now ≡ proto_len_of self.now }
     {
         let hw_len = usize::from(self.slice[4]);
-        let (_, rest) = self.behind_sender().split_at(hw_len);
+        let (_, rest) = self.after_sender().split_at(hw_len);
         rest
     }
 
@@ -200,7 +200,7 @@ impl<'a> ArpPacketSlice<'a> {
     }
 }
 
-// The address lengths want so many bytes, and fewer are there.
+// The address lengths need so many bytes, and fewer are there.
 fn addresses_cut(required_len: usize, len: usize) -> LenError
     ensures { result ≡ addresses_cut required_len len }
 {

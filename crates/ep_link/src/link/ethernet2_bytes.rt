@@ -28,14 +28,14 @@ impl<'a, const MOST: usize> Model for Ethernet2Bytes<'a, MOST> {
 }
 
 impl<'a, const MOST: usize> Ethernet2Bytes<'a, MOST> {
-    /// The address that the frame goes to.
+    /// The destination address.
     pub fn destination(&self) -> [u8; 6]
         ensures { result ≡ destination_of self.now }
     {
         self.slice[..6].try_into().unwrap()
     }
 
-    /// The address that the frame comes from.
+    /// The source address.
     pub fn source(&self) -> [u8; 6]
         ensures { result ≡ source_of self.now }
     {

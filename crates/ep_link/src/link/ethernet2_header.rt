@@ -3,22 +3,22 @@ ghost use Rattle.std.specs.Prelude.{OnErr, IsOk, IfOk, IfErr, IsOkAnd, MatchResu
 ghost use Rattle.std.specs.Prelude.{vec_capacity};
 ghost use Rattle.ep_base.specs.declared.err.layer.Layer.TheVariants as layer;
 ghost use Rattle.ep_link.specs.Ethernet.{ethernet_len, default_header, ethernet_header_of};
-ghost use Rattle.ep_link.specs.Ethernet.{spelling, IsRead};
+ghost use Rattle.ep_link.specs.Ethernet.{encoding, IsRead};
 ghost use Rattle.ep_link.specs.Ethernet.{Fits};
-ghost use Rattle.ep_tag.specs.Front.{front_at};
+ghost use Rattle.ep_tag.specs.Prefix.{prefix_at};
 
 use super::Ethernet2HeaderSlice;
 use ep_base::EtherType;
 use ep_base::err::{Layer, LenError, SliceWriteSpaceError};
 use std::alloc::AllocError;
 
-/// An Ethernet II header (RFC 894). In its 14 bytes the destination stands first, and the ether
-/// type high byte first.
+/// An Ethernet II header (RFC 894). In its 14 bytes the destination comes first, and the ether
+/// type is held high byte first.
 #[derive(Clone, Debug, PartialEq, Eq, Drop)]
 pub struct Ethernet2Header {
-    /// The address that the frame comes from.
+    /// The source address.
     pub source: [u8; 6],
-    /// The address that the frame goes to.
+    /// The destination address.
     pub destination: [u8; 6],
     /// The ether type of what follows the header.
     pub ether_type: EtherType,
@@ -28,25 +28,25 @@ impl Ethernet2Header {
     /// The length of an Ethernet II header in bytes.
     pub const LEN: usize = 14;
 
-    /// The header at the front of the slice, and the bytes behind it. A slice of fewer than 14
+    /// The header at the start of the slice, and the bytes after it. A slice of fewer than 14
     /// bytes is refused.
     pub fn from_slice(slice: &[u8]) -> Result<(Ethernet2Header, &[u8]), LenError>
-        // The front of the slice is a header, and is read so.
+        // The start of the slice is a header, and is read so.
         ensures found { IfOk result (λ r. IsRead slice.now r.0 r.1.now) }
         // Any 14 bytes are read.
-        ensures only { (front rest : List ℕ) → length front ≡ ethernet_len
-            → slice.now ≡ front ++ rest
-            → IsOkAnd result (λ r. (r.0 ≡ ethernet_header_of front) × (r.1.now ≡ rest)) }
+        ensures only { (prefix rest : List ℕ) → length prefix ≡ ethernet_len
+            → slice.now ≡ prefix ++ rest
+            → IsOkAnd result (λ r. (r.0 ≡ ethernet_header_of prefix) × (r.1.now ≡ rest)) }
         ensures err { IfErr result
-            (λ e. front_at layer.Ethernet2Header ethernet_len slice.now ≡ Err e) }
-        ensures place { IfErr result (λ e. e.layer_start_offset ≡ 0) }
+            (λ e. prefix_at layer.Ethernet2Header ethernet_len slice.now ≡ Err e) }
+        ensures offset { IfErr result (λ e. e.layer_start_offset ≡ 0) }
     {
         let header = Ethernet2HeaderSlice::from_slice(slice)?;
         let rest = &slice[Ethernet2Header::LEN..];
         Ok((header.to_header(), rest))
     }
 
-    /// The fields that 14 bytes spell.
+    /// The fields that 14 bytes encode.
     pub fn from_bytes(bytes: [u8; 14]) -> Ethernet2Header
         ensures { result ≡ ethernet_header_of bytes }
     {
@@ -63,16 +63,16 @@ impl Ethernet2Header {
     /// The bytes of the header.
     #[inline(always)]
     pub fn to_bytes(&self) -> [u8; 14]
-        ensures bytes { result ≡ spelling self.now }
-        // They spell these fields.
+        ensures bytes { result ≡ encoding self.now }
+        // They encode these fields.
         ensures fields { ethernet_header_of result ≡ self.now }
     {
-        self.spelled()
+        self.encoded()
     }
 
     #[inline(always)]
-    fn spelled(&self) -> [u8; 14]
-        ensures bytes { result ≡ spelling self.now }
+    fn encoded(&self) -> [u8; 14]
+        ensures bytes { result ≡ encoding self.now }
         ensures fits { Fits self.now }
     {
         let destination = &self.destination;
@@ -99,7 +99,7 @@ impl Ethernet2Header {
     /// Writes the bytes of the header over the first 14 bytes of the slice. A shorter slice is
     /// refused, and unchanged.
     pub fn write_to_slice(&self, slice: &mut [u8]) -> Result<(), SliceWriteSpaceError>
-        ensures ok { OnOk result (slice.new ≡ spelling self.now ++ drop ethernet_len slice.old) }
+        ensures ok { OnOk result (slice.new ≡ encoding self.now ++ drop ethernet_len slice.old) }
         ensures err { OnErr result (slice.new ≡ slice.old) }
         ensures outcome { MatchResult result (λ _. ethernet_len ≤ length slice.old)
             (λ e. (length slice.old < ethernet_len) × (e ≡ record {
@@ -124,10 +124,10 @@ impl Ethernet2Header {
     /// Appends the bytes of the header.
     #[inline(always)]
     pub fn write(&self, buffer: &mut Vec<u8>) -> Result<(), AllocError>
-        ensures ok { OnOk result (buffer.new.items ≡ buffer.old.items ++ spelling self.now) }
+        ensures ok { OnOk result (buffer.new.items ≡ buffer.old.items ++ encoding self.now) }
         ensures len { OnOk result (vec_len buffer.new ≡ vec_len buffer.old + ethernet_len) }
         ensures err { OnErr result (buffer.new.items ≡ buffer.old.items) }
-        // It fails only where room was missing, and room never shrinks.
+        // It fails only where capacity was missing, and capacity never shrinks.
         ensures succeeds { vec_len buffer.old + ethernet_len ≤ vec_capacity buffer.old
             → IsOk result }
         ensures capacity { vec_capacity buffer.old ≤ vec_capacity buffer.new }

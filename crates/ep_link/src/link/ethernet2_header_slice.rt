@@ -1,33 +1,33 @@
 ghost use Rattle.std.specs.Prelude.{◌≡◌, length, IfErr};
 ghost use Rattle.ep_base.specs.declared.err.layer.Layer.TheVariants as layer;
 ghost use Rattle.ep_link.specs.Ethernet.{ethernet_len};
-ghost use Rattle.ep_base.specs.Fronts.{IsOfLength, TakesFront};
-ghost use Rattle.ep_tag.specs.Front.{front_at};
+ghost use Rattle.ep_base.specs.Prefixes.{IsOfLength, TakesPrefix};
+ghost use Rattle.ep_tag.specs.Prefix.{prefix_at};
 
 use super::Ethernet2Header;
 use super::ethernet2_bytes::Ethernet2Bytes;
 use ep_base::err::{Layer, LenError};
-use ep_tag::laws::front::front_is_taken;
+use ep_tag::laws::prefix::prefix_is_taken;
 
 /// The 14 bytes of an Ethernet II header (RFC 894), borrowed. A contract sees the value as those
 /// bytes.
 pub type Ethernet2HeaderSlice<'a> = Ethernet2Bytes<'a, 14>;
 
 impl<'a> Ethernet2Bytes<'a, 14> {
-    /// The header at the front of the slice. A slice of fewer than 14 bytes is refused.
+    /// The header at the start of the slice. A slice of fewer than 14 bytes is refused.
     pub fn from_slice(slice: &'a [u8]) -> Result<Ethernet2HeaderSlice<'a>, LenError>
         // What is taken are the first 14 bytes.
-        ensures takes { TakesFront (IsOfLength ethernet_len) slice.now result }
-        ensures exact { result ≡ front_at layer.Ethernet2Header ethernet_len slice.now }
-        ensures place { IfErr result (λ e. e.layer_start_offset ≡ 0) }
+        ensures takes { TakesPrefix (IsOfLength ethernet_len) slice.now result }
+        ensures exact { result ≡ prefix_at layer.Ethernet2Header ethernet_len slice.now }
+        ensures offset { IfErr result (λ e. e.layer_start_offset ≡ 0) }
     {
-        front_is_taken();
+        prefix_is_taken();
         Self::taken(slice)
     }
 
     fn taken(slice: &'a [u8]) -> Result<Ethernet2HeaderSlice<'a>, LenError>
-        ensures exact { result ≡ front_at layer.Ethernet2Header ethernet_len slice.now }
-        ensures place { IfErr result (λ e. e.layer_start_offset ≡ 0) }
+        ensures exact { result ≡ prefix_at layer.Ethernet2Header ethernet_len slice.now }
+        ensures offset { IfErr result (λ e. e.layer_start_offset ≡ 0) }
     {
         if slice.len() < Ethernet2Header::LEN {
             return Err(LenError::too_few_bytes(

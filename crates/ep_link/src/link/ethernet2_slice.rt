@@ -1,7 +1,7 @@
 ghost use Rattle.std.specs.Prelude.{◌≡◌, ◌≤◌, length, take, drop, IfErr};
 ghost use Rattle.ep_base.specs.declared.err.layer.Layer.TheVariants as layer;
 ghost use Rattle.ep_link.specs.Ethernet.{ethernet_len, payload_of};
-ghost use Rattle.ep_tag.specs.Front.{whole_at};
+ghost use Rattle.ep_tag.specs.Prefix.{whole_at};
 
 use super::Ethernet2Header;
 use super::ethernet2_bytes::Ethernet2Bytes;
@@ -12,16 +12,16 @@ use ep_tag::EtherPayloadSlice;
 // As many bytes as a slice has.
 const MOST: usize = usize::MAX;
 
-/// An Ethernet II frame (RFC 894), borrowed: the header and all bytes behind it. A contract sees
+/// An Ethernet II frame (RFC 894), borrowed: the header and all bytes after it. A contract sees
 /// the value as the bytes of both.
 pub type Ethernet2Slice<'a> = Ethernet2Bytes<'a, { MOST }>;
 
 impl<'a> Ethernet2Bytes<'a, { MOST }> {
-    /// A frame without frame check sequence: all bytes behind the header are payload. A slice of
+    /// A frame without frame check sequence: all bytes after the header are payload. A slice of
     /// fewer than 14 bytes is refused.
     pub fn from_slice_without_fcs(slice: &'a [u8]) -> Result<Ethernet2Slice<'a>, LenError>
         ensures exact { result ≡ whole_at layer.Ethernet2Header ethernet_len slice.now }
-        ensures place { IfErr result (λ e. e.layer_start_offset ≡ 0) }
+        ensures offset { IfErr result (λ e. e.layer_start_offset ≡ 0) }
     {
         if slice.len() < Ethernet2Header::LEN {
             return Err(LenError::too_few_bytes(
@@ -33,7 +33,7 @@ impl<'a> Ethernet2Bytes<'a, { MOST }> {
         Ok(Ethernet2Bytes { slice })
     }
 
-    /// The header and all bytes behind it.
+    /// The header and all bytes after it.
     pub fn slice(&self) -> &'a [u8]
         ensures bytes { result.now ≡ self.now }
         ensures least { ethernet_len ≤ length self.now }
@@ -68,7 +68,7 @@ impl<'a> Ethernet2Bytes<'a, { MOST }> {
         }
     }
 
-    /// The bytes behind the header.
+    /// The bytes after the header.
     pub fn payload_slice(&self) -> &'a [u8]
         ensures { result.now ≡ drop ethernet_len self.now }
     {

@@ -2,7 +2,7 @@ ghost use Rattle.std.specs.Prelude.{◌≡◌, ◌+◌, ◌≤◌, ◌++◌, OnO
 ghost use Rattle.std.specs.Option.{option_copied_mut};
 ghost use Rattle.std.specs.Borrow.{sem};
 ghost use Rattle.ep_link.specs.LinkLends.{lends_ethernet2, lends_linux_sll};
-ghost use Rattle.ep_link.specs.Link.{ethernet2_in, linux_sll_in, link_len, link_spelling};
+ghost use Rattle.ep_link.specs.Link.{ethernet2_in, linux_sll_in, link_len, link_encoding};
 
 use super::{Ethernet2Header, LinuxSllHeader};
 use std::alloc::AllocError;
@@ -71,10 +71,10 @@ impl LinkHeader {
 
     /// Appends the bytes of the header.
     pub fn write(&self, buffer: &mut Vec<u8>) -> Result<(), AllocError>
-        ensures ok { OnOk result (buffer.new.items ≡ buffer.old.items ++ link_spelling self.now) }
+        ensures ok { OnOk result (buffer.new.items ≡ buffer.old.items ++ link_encoding self.now) }
         ensures len { OnOk result (vec_len buffer.new ≡ vec_len buffer.old + link_len self.now) }
         ensures err { OnErr result (buffer.new.items ≡ buffer.old.items) }
-        // It fails only where room was missing, and room never shrinks.
+        // It fails only where capacity was missing, and capacity never shrinks.
         ensures succeeds { vec_len buffer.old + link_len self.now ≤ vec_capacity buffer.old
             → IsOk result }
         ensures capacity { vec_capacity buffer.old ≤ vec_capacity buffer.new }

@@ -1,19 +1,19 @@
 ghost use Rattle.std.specs.Prelude.{◌≡◌};
-ghost use Rattle.ep_link.specs.Link.{fields_of, payload_behind};
+ghost use Rattle.ep_link.specs.Link.{fields_of, payload_after};
 
 use super::{Ethernet2Slice, LinkHeader, LinuxSllPayloadSlice, LinuxSllSlice};
 use ep_tag::EtherPayloadSlice;
 
-/// A link header with what follows it, or what stands in its place where there is none, borrowed.
+/// A link header with what follows it, or a payload that was given without a link header, borrowed.
 #[derive(Clone, Debug, PartialEq, Eq, Drop)]
 pub enum LinkSlice<'a> {
     /// An Ethernet II frame.
     Ethernet2(Ethernet2Slice<'a>),
     /// A packet of a Linux cooked capture.
     LinuxSll(LinuxSllSlice<'a>),
-    /// No link header: the bytes behind an ether type.
+    /// No link header: the bytes after an ether type.
     EtherPayload(EtherPayloadSlice<'a>),
-    /// No link header: the bytes behind the header of a Linux cooked capture.
+    /// No link header: the bytes after the header of a Linux cooked capture.
     LinuxSllPayload(LinuxSllPayloadSlice<'a>),
 }
 
@@ -30,10 +30,10 @@ impl<'a> LinkSlice<'a> {
         }
     }
 
-    /// What stands behind an ether type: of an Ethernet II frame always, of a packet of a Linux
+    /// What follows an ether type: of an Ethernet II frame always, of a packet of a Linux
     /// cooked capture where its protocol is an ether type.
     pub fn ether_payload(&self) -> Option<EtherPayloadSlice<'a>>
-        ensures { result ≡ payload_behind self.now }
+        ensures { result ≡ payload_after self.now }
     {
         match self {
             LinkSlice::Ethernet2(frame) => Some(frame.payload()),

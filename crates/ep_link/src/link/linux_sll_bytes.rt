@@ -51,14 +51,14 @@ impl<'a, const MOST: usize> LinuxSllBytes<'a, MOST> {
         u16::from_be_bytes([self.slice[4], self.slice[5]])
     }
 
-    /// The sender's link address, and bytes without meaning behind it.
+    /// The sender's link address, and bytes without meaning after it.
     pub fn sender_address(&self) -> [u8; 8]
         ensures { result ≡ address_of self.now }
     {
         self.slice[6..14].try_into().unwrap()
     }
 
-    /// What stands behind the header.
+    /// What follows the header.
     pub fn protocol_type(&self) -> LinuxSllProtocolType
         ensures { result ≡ protocol_of (hardware_type_of self.now) (num self.now 14 2) }
     {

@@ -3,15 +3,15 @@ ghost use Rattle.std.specs.Prelude.{IfOk, IfErr, IsOkAnd, vec_len, vec_capacity}
 ghost use Rattle.ep_base.specs.SliceError.{content_offset};
 ghost use Rattle.ep_link.specs.Sll.{sll_len, IsSllHeader, NamesProtocol, IsRead, Fits};
 ghost use Rattle.ep_link.specs.Sll.{sll_header_of};
-ghost use Rattle.ep_link.specs.Sll.{spelling};
+ghost use Rattle.ep_link.specs.Sll.{encoding};
 ghost use Rattle.ep_link.specs.SllFault.{header_at};
 
 use super::{ArpHardwareId, LinuxSllHeaderSlice, LinuxSllPacketType, LinuxSllProtocolType};
 use crate::err::linux_sll::HeaderSliceError;
 use std::alloc::AllocError;
 
-/// The header of a Linux cooked capture, version 1 (libpcap's page on LINKTYPE_LINUX_SLL). In its
-/// 16 bytes numbers stand high byte first.
+/// The header of a Linux cooked capture, version 1 (libpcap's page on LINKTYPE_LINUX_SLL). Its
+/// 16 bytes hold numbers high byte first.
 #[derive(Clone, Debug, PartialEq, Eq, Drop)]
 pub struct LinuxSllHeader {
     /// Who the packet was sent to, or by.
@@ -20,9 +20,9 @@ pub struct LinuxSllHeader {
     pub arp_hrd_type: ArpHardwareId,
     /// How many bytes of the address are the sender's.
     pub sender_address_valid_length: u16,
-    /// The sender's link address, and bytes without meaning behind it.
+    /// The sender's link address, and bytes without meaning after it.
     pub sender_address: [u8; 8],
-    /// What stands behind the header.
+    /// What follows the header.
     pub protocol_type: LinuxSllProtocolType,
 }
 
@@ -30,17 +30,17 @@ impl LinuxSllHeader {
     /// The length of the header in bytes.
     pub const LEN: usize = 16;
 
-    /// The header at the front of the slice, and the bytes behind it. Refused are, in this order, a
+    /// The header at the start of the slice, and the bytes after it. Refused are, in this order, a
     /// slice of fewer than 16 bytes and a packet type above 4.
     pub fn from_slice(slice: &[u8]) -> Result<(LinuxSllHeader, &[u8]), HeaderSliceError>
-        // The front of the slice is a header, and is read so.
+        // The start of the slice is a header, and is read so.
         ensures found { IfOk result (λ r. IsRead slice.now r.0 r.1.now) }
-        // A front that is a header is read.
-        ensures only { (front rest : List ℕ) → IsSllHeader front → slice.now ≡ front ++ rest
-            → IsOkAnd result (λ r. (r.0 ≡ sll_header_of front) × (r.1.now ≡ rest)) }
+        // A prefix that is a header is read.
+        ensures only { (prefix rest : List ℕ) → IsSllHeader prefix → slice.now ≡ prefix ++ rest
+            → IsOkAnd result (λ r. (r.0 ≡ sll_header_of prefix) × (r.1.now ≡ rest)) }
         // Else it is the first fault.
         ensures err { IfErr result (λ e. header_at slice.now ≡ Err e) }
-        ensures place { IfErr result (λ e. content_offset e ≡ 0) }
+        ensures offset { IfErr result (λ e. content_offset e ≡ 0) }
     {
         let header = LinuxSllHeaderSlice::from_slice(slice)?;
         let rest = &slice[LinuxSllHeader::LEN..];
@@ -56,16 +56,16 @@ impl LinuxSllHeader {
 
     /// The bytes of the header.
     pub fn to_bytes(&self) -> [u8; 16]
-        ensures bytes { result ≡ spelling self.now }
+        ensures bytes { result ≡ encoding self.now }
         // They are a header, with these fields where hardware type and number name the protocol.
         ensures header { IsSllHeader result }
         ensures fields { NamesProtocol self.now → sll_header_of result ≡ self.now }
     {
-        self.spelled()
+        self.encoded()
     }
 
-    fn spelled(&self) -> [u8; 16]
-        ensures bytes { result ≡ spelling self.now }
+    fn encoded(&self) -> [u8; 16]
+        ensures bytes { result ≡ encoding self.now }
         ensures fits { Fits self.now }
     {
         let packet_type = self.packet_type.value().to_be_bytes();
@@ -95,10 +95,10 @@ impl LinuxSllHeader {
 
     /// Appends the bytes of the header.
     pub fn write(&self, buffer: &mut Vec<u8>) -> Result<(), AllocError>
-        ensures ok { OnOk result (buffer.new.items ≡ buffer.old.items ++ spelling self.now) }
+        ensures ok { OnOk result (buffer.new.items ≡ buffer.old.items ++ encoding self.now) }
         ensures len { OnOk result (vec_len buffer.new ≡ vec_len buffer.old + sll_len) }
         ensures err { OnErr result (buffer.new.items ≡ buffer.old.items) }
-        // It fails only where room was missing, and room never shrinks.
+        // It fails only where capacity was missing, and capacity never shrinks.
         ensures succeeds { vec_len buffer.old + sll_len ≤ vec_capacity buffer.old → IsOk result }
         ensures capacity { vec_capacity buffer.old ≤ vec_capacity buffer.new }
     {

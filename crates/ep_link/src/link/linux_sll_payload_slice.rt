@@ -12,7 +12,7 @@ use ep_base::LenSource;
 use ep_tag::EtherPayloadSlice;
 use std::marker::Model;
 
-/// The bytes behind the header of a Linux cooked capture, borrowed.
+/// The bytes after the header of a Linux cooked capture, borrowed.
 #[derive(Clone, Debug, Drop)]
 pub struct LinuxSllPayloadSlice<'a> {
     /// What the bytes are.
@@ -28,7 +28,7 @@ impl<'a> Model for LinuxSllPayloadSlice<'a> {
 }
 
 impl<'a> LinuxSllPayloadSlice<'a> {
-    // The same bytes behind an ether type, where the protocol is one.
+    // The same bytes after an ether type, where the protocol is one.
     pub(super) fn ether_payload(&self) -> Option<EtherPayloadSlice<'a>>
         ensures { result ≡ named_payload self.now }
     {
@@ -62,8 +62,7 @@ impl<'a> TryFrom<LinuxSllPayloadSlice<'a>> for EtherPayloadSlice<'a> {
 
     ghost try_from_gives = { λ p r. r ≡ as_ether_payload p };
 
-    /// The same bytes behind an ether type, where the protocol is one. Else there is nothing to
-    /// say, and the error is `()`.
+    /// The same bytes after an ether type, where the protocol is one. Else the error is `()`.
     fn try_from(payload: LinuxSllPayloadSlice<'a>) -> Result<EtherPayloadSlice<'a>, ()> {
         payload.ether_payload().ok_or(())
     }

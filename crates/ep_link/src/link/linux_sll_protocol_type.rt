@@ -7,7 +7,7 @@ use ep_base::EtherType;
 // Below it a number of two bytes is no ether type (IEEE 802.3, section 3.2.6).
 const LEAST_ETHER_TYPE: u16 = 0x600;
 
-/// What stands behind the header of a Linux cooked capture, by the hardware type and the protocol
+/// What follows the header of a Linux cooked capture, by the hardware type and the protocol
 /// number.
 #[derive(Clone, Copy, Debug, PartialEq, Eq, Hash, PartialOrd, Ord)]
 pub enum LinuxSllProtocolType {

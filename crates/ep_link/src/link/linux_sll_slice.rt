@@ -13,15 +13,15 @@ use ep_base::err::{Layer, LenError};
 const MOST: usize = usize::MAX;
 
 /// A packet of a Linux cooked capture (libpcap's page on LINKTYPE_LINUX_SLL), borrowed: the header
-/// and all bytes behind it. A contract sees the value as the bytes of both.
+/// and all bytes after it. A contract sees the value as the bytes of both.
 pub type LinuxSllSlice<'a> = LinuxSllBytes<'a, { MOST }>;
 
 impl<'a> LinuxSllBytes<'a, { MOST }> {
-    /// The header at the front of the slice, and what follows it. Refused are, in this order, a
+    /// The header at the start of the slice, and what follows it. Refused are, in this order, a
     /// slice of fewer than 16 bytes and a packet type above 4.
     pub fn from_slice(slice: &'a [u8]) -> Result<LinuxSllSlice<'a>, HeaderSliceError>
         ensures exact { result ≡ whole_at slice.now }
-        ensures place { IfErr result (λ e. content_offset e ≡ 0) }
+        ensures offset { IfErr result (λ e. content_offset e ≡ 0) }
     {
         if slice.len() < LinuxSllHeader::LEN {
             return Err(HeaderSliceError::Len(LenError::too_few_bytes(
@@ -39,7 +39,7 @@ impl<'a> LinuxSllBytes<'a, { MOST }> {
         Ok(LinuxSllBytes { slice })
     }
 
-    /// The header and all bytes behind it.
+    /// The header and all bytes after it.
     pub fn slice(&self) -> &'a [u8]
         ensures bytes { result.now ≡ self.now }
         ensures least { sll_len ≤ length self.now }
@@ -65,7 +65,7 @@ impl<'a> LinuxSllBytes<'a, { MOST }> {
         }
     }
 
-    /// The bytes behind the header.
+    /// The bytes after the header.
     pub fn payload_slice(&self) -> &'a [u8]
         ensures { result.now ≡ drop sll_len self.now }
     {

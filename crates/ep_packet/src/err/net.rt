@@ -1,4 +1,4 @@
-//! Why headers of the network layer don't take a number.
+//! Why no next header number was set in headers of the network layer.
 
 mod net_set_next_header_error;
 

@@ -1,4 +1,4 @@
-//! Faults of packets of any of the protocols.
+//! Errors of packets: why no packet was read, and why a header has no checksum.
 
 mod slice_error;
 mod transport_checksum_error;

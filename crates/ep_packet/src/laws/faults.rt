@@ -3,9 +3,9 @@ ghost use Rattle.std.specs.Prelude.{◌≡◌, ℕ, List, Err};
 ghost use Rattle.ep_base.specs.declared.link.ether_type.EtherType.{EtherType};
 ghost use Rattle.ep_base.specs.declared.err.layer.Layer.TheVariants as layer;
 ghost use Rattle.ep_base.specs.declared.len_source.LenSource.TheVariants as source;
-ghost use Rattle.ep_packet.specs.Examples.{cut_behind_auth, cut_behind_macsec};
-ghost use Rattle.ep_packet.specs.Examples.{cut_behind_options, cut_behind_tag};
-ghost use Rattle.ep_packet.specs.Examples.{cut_in_options, wants};
+ghost use Rattle.ep_packet.specs.Examples.{cut_after_auth, cut_after_macsec};
+ghost use Rattle.ep_packet.specs.Examples.{cut_after_options, cut_after_tag};
+ghost use Rattle.ep_packet.specs.Examples.{cut_in_options, missing_bytes};
 ghost use Rattle.ep_packet.specs.FrameFault.{IsCookedFault, IsEtherTypeFault};
 ghost use Rattle.ep_packet.specs.FrameFault.{IsEtherTypeHeadersFault, IsFrameFault};
 ghost use Rattle.ep_packet.specs.FrameFault.{IsFrameHeadersFault, IsIpPacketFault};
@@ -41,29 +41,29 @@ pub fn refusals_are_first_faults()
     faults_found_are_first();
 }
 
-/// Frames that end within a header, and where that header begins in them: an IPv4 header behind a
-/// VLAN tag, an ARP packet behind a MACsec header, UDP behind an authentication header, ICMPv6
-/// behind hop-by-hop options, and a TCP header within its options.
-pub fn offsets_by_hand()
-    ensures tag { sliced_ethernet cut_behind_tag
-        ≡ Err (wants layer.Ipv4Header 20 10 source.Slice 18) }
-    ensures macsec { sliced_ethernet cut_behind_macsec
-        ≡ Err (wants layer.Arp 8 6 source.Slice 22) }
-    ensures auth { sliced_ethernet cut_behind_auth
-        ≡ Err (wants layer.UdpHeader 8 4 source.Ipv4HeaderTotalLen 46) }
-    ensures options { sliced_ethernet cut_behind_options
-        ≡ Err (wants layer.Icmpv6 8 4 source.Ipv6HeaderPayloadLen 62) }
+/// Frames that end within a header, and the offset of that header: an IPv4 header after a VLAN tag,
+/// an ARP packet after a MACsec header, UDP after an authentication header, ICMPv6 after hop-by-hop
+/// options, and a TCP header within its options.
+pub fn offsets_at_literals()
+    ensures tag { sliced_ethernet cut_after_tag
+        ≡ Err (missing_bytes layer.Ipv4Header 20 10 source.Slice 18) }
+    ensures macsec { sliced_ethernet cut_after_macsec
+        ≡ Err (missing_bytes layer.Arp 8 6 source.Slice 22) }
+    ensures auth { sliced_ethernet cut_after_auth
+        ≡ Err (missing_bytes layer.UdpHeader 8 4 source.Ipv4HeaderTotalLen 46) }
+    ensures options { sliced_ethernet cut_after_options
+        ≡ Err (missing_bytes layer.Icmpv6 8 4 source.Ipv6HeaderPayloadLen 62) }
     ensures tcp { sliced_ethernet cut_in_options
-        ≡ Err (wants layer.TcpHeader 24 22 source.Ipv4HeaderTotalLen 34) }
+        ≡ Err (missing_bytes layer.TcpHeader 24 22 source.Ipv4HeaderTotalLen 34) }
     // The same of headers as values.
-    ensures tag_header { ethernet_headers cut_behind_tag
-        ≡ Err (wants layer.Ipv4Header 20 10 source.Slice 18) }
-    ensures macsec_header { ethernet_headers cut_behind_macsec
-        ≡ Err (wants layer.Arp 8 6 source.Slice 22) }
-    ensures auth_header { ethernet_headers cut_behind_auth
-        ≡ Err (wants layer.UdpHeader 8 4 source.Ipv4HeaderTotalLen 46) }
-    ensures options_header { ethernet_headers cut_behind_options
-        ≡ Err (wants layer.Icmpv6 8 4 source.Ipv6HeaderPayloadLen 62) }
+    ensures tag_header { ethernet_headers cut_after_tag
+        ≡ Err (missing_bytes layer.Ipv4Header 20 10 source.Slice 18) }
+    ensures macsec_header { ethernet_headers cut_after_macsec
+        ≡ Err (missing_bytes layer.Arp 8 6 source.Slice 22) }
+    ensures auth_header { ethernet_headers cut_after_auth
+        ≡ Err (missing_bytes layer.UdpHeader 8 4 source.Ipv4HeaderTotalLen 46) }
+    ensures options_header { ethernet_headers cut_after_options
+        ≡ Err (missing_bytes layer.Icmpv6 8 4 source.Ipv6HeaderPayloadLen 62) }
     ensures tcp_header { ethernet_headers cut_in_options
-        ≡ Err (wants layer.TcpHeader 24 22 source.Ipv4HeaderTotalLen 34) }
+        ≡ Err (missing_bytes layer.TcpHeader 24 22 source.Ipv4HeaderTotalLen 34) }
 {}

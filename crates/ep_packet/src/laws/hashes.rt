@@ -1,5 +1,5 @@
-//! What `Hash` of the errors here feeds a hasher: which variant one is, as they are declared, and
-//! then what it holds.
+//! What `Hash` of the errors here and of payloads feeds a hasher: the index of the variant in the
+//! order of declaration, and then the fields.
 ghost use Rattle.std.specs.Prelude.{◌≡◌, ◌++◌, [], ◌∷◌, pos};
 ghost use Rattle.std.specs.Hash as fed;
 ghost use Rattle.ep_base.specs.Traits.{VariantFeeds};
@@ -22,7 +22,7 @@ use ep_tag::err::macsec;
 use ep_tcpudp::err::tcp;
 use std::hash::Hash;
 
-/// Why there is no packet: a want of bytes, or what is wrong with the header of a layer.
+/// Why there is no packet: too few bytes, or the header of a layer that breaks its format.
 pub fn slice_errors_hash_all_fields()
     ensures len { VariantFeeds ⟦<SliceError as Hash>⟧.hash_input
         0 packet.Len ⟦<LenError as Hash>⟧.hash_input }
@@ -44,8 +44,8 @@ pub fn slice_errors_hash_all_fields()
         8 packet.Tcp ⟦<tcp::HeaderError as Hash>⟧.hash_input }
 {}
 
-/// Why headers were not written: no memory, or why they don't follow one another. The one reason
-/// why no number was set tells nothing more.
+/// Why headers were not written: out of memory, or why they don't follow one another. The error of
+/// setting a next header number has one variant, which feeds nothing.
 pub fn write_errors_hash_all_fields()
     ensures memory { ⟦<HeadersWriteError as Hash>⟧.hash_input write.Memory ≡ fed.isize (pos 0) }
     ensures ipv4 { VariantFeeds ⟦<HeadersWriteError as Hash>⟧.hash_input
@@ -63,9 +63,9 @@ pub fn checksum_errors_hash_all_fields()
         ≡ fed.isize (pos 1) }
 {}
 
-/// What a hasher is fed of a payload: the place of the kind, as Rust's derive feeds it, and of bytes
-/// their number, then each.
-pub fn payload_hashes_by_hand()
+/// What a payload feeds a hasher: the index of the variant, as Rust's derive feeds it, and for
+/// bytes their number, then each.
+pub fn payload_hashes_at_literals()
     ensures empty { hashed_as Empty ≡ fed.isize (pos 0) }
     ensures bytes { hashed_as (Tcp (1 ∷ 2 ∷ []))
         ≡ fed.isize (pos 5) ++ fed.usize 2 ++ fed.u8 1 ++ fed.u8 2 }

@@ -1,7 +1,7 @@
-//! Laws of headers as values beside views of packets.
+//! Laws that relate headers as values to views of packets.
 ghost use Rattle.std.specs.Prelude.{◌≡◌, [], ◌∷◌, ◌++◌, true, false, Some, None};
 ghost use Rattle.ep_base.specs.declared.len_source.LenSource.TheVariants as source;
-ghost use Rattle.ep_ext.specs.Follow.{has_place};
+ghost use Rattle.ep_ext.specs.Follow.{has_slot};
 ghost use Rattle.ep_ext.specs.declared.net.ipv6_extensions.Ipv6Extensions.{Ipv6Extensions};
 ghost use Rattle.ep_ip.specs.Ipv6.{ipv6_header_of};
 ghost use Rattle.ep_ipslice.specs.Packet.{IpPayload, Ipv6Packet, IsIpv6Packet};
@@ -18,17 +18,17 @@ use ep_ipslice::laws;
 pub fn ipv6_headers_agree_with_view(slice: &[u8])
     ensures { (packet : Ipv6Packet) (headers : IpHeaders) (payload : IpPayload)
         → IsIpv6Packet slice.now packet
-        → IsIpv6Headers slice.now headers payload → has_place payload.ip_number.0 ≡ false
+        → IsIpv6Headers slice.now headers payload → has_slot payload.ip_number.0 ≡ false
         → (payload ≡ packet.payload)
         × ((e : Ipv6Extensions) × (headers ≡ ip.Ipv6 (ipv6_header_of packet.header) e)) }
 {
-    laws::placed_rows_are_views();
+    laws::rows_in_slots_are_views();
     laws::ipv6_packet_is_alone(slice);
 }
 
 /// The headers of an IPv6 packet as values, with its payload: a header that names a fragment header,
-/// one that names UDP, offset 1 with more fragments behind it, the eight bytes that the payload length
-/// leaves, and a byte of padding (RFC 8200, sections 3 and 4.5).
+/// one that names UDP, with offset 1 (8 bytes) and more fragments, the eight bytes that the payload
+/// length leaves, and a byte of padding (RFC 8200, sections 3 and 4.5).
 pub fn ipv6_headers_at_a_literal()
     ensures { IsIpv6Headers (ipv6_header 16 ++ second_fragment ++ eight_bytes ++ 0 ∷ [])
         (ip.Ipv6 (record {

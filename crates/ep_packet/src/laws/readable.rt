@@ -11,10 +11,10 @@ ghost use Rattle.ep_tcpudp.specs.Tcp.{ReadableTcp};
 ghost use Rattle.ep_tcpudp.specs.Udp.{ReadableUdp};
 ghost use Rattle.ep_tcpudp.specs.declared.err.tcp.header_error.HeaderError.TheVariants.{DataOffsetTooSmall};
 
-/// An ICMP message can be read exactly where its header of 8 bytes is there and it is 20 bytes long
-/// if it is a timestamp message of ICMPv4; a TCP segment where its header is there as long as it
-/// says; a UDP message where its header is and its length is 0, or no less than the header's and no
-/// more than is there. Any other message can.
+/// An ICMP message can be read exactly if its header of 8 bytes is there, a timestamp message of
+/// ICMPv4 only if it has exactly 20 bytes; a TCP segment if its data offset is at least 5 and its
+/// header is there up to that offset; a UDP message if its header of 8 bytes is there and its
+/// length field is 0, or at least 8 and at most the number of bytes. Any other message can be read.
 pub fn readable_messages(message: &[u8])
     ensures icmpv4 { IsTrue (is_readable icmpv4 message.now) ↔ ReadableIcmpv4 message.now }
     ensures tcp { IsTrue (is_readable tcp message.now) ↔ ReadableTcp message.now }
@@ -25,9 +25,9 @@ pub fn readable_messages(message: &[u8])
 {}
 
 /// What bytes are read as, worked out by hand after RFC 768, 792, 4443 and 9293: an echo reply of
-/// ICMPv4, a TCP header, a UDP message with a byte behind its length, an echo request of ICMPv6,
+/// ICMPv4, a TCP header, a UDP message with a byte after its length, an echo request of ICMPv6,
 /// and a byte of another protocol; and why bytes are no message: too few, and a data offset of 4.
-pub fn messages_by_hand()
+pub fn messages_at_literals()
     ensures icmpv4 { message_at 1 (0 ∷ 0 ∷ 255 ∷ 255 ∷ 0 ∷ 0 ∷ 0 ∷ 0 ∷ [])
         ≡ Ok (Icmpv4 (0 ∷ 0 ∷ 255 ∷ 255 ∷ 0 ∷ 0 ∷ 0 ∷ 0 ∷ [])) }
     ensures tcp { message_at 6 (0 ∷ 1 ∷ 0 ∷ 2 ∷ 0 ∷ 0 ∷ 0 ∷ 3 ∷ 0 ∷ 0 ∷ 0 ∷ 0 ∷ 80 ∷ 2 ∷ 4 ∷

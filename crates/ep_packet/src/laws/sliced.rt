@@ -1,7 +1,6 @@
-//! Laws of the parts of a frame at frames from outside: the answers were worked out by hand after
-//! IEEE
-//! 802.3, 802.1Q and 802.1AE and RFC 768, 791, 826 and 8200, so that a definition can't change with
-//! the code.
+//! Laws of sliced frames at literal frames: the results were worked out by hand after IEEE 802.3,
+//! 802.1Q and 802.1AE and RFC 768, 791, 826 and 8200, so that a definition can't change with the
+//! code.
 ghost use Rattle.std.specs.Prelude.{◌≡◌, [], ◌∷◌, ◌++◌, true, false, Ok, Err, Some, None};
 ghost use Rattle.ep_base.specs.declared.err.layer.Layer.TheVariants as layer;
 ghost use Rattle.ep_base.specs.declared.len_source.LenSource.TheVariants as source;
@@ -10,14 +9,14 @@ ghost use Rattle.ep_link.specs.declared.link.link_slice.LinkSlice.TheVariants as
 ghost use Rattle.ep_packet.specs.Class.{class_of};
 ghost use Rattle.ep_packet.specs.Class.Class.{Cut, Other, Refused, Whole};
 ghost use Rattle.ep_packet.specs.Examples.{bounded_packet, cooked_header, cooked_packet};
-ghost use Rattle.ep_packet.specs.Examples.{cooked_without_type, cut_frame, eight_bytes};
+ghost use Rattle.ep_packet.specs.Examples.{cooked_without_type, fragment_frame, eight_bytes};
 ghost use Rattle.ep_packet.specs.Examples.{frame_addresses, ipv4_addresses, ipv4_fragment_header};
 ghost use Rattle.ep_packet.specs.Examples.{ipv4_header, ipv4_header_before, ipv4_packet};
-ghost use Rattle.ep_packet.specs.Examples.{ipv6_cut_frame, ipv6_destination, ipv6_other_frame};
+ghost use Rattle.ep_packet.specs.Examples.{ipv6_fragment_frame, ipv6_destination, ipv6_other_frame};
 ghost use Rattle.ep_packet.specs.Examples.{ipv6_source, tag_1, tag_2, tag_3, tag_4, udp_message};
 ghost use Rattle.ep_packet.specs.Examples.{tag_header, vlan_named, whole_frame};
-ghost use Rattle.ep_packet.specs.PacketView.{ether_payload_in, ip_payload_of, is_part};
-ghost use Rattle.ep_packet.specs.PacketView.{last_payload, payload_ether_type_in, source_behind};
+ghost use Rattle.ep_packet.specs.PacketView.{ether_payload_in, ip_payload_of, is_fragment};
+ghost use Rattle.ep_packet.specs.PacketView.{last_payload, payload_ether_type_in, source_after};
 ghost use Rattle.ep_packet.specs.PacketView.{vlan_slice_of};
 ghost use Rattle.ep_packet.specs.Parts.{headers_len, tags_len};
 ghost use Rattle.ep_packet.specs.Readable.ReadMessage.{Udp};
@@ -48,12 +47,12 @@ pub fn types_of_tags()
     ensures ipv4_is_no_macsec { is_macsec_type (record { 0 = 2048 }) ≡ false }
 {}
 
-/// What frames are: a UDP message behind a VLAN tag, which tells nothing of the tag; a part of one
-/// behind two tags, which does; an unknown ether type, an ARP packet; a header that is cut off, and
-/// a frame of 13 bytes.
-pub fn classes_by_hand()
+/// Classes of frames: a UDP message after a VLAN tag, whose class leaves the tag out; a fragment
+/// after two tags, whose class has their identifiers; an unknown ether type, an ARP packet; a
+/// header that is cut off, and a frame of 13 bytes.
+pub fn classes_at_literals()
     ensures whole { class_of whole_frame ≡ Whole ipv4_addresses 17 udp_message (Udp udp_message) }
-    ensures part { class_of cut_frame ≡ Cut (record {
+    ensures fragment { class_of fragment_frame ≡ Cut (record {
       vlan_ids = 5 ∷ 9 ∷ [];
       addresses = ipv4_addresses;
       identification = 258;
@@ -65,10 +64,10 @@ pub fn classes_by_hand()
     ensures too_short { class_of (frame_addresses ++ 8 ∷ []) ≡ Refused }
 {}
 
-/// What frames with IPv6 are: a part of a message, if the first fragment header says so, and
-/// something else where only a later one does.
-pub fn ipv6_classes_by_hand()
-    ensures part { class_of ipv6_cut_frame ≡ Cut (record {
+/// Classes of frames with IPv6: a fragment, if the first fragment header says so, and something
+/// else if only a later one does.
+pub fn ipv6_classes_at_literals()
+    ensures fragment { class_of ipv6_fragment_frame ≡ Cut (record {
       vlan_ids = [];
       addresses = V6 ipv6_source ipv6_destination;
       identification = 16909060;
@@ -77,9 +76,9 @@ pub fn ipv6_classes_by_hand()
     ensures later { class_of ipv6_other_frame ≡ Other }
 {}
 
-/// Three of four VLAN tags are read; nothing is named behind a modified payload, here an encrypted
-/// one; and the place of a cut-off tag counts from the front of the tag before.
-pub fn tags_by_hand()
+/// Three of four VLAN tags are read; nothing is named after a modified payload, here an encrypted
+/// one; and the offset of a tag that is cut off counts from the start of the first tag.
+pub fn tags_at_literals()
     ensures four { tags_in 3 (vlan_named tag_1) ≡ Ok (record {
       tags = tag.Vlan tag_1 ∷ tag.Vlan tag_2 ∷ tag.Vlan tag_3 ∷ [];
       len = 12;
@@ -106,9 +105,9 @@ pub fn tags_by_hand()
         ≡ 1 ∷ 2 ∷ [] }
 {}
 
-/// A want of bytes seen from 14 bytes earlier, and within what bounds it; a fault of the content is
-/// the same.
-pub fn faults_by_hand()
+/// An error of too few bytes, with an offset that is 14 greater, and within a bounding length; an
+/// error of the content stays the same.
+pub fn faults_at_literals()
     ensures moved { offset_by 14 (slice_error.Len (record {
       required_len = 4;
       len = 2;
@@ -142,18 +141,18 @@ pub fn faults_by_hand()
     ensures own { bounded_by source.Ipv4HeaderTotalLen source.UdpHeaderLen ≡ source.UdpHeaderLen }
 {}
 
-/// What a packet tells of its tags: the first two VLAN tags, what bounds the bytes behind them, and
-/// what the last ether type names.
-pub fn views_by_hand()
+/// Views of a packet's tags: the first two VLAN tags, what bounds the bytes after them, and what
+/// the last ether type names.
+pub fn views_at_literals()
     ensures no_vlan { vlan_slice_of [] ≡ None }
     ensures single { vlan_slice_of (tag_1 ∷ []) ≡ Some (SingleVlan tag_1) }
     ensures double { vlan_slice_of (tag_1 ∷ tag_2 ∷ tag_3 ∷ [])
         ≡ Some (DoubleVlan (record { outer = tag_1; inner = tag_2 })) }
-    ensures slice { source_behind (tag.Vlan tag_1 ∷
+    ensures slice { source_after (tag.Vlan tag_1 ∷
         tag.Macsec (record
         { header = 0 ∷ 0 ∷ 0 ∷ 0 ∷ 0 ∷ 1 ∷ 8 ∷ 0 ∷ []; payload = Modified [] }) ∷ [])
         ≡ source.Slice }
-    ensures short_length { source_behind
+    ensures short_length { source_after
         (tag.Macsec (record
         { header = 0 ∷ 6 ∷ 0 ∷ 0 ∷ 0 ∷ 1 ∷ 8 ∷ 0 ∷ []; payload = Modified [] }) ∷
         tag.Vlan tag_1 ∷ [])
@@ -166,9 +165,9 @@ pub fn views_by_hand()
         ≡ Some (vlan_named tag_4) }
 {}
 
-/// What a packet tells of what the last ether type names, here IPv4 in a VLAN tag behind a short
-/// length; and whether an IP payload is a part of a message.
-pub fn packet_views_by_hand()
+/// Views of what the last ether type names, here IPv4 in a VLAN tag after a MACsec header with a
+/// short length; and whether an IP payload is a fragment.
+pub fn packet_views_at_literals()
     ensures named { payload_ether_type_in (bounded_packet None) ≡ Some (record { 0 = 2048 }) }
     ensures looked_into { payload_ether_type_in
         (bounded_packet (Some (net.Ipv4 ipv4_packet))) ≡ None }
@@ -184,18 +183,19 @@ pub fn packet_views_by_hand()
           len_source = source.MacsecShortLength;
           payload = [];
         }) }
-    ensures no_packet { is_part (ip_payload_of None) ≡ false }
-    ensures whole { is_part (ip_payload_of (Some (net.Ipv4 ipv4_packet))) ≡ false }
-    ensures part { is_part (ip_payload_of (Some (net.Ipv4 (record {
+    ensures no_packet { is_fragment (ip_payload_of None) ≡ false }
+    ensures whole { is_fragment (ip_payload_of (Some (net.Ipv4 ipv4_packet))) ≡ false }
+    ensures fragment { is_fragment (ip_payload_of (Some (net.Ipv4 (record {
       header = ipv4_fragment_header;
       auth = None;
       payload = eight_bytes;
     })))) ≡ true }
 {}
 
-/// Packets of Linux cooked captures: the ether type of IPv4; a number that is no ether type, behind
-/// which nothing is looked into; and the place of a header that is cut off, and that of their own.
-pub fn cooked_packets_by_hand()
+/// Packets of Linux cooked captures: the ether type of IPv4; a number that is no ether type, after
+/// which nothing is parsed; and the offsets of an IPv4 header and of their own header where these
+/// are cut off.
+pub fn cooked_packets_at_literals()
     ensures ipv4 { sliced_linux_sll cooked_packet ≡ Ok (record {
       link = Some (link.LinuxSll cooked_packet);
       link_exts = record { items = [] };
@@ -225,9 +225,9 @@ pub fn cooked_packets_by_hand()
     })) }
 {}
 
-/// Bytes behind an ether type: it and they stand in the place of the link header. And of three VLAN
-/// tags the first is the outer one and the second the inner one.
-pub fn ether_type_by_hand()
+/// Bytes after an ether type: both are the link layer's slice. And of three VLAN tags the first is
+/// the outer one and the second the inner one.
+pub fn ether_type_at_literals()
     ensures ipv4 { sliced_ether_type (record { 0 = 2048 }) (ipv4_header ++ udp_message)
         ≡ Ok (record {
           link = Some (link.EtherPayload (record {
@@ -246,7 +246,7 @@ pub fn ether_type_by_hand()
 
 /// IP packets without a link header: a UDP message over IPv4; bytes of another version, and none;
 /// and a TCP header that the packet cuts off.
-pub fn ip_packets_by_hand()
+pub fn ip_packets_at_literals()
     ensures ipv4 { sliced_ip (ipv4_header ++ udp_message) ≡ Ok (record {
       link = None;
       link_exts = record { items = [] };
@@ -271,8 +271,8 @@ pub fn ip_packets_by_hand()
         })) }
 {}
 
-/// How long the parts are in front of a payload.
-pub fn lengths_by_hand()
+/// The length in bytes of the tags or headers before a payload.
+pub fn lengths_at_literals()
     ensures no_tags { tags_len [] ≡ 0 }
     ensures tags { tags_len (tag.Vlan tag_1 ∷
         tag.Macsec (record

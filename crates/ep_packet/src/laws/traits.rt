@@ -5,15 +5,15 @@ ghost use Rattle.std.specs.Cmp.Lexicographic.{slice_cmp};
 ghost use Rattle.std.specs.Hash as fed;
 ghost use Rattle.std.specs.Ordering.{nat_cmp};
 ghost use Rattle.ep_base.specs.Traits.{CopyIsValue, CopyNeverFails, HashIsOf, IsPlainData};
-ghost use Rattle.ep_packet.specs.Class.{as_class, part_told};
-ghost use Rattle.ep_packet.specs.PacketHeaders.{headers_told};
-ghost use Rattle.ep_packet.specs.Payload.{hashed_as, ordered_as, payload_told};
+ghost use Rattle.ep_packet.specs.Class.{as_class, fragment_values};
+ghost use Rattle.ep_packet.specs.PacketHeaders.{headers_parsed};
+ghost use Rattle.ep_packet.specs.Payload.{hashed_as, ordered_as, payload_parsed};
 ghost use Rattle.ep_packet.specs.Readable.{as_read};
 ghost use Rattle.ep_packet.specs.declared.addresses.Addresses.TheVariants as version;
 ghost use Rattle.ep_packet.specs.declared.class.Class.{Class as ClassValue};
-ghost use Rattle.ep_packet.specs.declared.class.Class.TheVariants as told;
-ghost use Rattle.ep_packet.specs.declared.class.CutMessage.{CutMessage as CutValue};
-ghost use Rattle.ep_packet.specs.declared.class.Part.{Part as PartValue};
+ghost use Rattle.ep_packet.specs.declared.class.Class.TheVariants as returned;
+ghost use Rattle.ep_packet.specs.declared.class.IpFragment.{IpFragment as IpFragmentValue};
+ghost use Rattle.ep_packet.specs.declared.class.SlicedFragment.{SlicedFragment as SlicedFragmentValue};
 ghost use Rattle.ep_packet.specs.declared.class.WholeMessage.{WholeMessage as WholeValue};
 ghost use Rattle.ep_packet.specs.declared.message.Message.{Message as MessageValue};
 ghost use Rattle.ep_packet.specs.declared.packet_headers.PacketHeaders.{PacketHeaders};
@@ -23,8 +23,8 @@ use crate::err::ip::HeadersWriteError;
 use crate::err::net::NetSetNextHeaderError;
 use crate::err::packet::{SliceError, TransportChecksumError};
 use crate::{
-    Addresses, Class, CutMessage, IpHeaders, Message, NetHeaders, NetSlice, PacketHeaders, Part,
-    PayloadSlice, SlicedPacket, TransportHeader, TransportSlice, WholeMessage,
+    Addresses, Class, IpFragment, IpHeaders, Message, NetHeaders, NetSlice, PacketHeaders,
+    PayloadSlice, SlicedFragment, SlicedPacket, TransportHeader, TransportSlice, WholeMessage,
 };
 use ep_base::laws::traits::Value;
 use std::hash::Hash;
@@ -63,7 +63,7 @@ pub fn net_is_plain_data<'a>()
     ep_link::laws::traits::types_are_plain_data();
 }
 
-/// So are the parts of a packet.
+/// So are sliced packets.
 pub fn packets_are_plain_data<'a>()
     ensures { IsPlainData ⟦<SlicedPacket<'a> as Value>⟧ }
 {
@@ -85,13 +85,13 @@ pub fn equal_messages_are_read_alike<'a>()
         ↔ (as_read a ≡ as_read b) }
 {}
 
-/// A copy of a part of a message is the part and takes no memory. So is one of what a frame is to its
-/// reader.
-pub fn copies_of_parts_are_values<'a>()
-    ensures copies { CopyIsValue ⟦<Part<'a> as Clone>⟧.is_clone }
-    ensures never_fails { CopyNeverFails ⟦<Part<'a> as Clone>⟧.is_infallible }
-    ensures cut { CopyIsValue ⟦<CutMessage<'a> as Clone>⟧.is_clone }
-    ensures cut_never_fails { CopyNeverFails ⟦<CutMessage<'a> as Clone>⟧.is_infallible }
+/// A copy of a fragment is the fragment and takes no memory. The same holds for whole messages and
+/// for classes.
+pub fn copies_of_fragments_are_values<'a>()
+    ensures copies { CopyIsValue ⟦<SlicedFragment<'a> as Clone>⟧.is_clone }
+    ensures never_fails { CopyNeverFails ⟦<SlicedFragment<'a> as Clone>⟧.is_infallible }
+    ensures cut { CopyIsValue ⟦<IpFragment<'a> as Clone>⟧.is_clone }
+    ensures cut_never_fails { CopyNeverFails ⟦<IpFragment<'a> as Clone>⟧.is_infallible }
     ensures whole { CopyIsValue ⟦<WholeMessage<'a> as Clone>⟧.is_clone }
     ensures whole_never_fails { CopyNeverFails ⟦<WholeMessage<'a> as Clone>⟧.is_infallible }
     ensures class { CopyIsValue ⟦<Class<'a> as Clone>⟧.is_clone }
@@ -103,16 +103,16 @@ pub fn copies_of_parts_are_values<'a>()
     ep_tag::laws::traits::types_are_plain_data();
 }
 
-/// Parts of messages are equal where all that they hold is the same, and classes where they are of
-/// one kind and all that they tell is: of an uncut message addresses, number, bytes and how it is
-/// read, of a part its name, too.
-pub fn classes_are_equal_as_told<'a>()
-    ensures parts { (a b : PartValue) → IsTrue (⟦<Part<'a> as PartialEq>⟧.eq a b)
-        ↔ (part_told a ≡ part_told b) }
-    ensures cut { (a b : CutValue) → IsTrue (⟦<CutMessage<'a> as PartialEq>⟧.eq a b)
-        ↔ (as_class (told.Cut a) ≡ as_class (told.Cut b)) }
+/// Fragments are equal if all their fields are, and classes if they are of one variant and have the
+/// same values: of a whole message addresses, number, bytes and how it is read, of a fragment also
+/// what identifies its datagram.
+pub fn classes_are_equal_by_value<'a>()
+    ensures parts { (a b : SlicedFragmentValue) → IsTrue (⟦<SlicedFragment<'a> as PartialEq>⟧.eq a b)
+        ↔ (fragment_values a ≡ fragment_values b) }
+    ensures cut { (a b : IpFragmentValue) → IsTrue (⟦<IpFragment<'a> as PartialEq>⟧.eq a b)
+        ↔ (as_class (returned.Cut a) ≡ as_class (returned.Cut b)) }
     ensures whole { (a b : WholeValue) → IsTrue (⟦<WholeMessage<'a> as PartialEq>⟧.eq a b)
-        ↔ (as_class (told.Whole a) ≡ as_class (told.Whole b)) }
+        ↔ (as_class (returned.Whole a) ≡ as_class (returned.Whole b)) }
     ensures class { (a b : ClassValue) → IsTrue (⟦<Class<'a> as PartialEq>⟧.eq a b)
         ↔ (as_class a ≡ as_class b) }
 {
@@ -133,41 +133,41 @@ pub fn addresses_hash_all_fields()
         ≡ fed.isize (pos 1) ++ fed.slice fed.u8 source ++ fed.slice fed.u8 destination }
 {}
 
-/// A copy of a payload tells the same.
+/// A copy of a payload has the same value.
 pub fn copies_of_payloads_are_values<'a>()
     ensures value { (value copy : PayloadSlice) → ⟦<PayloadSlice<'a> as Clone>⟧.is_clone value copy
-        → payload_told copy ≡ payload_told value }
+        → payload_parsed copy ≡ payload_parsed value }
     ensures fails { CopyNeverFails ⟦<PayloadSlice<'a> as Clone>⟧.is_infallible }
 {}
 
-/// Equal are payloads that tell the same. They are ordered by their kinds, as the variants stand,
-/// then as what they hold; a hasher is fed the kind and all that they hold.
-pub fn payloads_are_told_apart<'a>()
+/// Payloads are equal if they have the same value. They are ordered by their variants, in the order
+/// of declaration, then by their fields; a hasher is fed the variant and all fields.
+pub fn payloads_compare_by_value<'a>()
     ensures equal { (a b : PayloadSlice) → IsTrue (⟦<PayloadSlice<'a> as PartialEq>⟧.eq a b)
-        ↔ (payload_told a ≡ payload_told b) }
+        ↔ (payload_parsed a ≡ payload_parsed b) }
     ensures order { (a b : PayloadSlice) → ⟦<PayloadSlice<'a> as Ord>⟧.cmp a b
-        ≡ slice_cmp nat_cmp (ordered_as (payload_told a)) (ordered_as (payload_told b)) }
-    ensures hash { HashIsOf (λ p. hashed_as (payload_told p))
+        ≡ slice_cmp nat_cmp (ordered_as (payload_parsed a)) (ordered_as (payload_parsed b)) }
+    ensures hash { HashIsOf (λ p. hashed_as (payload_parsed p))
         ⟦<PayloadSlice<'a> as Hash>⟧.hash_input }
 {
     ep_ipslice::laws::traits::types_are_plain_data();
     ep_tag::laws::traits::types_are_plain_data();
 }
 
-/// So are headers of a packet, and a copy of them takes no memory: equal are those whose link
-/// headers, tags, headers and payloads are.
-pub fn packet_headers_are_told_apart<'a>()
+/// Headers of a packet are equal if their link headers, tags, other headers and payloads are. A
+/// copy of them takes no memory.
+pub fn packet_headers_compare_by_value<'a>()
     ensures copies { (value copy : PacketHeaders)
         → ⟦<PacketHeaders<'a> as Clone>⟧.is_clone value copy
-        → headers_told copy ≡ headers_told value }
+        → headers_parsed copy ≡ headers_parsed value }
     ensures fails { CopyNeverFails ⟦<PacketHeaders<'a> as Clone>⟧.is_infallible }
     ensures equal { (a b : PacketHeaders) → IsTrue (⟦<PacketHeaders<'a> as PartialEq>⟧.eq a b)
-        ↔ (headers_told a ≡ headers_told b) }
+        ↔ (headers_parsed a ≡ headers_parsed b) }
 {
     types_are_plain_data();
     net_is_plain_data();
     copies_of_payloads_are_values();
-    payloads_are_told_apart();
+    payloads_compare_by_value();
     ep_link::laws::traits::types_are_plain_data();
     ep_tag::laws::traits::types_are_plain_data();
 }

@@ -2,14 +2,14 @@ ghost use Rattle.std.specs.Prelude.{◌≡◌, ◌≤◌, ◌<◌, ◌+◌, ℕ,
 ghost use Rattle.std.specs.Prelude.{IsOkAnd, vec_len, vec_capacity};
 ghost use Rattle.std.specs.Option.{option_map};
 ghost use Rattle.ep_ext.specs.Follow.{Follows, Names, header_len as exts_len};
-ghost use Rattle.ep_ext.specs.Ipv4Exts.{NamesBehind, ipv4_exts_spelling};
+ghost use Rattle.ep_ext.specs.Ipv4Exts.{NamesAfter, ipv4_exts_encoding};
 ghost use Rattle.ep_ext.specs.Value.{Piece};
 ghost use Rattle.ep_ext.specs.declared.net.ipv4_extensions.Ipv4Extensions.{Ipv4Extensions};
 ghost use Rattle.ep_ext.specs.declared.net.ipv6_extensions.Ipv6Extensions.{Ipv6Extensions};
 ghost use Rattle.ep_ip.specs.Ipv4.{header_len};
 ghost use Rattle.ep_ip.specs.declared.net.ipv4_header.Ipv4Header.{Ipv4Header};
 ghost use Rattle.ep_ip.specs.declared.net.ipv6_header.Ipv6Header.{Ipv6Header};
-ghost use Rattle.ep_ext.specs.Place.{place_of};
+ghost use Rattle.ep_ext.specs.Slot.{slot_of};
 ghost use Rattle.ep_packet.specs.IpHeadersAt.{ip_headers_at, ipv4_headers_at, ipv6_headers_at};
 ghost use Rattle.ep_ipslice.specs.Ipv6Fault.{IsFaultIn};
 ghost use Rattle.ep_ipslice.specs.Packet.{IpPayload};
@@ -46,7 +46,7 @@ impl IpHeaders {
     /// The greatest length in bytes, of an IPv6 header of 40 and extension headers of 9228.
     pub const MAX_LEN: usize = 9268;
 
-    /// The headers of IPv4, where they are.
+    /// The headers, if they are of IPv4.
     pub fn ipv4(&self) -> Option<(&Ipv4Header, &Ipv4Extensions)>
         ensures { option_map (λ r. (r.0.now, r.1.now)) result ≡ ipv4_in self.now }
     {
@@ -56,7 +56,7 @@ impl IpHeaders {
         }
     }
 
-    /// The headers of IPv6, where they are.
+    /// The headers, if they are of IPv6.
     pub fn ipv6(&self) -> Option<(&Ipv6Header, &Ipv6Extensions)>
         ensures { option_map (λ r. (r.0.now, r.1.now)) result ≡ ipv6_in self.now }
     {
@@ -66,17 +66,17 @@ impl IpHeaders {
         }
     }
 
-    /// The headers of the IP packet at the front of the slice, of the version that the upper half
-    /// of its first byte tells, and its payload. Refused are, in this order, a slice of no bytes, a
-    /// version that is neither 4 nor 6, and what `from_ipv4_slice` or `from_ipv6_slice` refuses.
+    /// The headers of the IP packet at the start of the slice, of the version in the upper half of
+    /// its first byte, and its payload. Refused are, in this order, a slice of no bytes, a version
+    /// that is neither 4 nor 6, and what `from_ipv4_slice` or `from_ipv6_slice` refuses.
     pub fn from_slice(slice: &[u8]) -> Result<(IpHeaders, IpPayloadSlice<'_>), HeadersSliceError>
-        // The slice begins with what is taken.
+        // The slice starts with the result.
         ensures found { IfOk result (λ r. IsIpHeaders slice.now r.0 r.1) }
-        // Headers and a payload that the slice begins with are taken.
+        // Headers and a payload that the slice starts with are the result.
         ensures only { (headers : IpHeaders) (payload : IpPayload)
             → IsIpHeaders slice.now headers payload
             → result ≡ Ok (headers, payload) }
-        // Else it is the first fault.
+        // An error is that of the first fault.
         ensures refused { IfErr result (λ e. IsIpHeadersFault slice.now e) }
         ensures exact { result ≡ ip_headers_at slice.now }
     {
@@ -101,8 +101,8 @@ impl IpHeaders {
         })))
     }
 
-    /// The headers of the IP packet at the front of the slice, the number behind them and the bytes
-    /// of the payload, as `from_slice` gives them.
+    /// The headers of the IP packet at the start of the slice, the IP number that they name last,
+    /// and the bytes of the payload, as `from_slice` gives them.
     pub fn read_from_slice(slice: &[u8]) -> Result<(IpHeaders, IpNumber, &[u8]), HeadersSliceError>
         ensures found { IfOk result (λ r. (payload : IpPayload) × IsIpHeaders slice.now r.0 payload
             × (r.1 ≡ payload.ip_number) × (r.2.now ≡ payload.payload)) }
@@ -118,18 +118,18 @@ impl IpHeaders {
         }
     }
 
-    /// The headers of the IPv4 packet at the front of the slice, and its payload, without the
-    /// padding behind the total length. It is refused as by [`Ipv4Slice::from_slice`].
+    /// The headers of the IPv4 packet at the start of the slice, and its payload, without the
+    /// padding after the total length. It is refused as by [`Ipv4Slice::from_slice`].
     pub fn from_ipv4_slice(
         slice: &[u8],
     ) -> Result<(IpHeaders, IpPayloadSlice<'_>), ipv4::SliceError>
-        // The slice begins with what is taken.
+        // The slice starts with the result.
         ensures found { IfOk result (λ r. IsIpv4Headers slice.now r.0 r.1) }
-        // Headers and a payload that the slice begins with are taken.
+        // Headers and a payload that the slice starts with are the result.
         ensures only { (headers : IpHeaders) (payload : IpPayload)
             → IsIpv4Headers slice.now headers payload
             → result ≡ Ok (headers, payload) }
-        // Else it is the first fault.
+        // An error is that of the first fault.
         ensures exact { result ≡ ipv4_headers_at slice.now }
     {
         match Ipv4Slice::from_slice(slice) {
@@ -138,25 +138,25 @@ impl IpHeaders {
         }
     }
 
-    /// The headers of the IPv6 packet at the front of the slice, and its payload, without the
-    /// padding behind the payload length. Where that length is 0 and bytes stand behind the header,
-    /// the packet takes all of them.
+    /// The headers of the IPv6 packet at the start of the slice, and its payload, without the
+    /// padding after the payload length. If that length is 0 and bytes follow the header, the
+    /// packet takes all of them.
     ///
     /// The extension headers are those that [`Ipv6Extensions::from_slice`] takes, and the payload
-    /// begins behind them. Refused are, in this order, what [`Ipv6Slice::header_and_body`] refuses,
+    /// starts after them. Refused are, in this order, what [`Ipv6Slice::header_and_body`] refuses,
     /// and what [`Ipv6Extensions::from_slice`] refuses in the bytes that the payload length gives
     /// it.
     pub fn from_ipv6_slice(
         slice: &[u8],
     ) -> Result<(IpHeaders, IpPayloadSlice<'_>), ipv6::SliceError>
-        // The slice begins with what is taken.
+        // The slice starts with the result.
         ensures found { IfOk result (λ r. IsIpv6Headers slice.now r.0 r.1) }
-        // Headers and a payload that the slice begins with are taken.
+        // Headers and a payload that the slice starts with are the result.
         ensures only { (headers : IpHeaders) (payload : IpPayload)
             → IsIpv6Headers slice.now headers payload
             → result ≡ Ok (headers, payload) }
-        // Else it is the first fault.
-        ensures refused { IfErr result (λ e. IsFaultIn place_of slice.now e) }
+        // An error is that of the first fault.
+        ensures refused { IfErr result (λ e. IsFaultIn slot_of slice.now e) }
         ensures exact { result ≡ ipv6_headers_at slice.now }
     {
         laws::bodies_lie_within();
@@ -193,11 +193,12 @@ impl IpHeaders {
         }
     }
 
-    /// The number behind the headers, where the header names the first extension header, each the
-    /// next, and all are reached; else the fault of the version's extension headers.
+    /// The number that the last header names, if the IP header names the first extension header,
+    /// each of these the next, and all are reached; else the error of the version's extension
+    /// headers.
     pub fn next_header(&self) -> Result<IpNumber, ExtsWalkError>
         ensures ipv4 { (h : Ipv4Header) (e : Ipv4Extensions) → self.now ≡ headers.Ipv4 h e
-            → (r : _) × (result ≡ or_ipv4 r) × NamesBehind e h.protocol.0 r }
+            → (r : _) × (result ≡ or_ipv4 r) × NamesAfter e h.protocol.0 r }
         ensures ipv6 { (h : Ipv6Header) (e : Ipv6Extensions) → self.now ≡ headers.Ipv6 h e
             → (r : _) × (result ≡ or_ipv6 r)
             × ((pieces : List Piece) (last : ℕ) → Follows e h.next_header.0 pieces last
@@ -213,8 +214,8 @@ impl IpHeaders {
         }
     }
 
-    /// Makes the headers name one another, and the last one this number, and answers the ether type
-    /// of the version.
+    /// Makes each header name the next one, and the last one this number. Returns the ether type of
+    /// the version.
     pub fn set_next_headers(&mut self, last: IpNumber) -> EtherType
         ensures ether_type { result.0 ≡ ether_type_of self.old }
         ensures linked { IsLinked self.old last.0 self.new }
@@ -231,12 +232,12 @@ impl IpHeaders {
         }
     }
 
-    /// Sets the length field to that of extension headers and a payload of this many bytes, of IPv4
-    /// with the header.
+    /// Sets the length field to the length in bytes of the extension headers and a payload of `len`
+    /// bytes, over IPv4 with the header.
     ///
     /// Refused, with the headers unchanged, are extension headers and payload of more than 65535
-    /// bytes together, of IPv4 less those of the header. The error tells that sum and the limit; a
-    /// sum that doesn't fit a `usize` is told as the greatest one.
+    /// bytes together, over IPv4 less those of the header. The error has that sum and the limit; a
+    /// sum that doesn't fit a `usize` is given as the greatest `usize`.
     pub fn set_payload_len(&mut self, len: usize) -> Result<(), ValueTooBigError<usize>>
         ensures ok { IfOk (with_payload_len self.old len)
             (λ headers. (result ≡ Ok tt) × (self.new ≡ headers)) }
@@ -253,14 +254,14 @@ impl IpHeaders {
         }
     }
 
-    /// Appends the IP header, of IPv4 with the checksum that belongs to it, and the extension
-    /// headers in the order in which it and they name one another.
+    /// Appends the IP header, over IPv4 with the checksum that belongs to it, and the extension
+    /// headers in the order in which they name one another.
     ///
-    /// What `next_header` refuses is refused before memory is asked for. On `Err` the buffer keeps
+    /// What `next_header` refuses is refused before memory is requested. On `Err` the buffer keeps
     /// its bytes.
     pub fn write(&self, buffer: &mut Vec<u8>) -> Result<(), HeadersWriteError>
         ensures appends { AppendsHeaders self.now buffer.old.items buffer.new.items result }
-        // Memory is wanted only where room was missing, and room never shrinks.
+        // It runs out of memory only if the capacity was too small. The capacity never shrinks.
         ensures memory { result ≡ Err Memory
             → vec_capacity buffer.old < vec_len buffer.old + ip_headers_len self.now }
         ensures capacity { vec_capacity buffer.old ≤ vec_capacity buffer.new }
@@ -271,7 +272,7 @@ impl IpHeaders {
         }
     }
 
-    /// Whether the payload is a part of a message, by the IPv4 header or the fragment header.
+    /// Whether the payload is a fragment, by the IPv4 header or the fragment header.
     pub fn is_fragmenting_payload(&self) -> bool
         ensures { result ≡ is_fragmenting self.now }
     {
@@ -307,7 +308,7 @@ fn write_ipv4(
     ensures appends { AppendsIpv4 header.now extensions.now buffer.old.items
         buffer.new.items result }
     ensures memory { result ≡ Err Memory → vec_capacity buffer.old
-        < vec_len buffer.old + (header_len header.now + length (ipv4_exts_spelling extensions.now)) }
+        < vec_len buffer.old + (header_len header.now + length (ipv4_exts_encoding extensions.now)) }
     ensures capacity { vec_capacity buffer.old ≤ vec_capacity buffer.new }
 {
     if let Err(fault) = extensions.next_header(header.protocol) {

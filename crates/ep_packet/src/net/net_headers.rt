@@ -22,7 +22,7 @@ pub enum NetHeaders {
     Arp(ArpPacket),
 }
 
-/// An older name.
+/// An older name of [`NetHeaders`].
 pub type IpHeader = NetHeaders;
 
 impl NetHeaders {
@@ -54,7 +54,7 @@ impl NetHeaders {
         matches!(self, NetHeaders::Arp(_))
     }
 
-    /// The headers of IPv4, where they are.
+    /// The headers, if they are of IPv4.
     pub fn ipv4_ref(&self) -> Option<(&Ipv4Header, &Ipv4Extensions)>
         ensures { option_map (λ r. (r.0.now, r.1.now)) result ≡ ipv4_in self.now }
     {
@@ -64,7 +64,7 @@ impl NetHeaders {
         }
     }
 
-    /// The headers of IPv6, where they are.
+    /// The headers, if they are of IPv6.
     pub fn ipv6_ref(&self) -> Option<(&Ipv6Header, &Ipv6Extensions)>
         ensures { option_map (λ r. (r.0.now, r.1.now)) result ≡ ipv6_in self.now }
     {
@@ -84,8 +84,8 @@ impl NetHeaders {
         }
     }
 
-    /// Makes the headers of an IP packet name one another, and the last one this number, and
-    /// answers the ether type of the version. An ARP packet is refused and unchanged.
+    /// Makes each header of an IP packet name the next one, and the last one this number. Returns
+    /// the ether type of the version. An ARP packet is refused and unchanged.
     pub fn try_set_next_headers(
         &mut self,
         last: IpNumber,

@@ -3,7 +3,7 @@ ghost use Rattle.std.specs.Prelude.{vec_len, vec_capacity};
 ghost use Rattle.std.specs.Option.{option_copied_mut};
 ghost use Rattle.std.specs.Borrow.{sem};
 ghost use Rattle.ep_packet.specs.Transport.{udp_in, tcp_in, icmpv4_in, icmpv6_in, transport_len};
-ghost use Rattle.ep_packet.specs.Transport.{transport_spelling};
+ghost use Rattle.ep_packet.specs.Transport.{transport_encoding};
 ghost use Rattle.ep_packet.specs.TransportChecksum.{with_checksum_v4, with_checksum_v6};
 ghost use Rattle.ep_packet.specs.TransportLends.{lends_udp, lends_tcp, lends_icmpv4, lends_icmpv6};
 
@@ -126,8 +126,8 @@ impl TransportHeader {
     }
 
     /// Sets the checksum to the one that belongs to the other fields, this payload and the
-    /// addresses of this IPv4 header. UDP's length field isn't touched, and goes into its pseudo
-    /// header as it stands.
+    /// addresses of this IPv4 header. UDP's length field isn't changed; it is used in the pseudo
+    /// header as it is.
     ///
     /// Refused, with the header unchanged, are a UDP payload above 65527 bytes, a TCP payload above
     /// 65535 bytes less the header, and every ICMPv6 header.
@@ -162,8 +162,8 @@ impl TransportHeader {
     }
 
     /// Sets the checksum to the one that belongs to the other fields, this payload and, but for
-    /// ICMPv4, the addresses of this IPv6 header. UDP's length field isn't touched, and goes into
-    /// its pseudo header as it stands.
+    /// ICMPv4, the addresses of this IPv6 header. UDP's length field isn't changed; it is used in
+    /// the pseudo header as it is.
     ///
     /// Refused, with the header unchanged, is a payload above 4294967295 bytes less the header, of
     /// any protocol but ICMPv4.
@@ -195,17 +195,17 @@ impl TransportHeader {
         Ok(())
     }
 
-    /// Appends the bytes of the header, with length and checksum as they stand.
+    /// Appends the bytes of the header, with length and checksum as they are.
     ///
     /// Where no memory is left for them, the buffer keeps its bytes.
     #[inline(always)]
     pub fn write(&self, buffer: &mut Vec<u8>) -> Result<(), AllocError>
         ensures ok { OnOk result (buffer.new.items ≡ buffer.old.items
-            ++ transport_spelling self.now) }
+            ++ transport_encoding self.now) }
         ensures len { OnOk result (vec_len buffer.new
             ≡ vec_len buffer.old + transport_len self.now) }
         ensures err { OnErr result (buffer.new.items ≡ buffer.old.items) }
-        // It fails only where room was missing, and room never shrinks.
+        // It fails only if the capacity was too small. The capacity never shrinks.
         ensures succeeds { vec_len buffer.old + transport_len self.now ≤ vec_capacity buffer.old
             → IsOk result }
         ensures capacity { vec_capacity buffer.old ≤ vec_capacity buffer.new }

@@ -10,7 +10,7 @@ ghost use Rattle.ep_base.specs.declared.err.slice_error.SliceError.TheVariants.{
 ghost use Rattle.ep_tag.specs.declared.link.macsec_p_type.MacsecPType.TheVariants as ptype;
 ghost use Rattle.ep_base.specs.LenError.{too_few_bytes};
 ghost use Rattle.ep_tag.specs.Macsec.{IsMacsecHeader, HasRoom, has_no_room, macsec_header_of};
-ghost use Rattle.ep_tag.specs.Macsec.{payload_len_in, ptype_of, short_len_of, spelling};
+ghost use Rattle.ep_tag.specs.Macsec.{payload_len_in, ptype_of, short_len_of, encoding};
 ghost use Rattle.ep_tag.specs.Macsec.{with_unused_bits_zero};
 ghost use Rattle.ep_tag.specs.MacsecPayload.{IsMacsec, Macsec, Modified, Unmodified, macsec_at};
 ghost use Rattle.ep_tag.specs.MacsecPayload.{payload_len_of};
@@ -25,13 +25,13 @@ pub fn header_lengths() -> [usize; 2]
     [MacsecHeader::MIN_LEN, MacsecHeader::MAX_LEN]
 }
 
-/// A header's bytes spell its fields, and are a header where the short length has room for the
-/// ether type; the bytes of a header spell fields that spell it again, but for the two unused bits.
+/// A header's bytes encode its fields, and are a header where the short length has room for the
+/// ether type; the bytes of a header have fields that encode it again, but for the two unused bits.
 pub fn headers_are_their_bytes(header: &MacsecHeader)
-    ensures header { HasRoom header.now → IsMacsecHeader (spelling header.now) }
-    ensures fields { macsec_header_of (spelling header.now) ≡ header.now }
+    ensures header { HasRoom header.now → IsMacsecHeader (encoding header.now) }
+    ensures fields { macsec_header_of (encoding header.now) ≡ header.now }
     ensures again { (bytes : List ℕ) → IsMacsecHeader bytes → IsBytes bytes
-        → spelling (macsec_header_of bytes) ≡ with_unused_bits_zero bytes }
+        → encoding (macsec_header_of bytes) ≡ with_unused_bits_zero bytes }
 {
     let _bytes = header.to_bytes();
 }
@@ -42,14 +42,14 @@ pub fn header_is_read_again<'a>(
     header: &MacsecHeader,
     slice: &'a [u8],
 ) -> Result<(MacsecHeader, &'a [u8]), HeaderSliceError>
-    ensures { (rest : List ℕ) → HasRoom header.now → slice.now ≡ spelling header.now ++ rest
+    ensures { (rest : List ℕ) → HasRoom header.now → slice.now ≡ encoding header.now ++ rest
         → IsOkAnd result (λ r. (r.0 ≡ header.now) × (r.1.now ≡ rest)) }
 {
     let _bytes = header.to_bytes();
     MacsecHeader::from_slice(slice)
 }
 
-/// What is found at the front of bytes is a header and a payload that they begin with, and one that
+/// What is found at the start of bytes is a header and a payload that they begin with, and one that
 /// they begin with is found.
 pub fn payload_is_read()
     ensures found { (bytes : List ℕ) (macsec : Macsec) → macsec_at bytes ≡ Ok macsec
@@ -60,7 +60,7 @@ pub fn payload_is_read()
 
 /// All flags but the version set, association 2, short length 3 with both unused bits set, packet
 /// number 01020304 and a secure channel identifier.
-pub fn fields_by_hand()
+pub fn fields_at_literals()
     ensures { macsec_header_of (0x7e ∷ 0xc3 ∷ 1 ∷ 2 ∷ 3 ∷ 4 ∷ 0xa ∷ 0xb ∷ 0xc ∷ 0xd ∷ 0xe ∷
         0xf ∷ 0x10 ∷ 0x11 ∷ [])
         ≡ record {
@@ -74,7 +74,7 @@ pub fn fields_by_hand()
         } }
 {}
 
-/// What a header's fields and what its bytes say of the payload's length behind a short length
+/// What a header's fields and what its bytes say of the payload's length after a short length
 /// above 0 is the same, and there is none where the short length has no room for the ether type.
 pub fn payload_lengths_agree()
     ensures room { (header : List ℕ) → has_no_room header ≡ false
@@ -83,9 +83,9 @@ pub fn payload_lengths_agree()
         → payload_len_in (ptype_of header) (short_len_of header) ≡ None }
 {}
 
-/// A short length leaves its bytes for the payload, 2 fewer where an ether type stands in it, and
+/// A short length leaves its bytes for the payload, 2 fewer where it counts an ether type, and
 /// so none of 1 there.
-pub fn payload_lengths_by_hand()
+pub fn payload_lengths_at_literals()
     ensures modified { payload_len_in ptype.Modified 1 ≡ Some 1 }
     ensures encrypted { payload_len_in ptype.Encrypted 63 ≡ Some 63 }
     ensures encrypted_unmodified { payload_len_in ptype.EncryptedUnmodified 2 ≡ Some 2 }
@@ -95,8 +95,8 @@ pub fn payload_lengths_by_hand()
 {}
 
 /// Short lengths 0 and 1 under the other flags: 0 leaves all that follows, 1 a single byte, and 1
-/// is refused where an ether type is to stand in it.
-pub fn short_lengths_by_hand()
+/// is refused where it has to count an ether type.
+pub fn short_lengths_at_literals()
     ensures zero_identifier { macsec_at
         (0x20 ∷ 0 ∷ 0 ∷ 0 ∷ 0 ∷ 1 ∷ 10 ∷ 11 ∷ 12 ∷ 13 ∷ 14 ∷ 15 ∷ 16 ∷ 17 ∷ 8 ∷ 6 ∷ 7 ∷ 8 ∷ [])
         ≡ Ok (record {
@@ -131,9 +131,9 @@ pub fn short_lengths_by_hand()
         ≡ Err (Content InvalidUnmodifiedShortLen) }
 {}
 
-/// What a header makes of the bytes behind it: an ether type and the payload that the short length
-/// leaves behind it, all bytes where the short length is 0, changed bytes; and each refusal.
-pub fn payloads_by_hand()
+/// What a header makes of the bytes after it: an ether type and the payload that the short length
+/// leaves after it, all bytes where the short length is 0, changed bytes; and each refusal.
+pub fn payloads_at_literals()
     ensures cut { macsec_at (0 ∷ 4 ∷ 0 ∷ 0 ∷ 0 ∷ 1 ∷ 0x81 ∷ 0 ∷ 7 ∷ 8 ∷ 9 ∷ []) ≡ Ok (record {
       header = 0 ∷ 4 ∷ 0 ∷ 0 ∷ 0 ∷ 1 ∷ 0x81 ∷ 0 ∷ [];
       payload = Unmodified

@@ -9,7 +9,7 @@ ghost use Rattle.ep_base.specs.Traits.{OrderIsOf, VariantFeeds};
 ghost use Rattle.ep_tag.specs.Ether.{EtherPayload};
 ghost use Rattle.ep_tag.specs.EtherOrder.{hashed_as, ordered_as};
 ghost use Rattle.ep_tag.specs.MacsecOrder.{ptype_ordered_as};
-ghost use Rattle.ep_tag.specs.MacsecView.{payload_told};
+ghost use Rattle.ep_tag.specs.MacsecView.{payload_parsed};
 ghost use Rattle.ep_tag.specs.declared.err.macsec.header_error.HeaderError.TheVariants as fault;
 ghost use Rattle.ep_tag.specs.declared.link.macsec_p_type.MacsecPType.{MacsecPType};
 ghost use Rattle.ep_tag.specs.declared.link.macsec_p_type.MacsecPType.TheVariants as ptype;
@@ -65,9 +65,9 @@ pub fn copies_never_fail<'a>()
 
 /// MACsec payloads are equal where they are of one kind, and all that a contract sees of them is
 /// the same.
-pub fn macsec_payloads_are_equal_as_told<'a>()
+pub fn macsec_payloads_are_equal_as_seen<'a>()
     ensures { (a b : MacsecPayloadSlice) → IsTrue (⟦<MacsecPayloadSlice<'a> as PartialEq>⟧.eq a b)
-        ↔ (payload_told a ≡ payload_told b) }
+        ↔ (payload_parsed a ≡ payload_parsed b) }
 {}
 
 /// Numbers are ordered as numbers.
@@ -79,7 +79,7 @@ pub fn orders_are_of_numbers()
 {}
 
 /// Kinds of MACsec payloads are ordered as they are declared, and unmodified ones by their ether
-/// type. A hasher is fed the place of the kind, and of an unmodified one the ether type.
+/// type. A hasher is fed the index of the kind, and of an unmodified one the ether type.
 pub fn macsec_p_types_by_kind()
     ensures order { (a b : MacsecPType) → ⟦<MacsecPType as Ord>⟧.cmp a b
         ≡ slice_cmp nat_cmp (ptype_ordered_as a) (ptype_ordered_as b) }
@@ -91,8 +91,8 @@ pub fn macsec_p_types_by_kind()
         ≡ fed.isize (pos 3) }
 {}
 
-/// A hasher is fed which fault a MACsec header has, by its place among them.
-pub fn errors_hash_as_places()
+/// A hasher is fed which fault a MACsec header has, by its index among them.
+pub fn errors_hash_as_indices()
     ensures version { ⟦<macsec::HeaderError as Hash>⟧.hash_input fault.UnexpectedVersion
         ≡ fed.isize (pos 0) }
     ensures short_len { ⟦<macsec::HeaderError as Hash>⟧.hash_input fault.InvalidUnmodifiedShortLen
@@ -107,7 +107,7 @@ pub fn hashes_are_of_numbers()
     ensures macsec_short_len { HashIsOf fed.u8 ⟦<MacsecShortLen as Hash>⟧.hash_input }
 {}
 
-/// Payloads behind an ether type are ordered by the type, then by what bounds them, as it is
+/// Payloads after an ether type are ordered by the type, then by what bounds them, as it is
 /// declared, then by their bytes; a hasher is fed the three in this order.
 pub fn ether_payloads_by_all_fields<'a>()
     ensures order { (a b : EtherPayload) → ⟦<EtherPayloadSlice<'a> as Ord>⟧.cmp a b

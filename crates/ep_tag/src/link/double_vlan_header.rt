@@ -1,15 +1,15 @@
 ghost use Rattle.std.specs.Prelude.{◌≡◌, ◌+◌, ◌≤◌, ◌++◌, OnOk, OnErr, IsOk, vec_len, vec_capacity};
-ghost use Rattle.ep_tag.specs.Vlan.{double_spelling};
+ghost use Rattle.ep_tag.specs.Vlan.{double_encoding};
 
 use super::SingleVlanHeader;
 use std::alloc::AllocError;
 
-/// Two VLAN tags, one behind the other (IEEE 802.1Q, section 9.6; the outer one is the provider's).
+/// Two VLAN tags, one after the other (IEEE 802.1Q, section 9.6; the outer one is the provider's).
 #[derive(Clone, Debug, PartialEq, Eq, Drop)]
 pub struct DoubleVlanHeader {
-    /// The tag that stands first.
+    /// The tag that comes first.
     pub outer: SingleVlanHeader,
-    /// The tag behind it.
+    /// The tag after it.
     pub inner: SingleVlanHeader,
 }
 
@@ -26,7 +26,7 @@ impl DoubleVlanHeader {
 
     /// The bytes of both tags, the outer one first.
     pub fn to_bytes(&self) -> [u8; 8]
-        ensures { result ≡ double_spelling self.now }
+        ensures { result ≡ double_encoding self.now }
     {
         let outer = self.outer.to_bytes();
         let inner = self.inner.to_bytes();
@@ -37,10 +37,10 @@ impl DoubleVlanHeader {
 
     /// Appends the bytes of both tags, the outer one first.
     pub fn write(&self, buffer: &mut Vec<u8>) -> Result<(), AllocError>
-        ensures ok { OnOk result (buffer.new.items ≡ buffer.old.items ++ double_spelling self.now) }
+        ensures ok { OnOk result (buffer.new.items ≡ buffer.old.items ++ double_encoding self.now) }
         ensures len { OnOk result (vec_len buffer.new ≡ vec_len buffer.old + 8) }
         ensures err { OnErr result (buffer.new.items ≡ buffer.old.items) }
-        // It fails only where room was missing, and room never shrinks.
+        // It fails only where capacity was missing, and capacity never shrinks.
         ensures succeeds { vec_len buffer.old + 8 ≤ vec_capacity buffer.old → IsOk result }
         ensures capacity { vec_capacity buffer.old ≤ vec_capacity buffer.new }
     {

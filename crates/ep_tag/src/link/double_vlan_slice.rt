@@ -6,9 +6,9 @@ use super::{DoubleVlanHeader, EtherPayloadSlice, SingleVlanSlice};
 /// Two VLAN tags (IEEE 802.1Q, section 9.6), each with what follows it, borrowed.
 #[derive(Clone, Debug, PartialEq, Eq, Drop)]
 pub struct DoubleVlanSlice<'a> {
-    /// The tag that stands first.
+    /// The tag that comes first.
     pub outer: SingleVlanSlice<'a>,
-    /// The tag behind it, mostly at once, else with a MACsec header between.
+    /// The tag after it, mostly directly, else with a MACsec header between.
     pub inner: SingleVlanSlice<'a>,
 }
 
@@ -27,7 +27,7 @@ impl<'a> DoubleVlanSlice<'a> {
         self.inner.payload()
     }
 
-    /// The bytes behind the inner tag.
+    /// The bytes after the inner tag.
     pub fn payload_slice(&self) -> &'a [u8]
         ensures { result.now ≡ drop vlan_len self.now.inner }
     {

@@ -13,7 +13,7 @@ use std::cmp::Ordering;
 use std::hash::{Hash, Hasher};
 use std::marker::Model;
 
-/// The bytes behind an ether type, borrowed.
+/// The bytes after an ether type, borrowed.
 #[derive(Clone, Debug, Drop)]
 pub struct EtherPayloadSlice<'a> {
     /// What the bytes are.
@@ -35,7 +35,7 @@ impl<'a> Model for EtherPayloadSlice<'a> {
 }
 
 impl<'a> EtherPayloadSlice<'a> {
-    // The same: a type with a model and a reference can't be `Copy`.
+    // A copy of the value: a type with a model and a reference can't be `Copy`.
     pub(crate) fn again(&self) -> EtherPayloadSlice<'a>
         ensures { result ≡ self.now }
     {

@@ -1,6 +1,6 @@
 ghost use Rattle.std.specs.Prelude.{◌≡◌, ◌+◌, ◌≤◌, ◌++◌, length, OnOk, OnErr, IsOk, vec_len};
 ghost use Rattle.std.specs.Prelude.{vec_capacity};
-ghost use Rattle.ep_tag.specs.LinkExt.{tag_spelling, next_type_in};
+ghost use Rattle.ep_tag.specs.LinkExt.{tag_encoding, next_type_in};
 ghost use Rattle.ep_tag.specs.Vlan.{default_header};
 ghost use Rattle.ep_tag.specs.declared.link.link_ext_header.LinkExtHeader.TheVariants as header;
 
@@ -20,7 +20,7 @@ pub enum LinkExtHeader {
 impl LinkExtHeader {
     /// The length of the tag in bytes.
     pub fn header_len(&self) -> usize
-        ensures { result ≡ length (tag_spelling self.now) }
+        ensures { result ≡ length (tag_encoding self.now) }
     {
         match self {
             LinkExtHeader::Vlan(header) => header.header_len(),
@@ -28,7 +28,7 @@ impl LinkExtHeader {
         }
     }
 
-    /// The ether type of what stands behind the tag, where it has one: none behind a modified
+    /// The ether type of what follows the tag, where it has one: none after a modified
     /// MACsec payload.
     pub fn next_ether_type(&self) -> Option<EtherType>
         ensures { result ≡ next_type_in self.now }
@@ -41,12 +41,12 @@ impl LinkExtHeader {
 
     /// Appends the bytes of the tag.
     pub fn write(&self, buffer: &mut Vec<u8>) -> Result<(), AllocError>
-        ensures ok { OnOk result (buffer.new.items ≡ buffer.old.items ++ tag_spelling self.now) }
+        ensures ok { OnOk result (buffer.new.items ≡ buffer.old.items ++ tag_encoding self.now) }
         ensures len { OnOk result (vec_len buffer.new
-            ≡ vec_len buffer.old + length (tag_spelling self.now)) }
+            ≡ vec_len buffer.old + length (tag_encoding self.now)) }
         ensures err { OnErr result (buffer.new.items ≡ buffer.old.items) }
-        // It fails only where room was missing, and room never shrinks.
-        ensures succeeds { vec_len buffer.old + length (tag_spelling self.now)
+        // It fails only where capacity was missing, and capacity never shrinks.
+        ensures succeeds { vec_len buffer.old + length (tag_encoding self.now)
             ≤ vec_capacity buffer.old → IsOk result }
         ensures capacity { vec_capacity buffer.old ≤ vec_capacity buffer.new }
     {

@@ -1,5 +1,5 @@
 ghost use Rattle.std.specs.Prelude.{◌≡◌, ◌≤◌, replicate};
-ghost use Rattle.ep_tag.specs.LinkExt.{tag_len, fields_of, payload_behind};
+ghost use Rattle.ep_tag.specs.LinkExt.{tag_len, fields_of, payload_after};
 ghost use Rattle.ep_tag.specs.declared.link.link_ext_slice.LinkExtSlice.TheVariants as tag;
 
 use super::{EtherPayloadSlice, LinkExtHeader, MacsecSlice, SingleVlanSlice};
@@ -35,9 +35,9 @@ impl<'a> LinkExtSlice<'a> {
         }
     }
 
-    /// What the tag's ether type names, where it has one: none behind a modified MACsec payload.
+    /// What the tag's ether type names, where it has one: none after a modified MACsec payload.
     pub fn ether_payload(&self) -> Option<EtherPayloadSlice<'a>>
-        ensures { result ≡ payload_behind self.now }
+        ensures { result ≡ payload_after self.now }
     {
         match self {
             LinkExtSlice::Vlan(vlan) => Some(vlan.payload()),

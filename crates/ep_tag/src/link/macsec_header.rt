@@ -5,9 +5,9 @@ ghost use Rattle.std.specs.Int.{w32, to_be_bytes};
 ghost use Rattle.arrayvec.specs.ArrayVec.{array_vec_len};
 ghost use Rattle.ep_base.specs.SliceError.{content_offset};
 ghost use Rattle.ep_tag.specs.Macsec.{IsMacsecHeader, IsRead, HasRoom, Fits, SciFits, TypeFits};
-ghost use Rattle.ep_tag.specs.Macsec.{macsec_header_of, spelling, first_byte, ptype_bits};
-ghost use Rattle.ep_tag.specs.Macsec.{ptype_spelling};
-ghost use Rattle.ep_tag.specs.Macsec.{sci_spelling, worth, next_type_in, payload_len_in};
+ghost use Rattle.ep_tag.specs.Macsec.{macsec_header_of, encoding, first_byte, ptype_bits};
+ghost use Rattle.ep_tag.specs.Macsec.{ptype_encoding};
+ghost use Rattle.ep_tag.specs.Macsec.{sci_encoding, worth, next_type_in, payload_len_in};
 ghost use Rattle.ep_tag.specs.MacsecFault.{header_at};
 
 use super::{MacsecAn, MacsecHeaderSlice, MacsecPType, MacsecShortLen};
@@ -16,10 +16,10 @@ use arrayvec::ArrayVec;
 use ep_base::EtherType;
 use std::alloc::AllocError;
 
-/// A MACsec header (IEEE 802.1AE, clause 9). In its 6 to 16 bytes numbers stand high byte first.
+/// A MACsec header (IEEE 802.1AE, clause 9). Its 6 to 16 bytes hold numbers high byte first.
 #[derive(Clone, Debug, PartialEq, Eq, Drop)]
 pub struct MacsecHeader {
-    /// What stands behind the header.
+    /// What follows the header.
     pub ptype: MacsecPType,
     /// Whether the sender is an end station, which its own address identifies (bit ES).
     pub endstation_id: bool,
@@ -37,24 +37,24 @@ pub struct MacsecHeader {
 }
 
 impl MacsecHeader {
-    /// The length in bytes of the part that each header has.
+    /// The length in bytes of the fields that each header has.
     pub const MIN_LEN: usize = 6;
 
     /// The length in bytes of a header with a secure channel identifier and an ether type.
     pub const MAX_LEN: usize = 16;
 
-    /// The header at the front of the slice, and the bytes behind it, which aren't cut. Refused
-    /// are, in this order, a slice of fewer than 6 bytes, version 1, a short length of 1 where an
-    /// ether type is to stand in it, and a slice shorter than the header.
+    /// The header at the start of the slice, and all bytes after it, whatever the short length.
+    /// Refused are, in this order, a slice of fewer than 6 bytes, version 1, a short length of 1
+    /// where it has to count an ether type, and a slice shorter than the header.
     pub fn from_slice(slice: &[u8]) -> Result<(MacsecHeader, &[u8]), HeaderSliceError>
-        // The front of the slice is a header, and is read so.
+        // The start of the slice is a header, and is read so.
         ensures found { IfOk result (λ r. IsRead slice.now r.0 r.1.now) }
-        // A front that is a header is read.
-        ensures only { (front rest : List ℕ) → IsMacsecHeader front → slice.now ≡ front ++ rest
-            → IsOkAnd result (λ r. (r.0 ≡ macsec_header_of front) × (r.1.now ≡ rest)) }
+        // A prefix that is a header is read.
+        ensures only { (prefix rest : List ℕ) → IsMacsecHeader prefix → slice.now ≡ prefix ++ rest
+            → IsOkAnd result (λ r. (r.0 ≡ macsec_header_of prefix) × (r.1.now ≡ rest)) }
         // Else it is the first fault.
         ensures err { IfErr result (λ e. header_at slice.now ≡ Err e) }
-        ensures place { IfErr result (λ e. content_offset e ≡ 0) }
+        ensures offset { IfErr result (λ e. content_offset e ≡ 0) }
     {
         let header = MacsecHeaderSlice::from_slice(slice)?;
         let rest = &slice[header.slice().len()..];
@@ -63,7 +63,7 @@ impl MacsecHeader {
 
     /// The header's length in bytes: 6, 8, 14 or 16.
     pub fn header_len(&self) -> usize
-        ensures { result ≡ length (spelling self.now) }
+        ensures { result ≡ length (encoding self.now) }
     {
         let sci_len = match self.sci {
             Some(_) => 8,
@@ -76,7 +76,7 @@ impl MacsecHeader {
         MacsecHeader::MIN_LEN + sci_len + type_len
     }
 
-    /// The ether type of what stands behind the header, where the payload is unmodified.
+    /// The ether type of what follows the header, where the payload is unmodified.
     pub fn next_ether_type(&self) -> Option<EtherType>
         ensures { result ≡ next_type_in self.now.ptype }
     {
@@ -103,16 +103,16 @@ impl MacsecHeader {
 
     /// The bytes of the header.
     pub fn to_bytes(&self) -> ArrayVec<u8, 16>
-        ensures bytes { result.items ≡ spelling self.now }
+        ensures bytes { result.items ≡ encoding self.now }
         // Where the short length has room for the ether type they are a header, with these fields.
         ensures header { HasRoom self.now → IsMacsecHeader result.items }
         ensures fields { macsec_header_of result.items ≡ self.now }
     {
-        self.spelled()
+        self.encoded()
     }
 
-    fn spelled(&self) -> ArrayVec<u8, 16>
-        ensures bytes { result.items ≡ spelling self.now }
+    fn encoded(&self) -> ArrayVec<u8, 16>
+        ensures bytes { result.items ≡ encoding self.now }
         ensures fits { Fits self.now }
     {
         let packet_nr = self.packet_nr.to_be_bytes();
@@ -148,12 +148,12 @@ impl MacsecHeader {
 
     /// Appends the bytes of the header.
     pub fn write(&self, buffer: &mut Vec<u8>) -> Result<(), AllocError>
-        ensures ok { OnOk result (buffer.new.items ≡ buffer.old.items ++ spelling self.now) }
+        ensures ok { OnOk result (buffer.new.items ≡ buffer.old.items ++ encoding self.now) }
         ensures len { OnOk result (vec_len buffer.new
-            ≡ vec_len buffer.old + length (spelling self.now)) }
+            ≡ vec_len buffer.old + length (encoding self.now)) }
         ensures err { OnErr result (buffer.new.items ≡ buffer.old.items) }
-        // It fails only where room was missing, and room never shrinks.
-        ensures succeeds { vec_len buffer.old + length (spelling self.now) ≤ vec_capacity buffer.old
+        // It fails only where capacity was missing, and capacity never shrinks.
+        ensures succeeds { vec_len buffer.old + length (encoding self.now) ≤ vec_capacity buffer.old
             → IsOk result }
         ensures capacity { vec_capacity buffer.old ≤ vec_capacity buffer.new }
     {
@@ -169,7 +169,7 @@ fn worth(is_set: bool, value: u8) -> u8
 
 fn push_sci(bytes: &mut ArrayVec<u8, 16>, sci: Option<u64>)
     requires { array_vec_len bytes.old ≤ 8 }
-    ensures bytes { bytes.new.items ≡ bytes.old.items ++ sci_spelling sci }
+    ensures bytes { bytes.new.items ≡ bytes.old.items ++ sci_encoding sci }
     ensures len { array_vec_len bytes.new ≤ array_vec_len bytes.old + 8 }
     ensures fits { SciFits sci }
 {
@@ -180,7 +180,7 @@ fn push_sci(bytes: &mut ArrayVec<u8, 16>, sci: Option<u64>)
 
 fn push_ether_type(bytes: &mut ArrayVec<u8, 16>, ptype: MacsecPType)
     requires { array_vec_len bytes.old ≤ 14 }
-    ensures bytes { bytes.new.items ≡ bytes.old.items ++ ptype_spelling ptype }
+    ensures bytes { bytes.new.items ≡ bytes.old.items ++ ptype_encoding ptype }
     ensures fits { TypeFits ptype }
 {
     if let MacsecPType::Unmodified(ether_type) = ptype {

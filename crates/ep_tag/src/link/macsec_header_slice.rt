@@ -3,7 +3,7 @@ ghost use Rattle.std.specs.Prelude.{IfErr, if◌then◌else◌, nat_eq};
 ghost use Rattle.std.specs.Cmp.Lexicographic.{pointwise};
 ghost use Rattle.std.specs.Cmp.Rules.{comparing};
 ghost use Rattle.std.proofs.Common.{rules};
-ghost use Rattle.ep_base.specs.Fronts.{TakesFront};
+ghost use Rattle.ep_base.specs.Prefixes.{TakesPrefix};
 ghost use Rattle.ep_tag.specs.Macsec.{IsMacsecHeader, version_of, endstation_id_of, has_sci};
 ghost use Rattle.ep_tag.specs.Macsec.{scb_of, is_encrypted, is_changed, is_unmodified, an_of};
 ghost use Rattle.ep_tag.specs.Macsec.{short_len_of, packet_nr_of, sci_of, sci_len, type_len};
@@ -39,22 +39,22 @@ impl<'a> Model for MacsecHeaderSlice<'a> {
 
 #[tactic(auto, using(crate::proofs::Bits::masks))]
 impl<'a> MacsecHeaderSlice<'a> {
-    /// The header at the front of the slice. Refused are, in this order, a slice of fewer than
-    /// 6 bytes, version 1, a short length of 1 where an ether type is to stand in it, and a slice
+    /// The header at the start of the slice. Refused are, in this order, a slice of fewer than
+    /// 6 bytes, version 1, a short length of 1 where it has to count an ether type, and a slice
     /// shorter than the header.
     pub fn from_slice(slice: &'a [u8]) -> Result<MacsecHeaderSlice<'a>, HeaderSliceError>
-        // What is taken is a header at the front of the slice, and one that stands there is taken.
-        ensures takes { TakesFront IsMacsecHeader slice.now result }
+        // What is taken is a header at the start of the slice, and one that is there is taken.
+        ensures takes { TakesPrefix IsMacsecHeader slice.now result }
         // Else it is the first fault.
         ensures exact { result ≡ header_at slice.now }
-        ensures place { IfErr result (λ e. content_offset e ≡ 0) }
+        ensures offset { IfErr result (λ e. content_offset e ≡ 0) }
     {
         Self::tested(slice)
     }
 
     fn tested(slice: &'a [u8]) -> Result<MacsecHeaderSlice<'a>, HeaderSliceError>
         ensures exact { result ≡ header_at slice.now }
-        ensures place { IfErr result (λ e. content_offset e ≡ 0) }
+        ensures offset { IfErr result (λ e. content_offset e ≡ 0) }
     {
         if slice.len() < MacsecHeader::MIN_LEN {
             return Err(HeaderSliceError::Len(LenError::too_few_bytes(
@@ -147,7 +147,7 @@ impl<'a> MacsecHeaderSlice<'a> {
         is_unmodified(self.slice)
     }
 
-    /// What stands behind the header.
+    /// What follows the header.
     pub fn ptype(&self) -> MacsecPType
         ensures { result ≡ ptype_of self.now }
     {
@@ -155,17 +155,17 @@ impl<'a> MacsecHeaderSlice<'a> {
             (true, true) => MacsecPType::Encrypted,
             (true, false) => MacsecPType::EncryptedUnmodified,
             (false, true) => MacsecPType::Modified,
-            (false, false) => MacsecPType::Unmodified(self.ether_type_behind_sci()),
+            (false, false) => MacsecPType::Unmodified(self.ether_type_after_sci()),
         }
     }
 
     // The last two bytes of a header whose payload is unmodified.
-    fn ether_type_behind_sci(&self) -> EtherType
+    fn ether_type_after_sci(&self) -> EtherType
         requires { is_unmodified self.now ≡ true }
         ensures { result ≡ ether_type_at self.now (6 + sci_len self.now) }
     {
-        let place = 6 + sci_len_of(self.slice);
-        EtherType(u16::from_be_bytes([self.slice[place], self.slice[place + 1]]))
+        let offset = 6 + sci_len_of(self.slice);
+        EtherType(u16::from_be_bytes([self.slice[offset], self.slice[offset + 1]]))
     }
 
     /// The association number.
@@ -195,13 +195,13 @@ impl<'a> MacsecHeaderSlice<'a> {
         ensures { result ≡ sci_of self.now }
     {
         if self.sci_present() {
-            Some(self.sci_behind_packet_nr())
+            Some(self.sci_after_packet_nr())
         } else {
             None
         }
     }
 
-    fn sci_behind_packet_nr(&self) -> u64
+    fn sci_after_packet_nr(&self) -> u64
         requires { has_sci self.now ≡ true }
         ensures { result ≡ num self.now 6 8 }
     {
@@ -217,12 +217,12 @@ impl<'a> MacsecHeaderSlice<'a> {
         ])
     }
 
-    /// The ether type of what stands behind the header, where the payload is unmodified.
+    /// The ether type of what follows the header, where the payload is unmodified.
     pub fn next_ether_type(&self) -> Option<EtherType>
         ensures { result ≡ next_type_of self.now }
     {
         if self.is_unmodified() {
-            Some(self.ether_type_behind_sci())
+            Some(self.ether_type_after_sci())
         } else {
             None
         }

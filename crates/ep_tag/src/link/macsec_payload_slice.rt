@@ -1,6 +1,6 @@
 use super::EtherPayloadSlice;
 
-/// What stands behind a MACsec header, borrowed.
+/// What follows a MACsec header, borrowed.
 #[derive(Clone, Debug, PartialEq, Eq, Drop)]
 pub enum MacsecPayloadSlice<'a> {
     /// Bytes that the header's ether type names.

@@ -8,7 +8,7 @@ ghost use Rattle.ep_base.specs.SliceError.{content_offset};
 ghost use Rattle.ep_tag.specs.Macsec.{macsec_header_of};
 ghost use Rattle.ep_tag.specs.MacsecOrder.{compared_as};
 ghost use Rattle.ep_tag.specs.MacsecPayload.{Macsec, IsMacsec, macsec_at, named_payload};
-ghost use Rattle.ep_tag.specs.MacsecView.{payload_told};
+ghost use Rattle.ep_tag.specs.MacsecView.{payload_parsed};
 
 use super::{EtherPayloadSlice, MacsecHeader, MacsecHeaderSlice, MacsecPayloadSlice};
 use crate::err::macsec::HeaderSliceError;
@@ -21,36 +21,36 @@ use std::marker::Model;
 pub struct MacsecSlice<'a> {
     /// The header.
     pub header: MacsecHeaderSlice<'a>,
-    /// What stands behind it, as many bytes as a short length above 0 leaves, else all.
+    /// What follows it, as many bytes as a short length above 0 leaves, else all.
     pub payload: MacsecPayloadSlice<'a>,
 }
 
 impl<'a> Model for MacsecSlice<'a> {
     ghost Value = { Macsec };
 
-    ghost view = { λ slice. record { header = slice.header; payload = payload_told slice.payload } };
+    ghost view = { λ slice. record { header = slice.header; payload = payload_parsed slice.payload } };
 }
 
 impl<'a> MacsecSlice<'a> {
-    /// Header and payload at the front of the slice. Refused are, in this order, a slice of fewer
-    /// than 6 bytes, version 1, a short length of 1 where an ether type is to stand in it, a slice
+    /// Header and payload at the start of the slice. Refused are, in this order, a slice of fewer
+    /// than 6 bytes, version 1, a short length of 1 where it has to count an ether type, a slice
     /// shorter than the header, and one shorter than header and payload, where the short length
     /// states the payload's length.
     pub fn from_slice(slice: &'a [u8]) -> Result<MacsecSlice<'a>, HeaderSliceError>
-        // What is taken stands at the front of the slice.
+        // What is taken is at the start of the slice.
         ensures found { IfOk result (λ macsec. IsMacsec slice.now macsec) }
-        // A header and payload that stand there are taken.
+        // A header and payload that are there are taken.
         ensures only { (macsec : Macsec) → IsMacsec slice.now macsec → result ≡ Ok macsec }
         // Else it is the first fault.
         ensures exact { result ≡ macsec_at slice.now }
-        ensures place { IfErr result (λ e. content_offset e ≡ 0) }
+        ensures offset { IfErr result (λ e. content_offset e ≡ 0) }
     {
         Self::tested(slice)
     }
 
     fn tested(slice: &'a [u8]) -> Result<MacsecSlice<'a>, HeaderSliceError>
         ensures exact { result ≡ macsec_at slice.now }
-        ensures place { IfErr result (λ e. content_offset e ≡ 0) }
+        ensures offset { IfErr result (λ e. content_offset e ≡ 0) }
     {
         let header = MacsecHeaderSlice::from_slice(slice)?;
         let header_len = header.slice().len();

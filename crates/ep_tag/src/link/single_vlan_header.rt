@@ -2,8 +2,8 @@ ghost use Rattle.std.specs.Prelude.{◌≡◌, ◌+◌, ◌^◌, ◌≤◌, List
 ghost use Rattle.std.specs.Prelude.{OnErr, IsOk, IfOk, IfErr, IsOkAnd, Err, Bool, false, vec_len};
 ghost use Rattle.std.specs.Prelude.{vec_capacity};
 ghost use Rattle.ep_base.specs.declared.err.layer.Layer.TheVariants as layer;
-ghost use Rattle.ep_tag.specs.Front.{front_at};
-ghost use Rattle.ep_tag.specs.Vlan.{vlan_len, default_header, single_vlan_header_of, spelling};
+ghost use Rattle.ep_tag.specs.Prefix.{prefix_at};
+ghost use Rattle.ep_tag.specs.Vlan.{vlan_len, default_header, single_vlan_header_of, encoding};
 ghost use Rattle.ep_tag.specs.Vlan.{IsRead, Fits};
 
 use super::{SingleVlanHeaderSlice, VlanId, VlanPcp};
@@ -11,7 +11,7 @@ use ep_base::EtherType;
 use ep_base::err::LenError;
 use std::alloc::AllocError;
 
-/// A VLAN tag (IEEE 802.1Q, section 9.6). In its 4 bytes numbers stand high byte first.
+/// A VLAN tag (IEEE 802.1Q, section 9.6). Its 4 bytes hold numbers high byte first.
 #[derive(Clone, Debug, PartialEq, Eq, Drop)]
 pub struct SingleVlanHeader {
     /// The priority code point.
@@ -28,23 +28,23 @@ impl SingleVlanHeader {
     /// The length of a VLAN tag in bytes.
     pub const LEN: usize = 4;
 
-    /// The tag at the front of the slice, and the bytes behind it. A slice of fewer than 4 bytes is
+    /// The tag at the start of the slice, and the bytes after it. A slice of fewer than 4 bytes is
     /// refused.
     pub fn from_slice(slice: &[u8]) -> Result<(SingleVlanHeader, &[u8]), LenError>
-        // The front of the slice is a tag, and is read so.
+        // The start of the slice is a tag, and is read so.
         ensures found { IfOk result (λ r. IsRead slice.now r.0 r.1.now) }
         // Any four bytes are read.
-        ensures only { (front rest : List ℕ) → length front ≡ vlan_len → slice.now ≡ front ++ rest
-            → IsOkAnd result (λ r. (r.0 ≡ single_vlan_header_of front) × (r.1.now ≡ rest)) }
-        ensures err { IfErr result (λ e. front_at layer.VlanHeader vlan_len slice.now ≡ Err e) }
-        ensures place { IfErr result (λ e. e.layer_start_offset ≡ 0) }
+        ensures only { (prefix rest : List ℕ) → length prefix ≡ vlan_len → slice.now ≡ prefix ++ rest
+            → IsOkAnd result (λ r. (r.0 ≡ single_vlan_header_of prefix) × (r.1.now ≡ rest)) }
+        ensures err { IfErr result (λ e. prefix_at layer.VlanHeader vlan_len slice.now ≡ Err e) }
+        ensures offset { IfErr result (λ e. e.layer_start_offset ≡ 0) }
     {
         let header = SingleVlanHeaderSlice::from_slice(slice)?;
         let rest = &slice[SingleVlanHeader::LEN..];
         Ok((header.to_header(), rest))
     }
 
-    /// The fields that four bytes spell.
+    /// The fields that four bytes encode.
     pub fn from_bytes(bytes: [u8; 4]) -> SingleVlanHeader
         ensures { result ≡ single_vlan_header_of bytes }
     {
@@ -60,15 +60,15 @@ impl SingleVlanHeader {
 
     /// The bytes of the tag.
     pub fn to_bytes(&self) -> [u8; 4]
-        ensures bytes { result ≡ spelling self.now }
-        // They spell these fields.
+        ensures bytes { result ≡ encoding self.now }
+        // They encode these fields.
         ensures fields { single_vlan_header_of result ≡ self.now }
     {
-        self.spelled()
+        self.encoded()
     }
 
-    fn spelled(&self) -> [u8; 4]
-        ensures bytes { result ≡ spelling self.now }
+    fn encoded(&self) -> [u8; 4]
+        ensures bytes { result ≡ encoding self.now }
         ensures fits { Fits self.now }
     {
         let priority = u16::from(self.pcp.value()) << 13;
@@ -91,10 +91,10 @@ impl SingleVlanHeader {
 
     /// Appends the bytes of the tag.
     pub fn write(&self, buffer: &mut Vec<u8>) -> Result<(), AllocError>
-        ensures ok { OnOk result (buffer.new.items ≡ buffer.old.items ++ spelling self.now) }
+        ensures ok { OnOk result (buffer.new.items ≡ buffer.old.items ++ encoding self.now) }
         ensures len { OnOk result (vec_len buffer.new ≡ vec_len buffer.old + vlan_len) }
         ensures err { OnErr result (buffer.new.items ≡ buffer.old.items) }
-        // It fails only where room was missing, and room never shrinks.
+        // It fails only where capacity was missing, and capacity never shrinks.
         ensures succeeds { vec_len buffer.old + vlan_len ≤ vec_capacity buffer.old → IsOk result }
         ensures capacity { vec_capacity buffer.old ≤ vec_capacity buffer.new }
     {

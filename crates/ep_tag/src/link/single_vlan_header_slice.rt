@@ -1,7 +1,7 @@
 ghost use Rattle.std.specs.Prelude.{◌≡◌, length, IfErr};
 ghost use Rattle.ep_base.specs.declared.err.layer.Layer.TheVariants as layer;
-ghost use Rattle.ep_base.specs.Fronts.{IsOfLength, TakesFront};
-ghost use Rattle.ep_tag.specs.Front.{front_at};
+ghost use Rattle.ep_base.specs.Prefixes.{IsOfLength, TakesPrefix};
+ghost use Rattle.ep_tag.specs.Prefix.{prefix_at};
 ghost use Rattle.ep_tag.specs.Vlan.{vlan_len};
 
 use super::SingleVlanHeader;
@@ -13,19 +13,19 @@ use ep_base::err::{Layer, LenError};
 pub type SingleVlanHeaderSlice<'a> = VlanBytes<'a, 4>;
 
 impl<'a> VlanBytes<'a, 4> {
-    /// The tag at the front of the slice. A slice of fewer than 4 bytes is refused.
+    /// The tag at the start of the slice. A slice of fewer than 4 bytes is refused.
     pub fn from_slice(slice: &'a [u8]) -> Result<SingleVlanHeaderSlice<'a>, LenError>
         // What is taken are the first four bytes.
-        ensures takes { TakesFront (IsOfLength vlan_len) slice.now result }
-        ensures exact { result ≡ front_at layer.VlanHeader vlan_len slice.now }
-        ensures place { IfErr result (λ e. e.layer_start_offset ≡ 0) }
+        ensures takes { TakesPrefix (IsOfLength vlan_len) slice.now result }
+        ensures exact { result ≡ prefix_at layer.VlanHeader vlan_len slice.now }
+        ensures offset { IfErr result (λ e. e.layer_start_offset ≡ 0) }
     {
         Self::taken(slice)
     }
 
     fn taken(slice: &'a [u8]) -> Result<SingleVlanHeaderSlice<'a>, LenError>
-        ensures exact { result ≡ front_at layer.VlanHeader vlan_len slice.now }
-        ensures place { IfErr result (λ e. e.layer_start_offset ≡ 0) }
+        ensures exact { result ≡ prefix_at layer.VlanHeader vlan_len slice.now }
+        ensures offset { IfErr result (λ e. e.layer_start_offset ≡ 0) }
     {
         if slice.len() < SingleVlanHeader::LEN {
             return Err(LenError::too_few_bytes(

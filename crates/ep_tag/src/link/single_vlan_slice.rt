@@ -1,6 +1,6 @@
 ghost use Rattle.std.specs.Prelude.{◌≡◌, ◌≤◌, length, take, drop, replicate, IfErr};
 ghost use Rattle.ep_base.specs.declared.err.layer.Layer.TheVariants as layer;
-ghost use Rattle.ep_tag.specs.Front.{whole_at};
+ghost use Rattle.ep_tag.specs.Prefix.{whole_at};
 ghost use Rattle.ep_tag.specs.Vlan.{vlan_len, payload_of};
 
 use super::vlan_bytes::VlanBytes;
@@ -11,16 +11,16 @@ use ep_base::err::{Layer, LenError};
 // As many bytes as a slice has.
 const MOST: usize = usize::MAX;
 
-/// A VLAN tag (IEEE 802.1Q, section 9.6) and all bytes behind it, borrowed. A contract sees the
+/// A VLAN tag (IEEE 802.1Q, section 9.6) and all bytes after it, borrowed. A contract sees the
 /// value as the bytes of both.
 pub type SingleVlanSlice<'a> = VlanBytes<'a, { MOST }>;
 
 impl<'a> VlanBytes<'a, { MOST }> {
-    /// The tag at the front of the slice, and what follows it. A slice of fewer than 4 bytes is
+    /// The tag at the start of the slice, and what follows it. A slice of fewer than 4 bytes is
     /// refused.
     pub fn from_slice(slice: &'a [u8]) -> Result<SingleVlanSlice<'a>, LenError>
         ensures exact { result ≡ whole_at layer.VlanHeader vlan_len slice.now }
-        ensures place { IfErr result (λ e. e.layer_start_offset ≡ 0) }
+        ensures offset { IfErr result (λ e. e.layer_start_offset ≡ 0) }
     {
         if slice.len() < SingleVlanHeader::LEN {
             return Err(LenError::too_few_bytes(
@@ -39,7 +39,7 @@ impl<'a> VlanBytes<'a, { MOST }> {
         VlanBytes { slice: b"\0\0\0\0" }
     }
 
-    /// The tag and all bytes behind it.
+    /// The tag and all bytes after it.
     pub fn slice(&self) -> &'a [u8]
         ensures bytes { result.now ≡ self.now }
         ensures least { vlan_len ≤ length self.now }
@@ -74,7 +74,7 @@ impl<'a> VlanBytes<'a, { MOST }> {
         }
     }
 
-    /// The bytes behind the tag.
+    /// The bytes after the tag.
     pub fn payload_slice(&self) -> &'a [u8]
         ensures { result.now ≡ drop vlan_len self.now }
     {

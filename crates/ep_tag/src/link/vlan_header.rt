@@ -1,6 +1,6 @@
 ghost use Rattle.std.specs.Prelude.{◌≡◌, ◌+◌, ◌≤◌, ◌++◌, length, OnOk, OnErr, IsOk, vec_len};
 ghost use Rattle.std.specs.Prelude.{vec_capacity};
-ghost use Rattle.ep_tag.specs.VlanForms.{tags_spelling, last_type_in};
+ghost use Rattle.ep_tag.specs.VlanForms.{tags_encoding, last_type_in};
 
 use super::{DoubleVlanHeader, SingleVlanHeader};
 use ep_base::EtherType;
@@ -11,7 +11,7 @@ use std::alloc::AllocError;
 pub enum VlanHeader {
     /// One tag.
     Single(SingleVlanHeader),
-    /// Two tags, one behind the other.
+    /// Two tags, one after the other.
     Double(DoubleVlanHeader),
 }
 
@@ -28,7 +28,7 @@ impl VlanHeader {
 
     /// The length of the tags in bytes: 4 or 8.
     pub fn header_len(&self) -> usize
-        ensures { result ≡ length (tags_spelling self.now) }
+        ensures { result ≡ length (tags_encoding self.now) }
     {
         match self {
             VlanHeader::Single(_) => SingleVlanHeader::LEN,
@@ -38,12 +38,12 @@ impl VlanHeader {
 
     /// Appends the bytes of the tags, the outer one first.
     pub fn write(&self, buffer: &mut Vec<u8>) -> Result<(), AllocError>
-        ensures ok { OnOk result (buffer.new.items ≡ buffer.old.items ++ tags_spelling self.now) }
+        ensures ok { OnOk result (buffer.new.items ≡ buffer.old.items ++ tags_encoding self.now) }
         ensures len { OnOk result (vec_len buffer.new
-            ≡ vec_len buffer.old + length (tags_spelling self.now)) }
+            ≡ vec_len buffer.old + length (tags_encoding self.now)) }
         ensures err { OnErr result (buffer.new.items ≡ buffer.old.items) }
-        // It fails only where room was missing, and room never shrinks.
-        ensures succeeds { vec_len buffer.old + length (tags_spelling self.now)
+        // It fails only where capacity was missing, and capacity never shrinks.
+        ensures succeeds { vec_len buffer.old + length (tags_encoding self.now)
             ≤ vec_capacity buffer.old → IsOk result }
         ensures capacity { vec_capacity buffer.old ≤ vec_capacity buffer.new }
     {

@@ -1,5 +1,5 @@
-//! The definitions at values from outside: each clause is what a standard or a hand gives, so that
-//! a definition can't change with the code.
+//! The definitions at literal values: each clause is what a standard gives, or was worked out
+//! independently of the code, so that a definition can't change with the code.
 
 ghost use Rattle.std.specs.Prelude.{◌≡◌, ℕ, [], ◌∷◌, ◌++◌, replicate, true, false, None, Some, Ok};
 ghost use Rattle.std.specs.Prelude.{Err};
@@ -8,8 +8,8 @@ ghost use Rattle.ep_base.specs.declared.err.value_type.ValueType.TheVariants as 
 ghost use Rattle.ep_base.specs.declared.len_source.LenSource.TheVariants as len_source;
 ghost use Rattle.ep_tcpudp.specs.Examples.{destination_v4, destination_v6, first_options};
 ghost use Rattle.ep_tcpudp.specs.Examples.{first_segment, one_to_eight, reserved_segment};
-ghost use Rattle.ep_tcpudp.specs.Examples.{source_v4, source_v6, tcp_front, tcp_front_as_written};
-ghost use Rattle.ep_tcpudp.specs.Examples.{udp_front};
+ghost use Rattle.ep_tcpudp.specs.Examples.{source_v4, source_v6, tcp_prefix, tcp_prefix_as_written};
+ghost use Rattle.ep_tcpudp.specs.Examples.{udp_prefix};
 ghost use Rattle.ep_tcpudp.specs.Limit.{value_up_to};
 ghost use Rattle.ep_tcpudp.specs.Options.{items_of, options_of_elements};
 ghost use Rattle.ep_tcpudp.specs.Tcp as tcp;
@@ -26,7 +26,7 @@ ghost use Rattle.ep_tcpudp.specs.declared.transport.tcp_option_read_error.TcpOpt
 ghost use Rattle.ep_tcpudp.specs.declared.transport.tcp_option_write_error.TcpOptionWriteError.TheVariants as space;
 
 /// The options of a first segment, and what ends a list: a fault is its last item, and nothing
-/// comes behind the option that ends it.
+/// follows the option that ends it.
 #[tactic(auto, unfolding(crate::specs::Options::items_within))]
 pub fn options_read()
     ensures first_segment { items_of first_options ≡ Ok (option.MaximumSegmentSize 1460) ∷
@@ -39,8 +39,9 @@ pub fn options_read()
     ensures fault { items_of (6 ∷ 2 ∷ 1 ∷ 1 ∷ []) ≡ Err (wrong.UnknownId 6) ∷ [] }
 {}
 
-/// Options that can't be read: the bytes of a kind's one size are missed before its size is looked
-/// at, a selective acknowledgement's size is looked at first, and no kind is known by its size.
+/// Options that can't be read. Where a kind has one size, missing bytes are reported before a wrong
+/// size byte; of a selective acknowledgement a wrong size byte is reported first. An unknown kind
+/// is refused whatever its size byte.
 #[tactic(auto, unfolding(crate::specs::Options::items_within))]
 pub fn options_refused()
     ensures short { items_of (2 ∷ 5 ∷ []) ≡ Err (wrong.UnexpectedEndOfSlice 2 4 2) ∷ [] }
@@ -78,7 +79,7 @@ pub fn options_written()
 
 /// A TCP header by its bytes, both ways: the reserved bits are dropped.
 pub fn tcp_fields()
-    ensures fields { tcp.tcp_header_of tcp_front ≡ record {
+    ensures fields { tcp.tcp_header_of tcp_prefix ≡ record {
       source_port = 1;
       destination_port = 2;
       sequence_number = 3;
@@ -97,17 +98,17 @@ pub fn tcp_fields()
       urgent_pointer = 7;
       options = 1 ∷ 1 ∷ 1 ∷ 0 ∷ [];
     } }
-    ensures bytes { tcp.spelling (tcp.tcp_header_of tcp_front) ≡ tcp_front_as_written }
-    ensures reserved { tcp.with_reserved_bits_zero tcp_front ≡ tcp_front_as_written }
+    ensures bytes { tcp.encoding (tcp.tcp_header_of tcp_prefix) ≡ tcp_prefix_as_written }
+    ensures reserved { tcp.with_reserved_bits_zero tcp_prefix ≡ tcp_prefix_as_written }
 {}
 
-/// A TCP header is found whatever follows it, and each fault has its fields and its place in the
-/// order: fewer than 20 bytes, the data offset, fewer bytes than it says.
+/// A TCP header is found whatever follows it. Each fault has its fields, and faults are tested in
+/// this order: fewer than 20 bytes, the data offset, fewer bytes than it says.
 pub fn tcp_headers_found()
-    ensures found { tcp_fault.header_at (tcp_front ++ 170 ∷ 187 ∷ []) ≡ Ok tcp_front }
-    ensures segment { tcp_fault.segment_at (tcp_front ++ 170 ∷ 187 ∷ [])
-        ≡ Ok (tcp_front ++ 170 ∷ 187 ∷ []) }
-    ensures payload { tcp.payload_of (tcp_front ++ 170 ∷ 187 ∷ []) ≡ 170 ∷ 187 ∷ [] }
+    ensures found { tcp_fault.header_at (tcp_prefix ++ 170 ∷ 187 ∷ []) ≡ Ok tcp_prefix }
+    ensures segment { tcp_fault.segment_at (tcp_prefix ++ 170 ∷ 187 ∷ [])
+        ≡ Ok (tcp_prefix ++ 170 ∷ 187 ∷ []) }
+    ensures payload { tcp.payload_of (tcp_prefix ++ 170 ∷ 187 ∷ []) ≡ 170 ∷ 187 ∷ [] }
     ensures short { tcp_fault.header_at (replicate 19 79) ≡ Err (refusal.Len (record {
       required_len = 20;
       len = 19;
@@ -126,15 +127,15 @@ pub fn tcp_headers_found()
     })) }
 {}
 
-/// A UDP header by its bytes, both ways, and the datagram that it begins.
+/// A UDP header by its bytes, both ways, and the datagram that starts with it.
 pub fn udp_datagrams()
-    ensures fields { udp.udp_header_of udp_front
+    ensures fields { udp.udp_header_of udp_prefix
         ≡ record { source_port = 1; destination_port = 2; length = 16; checksum = 56244 } }
-    ensures bytes { udp.spelling
+    ensures bytes { udp.encoding
         (record { source_port = 1; destination_port = 2; length = 16; checksum = 56244 })
-        ≡ udp_front }
-    ensures datagram { udp_fault.udp_at (udp_front ++ one_to_eight ++ 170 ∷ [])
-        ≡ Ok (udp_front ++ one_to_eight) }
+        ≡ udp_prefix }
+    ensures datagram { udp_fault.udp_at (udp_prefix ++ one_to_eight ++ 170 ∷ [])
+        ≡ Ok (udp_prefix ++ one_to_eight) }
     ensures all { udp_fault.udp_at (replicate 9 0) ≡ Ok (replicate 9 0) }
 {}
 
@@ -165,18 +166,18 @@ pub fn udp_refused()
 {}
 
 /// Checksums over both IP versions: of UDP with the length field in the pseudo header, whatever the
-/// payload's length is, and with ffff in the place of 0; of TCP with options, and with the reserved
-/// bits as they stand.
+/// payload's length is, and with ffff instead of 0; of TCP with options, and with the reserved bits
+/// as they are.
 #[tactic(auto, unfolding(ep_base::specs::Sum::total, ep_base::specs::Sum::fold))]
 pub fn checksums()
     ensures udp_v4 { udp_checksum.sealed_v4 1 2 source_v4 destination_v4 one_to_eight
-        ≡ udp.udp_header_of udp_front }
+        ≡ udp.udp_header_of udp_prefix }
     ensures udp_v6 { udp_checksum.checksum_v6 source_v6 destination_v6
-        (udp.udp_header_of udp_front) one_to_eight ≡ 62898 }
+        (udp.udp_header_of udp_prefix) one_to_eight ≡ 62898 }
     ensures udp_length_v4 { udp_checksum.checksum_v4 source_v4 destination_v4
-        (record (udp.udp_header_of udp_front) { length = 9 }) one_to_eight ≡ 56258 }
+        (record (udp.udp_header_of udp_prefix) { length = 9 }) one_to_eight ≡ 56258 }
     ensures udp_length_v6 { udp_checksum.checksum_v6 source_v6 destination_v6
-        (record (udp.udp_header_of udp_front) { length = 9 }) one_to_eight ≡ 62912 }
+        (record (udp.udp_header_of udp_prefix) { length = 9 }) one_to_eight ≡ 62912 }
     ensures udp_zero { udp_checksum.checksum_v4 (replicate 4 0) (replicate 4 0)
         (udp.unchecked_header 65502 0 0) [] ≡ 65535 }
     ensures udp_zero_v6 { udp_checksum.checksum_v6 (replicate 16 0) (replicate 16 0)

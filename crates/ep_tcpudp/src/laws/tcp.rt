@@ -5,9 +5,9 @@ ghost use Rattle.std.specs.Cmp.Lexicographic.{slice_cmp};
 ghost use Rattle.std.specs.Hash as fed;
 ghost use Rattle.std.specs.Ordering.{nat_cmp};
 ghost use Rattle.ep_base.specs.Bytes.{IsBytes};
-ghost use Rattle.ep_tcpudp.specs.Elements.{ItemsAreSpelled, NoOtherItems};
+ghost use Rattle.ep_tcpudp.specs.Elements.{ItemsAreEncoded, NoOtherItems};
 ghost use Rattle.ep_tcpudp.specs.Options.{ElementsComeBack};
-ghost use Rattle.ep_tcpudp.specs.Tcp.{IsTcpHeader, tcp_header_of, spelling};
+ghost use Rattle.ep_tcpudp.specs.Tcp.{IsTcpHeader, tcp_header_of, encoding};
 ghost use Rattle.ep_tcpudp.specs.Tcp.{with_reserved_bits_zero};
 ghost use Rattle.ep_tcpudp.specs.TcpChecksum.{SealedTcpSumsToAllOnes, SealedSegmentSumsToAllOnes};
 
@@ -26,13 +26,13 @@ pub fn sealed_sums_to_all_ones()
     checksum_sums_to_all_ones();
 }
 
-/// The bytes of a header are one, and spell its fields; the bytes of fields that were read are
-/// those that they were read from, but for the reserved bits, which are 0.
+/// The bytes of a header are a header, and encode its fields. Fields that were parsed are encoded
+/// as the bytes that they were parsed from, but for the reserved bits, which are 0.
 pub fn headers_are_their_bytes(header: &TcpHeader)
-    ensures spelled { IsTcpHeader (spelling header.now) }
-    ensures read { tcp_header_of (spelling header.now) ≡ header.now }
-    ensures spelled_again { (bytes : List ℕ) → IsTcpHeader bytes → IsBytes bytes
-        → spelling (tcp_header_of bytes) ≡ with_reserved_bits_zero bytes }
+    ensures encoded { IsTcpHeader (encoding header.now) }
+    ensures read { tcp_header_of (encoding header.now) ≡ header.now }
+    ensures encoded_again { (bytes : List ℕ) → IsTcpHeader bytes → IsBytes bytes
+        → encoding (tcp_header_of bytes) ≡ with_reserved_bits_zero bytes }
 {
     let _bytes = header.to_bytes();
 }
@@ -42,7 +42,7 @@ pub fn header_is_read_again<'a>(
     header: &TcpHeader,
     slice: &'a [u8],
 ) -> Result<(TcpHeader, &'a [u8]), HeaderSliceError>
-    ensures { (rest : List ℕ) → slice.now ≡ spelling header.now ++ rest
+    ensures { (rest : List ℕ) → slice.now ≡ encoding header.now ++ rest
         → IsOkAnd result (λ r. (r.0 ≡ header.now) × (r.1.now ≡ rest)) }
 {
     let _bytes = header.to_bytes();
@@ -73,15 +73,15 @@ pub fn options_hash_as_bytes<H: Hasher>(options: &TcpOptions, state: &mut H)
 }
 
 /// What elements were written as is read as these elements and nothing more; of a selective
-/// acknowledgement, the blocks that are there stand in front.
+/// acknowledgement, the blocks that are there come first.
 pub fn elements_come_back()
     ensures { ElementsComeBack }
 {}
 
-/// The bytes of options are read as the elements that they begin with, up to the end of the list,
+/// The bytes of options are read as the elements that they start with, up to the end of the list,
 /// and then as the fault that it ends with, if there is one; and there is no other way to read
 /// them.
 pub fn items_are_elements()
-    ensures spelled { ItemsAreSpelled }
+    ensures encoded { ItemsAreEncoded }
     ensures no_other { NoOtherItems }
 {}

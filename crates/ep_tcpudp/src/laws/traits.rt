@@ -35,8 +35,8 @@ pub fn types_are_plain_data<'a>()
     ep_base::laws::traits::types_are_plain_data();
 }
 
-/// A hasher is fed all fields of an error, and in front of them, where there are several, which of
-/// the errors it is, as they are declared.
+/// A hasher is fed all fields of an error, and before them, where there are several, which of the
+/// errors it is, as they are declared.
 pub fn errors_hash_all_fields()
     ensures header { (data_offset : ℕ) → ⟦<HeaderError as Hash>⟧.hash_input
         (fault.DataOffsetTooSmall data_offset) ≡ fed.u8 data_offset }

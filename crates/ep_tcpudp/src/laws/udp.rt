@@ -2,7 +2,7 @@
 
 ghost use Rattle.std.specs.Prelude.{◌≡◌, ℕ, List, ◌++◌, IsOkAnd};
 ghost use Rattle.ep_base.specs.Bytes.{IsBytes};
-ghost use Rattle.ep_tcpudp.specs.Udp.{IsUdpHeader, udp_header_of, spelling};
+ghost use Rattle.ep_tcpudp.specs.Udp.{IsUdpHeader, udp_header_of, encoding};
 ghost use Rattle.ep_tcpudp.specs.UdpChecksum.{SealedUdpSumsToAllOnes};
 
 use crate::UdpHeader;
@@ -23,13 +23,13 @@ pub fn header_lengths()
     ensures len_u16 { UdpHeader.LEN_U16 ≡ 8 }
 {}
 
-/// Headers and lists of 8 bytes are each other's: a header's bytes are such a list, which spells
-/// the header, and such a list spells a header whose bytes it is.
+/// Headers and lists of 8 bytes correspond one to one: a header's bytes are such a list, which
+/// encodes the header, and such a list encodes a header whose bytes it is.
 pub fn headers_are_their_bytes(header: &UdpHeader)
-    ensures spelled { IsUdpHeader (spelling header.now) }
-    ensures read { udp_header_of (spelling header.now) ≡ header.now }
-    ensures spelled_again { (bytes : List ℕ) → IsUdpHeader bytes → IsBytes bytes
-        → spelling (udp_header_of bytes) ≡ bytes }
+    ensures encoded { IsUdpHeader (encoding header.now) }
+    ensures read { udp_header_of (encoding header.now) ≡ header.now }
+    ensures encoded_again { (bytes : List ℕ) → IsUdpHeader bytes → IsBytes bytes
+        → encoding (udp_header_of bytes) ≡ bytes }
 {
     let _bytes = header.to_bytes();
 }
@@ -39,7 +39,7 @@ pub fn header_is_read_again<'a>(
     header: &UdpHeader,
     slice: &'a [u8],
 ) -> Result<(UdpHeader, &'a [u8]), LenError>
-    ensures { (rest : List ℕ) → slice.now ≡ spelling header.now ++ rest
+    ensures { (rest : List ℕ) → slice.now ≡ encoding header.now ++ rest
         → IsOkAnd result (λ r. (r.0 ≡ header.now) × (r.1.now ≡ rest)) }
 {
     let _bytes = header.to_bytes();

@@ -8,7 +8,7 @@ ghost use Rattle.ep_base.specs.Sum.{fold, total};
 ghost use Rattle.ep_tcpudp.specs.Limit.{value_up_to};
 ghost use Rattle.ep_tcpudp.specs.Options.{options_of_elements};
 ghost use Rattle.ep_tcpudp.specs.Tcp.{IsTcpHeader, IsRead, Fits, tcp_header_of, new_header};
-ghost use Rattle.ep_tcpudp.specs.Tcp.{data_offset, header_len, flag, flags, spelling};
+ghost use Rattle.ep_tcpudp.specs.Tcp.{data_offset, header_len, flag, flags, encoding};
 ghost use Rattle.ep_tcpudp.specs.TcpChecksum.{right_checksum, checksum_v4, checksum_v6};
 ghost use Rattle.ep_tcpudp.specs.TcpFault.{header_at};
 ghost use Rattle.ep_tcpudp.specs.TcpOptions.{IsTcpOptions, whole_options};
@@ -27,7 +27,7 @@ use ep_ip::{Ipv4Header, Ipv6Header};
 use std::alloc::AllocError;
 
 /// A TCP header (RFC 9293, section 3.1): its fields without the data offset, which follows from the
-/// options, and the reserved bits. In its bytes numbers stand high byte first.
+/// options, and the reserved bits. In its bytes numbers are high byte first.
 #[derive(Clone, Debug, PartialEq, Eq, Drop)]
 pub struct TcpHeader {
     /// The port that the segment comes from.
@@ -47,7 +47,7 @@ pub struct TcpHeader {
     pub syn: bool,
     /// The connection is reset.
     pub rst: bool,
-    /// The data is to be handed on at once.
+    /// The data is to be passed on at once.
     pub psh: bool,
     /// The acknowledgment number counts.
     pub ack: bool,
@@ -138,7 +138,7 @@ impl TcpHeader {
         self.options.as_slice()
     }
 
-    /// The elements that the options spell, one after the other.
+    /// The elements that the options encode, one after the other.
     pub fn options_iterator(&self) -> TcpOptionsIterator<'_>
         ensures { result ≡ self.now.options }
     {
@@ -174,16 +174,16 @@ impl TcpHeader {
         Ok(())
     }
 
-    /// The header at the front of the slice, and what follows it. The reserved bits are dropped.
+    /// The header at the start of the slice, and what follows it. The reserved bits are dropped.
     ///
     /// Refused as [`TcpHeaderSlice::from_slice`] refuses. The checksum is not tested, nor are the
     /// options.
     pub fn from_slice(slice: &[u8]) -> Result<(TcpHeader, &[u8]), HeaderSliceError>
-        // The front of the slice is a header, and is read so.
+        // The slice starts with a header, which has these fields.
         ensures found { IfOk result (λ r. IsRead slice.now r.0 r.1.now) }
-        // A front that is a header is read.
-        ensures only { (front rest : List ℕ) → IsTcpHeader front → slice.now ≡ front ++ rest
-            → IsOkAnd result (λ r. (r.0 ≡ tcp_header_of front) × (r.1.now ≡ rest)) }
+        // A prefix that is a header is parsed.
+        ensures only { (prefix rest : List ℕ) → IsTcpHeader prefix → slice.now ≡ prefix ++ rest
+            → IsOkAnd result (λ r. (r.0 ≡ tcp_header_of prefix) × (r.1.now ≡ rest)) }
         // Else it is the first fault.
         ensures err { IfErr result (λ e. header_at slice.now ≡ Err e) }
     {
@@ -192,24 +192,23 @@ impl TcpHeader {
         Ok((header.to_header(), rest))
     }
 
-    /// The bytes of the header: the reserved bits are 0, and the checksum is the field as it
-    /// stands.
+    /// The bytes of the header: the reserved bits are 0, and the checksum is that of the field.
     ///
     /// The data offset comes from the options.
     #[inline(always)]
     pub fn to_bytes(&self) -> ArrayVec<u8, 60>
-        ensures bytes { result.items ≡ spelling self.now }
+        ensures bytes { result.items ≡ encoding self.now }
         ensures len { length result.items ≡ header_len self.now }
         // They are a header, with these fields.
         ensures header { IsTcpHeader result.items }
         ensures fields { tcp_header_of result.items ≡ self.now }
     {
-        self.spelled()
+        self.encoded()
     }
 
     #[inline(always)]
-    fn spelled(&self) -> ArrayVec<u8, 60>
-        ensures bytes { result.items ≡ spelling self.now }
+    fn encoded(&self) -> ArrayVec<u8, 60>
+        ensures bytes { result.items ≡ encoding self.now }
         ensures len { length result.items ≡ header_len self.now }
         ensures fits { Fits self.now }
     {
@@ -223,11 +222,11 @@ impl TcpHeader {
         bytes
     }
 
-    // The 20 bytes in front of the options, with this checksum.
+    // The 20 bytes before the options, with this checksum.
     #[inline(always)]
     fn fixed_bytes_with(&self, checksum: u16) -> [u8; 20]
         ensures bytes { result ++ self.now.options
-            ≡ spelling (record self.now { checksum = checksum }) }
+            ≡ encoding (record self.now { checksum = checksum }) }
         ensures fits { Fits (record self.now { checksum = checksum }) }
     {
         let source_port = self.source_port.to_be_bytes();
@@ -283,15 +282,15 @@ impl TcpHeader {
             + flag(self.fin, 1)
     }
 
-    /// Appends the bytes of the header, with the checksum as it stands.
+    /// Appends the bytes of the header, with the checksum as it is.
     ///
     /// Where no memory is left for them, the buffer keeps its bytes.
     #[inline(always)]
     pub fn write(&self, buffer: &mut Vec<u8>) -> Result<(), AllocError>
-        ensures ok { OnOk result (buffer.new.items ≡ buffer.old.items ++ spelling self.now) }
+        ensures ok { OnOk result (buffer.new.items ≡ buffer.old.items ++ encoding self.now) }
         ensures len { OnOk result (vec_len buffer.new ≡ vec_len buffer.old + header_len self.now) }
         ensures err { OnErr result (buffer.new.items ≡ buffer.old.items) }
-        // It fails only where room was missing, and room never shrinks.
+        // It fails only where capacity was missing, and capacity never shrinks.
         ensures succeeds { vec_len buffer.old + header_len self.now ≤ vec_capacity buffer.old
             → IsOk result }
         ensures capacity { vec_capacity buffer.old ≤ vec_capacity buffer.new }
@@ -336,7 +335,7 @@ impl TcpHeader {
         )?;
         let len = (self.header_len() + payload.len()) as u16;
         let pseudo = pseudo_sum_v4(source, destination, IpNumber::TCP, len);
-        Ok(self.checksum_behind(pseudo, payload))
+        Ok(self.checksum_after(pseudo, payload))
     }
 
     /// The checksum over IPv6, as [`TcpHeader::calc_checksum_ipv4`] over IPv4.
@@ -375,25 +374,25 @@ impl TcpHeader {
         )?;
         let len = (self.header_len() + payload.len()) as u32;
         let pseudo = pseudo_sum_v6(source, destination, IpNumber::TCP, len);
-        Ok(self.checksum_behind(pseudo, payload))
+        Ok(self.checksum_after(pseudo, payload))
     }
 
-    // The checksum behind a pseudo header with this sum.
+    // The checksum after a pseudo header with this sum.
     #[inline(always)]
-    fn checksum_behind(&self, pseudo: Sum16BitWords, payload: &[u8]) -> u16
-        ensures { (front : List ℕ) → SumsWords pseudo front
-            → result ≡ right_checksum front self.now payload.now }
+    fn checksum_after(&self, pseudo: Sum16BitWords, payload: &[u8]) -> u16
+        ensures { (prefix : List ℕ) → SumsWords pseudo prefix
+            → result ≡ right_checksum prefix self.now payload.now }
     {
-        self.sum_behind(pseudo, payload)
+        self.sum_after(pseudo, payload)
             .ones_complement()
             .swap_bytes()
     }
 
     #[inline(always)]
-    fn sum_behind(&self, pseudo: Sum16BitWords, payload: &[u8]) -> Sum16BitWords
-        ensures { (front : List ℕ) → SumsWords pseudo front
+    fn sum_after(&self, pseudo: Sum16BitWords, payload: &[u8]) -> Sum16BitWords
+        ensures { (prefix : List ℕ) → SumsWords pseudo prefix
             → result ≡ fold
-            (total (front ++ spelling (record self.now { checksum = 0 }) ++ payload.now)) }
+            (total (prefix ++ encoding (record self.now { checksum = 0 }) ++ payload.now)) }
     {
         message_sum(pseudo, &self.fixed_bytes_with(0), self.options.as_slice()).add_slice(payload)
     }

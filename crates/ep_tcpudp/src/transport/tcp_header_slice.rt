@@ -12,8 +12,8 @@ ghost use Rattle.ep_tcpudp.specs.TcpChecksum.{segment_checksum_v6, with_checksum
 ghost use Rattle.ep_tcpudp.specs.TcpFault.{header_at};
 
 use super::limit::at_most;
-use super::part::Part;
 use super::tcp_view::TcpView;
+use super::view_kind::ViewKind;
 use crate::TcpHeader;
 use crate::err::tcp::{HeaderError, HeaderSliceError};
 use ep_base::IpNumber;
@@ -26,22 +26,22 @@ use ep_ip::{Ipv4HeaderSlice, Ipv6HeaderSlice};
 /// the value as those bytes.
 pub type TcpHeaderSlice<'a> = TcpView<'a, TcpHeader>;
 
-impl Part for TcpHeader {
+impl ViewKind for TcpHeader {
     const VIEW: &'static str = "TcpHeaderSlice";
 
     ghost holds = { IsTcpHeader };
 }
 
 impl<'a> TcpHeaderSlice<'a> {
-    /// The header at the front of the slice. It ignores what follows.
+    /// The header at the start of the slice. It ignores what follows.
     ///
     /// Tested in this order: 20 bytes are there (`Len`), the data offset is at least 5
     /// (`DataOffsetTooSmall`), and as many words of 4 bytes are there as it says (`Len`).
     pub fn from_slice(slice: &'a [u8]) -> Result<TcpHeaderSlice<'a>, HeaderSliceError>
-        // What is taken is a header, and a front of the slice.
+        // What is taken is a header, and a prefix of the slice.
         ensures found { IfOk result (λ header. IsTcpHeader header
             × ((rest : List ℕ) × (slice.now ≡ header ++ rest))) }
-        // A front that is a header is taken.
+        // A prefix that is a header is taken.
         ensures only { (header rest : List ℕ) → IsTcpHeader header
             → slice.now ≡ header ++ rest → result ≡ Ok header }
         // Else it is the first fault.
@@ -88,7 +88,7 @@ impl<'a> TcpHeaderSlice<'a> {
     }
 
     /// The checksum over IPv4: of the pseudo header between the addresses of this header, of the
-    /// TCP header's bytes with the checksum as 0, reserved bits as they stand, and of the payload.
+    /// TCP header's bytes with the checksum as 0, reserved bits as they are, and of the payload.
     ///
     /// A payload above 65535 bytes less the header is refused.
     pub fn calc_checksum_ipv4(
@@ -122,7 +122,7 @@ impl<'a> TcpHeaderSlice<'a> {
         )?;
         let len = (self.header_len() + payload.len()) as u16;
         let pseudo = pseudo_sum_v4(source, destination, IpNumber::TCP, len);
-        Ok(self.checksum_behind(pseudo, payload))
+        Ok(self.checksum_after(pseudo, payload))
     }
 
     /// The checksum over IPv6, as [`TcpHeaderSlice::calc_checksum_ipv4`] over IPv4.
@@ -159,13 +159,13 @@ impl<'a> TcpHeaderSlice<'a> {
         )?;
         let len = (self.header_len() + payload.len()) as u32;
         let pseudo = pseudo_sum_v6(source, destination, IpNumber::TCP, len);
-        Ok(self.checksum_behind(pseudo, payload))
+        Ok(self.checksum_after(pseudo, payload))
     }
 
-    // The checksum behind a pseudo header with this sum.
-    fn checksum_behind(&self, pseudo: Sum16BitWords, payload: &[u8]) -> u16
-        ensures { (front : List ℕ) → SumsWords pseudo front
-            → result ≡ segment_checksum front (self.now ++ payload.now) }
+    // The checksum after a pseudo header with this sum.
+    fn checksum_after(&self, pseudo: Sum16BitWords, payload: &[u8]) -> u16
+        ensures { (prefix : List ℕ) → SumsWords pseudo prefix
+            → result ≡ segment_checksum prefix (self.now ++ payload.now) }
     {
         self.sum_with(pseudo, payload)
             .ones_complement()
@@ -173,10 +173,10 @@ impl<'a> TcpHeaderSlice<'a> {
     }
 
     fn sum_with(&self, pseudo: Sum16BitWords, payload: &[u8]) -> Sum16BitWords
-        ensures { (front : List ℕ) → SumsWords pseudo front
-            → result ≡ fold (total (front ++ with_checksum (self.now ++ payload.now) 0)) }
+        ensures { (prefix : List ℕ) → SumsWords pseudo prefix
+            → result ≡ fold (total (prefix ++ with_checksum (self.now ++ payload.now) 0)) }
     {
         let _header = &self.slice;
-        self.sum_behind(pseudo).add_slice(payload)
+        self.sum_after(pseudo).add_slice(payload)
     }
 }

@@ -21,16 +21,16 @@ pub enum TcpOptionElement {
     WindowScale(u8),
     /// Selective acknowledgements are understood (RFC 2018, section 2).
     SelectiveAcknowledgementPermitted,
-    /// Blocks of bytes that arrived behind a hole, each by the number of its first byte and of the
-    /// byte behind its last one: the first, and up to three more (RFC 2018, section 3). Those that
-    /// are read stand in front.
+    /// Blocks of bytes that arrived after a gap, each by the number of its first byte and of the
+    /// byte after its last one: the first, and up to three more (RFC 2018, section 3). Parsed
+    /// blocks that are `Some` come first.
     SelectiveAcknowledgement((u32, u32), [Option<(u32, u32)>; 3]),
     /// The sender's clock, and the clock value that it replies to (RFC 7323, section 3.2).
     Timestamp(u32, u32),
 }
 
 impl TcpOptionElement {
-    // The number of bytes that spell it.
+    // The number of bytes that encode it.
     pub(crate) fn len(&self) -> usize
         ensures value { result ≡ length (element_bytes self.now) }
         ensures small { result ≤ 34 }
@@ -45,7 +45,7 @@ impl TcpOptionElement {
         }
     }
 
-    // Appends the bytes that spell it, for which there is room.
+    // Appends the bytes that encode it, for which there is space.
     pub(crate) fn write_to(&self, bytes: &mut ArrayVec<u8, 40>)
         requires { length bytes.old.items + length (element_bytes self.now) ≤ 40 }
         ensures { bytes.new.items ≡ bytes.old.items ++ element_bytes self.now }

@@ -2,7 +2,7 @@
 
 use thiserror::Error;
 
-/// What is wrong with the option at the front of some bytes.
+/// What is wrong with the option at the start of some bytes.
 #[derive(Clone, Copy, Debug, PartialEq, Eq, Hash, Error)]
 pub enum TcpOptionReadError {
     /// Fewer bytes are left than the option needs.

@@ -77,7 +77,7 @@ impl TcpOptions {
         Ok(TcpOptions::filled(bytes))
     }
 
-    /// The elements that the bytes spell, one after the other.
+    /// The elements that the bytes encode, one after the other.
     pub fn elements_iter(&self) -> TcpOptionsIterator<'_>
         ensures { result ≡ self.now }
     {

@@ -17,10 +17,10 @@ use crate::tcp_option::{
 use crate::{TcpOptionElement, TcpOptionReadError};
 use std::marker::Model;
 
-/// The elements that the bytes of TCP options spell, one after the other (RFC 9293, section 3.2).
+/// The elements that the bytes of TCP options encode, one after the other (RFC 9293, section 3.2).
 ///
-/// It ends with the bytes, at the option that ends the list, or behind the first fault, which is
-/// given as the last item; [`crate::laws::tcp::items_are_elements`] states it of the table of
+/// It ends with the bytes, at the option that ends the list, or after the first fault, which is
+/// returned as the last item; [`crate::laws::tcp::items_are_elements`] states it by the table of
 /// options. A contract sees it as the bytes that are left, and by these it is equal to another.
 #[derive(Clone, Debug, Drop)]
 pub struct TcpOptionsIterator<'a> {
@@ -34,14 +34,14 @@ impl<'a> Model for TcpOptionsIterator<'a> {
 }
 
 impl<'a> TcpOptionsIterator<'a> {
-    /// The options that these bytes spell.
+    /// The options that these bytes encode.
     pub fn from_slice(options: &'a [u8]) -> TcpOptionsIterator<'a>
         ensures { result ≡ options.now }
     {
         TcpOptionsIterator { options }
     }
 
-    /// The bytes that are left: none behind the end of the list or a fault.
+    /// The bytes that are left: none after the end of the list or a fault.
     pub fn rest(&self) -> &'a [u8]
         ensures { result.now ≡ self.now }
     {
@@ -59,7 +59,7 @@ impl<'a> Iterator for TcpOptionsIterator<'a> {
     fn next(&mut self) -> Option<Self::Item>
         ensures steps { YieldsFirst items_of self.old result self.new }
         ensures goes { MakesProgress (λ _. ⊤) (item_count items_of) self.old result self.new }
-        // It is the element or the fault at the front of what is left, or none at the end.
+        // It is the element or the fault at the start of what is left, or none at the end.
         ensures item { result ≡ item_at self.old }
         ensures rest { self.new ≡ rest_at self.old }
     {
@@ -101,7 +101,7 @@ fn is_end(options: &[u8]) -> bool
     options.is_empty() || options[0] == KIND_END
 }
 
-// The size in bytes of the option at the front.
+// The size in bytes of the option at the start.
 fn size_at(options: &[u8]) -> usize
     requires some { 0 < length options.now }
     requires second { kind_at options.now ≢ 1 → 2 ≤ length options.now }
@@ -114,7 +114,7 @@ fn size_at(options: &[u8]) -> usize
     }
 }
 
-// The element at the front of the bytes, which are some, or its fault.
+// The element at the start of the bytes, which are some, or its fault.
 fn element_at(options: &[u8]) -> Result<TcpOptionElement, TcpOptionReadError>
     requires { 0 < length options.now }
     ensures exact { result ≡ element_at options.now }
@@ -171,8 +171,9 @@ fn of_size(options: &[u8], size: u8) -> Result<(), TcpOptionReadError>
     Ok(())
 }
 
-// The selective acknowledgement at the front of the bytes, or its fault. Inlined, the walk waits for
-// a fault's length, which is stored in pieces and loaded at once.
+// The selective acknowledgement at the start of the bytes, or its fault. It isn't inlined: else the
+// loop over options would wait for a fault's length, which is stored in several parts and loaded at
+// once.
 #[inline(never)]
 fn acknowledgement_at(options: &[u8]) -> Result<TcpOptionElement, TcpOptionReadError>
     requires { 0 < length options.now }
@@ -208,34 +209,34 @@ fn acknowledgement_at(options: &[u8]) -> Result<TcpOptionElement, TcpOptionReadE
     Ok(TcpOptionElement::SelectiveAcknowledgement(first, rest))
 }
 
-// The block of 8 bytes at this place.
-fn block_at(options: &[u8], place: usize) -> (u32, u32)
-    requires { place + 8 ≤ length options.now }
-    ensures { result ≡ block_at options.now place }
+// The block of 8 bytes at this offset.
+fn block_at(options: &[u8], offset: usize) -> (u32, u32)
+    requires { offset + 8 ≤ length options.now }
+    ensures { result ≡ block_at options.now offset }
 {
     (
         u32::from_be_bytes([
-            options[place],
-            options[place + 1],
-            options[place + 2],
-            options[place + 3],
+            options[offset],
+            options[offset + 1],
+            options[offset + 2],
+            options[offset + 3],
         ]),
         u32::from_be_bytes([
-            options[place + 4],
-            options[place + 5],
-            options[place + 6],
-            options[place + 7],
+            options[offset + 4],
+            options[offset + 5],
+            options[offset + 6],
+            options[offset + 7],
         ]),
     )
 }
 
-// The block at this place, where an option of so many bytes reaches there.
-fn block_within(options: &[u8], size: u8, place: usize) -> Option<(u32, u32)>
-    requires { place < size → place + 8 ≤ length options.now }
-    ensures { result ≡ block_within size options.now place }
+// The block at this offset, if an option of so many bytes reaches there.
+fn block_within(options: &[u8], size: u8, offset: usize) -> Option<(u32, u32)>
+    requires { offset < size → offset + 8 ≤ length options.now }
+    ensures { result ≡ block_within size options.now offset }
 {
-    if place < usize::from(size) {
-        Some(block_at(options, place))
+    if offset < usize::from(size) {
+        Some(block_at(options, offset))
     } else {
         None
     }

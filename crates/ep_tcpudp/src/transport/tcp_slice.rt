@@ -10,8 +10,8 @@ ghost use Rattle.ep_tcpudp.specs.TcpChecksum.{segment_checksum_v6};
 ghost use Rattle.ep_tcpudp.specs.TcpFault.{segment_at};
 
 use super::limit::at_most;
-use super::part::Part;
 use super::tcp_view::TcpView;
+use super::view_kind::ViewKind;
 use crate::TcpHeaderSlice;
 use crate::err::tcp::HeaderSliceError;
 use ep_base::IpNumber;
@@ -29,7 +29,7 @@ pub type TcpSlice<'a> = TcpView<'a, Segment>;
 #[derive(Clone, Drop)]
 pub struct Segment;
 
-impl Part for Segment {
+impl ViewKind for Segment {
     const VIEW: &'static str = "TcpSlice";
 
     ghost holds = { ReadableTcp };
@@ -73,7 +73,7 @@ impl<'a> TcpSlice<'a> {
         &self.slice[..self.header_len()]
     }
 
-    /// The payload: what stands behind the header.
+    /// The payload: what follows the header.
     pub fn payload(&self) -> &'a [u8]
         ensures { result.now ≡ payload_of self.now }
     {
@@ -92,7 +92,7 @@ impl<'a> TcpSlice<'a> {
     }
 
     /// The checksum over IPv4: of the pseudo header between these addresses and of the segment with
-    /// its checksum as 0, reserved bits as they stand.
+    /// its checksum as 0, reserved bits as they are.
     ///
     /// A segment above 65535 bytes is refused.
     pub fn calc_checksum_ipv4(
@@ -106,7 +106,7 @@ impl<'a> TcpSlice<'a> {
         let len = self.slice.len();
         at_most(len, u16::MAX as usize, ValueType::TcpPayloadLengthIpv4)?;
         let pseudo = pseudo_sum_v4(source, destination, IpNumber::TCP, len as u16);
-        Ok(self.checksum_behind(pseudo))
+        Ok(self.checksum_after(pseudo))
     }
 
     /// The checksum over IPv6, as [`TcpSlice::calc_checksum_ipv4`] over IPv4.
@@ -123,14 +123,14 @@ impl<'a> TcpSlice<'a> {
         let len = self.slice.len();
         at_most(len, u32::MAX as usize, ValueType::TcpPayloadLengthIpv6)?;
         let pseudo = pseudo_sum_v6(source, destination, IpNumber::TCP, len as u32);
-        Ok(self.checksum_behind(pseudo))
+        Ok(self.checksum_after(pseudo))
     }
 
-    // The checksum behind a pseudo header with this sum.
-    fn checksum_behind(&self, pseudo: Sum16BitWords) -> u16
-        ensures { (front : List ℕ) → SumsWords pseudo front
-            → result ≡ segment_checksum front self.now }
+    // The checksum after a pseudo header with this sum.
+    fn checksum_after(&self, pseudo: Sum16BitWords) -> u16
+        ensures { (prefix : List ℕ) → SumsWords pseudo prefix
+            → result ≡ segment_checksum prefix self.now }
     {
-        self.sum_behind(pseudo).ones_complement().swap_bytes()
+        self.sum_after(pseudo).ones_complement().swap_bytes()
     }
 }

@@ -15,7 +15,7 @@ ghost use Rattle.ep_tcpudp.specs.Tcp.{header_len};
 ghost use Rattle.ep_tcpudp.specs.TcpChecksum.{with_checksum};
 ghost use Rattle.ep_tcpudp.specs.TcpOptions.{IsTcpOptions};
 
-use super::part::Part;
+use super::view_kind::ViewKind;
 use crate::{TcpHeader, TcpOptions, TcpOptionsIterator};
 use ep_base::checksum::{Sum16BitWords, message_sum};
 use std::fmt;
@@ -24,12 +24,12 @@ use std::marker::{Model, PhantomData};
 /// The bytes of a TCP segment (RFC 9293, section 3.1), or of its header alone, borrowed. A contract
 /// sees the value as those bytes.
 #[derive(Clone, Drop)]
-pub struct TcpView<'a, P: Part> {
+pub struct TcpView<'a, P: ViewKind> {
     pub(super) slice: &'a [u8],
-    part: PhantomData<P>,
+    view_kind: PhantomData<P>,
 }
 
-impl<'a, P: Part> Model for TcpView<'a, P> {
+impl<'a, P: ViewKind> Model for TcpView<'a, P> {
     ghost Value = { List ℕ };
 
     ghost view = { λ tcp. tcp.slice.now };
@@ -38,7 +38,7 @@ impl<'a, P: Part> Model for TcpView<'a, P> {
 }
 
 #[tactic(auto, using(crate::proofs::Flags::flag_tests))]
-impl<'a, P: Part> TcpView<'a, P> {
+impl<'a, P: ViewKind> TcpView<'a, P> {
     #[inline(always)]
     pub(super) fn of(slice: &'a [u8]) -> TcpView<'a, P>
         requires readable { ReadableTcp slice.now }
@@ -47,7 +47,7 @@ impl<'a, P: Part> TcpView<'a, P> {
     {
         TcpView {
             slice,
-            part: PhantomData,
+            view_kind: PhantomData,
         }
     }
 
@@ -117,7 +117,7 @@ impl<'a, P: Part> TcpView<'a, P> {
         self.slice[13] & 4 != 0
     }
 
-    /// The flag psh: the data is to be handed on at once.
+    /// The flag psh: the data is to be passed on at once.
     pub fn psh(&self) -> bool
         ensures { result ≡ psh_of self.now }
     {
@@ -159,7 +159,7 @@ impl<'a, P: Part> TcpView<'a, P> {
         u16::from_be_bytes([self.slice[14], self.slice[15]])
     }
 
-    /// The checksum, as it stands.
+    /// The checksum, as it is.
     pub fn checksum(&self) -> u16
         ensures { result ≡ checksum_of self.now }
     {
@@ -173,7 +173,7 @@ impl<'a, P: Part> TcpView<'a, P> {
         u16::from_be_bytes([self.slice[18], self.slice[19]])
     }
 
-    /// The options: what stands between the first 20 bytes and the payload.
+    /// The options: the bytes between the first 20 bytes and the payload.
     pub fn options(&self) -> &'a [u8]
         ensures bytes { result.now ≡ options_of self.now }
         ensures options { IsTcpOptions result.now }
@@ -181,7 +181,7 @@ impl<'a, P: Part> TcpView<'a, P> {
         &self.slice[TcpHeader::MIN_LEN..4 * usize::from(self.data_offset())]
     }
 
-    /// The elements that the options spell, one after the other.
+    /// The elements that the options encode, one after the other.
     pub fn options_iterator(&self) -> TcpOptionsIterator<'a>
         ensures { result ≡ options_of self.now }
     {
@@ -217,22 +217,22 @@ impl<'a, P: Part> TcpView<'a, P> {
         }
     }
 
-    // The sum behind a pseudo header with this sum, of the bytes with the checksum as 0.
-    pub(super) fn sum_behind(&self, pseudo: Sum16BitWords) -> Sum16BitWords
-        ensures { (front : List ℕ) → SumsWords pseudo front
-            → result ≡ fold (total (front ++ with_checksum self.now 0)) }
+    // The sum of the bytes with the checksum as 0, after a pseudo header with this sum.
+    pub(super) fn sum_after(&self, pseudo: Sum16BitWords) -> Sum16BitWords
+        ensures { (prefix : List ℕ) → SumsWords pseudo prefix
+            → result ≡ fold (total (prefix ++ with_checksum self.now 0)) }
     {
         message_sum(pseudo, &self.slice[..16], &self.slice[18..])
     }
 }
 
-impl<'a, P: Part> fmt::Debug for TcpView<'a, P> {
+impl<'a, P: ViewKind> fmt::Debug for TcpView<'a, P> {
     fn fmt<W: fmt::Write>(&self, f: &mut fmt::Formatter<W>) -> fmt::Result {
         f.debug_struct(P::VIEW).field("slice", &self.slice).finish()
     }
 }
 
-impl<'a, P: Part> PartialEq for TcpView<'a, P> {
+impl<'a, P: ViewKind> PartialEq for TcpView<'a, P> {
     ghost eq = { pointwise nat_eq };
 
     ghost laws = { Prim.search (comparing, rules) };
@@ -242,6 +242,6 @@ impl<'a, P: Part> PartialEq for TcpView<'a, P> {
     }
 }
 
-impl<'a, P: Part> Eq for TcpView<'a, P> {
+impl<'a, P: ViewKind> Eq for TcpView<'a, P> {
     ghost laws = { Prim.search (comparing, rules) };
 }

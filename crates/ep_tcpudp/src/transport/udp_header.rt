@@ -5,7 +5,7 @@ ghost use Rattle.std.specs.Prelude.{OnOk, OnErr, IsOk, Err, vec_len, vec_capacit
 ghost use Rattle.ep_base.specs.MessageSum.{SumsWords};
 ghost use Rattle.ep_base.specs.Sum.{fold, total};
 ghost use Rattle.ep_tcpudp.specs.Limit.{value_up_to};
-ghost use Rattle.ep_tcpudp.specs.Udp.{IsUdpHeader, IsRead, Fits, udp_header_of, spelling};
+ghost use Rattle.ep_tcpudp.specs.Udp.{IsUdpHeader, IsRead, Fits, udp_header_of, encoding};
 ghost use Rattle.ep_tcpudp.specs.Udp.{unchecked_header};
 ghost use Rattle.ep_tcpudp.specs.UdpChecksum.{right_checksum, checksum_v4, checksum_v6, sealed_v4};
 ghost use Rattle.ep_tcpudp.specs.UdpChecksum.{sealed_v6};
@@ -20,7 +20,7 @@ use ep_ip::checksum::{pseudo_sum_v4, pseudo_sum_v6};
 use ep_ip::{Ipv4Header, Ipv6Header};
 use std::alloc::AllocError;
 
-/// A UDP header (RFC 768). In its 8 bytes numbers stand high byte first.
+/// A UDP header (RFC 768). In its 8 bytes numbers are high byte first.
 #[derive(Clone, Debug, PartialEq, Eq, Drop)]
 pub struct UdpHeader {
     /// The port that the datagram comes from.
@@ -43,7 +43,7 @@ impl UdpHeader {
     /// The header of a payload of this length in bytes, with the checksum 0, which over IPv4 says
     /// that there is none.
     ///
-    /// A payload above 65527 bytes, which no length field leaves room for, is refused.
+    /// A payload above 65527 bytes, for which the length field is too small, is refused.
     pub fn without_ipv4_checksum(
         source_port: u16,
         destination_port: u16,
@@ -117,7 +117,7 @@ impl UdpHeader {
 
     /// The checksum over IPv4: of the pseudo header between the addresses of this header, with the
     /// UDP header's own length field, of the header with its checksum as 0, and of the payload. It
-    /// is never 0: ffff stands in its place.
+    /// is never 0: ffff is given instead.
     ///
     /// A payload above 65527 bytes is refused. Whether the length field fits the payload isn't
     /// tested.
@@ -193,7 +193,7 @@ impl UdpHeader {
         ensures { result ≡ checksum_v4 source destination self.now payload.now }
     {
         let pseudo = pseudo_sum_v4(source, destination, IpNumber::UDP, self.length);
-        self.checksum_behind(pseudo, payload)
+        self.checksum_after(pseudo, payload)
     }
 
     #[inline(always)]
@@ -201,38 +201,38 @@ impl UdpHeader {
         ensures { result ≡ checksum_v6 source destination self.now payload.now }
     {
         let pseudo = pseudo_sum_v6(source, destination, IpNumber::UDP, self.length.into());
-        self.checksum_behind(pseudo, payload)
+        self.checksum_after(pseudo, payload)
     }
 
-    // The checksum behind a pseudo header with this sum.
+    // The checksum after a pseudo header with this sum.
     #[inline(always)]
-    fn checksum_behind(&self, pseudo: Sum16BitWords, payload: &[u8]) -> u16
-        ensures { (front : List ℕ) → SumsWords pseudo front
-            → result ≡ right_checksum front self.now payload.now }
+    fn checksum_after(&self, pseudo: Sum16BitWords, payload: &[u8]) -> u16
+        ensures { (prefix : List ℕ) → SumsWords pseudo prefix
+            → result ≡ right_checksum prefix self.now payload.now }
     {
-        self.sum_behind(pseudo, payload)
+        self.sum_after(pseudo, payload)
             .to_ones_complement_with_no_zero()
             .swap_bytes()
     }
 
     #[inline(always)]
-    fn sum_behind(&self, pseudo: Sum16BitWords, payload: &[u8]) -> Sum16BitWords
-        ensures { (front : List ℕ) → SumsWords pseudo front
+    fn sum_after(&self, pseudo: Sum16BitWords, payload: &[u8]) -> Sum16BitWords
+        ensures { (prefix : List ℕ) → SumsWords pseudo prefix
             → result ≡ fold
-            (total (front ++ spelling (record self.now { checksum = 0 }) ++ payload.now)) }
+            (total (prefix ++ encoding (record self.now { checksum = 0 }) ++ payload.now)) }
     {
-        message_sum(pseudo, &self.spelled_with(0), payload)
+        message_sum(pseudo, &self.encoded_with(0), payload)
     }
 
-    /// The header at the front of the slice, and the bytes behind it. A slice of fewer than 8 bytes
+    /// The header at the start of the slice, and the bytes after it. A slice of fewer than 8 bytes
     /// is refused. The length field is ignored.
     pub fn from_slice(slice: &[u8]) -> Result<(UdpHeader, &[u8]), LenError>
-        // The front of the slice is a header, and is read so.
+        // The slice starts with a header, which has these fields.
         ensures found { IfOk result (λ r. IsRead slice.now r.0 r.1.now) }
-        // A front that is a header is read.
-        ensures only { (front rest : List ℕ) → IsUdpHeader front → slice.now ≡ front ++ rest
-            → IsOkAnd result (λ r. (r.0 ≡ udp_header_of front) × (r.1.now ≡ rest)) }
-        // Else it is the want of bytes.
+        // A prefix that is a header is parsed.
+        ensures only { (prefix rest : List ℕ) → IsUdpHeader prefix → slice.now ≡ prefix ++ rest
+            → IsOkAnd result (λ r. (r.0 ≡ udp_header_of prefix) × (r.1.now ≡ rest)) }
+        // Else bytes are missing.
         ensures err { IfErr result (λ e. header_at slice.now ≡ Err e) }
     {
         let header = UdpHeaderSlice::from_slice(slice)?;
@@ -261,21 +261,21 @@ impl UdpHeader {
         UdpHeader::LEN
     }
 
-    /// The bytes of the header, with length and checksum as they stand.
+    /// The bytes of the header, with length and checksum as they are.
     #[inline(always)]
     pub fn to_bytes(&self) -> [u8; 8]
-        ensures bytes { result ≡ spelling self.now }
+        ensures bytes { result ≡ encoding self.now }
         // They are a header, with these fields.
         ensures header { IsUdpHeader result }
         ensures fields { udp_header_of result ≡ self.now }
     {
-        self.spelled_with(self.checksum)
+        self.encoded_with(self.checksum)
     }
 
     // The bytes of the header with this checksum.
     #[inline(always)]
-    fn spelled_with(&self, checksum: u16) -> [u8; 8]
-        ensures bytes { result ≡ spelling (record self.now { checksum = checksum }) }
+    fn encoded_with(&self, checksum: u16) -> [u8; 8]
+        ensures bytes { result ≡ encoding (record self.now { checksum = checksum }) }
         ensures fits { Fits (record self.now { checksum = checksum }) }
     {
         let source_port = self.source_port.to_be_bytes();
@@ -294,15 +294,15 @@ impl UdpHeader {
         ]
     }
 
-    /// Appends the bytes of the header, with length and checksum as they stand.
+    /// Appends the bytes of the header, with length and checksum as they are.
     ///
     /// Where no memory is left for them, the buffer keeps its bytes.
     #[inline(always)]
     pub fn write(&self, buffer: &mut Vec<u8>) -> Result<(), AllocError>
-        ensures ok { OnOk result (buffer.new.items ≡ buffer.old.items ++ spelling self.now) }
+        ensures ok { OnOk result (buffer.new.items ≡ buffer.old.items ++ encoding self.now) }
         ensures len { OnOk result (vec_len buffer.new ≡ vec_len buffer.old + 8) }
         ensures err { OnErr result (buffer.new.items ≡ buffer.old.items) }
-        // It fails only where room was missing, and room never shrinks.
+        // It fails only where capacity was missing, and capacity never shrinks.
         ensures succeeds { vec_len buffer.old + 8 ≤ vec_capacity buffer.old → IsOk result }
         ensures capacity { vec_capacity buffer.old ≤ vec_capacity buffer.new }
     {

@@ -4,31 +4,31 @@ ghost use Rattle.std.specs.Prelude.{◌≡◌, ℕ, List, ◌++◌, IfOk, Ok};
 ghost use Rattle.ep_tcpudp.specs.Udp.{IsUdpHeader};
 ghost use Rattle.ep_tcpudp.specs.UdpFault.{header_at};
 
-use super::part::Part;
 use super::udp_view::UdpView;
+use super::view_kind::ViewKind;
 use crate::UdpHeader;
 use ep_base::err::{Layer, LenError};
 
 /// The 8 bytes of a UDP header (RFC 768), borrowed. A contract sees the value as those bytes.
 pub type UdpHeaderSlice<'a> = UdpView<'a, UdpHeader>;
 
-impl Part for UdpHeader {
+impl ViewKind for UdpHeader {
     const VIEW: &'static str = "UdpHeaderSlice";
 
     ghost holds = { IsUdpHeader };
 }
 
 impl<'a> UdpHeaderSlice<'a> {
-    /// The header at the front of the slice. A slice of fewer than 8 bytes is refused. The length
+    /// The header at the start of the slice. A slice of fewer than 8 bytes is refused. The length
     /// field is ignored, and so is what follows the header.
     pub fn from_slice(slice: &'a [u8]) -> Result<UdpHeaderSlice<'a>, LenError>
-        // What is taken is a header, and a front of the slice.
+        // What is taken is a header, and a prefix of the slice.
         ensures found { IfOk result (λ header. IsUdpHeader header
             × ((rest : List ℕ) × (slice.now ≡ header ++ rest))) }
-        // A front that is a header is taken.
+        // A prefix that is a header is taken.
         ensures only { (header rest : List ℕ) → IsUdpHeader header → slice.now ≡ header ++ rest
             → result ≡ Ok header }
-        // Else it is the want of bytes.
+        // Else bytes are missing.
         ensures exact { result ≡ header_at slice.now }
     {
         Self::tested(slice)

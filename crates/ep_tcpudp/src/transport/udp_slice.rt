@@ -5,8 +5,8 @@ ghost use Rattle.std.specs.Prelude.{Ok};
 ghost use Rattle.ep_tcpudp.specs.Udp.{IsUdp, ReadableUdp, summed_udp, length_of};
 ghost use Rattle.ep_tcpudp.specs.UdpFault.{udp_at};
 
-use super::part::Part;
 use super::udp_view::UdpView;
+use super::view_kind::ViewKind;
 use crate::{UdpHeader, UdpHeaderSlice};
 use ep_base::LenSource;
 use ep_base::err::{Layer, LenError};
@@ -21,14 +21,14 @@ pub type UdpSlice<'a> = UdpView<'a, Datagram>;
 #[derive(Clone, Drop)]
 pub struct Datagram;
 
-impl Part for Datagram {
+impl ViewKind for Datagram {
     const VIEW: &'static str = "UdpSlice";
 
     ghost holds = { IsUdp };
 }
 
 impl<'a> UdpSlice<'a> {
-    /// The datagram at the front of the slice: as many bytes as its length field says, and all of
+    /// The datagram at the start of the slice: as many bytes as its length field says, and all of
     /// them where that is 0, as in jumbograms (RFC 2675, section 4).
     ///
     /// Refused are, in this order, fewer than 8 bytes (layer `UdpHeader`), a length field above the
@@ -78,7 +78,7 @@ impl<'a> UdpSlice<'a> {
         &self.slice[..UdpHeader::LEN]
     }
 
-    /// The payload: what stands behind the header.
+    /// The payload: what follows the header.
     pub fn payload(&self) -> &'a [u8]
         ensures { result.now ≡ drop 8 self.now }
     {

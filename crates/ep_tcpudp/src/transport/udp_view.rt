@@ -7,7 +7,7 @@ ghost use Rattle.std.proofs.Common.{rules};
 ghost use Rattle.ep_tcpudp.specs.Udp.{source_port_of, destination_port_of, length_of, checksum_of};
 ghost use Rattle.ep_tcpudp.specs.Udp.{udp_header_of};
 
-use super::part::Part;
+use super::view_kind::ViewKind;
 use crate::UdpHeader;
 use std::fmt;
 use std::marker::{Model, PhantomData};
@@ -15,12 +15,12 @@ use std::marker::{Model, PhantomData};
 /// The bytes of a UDP datagram (RFC 768), or of its header alone, borrowed. A contract sees the
 /// value as those bytes.
 #[derive(Clone, Drop)]
-pub struct UdpView<'a, P: Part> {
+pub struct UdpView<'a, P: ViewKind> {
     pub(super) slice: &'a [u8],
-    part: PhantomData<P>,
+    view_kind: PhantomData<P>,
 }
 
-impl<'a, P: Part> Model for UdpView<'a, P> {
+impl<'a, P: ViewKind> Model for UdpView<'a, P> {
     ghost Value = { List ℕ };
 
     ghost view = { λ udp. udp.slice.now };
@@ -28,7 +28,7 @@ impl<'a, P: Part> Model for UdpView<'a, P> {
     ghost invariant = { λ udp. (8 ≤ length udp.slice.now) × P.holds udp.slice.now };
 }
 
-impl<'a, P: Part> UdpView<'a, P> {
+impl<'a, P: ViewKind> UdpView<'a, P> {
     #[inline(always)]
     pub(super) fn of(slice: &'a [u8]) -> UdpView<'a, P>
         requires least { 8 ≤ length slice.now }
@@ -37,7 +37,7 @@ impl<'a, P: Part> UdpView<'a, P> {
     {
         UdpView {
             slice,
-            part: PhantomData,
+            view_kind: PhantomData,
         }
     }
 
@@ -62,7 +62,7 @@ impl<'a, P: Part> UdpView<'a, P> {
         u16::from_be_bytes([self.slice[4], self.slice[5]])
     }
 
-    /// The checksum, as it stands.
+    /// The checksum, as it is.
     pub fn checksum(&self) -> u16
         ensures { result ≡ checksum_of self.now }
     {
@@ -82,13 +82,13 @@ impl<'a, P: Part> UdpView<'a, P> {
     }
 }
 
-impl<'a, P: Part> fmt::Debug for UdpView<'a, P> {
+impl<'a, P: ViewKind> fmt::Debug for UdpView<'a, P> {
     fn fmt<W: fmt::Write>(&self, f: &mut fmt::Formatter<W>) -> fmt::Result {
         f.debug_struct(P::VIEW).field("slice", &self.slice).finish()
     }
 }
 
-impl<'a, P: Part> PartialEq for UdpView<'a, P> {
+impl<'a, P: ViewKind> PartialEq for UdpView<'a, P> {
     ghost eq = { pointwise nat_eq };
 
     ghost laws = { Prim.search (comparing, rules) };
@@ -98,6 +98,6 @@ impl<'a, P: Part> PartialEq for UdpView<'a, P> {
     }
 }
 
-impl<'a, P: Part> Eq for UdpView<'a, P> {
+impl<'a, P: ViewKind> Eq for UdpView<'a, P> {
     ghost laws = { Prim.search (comparing, rules) };
 }

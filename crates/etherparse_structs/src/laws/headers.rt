@@ -1,4 +1,4 @@
-//! The fields that are told of headers, by the layouts of the standards.
+//! The fields that are given of headers, by the layouts of the standards.
 ghost use Rattle.std.specs.Prelude.{◌≡◌, ℕ, List, [], ◌∷◌, ◌++◌, map, replicate, true, false};
 ghost use Rattle.std.specs.Prelude.{Some, None};
 ghost use Rattle.etherparse.specs.base.declared.len_source.LenSource.TheVariants as source;
@@ -9,16 +9,16 @@ ghost use Rattle.etherparse.specs.packet.declared.transport.transport_slice.Tran
 ghost use Rattle.etherparse.specs.tag.Ether.{EtherPayload};
 ghost use Rattle.etherparse.specs.tag.MacsecPayload.{Modified};
 ghost use Rattle.etherparse.specs.tag.declared.link.link_ext_slice.LinkExtSlice.TheVariants as tag;
-ghost use Rattle.etherparse_structs.specs.Link.{link_told, tag_told, tags_told};
-ghost use Rattle.etherparse_structs.specs.Net.{arp_in_told, ipv4_in_told, ipv6_in_told, net_number};
-ghost use Rattle.etherparse_structs.specs.Transport.{icmp_in_told, tcp_in_told};
-ghost use Rattle.etherparse_structs.specs.Transport.{transport_number, udp_in_told};
+ghost use Rattle.etherparse_structs.specs.Link.{link_struct, tag_struct, tags_struct};
+ghost use Rattle.etherparse_structs.specs.Net.{arp_struct_in, ipv4_struct_in, ipv6_struct_in, net_number};
+ghost use Rattle.etherparse_structs.specs.Transport.{icmp_struct_in, tcp_struct_in};
+ghost use Rattle.etherparse_structs.specs.Transport.{transport_number, udp_struct_in};
 
 /// Link headers: of Ethernet II (RFC 894) and of a cooked capture (LINKTYPE_LINUX_SLL), sent by us,
 /// of generic routing encapsulation, with seven bytes of an address. Without one all fields are 0,
 /// and so they are of bytes that a caller read up to an ether type.
 pub fn link_headers()
-    ensures ethernet { link_told (Some (link.Ethernet2 (1 ∷ 2 ∷ 3 ∷ 4 ∷ 5 ∷ 6 ∷ 7 ∷ 8 ∷ 9 ∷ 10 ∷ 11 ∷
+    ensures ethernet { link_struct (Some (link.Ethernet2 (1 ∷ 2 ∷ 3 ∷ 4 ∷ 5 ∷ 6 ∷ 7 ∷ 8 ∷ 9 ∷ 10 ∷ 11 ∷
         12 ∷ 0x88 ∷ 0xcc ∷ []))) ≡ record {
           kind = 1;
           protocol = 0x88cc;
@@ -29,7 +29,7 @@ pub fn link_headers()
           address_len = 0;
           address = replicate 8 0;
         } }
-    ensures cooked { link_told (Some (link.LinuxSll (0 ∷ 4 ∷ 3 ∷ 10 ∷ 0 ∷ 7 ∷ 11 ∷ 12 ∷ 13 ∷ 14 ∷ 15 ∷
+    ensures cooked { link_struct (Some (link.LinuxSll (0 ∷ 4 ∷ 3 ∷ 10 ∷ 0 ∷ 7 ∷ 11 ∷ 12 ∷ 13 ∷ 14 ∷ 15 ∷
         16 ∷ 17 ∷ 18 ∷ 0x86 ∷ 0xdd ∷ []))) ≡ record {
           kind = 2;
           protocol = 0x86dd;
@@ -40,7 +40,7 @@ pub fn link_headers()
           address_len = 7;
           address = 11 ∷ 12 ∷ 13 ∷ 14 ∷ 15 ∷ 16 ∷ 17 ∷ 18 ∷ [];
         } }
-    ensures none { link_told None ≡ record {
+    ensures none { link_struct None ≡ record {
       kind = 0;
       protocol = 0;
       destination = replicate 6 0;
@@ -50,12 +50,12 @@ pub fn link_headers()
       address_len = 0;
       address = replicate 8 0;
     } }
-    ensures payload { (p : EtherPayload) → link_told (Some (link.EtherPayload p)) ≡ link_told None }
+    ensures payload { (p : EtherPayload) → link_struct (Some (link.EtherPayload p)) ≡ link_struct None }
 {}
 
 /// A VLAN tag of priority 5 that may be dropped first (IEEE 802.1Q, section 9.6).
 pub fn vlan_tags()
-    ensures { tag_told 14 (Some (tag.Vlan (0xb1 ∷ 0x23 ∷ 0x86 ∷ 0xdd ∷ []))) ≡ record {
+    ensures { tag_struct 14 (Some (tag.Vlan (0xb1 ∷ 0x23 ∷ 0x86 ∷ 0xdd ∷ []))) ≡ record {
       header = record { offset = 14; len = 4 };
       kind = 1;
       ether_type = 0x86dd;
@@ -77,7 +77,7 @@ pub fn vlan_tags()
 /// MACsec headers (IEEE 802.1AE, clause 9): with a channel and an ether type, and of an encrypted
 /// payload of an end station's broadcast.
 pub fn macsec_headers()
-    ensures channel { tag_told 18 (Some (tag.Macsec (record {
+    ensures channel { tag_struct 18 (Some (tag.Macsec (record {
       header = 0x22 ∷ 0 ∷ 10 ∷ 11 ∷ 12 ∷ 13 ∷ 1 ∷ 2 ∷ 3 ∷ 4 ∷ 5 ∷ 6 ∷ 7 ∷ 8 ∷ 0x81 ∷ 0 ∷ [];
       payload = Modified [];
     }))) ≡ record {
@@ -97,7 +97,7 @@ pub fn macsec_headers()
       packet_number = 0x0a0b0c0d;
       channel = 0x0102030405060708;
     } }
-    ensures encrypted { tag_told 14 (Some (tag.Macsec (record {
+    ensures encrypted { tag_struct 14 (Some (tag.Macsec (record {
       header = 0x5c ∷ 0x28 ∷ 0 ∷ 0 ∷ 0 ∷ 9 ∷ [];
       payload = Modified [];
     }))) ≡ record {
@@ -119,20 +119,20 @@ pub fn macsec_headers()
     } }
 {}
 
-/// Where tags stand, and which kinds they are: a MACsec header of 6 bytes between two VLAN tags
-/// behind an Ethernet II header; one tag behind a cooked capture's; none.
-pub fn places_of_tags()
-    ensures kinds { map (λ t. t.kind) (tags_told 14 (tag.Vlan (0 ∷ 1 ∷ 0x88 ∷ 0xe5 ∷ [])
+/// Where tags are, and of which kinds: a MACsec header of 6 bytes between two VLAN tags after an
+/// Ethernet II header; one tag after a cooked capture's; none.
+pub fn offsets_of_tags()
+    ensures kinds { map (λ t. t.kind) (tags_struct 14 (tag.Vlan (0 ∷ 1 ∷ 0x88 ∷ 0xe5 ∷ [])
         ∷ tag.Macsec (record { header = 0x0c ∷ 0 ∷ 0 ∷ 0 ∷ 0 ∷ 9 ∷ []; payload = Modified [] })
         ∷ tag.Vlan (0 ∷ 2 ∷ 8 ∷ 0 ∷ []) ∷ [])) ≡ 1 ∷ 2 ∷ 1 ∷ [] }
-    ensures three { map (λ t. t.header) (tags_told 14 (tag.Vlan (0 ∷ 1 ∷ 0x88 ∷ 0xe5 ∷ [])
+    ensures three { map (λ t. t.header) (tags_struct 14 (tag.Vlan (0 ∷ 1 ∷ 0x88 ∷ 0xe5 ∷ [])
         ∷ tag.Macsec (record { header = 0x0c ∷ 0 ∷ 0 ∷ 0 ∷ 0 ∷ 9 ∷ []; payload = Modified [] })
         ∷ tag.Vlan (0 ∷ 2 ∷ 8 ∷ 0 ∷ []) ∷ [])) ≡ record { offset = 14; len = 4 }
         ∷ record { offset = 18; len = 6 } ∷ record { offset = 24; len = 4 } ∷ [] }
-    ensures one { map (λ t. t.header) (tags_told 16 (tag.Vlan (0 ∷ 1 ∷ 8 ∷ 0 ∷ []) ∷ []))
+    ensures one { map (λ t. t.header) (tags_struct 16 (tag.Vlan (0 ∷ 1 ∷ 8 ∷ 0 ∷ []) ∷ []))
         ≡ record { offset = 16; len = 4 } ∷ record { offset = 0; len = 0 }
         ∷ record { offset = 0; len = 0 } ∷ [] }
-    ensures none { tag_told 14 None ≡ record {
+    ensures none { tag_struct 14 None ≡ record {
       header = record { offset = 0; len = 0 };
       kind = 0;
       ether_type = 0;
@@ -151,10 +151,10 @@ pub fn places_of_tags()
     } }
 {}
 
-/// IPv4 packets (RFC 791): the last but one fragment of a message, behind an authentication header
-/// of 12 bytes that names UDP, and a whole message behind a header with four bytes of options.
+/// IPv4 packets (RFC 791): the last but one fragment of a datagram, after an authentication header
+/// of 12 bytes that names UDP, and a whole datagram after a header with four bytes of options.
 pub fn ipv4_packets()
-    ensures fragment { ipv4_in_told 14 (Some (net.Ipv4 (record {
+    ensures fragment { ipv4_struct_in 14 (Some (net.Ipv4 (record {
       header = 0x45 ∷ 0xb9 ∷ 0 ∷ 36 ∷ 0xbe ∷ 0xef ∷ 0x21 ∷ 0x23 ∷ 63 ∷ 51 ∷ 0x12 ∷ 0x34 ∷ 10 ∷ 1 ∷ 2 ∷
           3 ∷ 192 ∷ 168 ∷ 4 ∷ 5 ∷ [];
       auth = Some (17 ∷ 1 ∷ 0 ∷ 0 ∷ 0 ∷ 0 ∷ 0 ∷ 1 ∷ 0 ∷ 0 ∷ 0 ∷ 2 ∷ []);
@@ -178,7 +178,7 @@ pub fn ipv4_packets()
       more_fragments = true;
       is_part = true;
     } }
-    ensures whole { ipv4_in_told 0 (Some (net.Ipv4 (record {
+    ensures whole { ipv4_struct_in 0 (Some (net.Ipv4 (record {
       header = 0x46 ∷ 2 ∷ 0 ∷ 25 ∷ 0 ∷ 7 ∷ 0x40 ∷ 0 ∷ 1 ∷ 253 ∷ 0 ∷ 1 ∷ 10 ∷ 0 ∷ 0 ∷ 1 ∷ 10 ∷ 0 ∷ 0 ∷ 2 ∷
           0x94 ∷ 4 ∷ 0 ∷ 0 ∷ [];
       auth = None;
@@ -204,11 +204,11 @@ pub fn ipv4_packets()
     } }
 {}
 
-/// IPv6 packets (RFC 8200): an ICMPv6 message of four bytes right behind the header, and a fragment
-/// of a UDP message behind hop-by-hop options.
+/// IPv6 packets (RFC 8200): an ICMPv6 message of four bytes right after the header, and a fragment
+/// of a UDP datagram after hop-by-hop options.
 #[tactic(auto, unfolding(ep_ipslice::specs::Ipv6Walk::pieces_within))]
 pub fn ipv6_packets()
-    ensures whole { ipv6_in_told 14 (Some (net.Ipv6 (record {
+    ensures whole { ipv6_struct_in 14 (Some (net.Ipv6 (record {
       header = 0x6b ∷ 0x81 ∷ 0x23 ∷ 0x45 ∷ 0 ∷ 4 ∷ 58 ∷ 255 ∷ 0xfd ∷ (replicate 14 0 ++ 1 ∷ 0xfd
           ∷ (replicate 14 0 ++ 2 ∷ []));
       exts = record { first_header = None; fragmented = false; slice = [] };
@@ -236,7 +236,7 @@ pub fn ipv6_packets()
       more_fragments = false;
       is_part = false;
     } }
-    ensures fragment { ipv6_in_told 18 (Some (net.Ipv6 (record {
+    ensures fragment { ipv6_struct_in 18 (Some (net.Ipv6 (record {
       header = 0x60 ∷ 0 ∷ 0 ∷ 1 ∷ 0 ∷ 24 ∷ 0 ∷ 64 ∷ 0xfd ∷ (replicate 14 0 ++ 1 ∷ 0xfd
           ∷ (replicate 14 0 ++ 2 ∷ []));
       exts = record {
@@ -272,7 +272,7 @@ pub fn ipv6_packets()
 
 /// An ARP reply (RFC 826) with hardware addresses of six bytes and protocol addresses of four.
 pub fn arp_packets()
-    ensures { arp_in_told 14 (Some (net.Arp (0 ∷ 6 ∷ 0x08 ∷ 0x00 ∷ 6 ∷ 4 ∷ 0 ∷ 2 ∷ replicate 20 1)))
+    ensures { arp_struct_in 14 (Some (net.Arp (0 ∷ 6 ∷ 0x08 ∷ 0x00 ∷ 6 ∷ 4 ∷ 0 ∷ 2 ∷ replicate 20 1)))
         ≡ record {
           packet = record { offset = 14; len = 28 };
           sender_hardware = record { offset = 22; len = 6 };
@@ -287,7 +287,7 @@ pub fn arp_packets()
 
 /// A UDP datagram (RFC 768) of four bytes, whose length field says more.
 pub fn udp_datagrams()
-    ensures { udp_in_told 34 (Some (transport.Udp (0x9c ∷ 0x40 ∷ 0 ∷ 53 ∷ 1 ∷ 4 ∷ 0xab ∷ 0xcd ∷ 1 ∷
+    ensures { udp_struct_in 34 (Some (transport.Udp (0x9c ∷ 0x40 ∷ 0 ∷ 53 ∷ 1 ∷ 4 ∷ 0xab ∷ 0xcd ∷ 1 ∷
         2 ∷ 3 ∷ 4 ∷ []))) ≡ record {
           header = record { offset = 34; len = 8 };
           payload = record { offset = 42; len = 4 };
@@ -301,7 +301,7 @@ pub fn udp_datagrams()
 /// TCP segments (RFC 9293): with four bytes of options, one of payload and the flags SYN and ECE, and
 /// without either, with the other flags.
 pub fn tcp_segments()
-    ensures options { tcp_in_told 34 (Some (transport.Tcp (0 ∷ 80 ∷ 0x9c ∷ 0x40 ∷ 1 ∷ 2 ∷ 3 ∷ 4 ∷ 10 ∷
+    ensures options { tcp_struct_in 34 (Some (transport.Tcp (0 ∷ 80 ∷ 0x9c ∷ 0x40 ∷ 1 ∷ 2 ∷ 3 ∷ 4 ∷ 10 ∷
         11 ∷ 12 ∷ 13 ∷ 0x60 ∷ 0x42 ∷ 0x10 ∷ 1 ∷ 0xab ∷ 0xcd ∷ 0 ∷ 9 ∷ 2 ∷ 4 ∷ 5 ∷ 180 ∷ 7 ∷ [])))
         ≡ record {
           header = record { offset = 34; len = 24 };
@@ -323,7 +323,7 @@ pub fn tcp_segments()
           ece = true;
           cwr = false;
         } }
-    ensures flags { tcp_in_told 20 (Some (transport.Tcp (replicate 12 0 ++ 0x51 ∷ 0xbd
+    ensures flags { tcp_struct_in 20 (Some (transport.Tcp (replicate 12 0 ++ 0x51 ∷ 0xbd
         ∷ replicate 6 0))) ≡ record {
           header = record { offset = 20; len = 20 };
           payload = record { offset = 40; len = 0 };
@@ -350,7 +350,7 @@ pub fn tcp_segments()
 /// request, whose header has 20, and a packet too big of ICMPv6 (RFC 4443).
 #[tactic(auto, unfolding(ep_icmp::specs::Icmpv4::kind_at))]
 pub fn icmp_messages()
-    ensures unreachable { icmp_in_told 34 (Some (transport.Icmpv4 (3 ∷ 3 ∷ 0x11 ∷ 0x19 ∷ 0 ∷ 0 ∷ 0 ∷
+    ensures unreachable { icmp_struct_in 34 (Some (transport.Icmpv4 (3 ∷ 3 ∷ 0x11 ∷ 0x19 ∷ 0 ∷ 0 ∷ 0 ∷
         0 ∷ 0x45 ∷ 0 ∷ []))) ≡ record {
           header = record { offset = 34; len = 8 };
           payload = record { offset = 42; len = 2 };
@@ -359,7 +359,7 @@ pub fn icmp_messages()
           code = 3;
           rest = 0 ∷ 0 ∷ 0 ∷ 0 ∷ [];
         } }
-    ensures timestamp { icmp_in_told 34 (Some (transport.Icmpv4 (13 ∷ 0 ∷ 0xe0 ∷ 0xca ∷ 0x12 ∷ 0x34 ∷
+    ensures timestamp { icmp_struct_in 34 (Some (transport.Icmpv4 (13 ∷ 0 ∷ 0xe0 ∷ 0xca ∷ 0x12 ∷ 0x34 ∷
         0 ∷ 1 ∷ replicate 12 0))) ≡ record {
           header = record { offset = 34; len = 20 };
           payload = record { offset = 54; len = 0 };
@@ -368,7 +368,7 @@ pub fn icmp_messages()
           code = 0;
           rest = 0x12 ∷ 0x34 ∷ 0 ∷ 1 ∷ [];
         } }
-    ensures too_big { icmp_in_told 54 (Some (transport.Icmpv6 (2 ∷ 0 ∷ 0xab ∷ 0xcd ∷ 0 ∷ 0 ∷ 5 ∷ 220 ∷
+    ensures too_big { icmp_struct_in 54 (Some (transport.Icmpv6 (2 ∷ 0 ∷ 0xab ∷ 0xcd ∷ 0 ∷ 0 ∷ 5 ∷ 220 ∷
         0x60 ∷ []))) ≡ record {
           header = record { offset = 54; len = 8 };
           payload = record { offset = 62; len = 1 };

@@ -6,7 +6,7 @@ ghost use Rattle.etherparse_structs.specs.Plan.{field_number};
 ghost use Rattle.etherparse_structs.specs.Refusal.{layer_number, source_number};
 ghost use Rattle.etherparse_structs.specs.Verdict.{verdict_number};
 ghost use Rattle.etherparse_structs.specs.declared.plan.PlanField.TheVariants as field;
-ghost use Rattle.verdicts.specs.declared.verdict.Verdict.TheVariants as verdict;
+ghost use Rattle.checksum_verdicts.specs.declared.verdict.Verdict.TheVariants as verdict;
 
 use crate::refusal::{
     REFUSAL_AUTH_HEADER_LEN, REFUSAL_HOP_BY_HOP_NOT_AT_START, REFUSAL_IP_VERSION,

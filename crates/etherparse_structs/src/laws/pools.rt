@@ -1,14 +1,14 @@
-//! What a pool tells of parts and messages.
+//! What a pool reports of fragments and messages.
 ghost use Rattle.std.specs.Prelude.{◌≡◌, ℕ, List, [], ◌∷◌, map, replicate, true, Some, None};
 ghost use Rattle.etherparse.specs.base.declared.len_source.LenSource.TheVariants as source;
-ghost use Rattle.etherparse.specs.defrag.IpDefragPool.{Payload};
-ghost use Rattle.etherparse.specs.defrag.PoolCalls.Told.{Delivered, NoMemory, NotSliced, Nothing};
-ghost use Rattle.etherparse.specs.defrag.PoolCalls.Told.{Refused, Retained};
-ghost use Rattle.etherparse.specs.fragments.declared.defrag.ip_defrag_error.IpDefragError.TheVariants.{UnalignedFragmentPayloadLen};
-ghost use Rattle.etherparse.specs.fragments.declared.defrag.ip_defrag_error.IpDefragError.TheVariants.{SegmentTooBig};
-ghost use Rattle.etherparse.specs.fragments.declared.defrag.ip_defrag_error.IpDefragError.TheVariants.{ConflictingEnd};
-ghost use Rattle.etherparse.specs.fragments.declared.defrag.ip_defrag_error.IpDefragError.TheVariants.{AllocationFailure};
-ghost use Rattle.etherparse.specs.fragments.declared.defrag.ip_defrag_error.IpDefragError.TheVariants.{OverlappingFragment};
+ghost use Rattle.etherparse.specs.IpDefragPool.{Payload};
+ghost use Rattle.etherparse.specs.PoolCalls.CallResult.{Delivered, NoMemory, NotSliced, Nothing};
+ghost use Rattle.etherparse.specs.PoolCalls.CallResult.{Refused, Retained};
+ghost use Rattle.etherparse.specs.declared.defrag.ip_defrag_error.IpDefragError.TheVariants.{UnalignedFragmentPayloadLen};
+ghost use Rattle.etherparse.specs.declared.defrag.ip_defrag_error.IpDefragError.TheVariants.{SegmentTooBig};
+ghost use Rattle.etherparse.specs.declared.defrag.ip_defrag_error.IpDefragError.TheVariants.{ConflictingEnd};
+ghost use Rattle.etherparse.specs.declared.defrag.ip_defrag_error.IpDefragError.TheVariants.{AllocationFailure};
+ghost use Rattle.etherparse.specs.declared.defrag.ip_defrag_error.IpDefragError.TheVariants.{OverlappingFragment};
 ghost use Rattle.etherparse.specs.packet.Class.{FragmentName};
 ghost use Rattle.etherparse.specs.packet.Class.Class.{Cut, Other, Refused as Faulty};
 ghost use Rattle.etherparse.specs.packet.declared.addresses.Addresses.TheVariants.{V4, V6};
@@ -20,10 +20,10 @@ ghost use Rattle.etherparse_structs.specs.PartRefusal.{no_part_refusal, part_ref
 ghost use Rattle.etherparse_structs.specs.Refusal.{no_refusal, refusal_of};
 ghost use Rattle.etherparse_structs.specs.Verdict.{verdict_in};
 
-/// The refusals of parts: of 7 bytes at offset 2 that others follow, of 16 bytes at offset 8191, of
-/// one that ends at byte 24 and not at 16, and of 8 bytes at offset 1 that overlap others. Want of
-/// memory is none.
-pub fn part_refusals()
+/// The refusals of fragments: of 7 bytes at offset 2 that others follow, of 16 bytes at offset
+/// 8191, of one that ends at byte 24 and not at 16, and of 8 bytes at offset 1 that overlap others.
+/// Out of memory there is none.
+pub fn fragment_refusals()
     ensures unaligned { part_refusal_of (UnalignedFragmentPayloadLen 2 7)
         ≡ record { kind = 1; offset = 2; previous_end = 0; end = 0; len = 7 } }
     ensures too_big { part_refusal_of (SegmentTooBig 8191 16 65535)
@@ -76,9 +76,9 @@ pub fn messages()
     } }
 {}
 
-/// The status of a frame, by what became of it: none is complete, a message of two bytes with room
-/// for two and for one, no memory, and each refusal; of a refused frame the refusal is told, and of
-/// a refused part that of the part.
+/// The status of a frame, by what became of it: none is complete, a message of two bytes with an
+/// output of two and of one, no memory, and each refusal; a refused frame has its refusal, and a
+/// refused fragment its own.
 pub fn statuses_of_frames()
     ensures status { (n : ℕ) → added n ≡ record {
       status = n;
@@ -114,14 +114,14 @@ pub fn statuses_of_frames()
     ensures part { map (λ e. (numbers_of 2 None (Refused e)).status) (UnalignedFragmentPayloadLen 2 7
         ∷ SegmentTooBig 8191 16 65535 ∷ ConflictingEnd 16 24 ∷ OverlappingFragment 1 8 ∷ [])
         ≡ 3 ∷ 3 ∷ 3 ∷ 3 ∷ [] }
-    ensures part_told { numbers_of 2 None (Refused (ConflictingEnd 16 24))
+    ensures fragment_reported { numbers_of 2 None (Refused (ConflictingEnd 16 24))
         ≡ record (added 3) { part = part_refusal_of (ConflictingEnd 16 24) } }
     ensures frame { (e : SliceError) → numbers_of 2 None (NotSliced (Some e))
         ≡ record (added 3) { refusal = refusal_of e } }
 {}
 
-/// What stands in an output of three bytes behind a message of two, and in one of a byte, for which
-/// the message is kept; nothing else is written or kept.
+/// An output of three bytes after a message of two was written, and one of a byte, for which the
+/// message is kept; nothing else is written or kept.
 pub fn messages_written()
     ensures written { output_after (1 ∷ 2 ∷ 3 ∷ []) (Delivered (record {
       ip_number = record { 0 = 17 };
@@ -145,9 +145,9 @@ pub fn messages_written()
         ∷ NotSliced None ∷ Retained ∷ NoMemory ∷ []) ≡ None ∷ None ∷ None ∷ None ∷ None ∷ [] }
 {}
 
-/// A part of a message goes between its addresses, other packets have none here; and none of them
-/// has a verdict.
-pub fn parts_have_addresses()
+/// A fragment goes between its addresses, other packets have none here; and none of them has a
+/// verdict.
+pub fn fragments_have_addresses()
     ensures part { (name : FragmentName) (bytes : List ℕ)
         → addresses_in (Cut name 0 true bytes) ≡ Some name.addresses }
     ensures others { (addresses_in Other ≡ None) × (addresses_in Faulty ≡ None) }

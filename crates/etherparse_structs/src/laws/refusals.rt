@@ -1,4 +1,4 @@
-//! What is told of refused packets: the kind, the layer, and of too few bytes how many.
+//! The fields of refusals: the kind, the layer, and of too few bytes how many.
 ghost use Rattle.std.specs.Prelude.{◌≡◌, ℕ};
 ghost use Rattle.etherparse.specs.base.declared.err.layer.Layer.TheVariants as layer;
 ghost use Rattle.etherparse.specs.base.declared.len_source.LenSource.TheVariants as source;
@@ -13,8 +13,8 @@ ghost use Rattle.etherparse.specs.tag.declared.err.macsec.header_error.HeaderErr
 ghost use Rattle.etherparse.specs.tcpudp.declared.err.tcp.header_error.HeaderError.TheVariants as tcp;
 ghost use Rattle.etherparse_structs.specs.Refusal.{content_refusal, no_refusal, refusal_of};
 
-/// Nothing is refused: all fields are 0. An IPv4 packet behind a VLAN tag, whose total length of 40
-/// is cut at 19 bytes by what is there.
+/// Nothing is refused: all fields are 0. An IPv4 packet after a VLAN tag, whose total length is 40
+/// and of which 19 bytes are there.
 pub fn too_few_bytes()
     ensures none { no_refusal ≡ record {
       kind = 0;
@@ -42,8 +42,8 @@ pub fn too_few_bytes()
     } }
 {}
 
-/// A header that breaks its format: the kind, the layer, and the field that it holds; the others are
-/// 0. Of an authentication header and of hop-by-hop options the field says nothing.
+/// A header that breaks its format: the kind, the layer, and the wrong value; the others are 0. Of
+/// an authentication header and of hop-by-hop options the value is 0.
 pub fn broken_headers()
     ensures fields { (kind layer value : ℕ) → content_refusal kind layer value ≡ record {
       kind = kind;

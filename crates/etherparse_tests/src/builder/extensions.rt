@@ -1,17 +1,17 @@
-//! Extension headers behind IP headers, whose numbers and lengths were others before. The bytes
-//! were worked out after RFC 791, 4302 and 8200.
+//! Extension headers after IP headers, whose numbers and lengths were others before. The bytes were
+//! worked out after RFC 791, 4302 and 8200.
 
 use super::parts::{IPV4_DESTINATION, IPV4_SOURCE, IPV6_DESTINATION, IPV6_SOURCE, PAYLOAD};
 use super::written::{message, packet};
 use crate::checks::{equal, equal_bytes};
 use ep_base::{IpFragOffset, IpNumber};
-use ep_build::PacketBuilder;
 use ep_ext::{
     IpAuthHeader, Ipv4Extensions, Ipv6Extensions, Ipv6FragmentHeader, Ipv6RawExtHeader,
     Ipv6RoutingExtensions,
 };
 use ep_ip::{Ipv4Header, Ipv6Header};
 use ep_packet::IpHeaders;
+use etherparse::PacketBuilder;
 use std::alloc::Global;
 use std::process::Abort;
 use std::test::*;
@@ -68,23 +68,23 @@ fn ipv6_headers() -> IpHeaders {
     IpHeaders::Ipv6(header, ipv6_extensions())
 }
 
-const UDP_BEHIND_AUTH: [u8; 48] = [
+const UDP_AFTER_AUTH: [u8; 48] = [
     0x45, 0, 0, 0x30, 0, 0, 0x40, 0, 0x14, 0x33, 0xe3, 0x47, 0xc0, 0xa8, 1, 1, 0xc0, 0xa8, 1, 2,
     0x11, 1, 0, 0, 0, 0, 0, 5, 0, 0, 0, 6, 0, 0x15, 4, 0xd2, 0, 0x10, 0x67, 0x7f, 1, 2, 3, 4, 5, 6,
     7, 8,
 ];
 
 #[test]
-fn udp_behind_auth(rt: HostRuntime) {
+fn udp_after_auth(rt: HostRuntime) {
     let written = message(
         rt,
         rt.alloc(),
         PacketBuilder::ip(ipv4_headers()).udp(21, 1234),
     );
-    equal_bytes(rt, written.as_slice(), UDP_BEHIND_AUTH.as_slice());
+    equal_bytes(rt, written.as_slice(), UDP_AFTER_AUTH.as_slice());
 }
 
-const UDP_BEHIND_ALL: [u8; 108] = [
+const UDP_AFTER_ALL: [u8; 108] = [
     0x60, 0, 0, 0, 0, 0x44, 0, 0x2f, 0xfd, 0, 0, 0, 0, 0, 0, 0, 0, 0, 0, 0, 0, 0, 0, 1, 0xfd, 0, 0,
     0, 0, 0, 0, 0, 0, 0, 0, 0, 0, 0, 0, 2, 0x3c, 0, 1, 4, 2, 3, 5, 6, 0x2b, 0, 1, 4, 0, 0, 0, 0,
     0x2c, 0, 4, 0, 0, 0, 0, 0, 0x33, 0, 0, 0, 0, 0, 0, 7, 0x3c, 1, 0, 0, 0, 0, 0, 5, 0, 0, 0, 6,
@@ -92,16 +92,16 @@ const UDP_BEHIND_ALL: [u8; 108] = [
 ];
 
 #[test]
-fn udp_behind_all(rt: HostRuntime) {
+fn udp_after_all(rt: HostRuntime) {
     let written = message(
         rt,
         rt.alloc(),
         PacketBuilder::ip(ipv6_headers()).udp(21, 1234),
     );
-    equal_bytes(rt, written.as_slice(), UDP_BEHIND_ALL.as_slice());
+    equal_bytes(rt, written.as_slice(), UDP_AFTER_ALL.as_slice());
 }
 
-const RAW_BEHIND_ALL: [u8; 100] = [
+const RAW_AFTER_ALL: [u8; 100] = [
     0x60, 0, 0, 0, 0, 0x3c, 0, 0x2f, 0xfd, 0, 0, 0, 0, 0, 0, 0, 0, 0, 0, 0, 0, 0, 0, 1, 0xfd, 0, 0,
     0, 0, 0, 0, 0, 0, 0, 0, 0, 0, 0, 0, 2, 0x3c, 0, 1, 4, 2, 3, 5, 6, 0x2b, 0, 1, 4, 0, 0, 0, 0,
     0x2c, 0, 4, 0, 0, 0, 0, 0, 0x33, 0, 0, 0, 0, 0, 0, 7, 0x3c, 1, 0, 0, 0, 0, 0, 5, 0, 0, 0, 6,
@@ -109,26 +109,26 @@ const RAW_BEHIND_ALL: [u8; 100] = [
 ];
 
 #[test]
-fn raw_behind_all(rt: HostRuntime) {
+fn raw_after_all(rt: HostRuntime) {
     let step = PacketBuilder::ip(ipv6_headers());
     let written = packet(rt, rt.alloc(), step, IpNumber(253), &PAYLOAD);
-    equal_bytes(rt, written.as_slice(), RAW_BEHIND_ALL.as_slice());
+    equal_bytes(rt, written.as_slice(), RAW_AFTER_ALL.as_slice());
 }
 
-// The length of a packet with a payload of this number, and the byte at this place of it.
+// The length of a packet with a payload of this number, and the byte at this index of it.
 fn has_number_at(
     rt: impl Abort + Copy,
     alloc: Global,
     headers: IpHeaders,
     number: u8,
-    place: (usize, usize),
+    position: (usize, usize),
 ) {
     let step = PacketBuilder::ip(headers);
     let written = packet(rt, alloc, step, IpNumber(number), &PAYLOAD);
     equal(
         rt,
-        (written.len(), written.get(place.1)),
-        (place.0, Some(&number)),
+        (written.len(), written.get(position.1)),
+        (position.0, Some(&number)),
     );
 }
 

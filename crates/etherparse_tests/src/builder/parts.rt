@@ -1,30 +1,30 @@
-//! Parts of packets, as the tests of the builder take them. The functions have no contracts: tests
-//! alone call them, and are run.
+//! Headers and payloads, as the tests of the builder take them. The functions have no contracts:
+//! tests alone call them, and are run.
 
 use crate::checks::fail;
 use ep_base::EtherType;
-use ep_build::{PacketBuilder, PacketBuilderStep};
 use ep_link::{
     ArpHardwareId, ArpOperation, ArpPacket, Ethernet2Header, LinuxSllHeader, LinuxSllPacketType,
 };
 use ep_packet::IpHeaders;
 use ep_tag::VlanId;
+use etherparse::{PacketBuilder, PacketBuilderStep};
 use std::process::Abort;
 use std::test::*;
 
 /// The payload of packets.
 pub const PAYLOAD: [u8; 8] = [1, 2, 3, 4, 5, 6, 7, 8];
 
-/// Where IPv4 packets come from.
+/// The source address of IPv4 packets.
 pub const IPV4_SOURCE: [u8; 4] = [192, 168, 1, 1];
 
-/// Where they go.
+/// Their destination address.
 pub const IPV4_DESTINATION: [u8; 4] = [192, 168, 1, 2];
 
-/// Where IPv6 packets come from.
+/// The source address of IPv6 packets.
 pub const IPV6_SOURCE: [u8; 16] = [0xfd, 0, 0, 0, 0, 0, 0, 0, 0, 0, 0, 0, 0, 0, 0, 1];
 
-/// Where they go.
+/// Their destination address.
 pub const IPV6_DESTINATION: [u8; 16] = [0xfd, 0, 0, 0, 0, 0, 0, 0, 0, 0, 0, 0, 0, 0, 0, 2];
 
 /// A frame of Ethernet II; no contract, as above.

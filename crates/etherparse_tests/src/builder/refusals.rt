@@ -4,10 +4,10 @@ use super::parts::{ethernet2, ipv4, ipv6};
 use crate::checks::{equal, equal_bytes, have_one_text, held};
 use ep_base::IpNumber;
 use ep_base::err::{ValueTooBigError, ValueType};
-use ep_build::err::packet::BuildWriteError;
-use ep_build::{PacketBuilderStep, TransportStep};
 use ep_ext::err::{ipv4_exts, ipv6_exts};
 use ep_packet::IpHeaders;
+use etherparse::err::packet::BuildWriteError;
+use etherparse::{PacketBuilderStep, TransportStep};
 use std::alloc::Global;
 use std::process::Abort;
 use std::test::*;
@@ -34,7 +34,7 @@ pub(super) fn is_refused<L: TransportStep>(
     equal_bytes(rt, buffer.as_slice(), [0xaa].as_slice());
 }
 
-// The same with no header behind those of IP.
+// The same with no header after those of IP.
 fn is_refused_with(
     rt: impl Abort + Copy,
     alloc: Global,
@@ -109,16 +109,16 @@ fn length_before_icmpv6_over_ipv4(rt: HostRuntime) {
     );
 }
 
-// What each call tells of an error: want of memory, ICMPv6 over IPv4, a length, and faults of
+// What each call reports of an error: out of memory, ICMPv6 over IPv4, a length, and faults of
 // extension headers.
-type Told = (
+type Reported = (
     [bool; 2],
     Option<ValueTooBigError<usize>>,
     Option<ipv4_exts::ExtsWalkError>,
     Option<ipv6_exts::ExtsWalkError>,
 );
 
-fn told_by(error: BuildWriteError) -> Told {
+fn reported_by(error: BuildWriteError) -> Reported {
     (
         [error.memory(), error.is_icmpv6_in_ipv4()],
         error.payload_len(),
@@ -128,32 +128,32 @@ fn told_by(error: BuildWriteError) -> Told {
 }
 
 #[test]
-fn what_errors_without_fields_tell(rt: HostRuntime) {
-    let told = told_by(BuildWriteError::Memory);
-    equal(rt, told, ([true, false], None, None, None));
-    let told = told_by(BuildWriteError::Icmpv6InIpv4);
-    equal(rt, told, ([false, true], None, None, None));
-    let told = told_by(BuildWriteError::ArpHeaderNotMatch);
-    equal(rt, told, ([false, false], None, None, None));
+fn what_errors_without_fields_report(rt: HostRuntime) {
+    let described = reported_by(BuildWriteError::Memory);
+    equal(rt, described, ([true, false], None, None, None));
+    let described = reported_by(BuildWriteError::Icmpv6InIpv4);
+    equal(rt, described, ([false, true], None, None, None));
+    let described = reported_by(BuildWriteError::ArpHeaderNotMatch);
+    equal(rt, described, ([false, false], None, None, None));
 }
 
 #[test]
-fn what_errors_with_fields_tell(rt: HostRuntime) {
+fn what_errors_with_fields_report(rt: HostRuntime) {
     let length = ValueTooBigError {
         actual: 2,
         max_allowed: 1,
         value_type: ValueType::Ipv4PayloadLength,
     };
-    let told = told_by(BuildWriteError::PayloadLen(length));
-    equal(rt, told, ([false, false], Some(length), None, None));
+    let described = reported_by(BuildWriteError::PayloadLen(length));
+    equal(rt, described, ([false, false], Some(length), None, None));
     let v4 = ipv4_exts::ExtsWalkError::ExtNotReferenced {
         missing_ext: IpNumber(51),
     };
-    let told = told_by(BuildWriteError::Ipv4Exts(v4));
-    equal(rt, told, ([false, false], None, Some(v4), None));
+    let described = reported_by(BuildWriteError::Ipv4Exts(v4));
+    equal(rt, described, ([false, false], None, Some(v4), None));
     let v6 = ipv6_exts::ExtsWalkError::HopByHopNotAtStart;
-    let told = told_by(BuildWriteError::Ipv6Exts(v6));
-    equal(rt, told, ([false, false], None, None, Some(v6)));
+    let described = reported_by(BuildWriteError::Ipv6Exts(v6));
+    equal(rt, described, ([false, false], None, None, Some(v6)));
 }
 
 #[test]

@@ -1,5 +1,5 @@
-//! Rows of frames. The bytes are from outside: they were worked out after RFC 768, 791 and 8200 and
-//! IEEE 802.1Q.
+//! Rows of frames. The bytes are independent of the code: they were worked out after RFC 768, 791
+//! and 8200 and IEEE 802.1Q.
 
 use super::parts::{IPV6_DESTINATION, IPV6_SOURCE, id, ipv4};
 use super::refusals::is_refused;
@@ -7,12 +7,12 @@ use super::written::{message, packet};
 use crate::checks::{equal, equal_bytes};
 use ep_base::IpNumber;
 use ep_base::err::{ValueTooBigError, ValueType};
-use ep_build::err::packet::BuildWriteError;
-use ep_build::{PacketBuilder, PacketBuilderStep};
 use ep_ext::Ipv4Extensions;
 use ep_ip::Ipv4Header;
 use ep_link::Ethernet2Header;
 use ep_packet::IpHeaders;
+use etherparse::err::packet::BuildWriteError;
+use etherparse::{PacketBuilder, PacketBuilderStep};
 use std::alloc::Global;
 use std::process::Abort;
 use std::test::*;

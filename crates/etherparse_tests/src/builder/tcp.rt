@@ -1,10 +1,10 @@
-//! Each step of TCP, once. The segments were made by a program of its own after RFC 9293.
+//! Each step of TCP, once. The segments were made by a separate program after RFC 9293.
 
 use super::parts::{ipv4, ipv6};
 use super::written::message;
 use crate::checks::{equal, equal_bytes, fail};
-use ep_build::PacketBuilderStep;
 use ep_tcpudp::{TcpHeader, TcpOptionElement, TcpOptionWriteError, TcpOptions};
+use etherparse::PacketBuilderStep;
 use std::alloc::Global;
 use std::process::Abort;
 use std::test::*;

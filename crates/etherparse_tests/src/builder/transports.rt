@@ -1,19 +1,19 @@
-//! Each step that adds a transport header, once. The messages were made by a program of its own
-//! after RFC 768, 792, 4443 and 9293.
+//! Each step that adds a transport header, once. The messages were made by a separate program after
+//! RFC 768, 792, 4443 and 9293.
 
 use super::parts::{IPV4_DESTINATION, IPV4_SOURCE, ipv4, ipv6};
 use super::written::message;
 use crate::checks::equal;
-use ep_build::{PacketBuilder, PacketBuilderStep, TransportStep};
 use ep_icmp::icmpv4::{RedirectCode, RedirectHeader};
 use ep_icmp::{Icmpv4Type, Icmpv6Type};
+use etherparse::{PacketBuilder, PacketBuilderStep, TransportStep};
 use std::alloc::Global;
 use std::process::Abort;
 use std::test::*;
 
 // The functions below have no contracts, as tests alone call them.
 
-// The step writes an IPv4 header with this number, and behind it the message.
+// The step writes an IPv4 header with this number, and after it the message.
 fn over_ipv4<L: TransportStep>(
     rt: impl Abort + Copy,
     alloc: Global,
@@ -74,10 +74,10 @@ const ICMPV4_ECHO_REPLY: [u8; 16] = [0, 0, 0xef, 0xe0, 0, 5, 0, 6, 1, 2, 3, 4, 5
 fn icmpv4_raw_and_echo_messages(rt: HostRuntime) {
     let raw = ipv4().icmpv4_raw(200, 3, [1, 2, 3, 4]);
     let request = ipv4().icmpv4_echo_request(5, 6);
-    let reply = ipv4().icmpv4_echo_reply(5, 6);
+    let pool_answer = ipv4().icmpv4_echo_reply(5, 6);
     over_ipv4(rt, rt.alloc(), raw, 1, &ICMPV4_RAW);
     over_ipv4(rt, rt.alloc(), request, 1, &ICMPV4_ECHO_REQUEST);
-    over_ipv4(rt, rt.alloc(), reply, 1, &ICMPV4_ECHO_REPLY);
+    over_ipv4(rt, rt.alloc(), pool_answer, 1, &ICMPV4_ECHO_REPLY);
 }
 
 // Its checksum covers no addresses, so it is the same.
@@ -112,10 +112,10 @@ const ICMPV6_ECHO_REPLY: [u8; 16] = [0x81, 0, 0x74, 0x91, 0, 5, 0, 6, 1, 2, 3, 4
 fn icmpv6_raw_and_echo_messages(rt: HostRuntime) {
     let raw = ipv6().icmpv6_raw(200, 3, [1, 2, 3, 4]);
     let request = ipv6().icmpv6_echo_request(5, 6);
-    let reply = ipv6().icmpv6_echo_reply(5, 6);
+    let pool_answer = ipv6().icmpv6_echo_reply(5, 6);
     over_ipv6(rt, rt.alloc(), raw, 58, &ICMPV6_RAW);
     over_ipv6(rt, rt.alloc(), request, 58, &ICMPV6_ECHO_REQUEST);
-    over_ipv6(rt, rt.alloc(), reply, 58, &ICMPV6_ECHO_REPLY);
+    over_ipv6(rt, rt.alloc(), pool_answer, 58, &ICMPV6_ECHO_REPLY);
 }
 
 // How long the packets are, of each kind of step.

@@ -4,8 +4,8 @@
 use super::parts::PAYLOAD;
 use crate::checks::equal;
 use ep_base::IpNumber;
-use ep_build::{PacketBuilderStep, TransportStep};
 use ep_packet::IpHeaders;
+use etherparse::{PacketBuilderStep, TransportStep};
 use std::alloc::Global;
 use std::process::Abort;
 use std::test::*;

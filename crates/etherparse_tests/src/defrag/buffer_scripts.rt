@@ -1,27 +1,27 @@
-//! Scripts for buffers: fragments as they come, what becomes of each, and what the buffer holds at
+//! Scripts for buffers: fragments as they come, the answer to each, and what the buffer holds at
 //! last. The functions have no contracts: tests alone call them, and are run.
 
 use crate::checks::{equal_in, holds_in};
 use crate::defrag::fragments::{empty, offset, refusing};
 use crate::defrag::refusals::{Refusal, error_of};
 use ep_base::IpNumber;
-use ep_defrag::defrag::{IpDefragBuf, IpDefragError, IpFragRange, OverlapRule};
-use ep_defrag::laws::every_buffer_is_a_picture;
+use etherparse::defrag::{IpDefragBuf, IpDefragError, IpFragRange, OverlapRule};
+use etherparse::laws::defrag::every_buffer_shows_its_fragments;
 use std::alloc::Global;
 use std::process::Abort;
 
-/// What becomes of a fragment.
+/// The answer to a fragment.
 #[derive(Clone, Copy)]
 pub enum Answer {
-    /// It is taken, and its message stays open.
+    /// It is taken, and its datagram isn't complete.
     Open,
-    /// It is taken, and its message is complete.
+    /// It is taken, and its datagram is complete.
     Whole,
     Refused(Refusal),
 }
 
-/// A fragment by its offset, whether more follow it, and its bytes; what becomes of it; and how
-/// many bytes the buffer has then.
+/// A fragment by its offset, whether more follow it, and its bytes; the answer to it; and how many
+/// bytes the buffer has then.
 pub struct Step(pub u16, pub bool, pub &'static [u8], pub Answer, pub usize);
 
 /// What a buffer holds at last.
@@ -40,7 +40,7 @@ pub struct Script {
     pub left: Left,
 }
 
-// What a fragment's call has to tell; no contract, as above.
+// What the call with a fragment must return; no contract, as above.
 fn wanted(rt: impl Abort + Copy, answer: Answer) -> Result<bool, IpDefragError> {
     match answer {
         Answer::Open => Ok(false),
@@ -49,8 +49,8 @@ fn wanted(rt: impl Abort + Copy, answer: Answer) -> Result<bool, IpDefragError> 
     }
 }
 
-// Whether the message is complete with a fragment; no contract, as above.
-fn told(
+// Whether the datagram is complete with a fragment; no contract, as above.
+fn described(
     rt: impl Abort + Copy,
     buf: &mut IpDefragBuf,
     units: u16,
@@ -63,11 +63,11 @@ fn told(
     }
 }
 
-/// Hands a fragment in, and fails where something else becomes of it; no contract, as above.
+/// Adds a fragment, and fails where the answer is another one; no contract, as above.
 pub fn goes(rt: impl Abort + Copy, row: &str, buf: &mut IpDefragBuf, step: &Step) {
     let Step(units, more_fragments, bytes, answer, len) = *step;
-    let told = told(rt, buf, units, more_fragments, bytes);
-    equal_in(rt, row, &told, &wanted(rt, answer));
+    let described = described(rt, buf, units, more_fragments, bytes);
+    equal_in(rt, row, &described, &wanted(rt, answer));
     equal_in(rt, row, &buf.data().len(), &len);
 }
 
@@ -78,7 +78,7 @@ pub fn is_left_as(buf: &IpDefragBuf, left: &Left) -> bool {
         && buf.data().starts_with(left.data)
 }
 
-/// Hands a script's fragments in to a buffer that is empty; no contract, as above.
+/// Adds a script's fragments to a buffer that is empty; no contract, as above.
 pub fn goes_through(rt: impl Abort + Copy, buf: &mut IpDefragBuf, script: &Script) {
     let row = script.name;
     holds_in(
@@ -90,7 +90,7 @@ pub fn goes_through(rt: impl Abort + Copy, buf: &mut IpDefragBuf, script: &Scrip
         goes(rt, row, buf, step);
     }
     holds_in(rt, row, is_left_as(buf, &script.left));
-    every_buffer_is_a_picture(buf);
+    every_buffer_shows_its_fragments(buf);
 }
 
 // A new buffer of this rule; no contract, as above.
@@ -117,7 +117,7 @@ fn runs(rt: impl Abort + Copy, alloc: Global, script: &Script) {
     );
 }
 
-/// Goes through each script with a buffer of its own; no contract, as above.
+/// Runs each script with a buffer of its own; no contract, as above.
 pub fn runs_all(rt: impl Abort + Copy, alloc: Global, scripts: &[Script]) {
     for script in scripts.iter() {
         runs(rt, alloc, script);

@@ -1,4 +1,4 @@
-//! Messages put together, with memory enough.
+//! Datagrams reassembled, with memory enough.
 
 use crate::checks::{equal, fail, holds};
 use crate::defrag::buffer_scripts::Answer::{Open, Refused, Whole};
@@ -7,7 +7,7 @@ use crate::defrag::fragments::{ZEROS, empty, has_bytes, is_its_copy, offset};
 use crate::defrag::refusals::Refusal::{Conflict, TooBig, Unaligned};
 use crate::defrag::refusals::error_of;
 use ep_base::{IpFragOffset, IpNumber};
-use ep_defrag::defrag::{IpDefragBuf, IpFragRange, OverlapRule};
+use etherparse::defrag::{IpDefragBuf, IpFragRange, OverlapRule};
 use std::alloc::Global;
 use std::process::Abort;
 use std::test::*;
@@ -239,7 +239,7 @@ fn a_copy_is_equal(rt: HostRuntime) {
     holds(rt, copy != buf);
 }
 
-// A fragment for a buffer, and what comes where its memory serves again.
+// A fragment for a buffer, and the script that is run where its memory serves again.
 const AGAIN: &[(Step, Script)] = &[
     (
         Step(0, false, &[0; 9], Whole, 9),
@@ -269,8 +269,8 @@ const AGAIN: &[(Step, Script)] = &[
     ),
 ];
 
-// Goes through a script with the memory of a buffer that took a fragment. It has no contract, as
-// tests alone call it.
+// Runs a script with the memory of a buffer that took a fragment. It has no contract, as tests
+// alone call it.
 fn serves_again(rt: impl Abort + Copy, alloc: Global, step: &Step, script: &Script) {
     let mut buf = empty(alloc);
     goes(rt, script.name, &mut buf, step);
@@ -287,7 +287,7 @@ fn buffers_serve_again(rt: HostRuntime) {
     }
 }
 
-// 65536 bytes are too many, and none are a message. It has no contract, as above.
+// 65536 bytes are too many, and none are a datagram. It has no contract, as above.
 fn are_too_many(rt: impl Abort + Copy, alloc: Global, bytes: &[u8]) {
     let zero = IpFragOffset::ZERO;
     let mut buf = empty(alloc);

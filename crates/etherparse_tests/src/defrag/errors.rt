@@ -30,7 +30,7 @@ const TEXTS: &[(Refusal, &str)] = &[
     ),
 ];
 
-// Fails where a refusal reads otherwise. It has no contract, as tests alone call it.
+// Fails where a refusal has another text. It has no contract, as tests alone call it.
 fn reads_as(rt: impl Abort + Copy, alloc: Global, refusal: Refusal, text: &str) {
     let error = error_of(rt, refusal);
     match format!(in alloc; "{error}") {

@@ -2,7 +2,7 @@
 //! run.
 
 use ep_base::{IpFragOffset, IpNumber};
-use ep_defrag::defrag::IpDefragBuf;
+use etherparse::defrag::IpDefragBuf;
 use std::alloc::Global;
 use std::process::Abort;
 

@@ -1,9 +1,9 @@
-//! Frames with the two halves of a UDP message, as the tests hand them in. The functions have no
-//! contracts: tests alone call them, and are run.
+//! Frames with the two halves of a UDP datagram, as the tests pass them to pools. The functions
+//! have no contracts: tests alone call them, and are run.
 
 use crate::checks::{fail, holds};
-use ep_defrag::defrag::{IpDefragError, IpDefragPayloadVec, IpDefragPool};
 use ep_packet::SlicedPacket;
+use etherparse::defrag::{IpDefragError, IpDefragPayloadVec, IpDefragPool};
 use std::hash::BuildHasher;
 use std::process::Abort;
 use std::test::*;
@@ -22,12 +22,12 @@ pub const SECOND: &[u8] = &[
     0x06, 0x07, 0x08,
 ];
 
-/// The message.
-pub const MESSAGE: &[u8] = &[
+/// The datagram.
+pub const DATAGRAM: &[u8] = &[
     0x00, 0x01, 0x00, 0x02, 0x00, 0x10, 0xdb, 0xb4, 0x01, 0x02, 0x03, 0x04, 0x05, 0x06, 0x07, 0x08,
 ];
 
-/// The message over IPv4 as it is handed out.
+/// The datagram over IPv4 as it is returned.
 pub const UDP: &str = "Payload(IpDefragPayloadVec { ip_number: IpNumber(17), \
     len_source: Ipv4HeaderTotalLen, \
     payload: [0, 1, 0, 2, 0, 16, 219, 180, 1, 2, 3, 4, 5, 6, 7, 8] })";
@@ -37,7 +37,7 @@ pub const LENT_UDP: &str = "Payload(IpDefragPayloadVec { ip_number: IpNumber(17)
     len_source: Ipv4HeaderTotalLen, \
     payload: [0, 1, 0, 2, 0, 16, 219, 180, 1, 2, 3, 4, 5, 6, 7, 8] }) given back";
 
-/// The message over IPv6 as it is handed out.
+/// The datagram over IPv6 as it is returned.
 pub const IPV6_UDP: &str = "Payload(IpDefragPayloadVec { ip_number: IpNumber(17), \
     len_source: Ipv6HeaderPayloadLen, \
     payload: [0, 1, 0, 2, 0, 16, 245, 178, 1, 2, 3, 4, 5, 6, 7, 8] })";
@@ -61,35 +61,35 @@ pub const IPV6_FIRST: &[u8] = &[
     0, 0, 0x02, 0x11, 0, 0, 0x01, 0, 0, 0, 0x07, 0, 0x01, 0, 0x02, 0, 0x10, 0xf5, 0xb2,
 ];
 
-/// The second half 8 bytes further behind.
-pub const BEHIND: &[u8] = &[
+/// The second half at an offset 8 bytes greater.
+pub const AFTER: &[u8] = &[
     0x02, 0, 0, 0, 0, 0x02, 0x02, 0, 0, 0, 0, 0x01, 0x08, 0, 0x45, 0, 0, 0x1c, 0, 0x07, 0, 0x02,
     0x40, 0x11, 0x66, 0xc7, 0x0a, 0, 0, 0x01, 0x0a, 0, 0, 0x02, 0x01, 0x02, 0x03, 0x04, 0x05, 0x06,
     0x07, 0x08,
 ];
 
-/// The second half over IPv6 8 bytes further behind, behind which more follow.
-pub const IPV6_BEHIND: &[u8] = &[
+/// The second half over IPv6 at an offset 8 bytes greater, after which more follow.
+pub const IPV6_LATER: &[u8] = &[
     0x02, 0, 0, 0, 0, 0x02, 0x02, 0, 0, 0, 0, 0x01, 0x86, 0xdd, 0x60, 0, 0, 0, 0, 0x10, 0x2c, 0x40,
     0xfd, 0, 0, 0, 0, 0, 0, 0, 0, 0, 0, 0, 0, 0, 0, 0x01, 0xfd, 0, 0, 0, 0, 0, 0, 0, 0, 0, 0, 0, 0,
     0, 0, 0x02, 0x11, 0, 0, 0x11, 0, 0, 0, 0x07, 0x01, 0x02, 0x03, 0x04, 0x05, 0x06, 0x07, 0x08,
 ];
 
-/// The first half over IPv4 behind three VLAN tags, of the identifiers 5, 6 and 7.
+/// The first half over IPv4 after three VLAN tags, of the identifiers 5, 6 and 7.
 pub const TAGGED_FIRST: &[u8] = &[
     0x02, 0, 0, 0, 0, 0x02, 0x02, 0, 0, 0, 0, 0x01, 0x81, 0, 0, 0x05, 0x81, 0, 0, 0x06, 0x81, 0, 0,
     0x07, 0x08, 0, 0x45, 0, 0, 0x1c, 0, 0x07, 0x20, 0, 0x40, 0x11, 0x46, 0xc8, 0x0a, 0, 0, 0x01,
     0x0a, 0, 0, 0x02, 0, 0x01, 0, 0x02, 0, 0x10, 0xdb, 0xb4,
 ];
 
-/// The second half behind the same tags.
+/// The second half after the same tags.
 pub const TAGGED_SECOND: &[u8] = &[
     0x02, 0, 0, 0, 0, 0x02, 0x02, 0, 0, 0, 0, 0x01, 0x81, 0, 0, 0x05, 0x81, 0, 0, 0x06, 0x81, 0, 0,
     0x07, 0x08, 0, 0x45, 0, 0, 0x1c, 0, 0x07, 0, 0x01, 0x40, 0x11, 0x66, 0xc7, 0x0a, 0, 0, 0x01,
     0x0a, 0, 0, 0x02, 0x01, 0x02, 0x03, 0x04, 0x05, 0x06, 0x07, 0x08,
 ];
 
-/// Hands a frame in; no contract, as above.
+/// Passes a frame to a pool; no contract, as above.
 pub fn process<S: BuildHasher>(
     rt: impl Abort + Copy,
     pool: &mut IpDefragPool<u64, u32, S>,
@@ -103,7 +103,7 @@ pub fn process<S: BuildHasher>(
     pool.process_sliced_packet(&packet, timestamp, channel)
 }
 
-/// Hands a frame in, and tells whether it completes a message; no contract, as above.
+/// Passes a frame to a pool, and returns whether it completes a datagram; no contract, as above.
 pub fn delivers<S: BuildHasher>(
     rt: impl Abort + Copy,
     pool: &mut IpDefragPool<u64, u32, S>,
@@ -117,7 +117,7 @@ pub fn delivers<S: BuildHasher>(
     }
 }
 
-/// Hands a frame in whose message waits for more; no contract, as above.
+/// Passes a frame to a pool whose datagram waits for more; no contract, as above.
 pub fn waits<S: BuildHasher>(
     rt: impl Abort + Copy,
     pool: &mut IpDefragPool<u64, u32, S>,
@@ -128,7 +128,7 @@ pub fn waits<S: BuildHasher>(
     holds(rt, !delivers(rt, pool, frame, timestamp, channel));
 }
 
-/// Keeps the messages of this time and of later ones: from `u64::MAX` on there are none. No
+/// Keeps the reassemblies of this time and of later ones: from `u64::MAX` on there are none. No
 /// contract, as above.
 pub fn keep_from<S: BuildHasher>(
     rt: impl Abort + Copy,

@@ -5,16 +5,16 @@ use crate::checks::{equal, holds};
 use crate::defrag::frames::{IPV6_FIRST, IPV6_SECOND, delivers};
 use crate::defrag::pool_scripts::goes_in_a_row;
 use crate::defrag::pools::CALLS_IN_A_ROW;
-use ep_defrag::defrag::{IpDefragPool, IpFragVersionSpecId};
+use etherparse::defrag::{IpDefragPool, IpFragVersionSpecId};
 use std::hash::{BuildHasher, BuildHasherDefault, FoldHasher, RandomState};
 use std::process::Abort;
 use std::test::*;
 
-/// As the second half of a source address it takes away all that the hasher of a fixed seed was fed
+/// As the second half of a source address it cancels all that the hasher of a fixed seed was fed
 /// before: the half xor the number 0x9e3779b97f4a7c15 is one factor of a product.
 const TAKES_AWAY: [u8; 8] = [0x15, 0x7c, 0x4a, 0x7f, 0xb9, 0x79, 0x37, 0x9e];
 
-// The hash of a name whose source begins with this byte; no contract, as tests alone call it.
+// The hash of a name whose source starts with this byte; no contract, as tests alone call it.
 fn hash_of(state: &impl BuildHasher, first: u8) -> u64 {
     let mut source = [0; 16];
     source[0] = first;
@@ -37,7 +37,7 @@ fn the_names_collide_by_the_fixed_seed_alone(rt: HostRuntime) -> Result<(), Fail
     Ok(())
 }
 
-// How many of 256 halves whose names are such ones complete a message; no contract, as above.
+// How many of 256 halves whose names are such ones complete a datagram; no contract, as above.
 fn completed<S: BuildHasher>(
     rt: impl Abort + Copy,
     pool: &mut IpDefragPool<u64, u32, S>,
@@ -57,14 +57,14 @@ fn completed<S: BuildHasher>(
     count
 }
 
-// Each message is handed out by its second half; no contract, as above.
+// Each datagram is returned by its second half; no contract, as above.
 fn keeps_names_apart<S: BuildHasher + Drop>(
     rt: impl Abort + Copy,
     mut pool: IpDefragPool<u64, u32, S>,
 ) {
-    let begun = completed(rt, &mut pool, IPV6_FIRST);
+    let started = completed(rt, &mut pool, IPV6_FIRST);
     let ended = completed(rt, &mut pool, IPV6_SECOND);
-    equal(rt, (begun, ended, pool.open_len()), (0, 256, 0));
+    equal(rt, (started, ended, pool.open_len()), (0, 256, 0));
 }
 
 #[test]

@@ -5,7 +5,7 @@ use crate::checks::{fail, holds};
 use crate::defrag::fragments::offset;
 use crate::defrag::frames::{FIRST, IPV6_FIRST, process};
 use ep_base::{IpFragOffset, IpNumber};
-use ep_defrag::defrag::{IpDefragBuf, IpDefragPool, OverlapRule};
+use etherparse::defrag::{IpDefragBuf, IpDefragPool, OverlapRule};
 use std::alloc::{AllocError, Global};
 use std::process::Abort;
 use std::test::*;
@@ -16,22 +16,22 @@ const GREAT: &[usize] = &[8192, 65_515, 65_528];
 
 const LONGEST: usize = 65_535;
 
-// Bytes in which a place is unlike those about it.
+// Bytes in which each differs from those next to it.
 fn text(alloc: Global) -> Result<Vec<u8>, AllocError> {
     let mut text = Vec::with_capacity(alloc, LONGEST)?;
-    for place in 0..LONGEST {
-        text.push((place % 251) as u8)?;
+    for position in 0..LONGEST {
+        text.push((position % 251) as u8)?;
     }
     Ok(text)
 }
 
-// A datagram with such a last fragment behind one of 8 bytes, if there is one.
+// A datagram with such a last fragment after one of 8 bytes, if there is one.
 fn with_last(text: &[u8], len: usize) -> Option<(&[u8], usize)> {
     let whole = text.get(..len.saturating_add(8))?;
     Some((whole, 8))
 }
 
-// A datagram with such a first fragment and one behind it that is no longer, if there is one.
+// A datagram with such a first fragment and one after it that is no longer, if there is one.
 fn with_first(text: &[u8], len: usize) -> Option<(&[u8], usize)> {
     if len == 0 || len % 8 != 0 {
         return None;
@@ -40,7 +40,7 @@ fn with_first(text: &[u8], len: usize) -> Option<(&[u8], usize)> {
     Some((whole, len))
 }
 
-// Cut there, in one order. There is room for what is there and as much again.
+// Fragmented there, in one order. There is capacity for what is there and as much again.
 fn is_buffered(
     rt: impl Abort + Copy,
     alloc: Global,
@@ -89,7 +89,7 @@ fn frame(
         frame.extend_from_slice(&(units % 8192 | more << 13).to_be_bytes())?;
         frame.extend_from_slice(&FIRST[22..34])?;
     } else {
-        // What 16 bits don't tell is all that is there.
+        // A length that 16 bits can't hold stands for all that is there.
         let payload = u16::try_from(bytes.len().saturating_add(8)).unwrap_or(0);
         frame.extend_from_slice(&IPV6_FIRST[..18])?;
         frame.extend_from_slice(&payload.to_be_bytes())?;
@@ -122,7 +122,7 @@ fn joins(
     holds(rt, pool.return_buf(message).is_ok());
 }
 
-// Cut there, in both orders.
+// Fragmented there, in both orders.
 fn is_pooled(
     rt: impl Abort + Copy,
     alloc: Global,

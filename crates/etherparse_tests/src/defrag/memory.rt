@@ -1,15 +1,15 @@
-//! Want of memory. To be run with each allocation failing in turn, too: then one of the calls wants
-//! memory and leaves its buffer as it was, and the next one gets it.
+//! Out of memory. To be run with each allocation failing in turn, too: then one of the calls finds
+//! no memory and leaves its buffer as it was, and the next one finds it.
 
 use crate::checks::{equal, holds};
 use crate::defrag::fragments::{ZEROS, empty, has_bytes, is_its_copy, offset, refusing};
 use ep_base::IpFragOffset;
-use ep_defrag::defrag::{IpDefragBuf, IpDefragError};
+use etherparse::defrag::{IpDefragBuf, IpDefragError};
 use std::process::Abort;
 use std::test::*;
 
 #[test]
-fn a_fragment_wants_memory(rt: HostRuntime) {
+fn a_fragment_runs_out_of_memory(rt: HostRuntime) {
     let mut buf = empty(rt.alloc());
     let first = offset(rt, 1);
     match buf.add(first, false, &ZEROS[..8]) {
@@ -24,7 +24,7 @@ fn a_fragment_wants_memory(rt: HostRuntime) {
 }
 
 #[test]
-fn refused_fragments_want_none(rt: HostRuntime) {
+fn refused_fragments_have_no_memory_error(rt: HostRuntime) {
     let mut buf = empty(rt.alloc());
     let zero = offset(rt, 0);
     let unaligned = (zero, true, &ZEROS[..7]);
@@ -34,7 +34,7 @@ fn refused_fragments_want_none(rt: HostRuntime) {
 }
 
 #[test]
-fn one_of_many_fragments_wants_memory(rt: HostRuntime) {
+fn one_of_many_fragments_runs_out_of_memory(rt: HostRuntime) {
     let mut buf = empty(rt.alloc());
     let all = [
         (offset(rt, 0), true, &ZEROS[..8]),
@@ -53,7 +53,7 @@ fn one_of_many_fragments_wants_memory(rt: HostRuntime) {
 }
 
 #[test]
-fn a_copy_wants_memory(rt: HostRuntime) {
+fn a_copy_runs_out_of_memory(rt: HostRuntime) {
     let mut buf = empty(rt.alloc());
     let zero = offset(rt, 0);
     holds(rt, buf.try_clone().is_ok());
@@ -66,8 +66,8 @@ fn a_copy_wants_memory(rt: HostRuntime) {
 
 const BYTES: &[u8] = &[1, 2, 3, 4, 5, 6, 7, 8];
 
-// Hands a fragment in twice. Where the first call finds no memory for this end, another one does.
-// It has no contract, as tests alone call it.
+// Adds a fragment twice. Where the first call finds no memory for this end, the other one does. It
+// has no contract, as tests alone call it.
 fn comes_twice(rt: impl Abort + Copy, buf: &mut IpDefragBuf, offset: IpFragOffset, len: usize) {
     let count = buf.sections().len();
     if let Err(error) = buf.add(offset, true, BYTES) {
@@ -78,9 +78,9 @@ fn comes_twice(rt: impl Abort + Copy, buf: &mut IpDefragBuf, offset: IpFragOffse
     holds(rt, buf.add(offset, true, BYTES).is_ok());
 }
 
-/// A fragment that is there already wants no memory, where overlaps are refused.
+/// A fragment that is there already takes no memory, where overlaps are refused.
 #[test]
-fn a_repeat_wants_no_memory(rt: HostRuntime) {
+fn a_repeat_takes_no_memory(rt: HostRuntime) {
     let mut buf = refusing(rt.alloc());
     comes_twice(rt, &mut buf, offset(rt, 2), 24);
     comes_twice(rt, &mut buf, IpFragOffset::ZERO, 8);
@@ -89,7 +89,7 @@ fn a_repeat_wants_no_memory(rt: HostRuntime) {
 
 /// Of the accepted fragments the fifth takes memory beside its bytes and its section.
 #[test]
-fn a_fifth_fragment_wants_memory(rt: HostRuntime) {
+fn a_fifth_fragment_runs_out_of_memory(rt: HostRuntime) {
     let mut buf = refusing(rt.alloc());
     for (units, end) in [(0, 8), (2, 24), (4, 40), (6, 56), (8, 72)] {
         comes_twice(rt, &mut buf, offset(rt, units), end);

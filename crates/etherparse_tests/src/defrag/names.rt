@@ -1,16 +1,16 @@
-//! Names that differ in one part alone: their messages stay apart.
+//! Names that differ in one component alone: their datagrams stay apart.
 
 use crate::checks::holds_in;
 use crate::defrag::frames::{
     FIRST, IPV6_FIRST, IPV6_SECOND, SECOND, TAGGED_FIRST, TAGGED_SECOND, UDP, delivers,
 };
 use crate::defrag::pool_scripts::{NOTHING, Script, runs_all};
-use ep_defrag::defrag::IpDefragPool;
+use etherparse::defrag::IpDefragPool;
 use std::alloc::Global;
 use std::process::Abort;
 use std::test::*;
 
-/// The halves of a message, and the byte of the second one that is of its name.
+/// The halves of a datagram, and the byte of the second one that is of its name.
 const NAMES: &[(&str, &[u8], &[u8], usize)] = &[
     ("first byte of the identification", FIRST, SECOND, 18),
     ("last byte of the identification", FIRST, SECOND, 19),
@@ -73,7 +73,7 @@ const NAMES: &[(&str, &[u8], &[u8], usize)] = &[
     ("third identifier", TAGGED_FIRST, TAGGED_SECOND, 23),
 ];
 
-// Whether the second half completes the message, and not where one byte is changed. It has no
+// Whether the second half completes the datagram, and not where one byte is changed. It has no
 // contract, as tests alone call it.
 fn stays_apart(
     rt: impl Abort + Copy,
@@ -93,7 +93,7 @@ fn stays_apart(
 }
 
 #[test]
-fn names_in_each_part(rt: HostRuntime) {
+fn names_in_each_component(rt: HostRuntime) {
     for (row, first, second, changed) in NAMES.iter() {
         let apart = stays_apart(rt, rt.alloc(), first, second, *changed);
         holds_in(rt, row, apart);
@@ -122,6 +122,6 @@ const SCRIPTS: &[Script] = &[
 ];
 
 #[test]
-fn names_with_other_parts(rt: HostRuntime) {
+fn names_with_other_components(rt: HostRuntime) {
     runs_all(rt, rt.alloc(), SCRIPTS);
 }

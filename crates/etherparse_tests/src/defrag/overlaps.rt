@@ -8,10 +8,10 @@ use crate::defrag::buffer_scripts::{
 use crate::defrag::fragments::{ZEROS, empty, offset, refusing};
 use crate::defrag::refusals::Refusal::{Conflict, Overlap, Unaligned};
 use ep_base::IpFragOffset;
-use ep_defrag::defrag::{IpFragRange, OverlapRule};
+use etherparse::defrag::{IpFragRange, OverlapRule};
 use std::test::*;
 
-// The bytes from one place to another of a message whose bytes count from 1.
+// The bytes from one index to another of a datagram whose bytes count from 1.
 const BYTES_0_8: &[u8] = &[1, 2, 3, 4, 5, 6, 7, 8];
 
 const BYTES_8_16: &[u8] = &[9, 10, 11, 12, 13, 14, 15, 16];
@@ -43,12 +43,12 @@ const BYTES_0_32: &[u8] = &[
     27, 28, 29, 30, 31, 32,
 ];
 
-// Bytes 8 to 24 behind eight that are open.
+// Bytes 8 to 24 after eight that are missing.
 const OPEN_BYTES: &[u8] = &[
     0, 0, 0, 0, 0, 0, 0, 0, 9, 10, 11, 12, 13, 14, 15, 16, 17, 18, 19, 20, 21, 22, 23, 24,
 ];
 
-// Units 1 and 2 of a message.
+// Units 1 and 2, of 8 bytes each, of a datagram.
 const MIDDLE: Step = Step(1, true, BYTES_8_24, Open, 24);
 
 const CLASH_AT_0: Answer = Refused(Overlap(0, 8));
@@ -60,7 +60,7 @@ const NEW: Left = Left {
     data: &[],
 };
 
-/// Behind units 1 and 2 of a message each of these clashes, and the buffer is empty then.
+/// After units 1 and 2 of a datagram each of these clashes, and the buffer is empty then.
 const CLASHES: &[Script] = &[
     Script {
         name: "the first of the units",
@@ -156,8 +156,8 @@ fn each_overlap_empties_the_buffer(rt: HostRuntime) {
     runs_all(rt, rt.alloc(), CLASHES);
 }
 
-/// Behind the same units these are taken: the same fragment, neighbours, fragments without bytes
-/// where more follow, and a last one behind them.
+/// After the same units these are taken: the same fragment, neighbours, fragments without bytes
+/// where more follow, and a last one after them.
 const NO_OVERLAPS: &[Script] = &[
     Script {
         name: "the same fragment",
@@ -249,7 +249,7 @@ fn what_is_no_overlap(rt: HostRuntime) {
     runs_all(rt, rt.alloc(), NO_OVERLAPS);
 }
 
-const MESSAGES: &[Script] = &[
+const DATAGRAMS: &[Script] = &[
     Script {
         name: "a new buffer",
         rule: OverlapRule::Refuses,
@@ -329,19 +329,19 @@ const MESSAGES: &[Script] = &[
 ];
 
 #[test]
-fn messages_without_overlaps(rt: HostRuntime) {
-    runs_all(rt, rt.alloc(), MESSAGES);
+fn datagrams_without_overlaps(rt: HostRuntime) {
+    runs_all(rt, rt.alloc(), DATAGRAMS);
 }
 
-const FROM_THE_FRONT: Left = Left {
+const FROM_THE_START: Left = Left {
     end: Some(16),
     sections: &[IpFragRange { start: 0, end: 16 }],
     data: BYTES_0_16,
 };
 
-/// An overlap among fragments in a row is passed over, and they go on with the empty buffer.
+/// An overlap among fragments in a row is skipped, and the next ones go into the empty buffer.
 #[test]
-fn all_go_on_behind_an_overlap(rt: HostRuntime) {
+fn all_go_on_after_an_overlap(rt: HostRuntime) {
     let zero = IpFragOffset::ZERO;
     let all = [
         (zero, true, &BYTES_0_8[..]),
@@ -353,7 +353,7 @@ fn all_go_on_behind_an_overlap(rt: HostRuntime) {
     let mut buf = refusing(rt.alloc());
     equal(rt, buf.add_all(&all), Ok(4));
     equal(rt, buf.data().len(), 16);
-    holds(rt, buf.is_complete() && is_left_as(&buf, &FROM_THE_FRONT));
+    holds(rt, buf.is_complete() && is_left_as(&buf, &FROM_THE_START));
 }
 
 const TO_BE_COPIED: Script = Script {

@@ -5,14 +5,14 @@ use crate::defrag::frames::{FIRST, SECOND, UDP};
 use crate::defrag::pool_scripts::{KEEP_FROM, NOTHING, RETAINED, Script, runs_all};
 use std::test::*;
 
-// The whole message over IPv4.
+// The whole datagram over IPv4.
 const UNCUT: &[u8] = &[
     0x02, 0, 0, 0, 0, 0x02, 0x02, 0, 0, 0, 0, 0x01, 0x08, 0, 0x45, 0, 0, 0x24, 0, 0x07, 0, 0, 0x40,
     0x11, 0x66, 0xc0, 0x0a, 0, 0, 0x01, 0x0a, 0, 0, 0x02, 0, 0x01, 0, 0x02, 0, 0x10, 0xdb, 0xb4,
     0x01, 0x02, 0x03, 0x04, 0x05, 0x06, 0x07, 0x08,
 ];
 
-// The whole message over IPv6.
+// The whole datagram over IPv6.
 const IPV6_UNCUT: &[u8] = &[
     0x02, 0, 0, 0, 0, 0x02, 0x02, 0, 0, 0, 0, 0x01, 0x86, 0xdd, 0x60, 0, 0, 0, 0, 0x10, 0x11, 0x40,
     0xfd, 0, 0, 0, 0, 0, 0, 0, 0, 0, 0, 0, 0, 0, 0, 0x01, 0xfd, 0, 0, 0, 0, 0, 0, 0, 0, 0, 0, 0, 0,
@@ -20,7 +20,7 @@ const IPV6_UNCUT: &[u8] = &[
     0x08,
 ];
 
-// The same behind a fragment header of offset 0 behind which no more fragments follow (RFC 6946).
+// The same after a fragment header of offset 0 after which no more fragments follow (RFC 6946).
 const ATOMIC: &[u8] = &[
     0x02, 0, 0, 0, 0, 0x02, 0x02, 0, 0, 0, 0, 0x01, 0x86, 0xdd, 0x60, 0, 0, 0, 0, 0x18, 0x2c, 0x40,
     0xfd, 0, 0, 0, 0, 0, 0, 0, 0, 0, 0, 0, 0, 0, 0, 0x01, 0xfd, 0, 0, 0, 0, 0, 0, 0, 0, 0, 0, 0, 0,
@@ -28,7 +28,7 @@ const ATOMIC: &[u8] = &[
     0x03, 0x04, 0x05, 0x06, 0x07, 0x08,
 ];
 
-// The same behind such a header and one that fragments: the first one counts.
+// The same after such a header and one with more fragments: the first one counts.
 const FIRST_ATOMIC: &[u8] = &[
     0x02, 0, 0, 0, 0, 0x02, 0x02, 0, 0, 0, 0, 0x01, 0x86, 0xdd, 0x60, 0, 0, 0, 0, 0x20, 0x2c, 0x40,
     0xfd, 0, 0, 0, 0, 0, 0, 0, 0, 0, 0, 0, 0, 0, 0, 0x01, 0xfd, 0, 0, 0, 0, 0, 0, 0, 0, 0, 0, 0, 0,
@@ -51,7 +51,7 @@ const FOUR_TAGS: &[u8] = &[
 // No packet of IP.
 const NO_IP: &[u8] = &[0x02, 0, 0, 0, 0, 0x02, 0x02, 0, 0, 0, 0, 0x01, 0x12, 0x34];
 
-// Behind MACsec's encryption.
+// MACsec, encrypted.
 const ENCRYPTED: &[u8] = &[
     0x02, 0, 0, 0, 0, 0x02, 0x02, 0, 0, 0, 0, 0x01, 0x88, 0xe5, 0x0c, 0, 0, 0, 0, 0x01, 0x08, 0,
     0x45, 0, 0, 0x24, 0, 0x07, 0, 0, 0x40, 0x11, 0x66, 0xc0, 0x0a, 0, 0, 0x01, 0x0a, 0, 0, 0x02, 0,
@@ -88,7 +88,7 @@ const SCRIPTS: &[Script] = &[
             (SECOND, 3, 0, UDP, 0, 0),
         ],
     ),
-    // The message whose half came at time 1 is dropped: nothing renewed its time.
+    // The reassembly whose half came at time 1 is dropped: nothing renewed its time.
     (
         "no fragments renew no time",
         &[

@@ -1,17 +1,17 @@
-//! Want of memory in a pool. To be run with each allocation failing in turn, too: then one of the
-//! calls wants memory and leaves the pool as it was, and the next one gets it.
+//! Out of memory in a pool. To be run with each allocation failing in turn, too: then one of the
+//! calls finds no memory and leaves the pool as it was, and the next one finds it.
 
 use crate::checks::{equal, fail, holds};
 use crate::defrag::frames::{
-    FIRST, IPV6_FIRST, IPV6_SECOND, MESSAGE, SECOND, delivers, keep_from, process, waits,
+    DATAGRAM, FIRST, IPV6_FIRST, IPV6_SECOND, SECOND, delivers, keep_from, process, waits,
 };
-use ep_defrag::defrag::{IpDefragError, IpDefragPool, PoolCall, PoolReply, run_calls};
+use etherparse::defrag::{IpDefragError, IpDefragPool, PoolAnswer, PoolCall, run_calls};
 use std::alloc::Global;
 use std::process::Abort;
 use std::test::*;
 
 #[test]
-fn a_message_wants_memory(rt: HostRuntime) {
+fn a_datagram_runs_out_of_memory(rt: HostRuntime) {
     let mut pool = IpDefragPool::new(rt.alloc());
     if let Err(error) = process(rt, &mut pool, FIRST, 1, 0) {
         equal(rt, error, IpDefragError::AllocationFailure { len: 8 });
@@ -39,10 +39,10 @@ const TWICE: &[PoolCall<'static>] = &[
     },
 ];
 
-// Whether one of the replies is that nothing is complete; no contract, as tests alone call it.
-fn one_waits(replies: &[PoolReply]) -> bool {
-    for reply in replies {
-        if matches!(reply, PoolReply::Nothing) {
+// Whether one of the answers is that nothing is complete; no contract, as tests alone call it.
+fn one_waits(pool_answers: &[PoolAnswer]) -> bool {
+    for pool_answer in pool_answers {
+        if matches!(pool_answer, PoolAnswer::Nothing) {
             return true;
         }
     }
@@ -50,12 +50,12 @@ fn one_waits(replies: &[PoolReply]) -> bool {
 }
 
 #[test]
-fn a_list_of_calls_wants_memory(rt: HostRuntime) {
+fn a_list_of_calls_runs_out_of_memory(rt: HostRuntime) {
     let mut pool = IpDefragPool::new(rt.alloc());
     match run_calls(rt.alloc(), &mut pool, TWICE) {
-        Ok(replies) => {
-            // At most one of the two wanted memory.
-            holds(rt, one_waits(&replies));
+        Ok(pool_answers) => {
+            // At most one of the two found no memory.
+            holds(rt, one_waits(&pool_answers));
             holds(rt, delivers_at_last(rt, &mut pool, SECOND, 0, 16));
         }
         Err(_) => {
@@ -65,8 +65,8 @@ fn a_list_of_calls_wants_memory(rt: HostRuntime) {
     }
 }
 
-// Hands a frame in until it finds memory, and tells whether it completes a message. One that finds
-// none tells where it ends. It has no contract, as tests alone call it.
+// Passes a frame to a pool until it finds memory, and returns whether it completes a datagram. One
+// that finds none is answered with its end. It has no contract, as tests alone call it.
 fn delivers_at_last(
     rt: impl Abort + Copy,
     pool: &mut IpDefragPool<u64, u32>,
@@ -83,9 +83,9 @@ fn delivers_at_last(
     }
 }
 
-/// So many messages that the pool grows several times, whichever growth is refused.
+/// So many datagrams that the pool grows several times, whichever growth is refused.
 #[test]
-fn many_messages_want_memory(rt: HostRuntime) {
+fn many_reassemblies_run_out_of_memory(rt: HostRuntime) {
     let mut pool = IpDefragPool::new(rt.alloc());
     for channel in 0..10u32 {
         holds(rt, !delivers_at_last(rt, &mut pool, FIRST, channel, 8));
@@ -166,48 +166,51 @@ const RESTS: &[PoolCall<'static>] = &[
     },
 ];
 
-// Whether a message's halves had memory both: one of them may have wanted it. It has no contract, as
+// Whether both halves of a datagram found memory: one of them may not have. It has no contract, as
 // tests alone call it.
-fn had_memory(rt: impl Abort + Copy, begun: &PoolReply, ended: &PoolReply) -> bool {
-    match (begun, ended) {
-        (PoolReply::Nothing, PoolReply::Payload(message)) => {
-            equal(rt, message.payload.as_slice(), MESSAGE);
+fn had_memory(rt: impl Abort + Copy, started: &PoolAnswer, ended: &PoolAnswer) -> bool {
+    match (started, ended) {
+        (PoolAnswer::Nothing, PoolAnswer::Payload(message)) => {
+            equal(rt, message.payload.as_slice(), DATAGRAM);
             true
         }
-        (PoolReply::Refused(IpDefragError::AllocationFailure { len: 8 }), PoolReply::Nothing)
-        | (PoolReply::Nothing, PoolReply::Refused(IpDefragError::AllocationFailure { len: 16 })) =>
-            { false }
+        (PoolAnswer::Refused(IpDefragError::AllocationFailure { len: 8 }), PoolAnswer::Nothing)
+        | (
+            PoolAnswer::Nothing,
+            PoolAnswer::Refused(IpDefragError::AllocationFailure { len: 16 }),
+        ) => { false }
         _ => fail(rt, "the replies are others"),
     }
 }
 
-/// A call whose reply tells of want of memory did nothing, and the others did as ever.
+/// A call whose answer reports out of memory did nothing, and the others did as ever.
 #[test]
-fn one_of_many_calls_wants_memory(rt: HostRuntime) {
+fn one_of_many_calls_runs_out_of_memory(rt: HostRuntime) {
     let mut pool = IpDefragPool::new(rt.alloc());
-    let begun = at_last(rt, rt.alloc(), &mut pool, HALVES);
+    let started = at_last(rt, rt.alloc(), &mut pool, HALVES);
     let ended = at_last(rt, rt.alloc(), &mut pool, RESTS);
-    let mut wanting = 0u32;
-    for (begun, ended) in begun.iter().zip(ended.iter()) {
-        if !had_memory(rt, begun, ended) {
-            wanting = wanting.wrapping_add(1);
+    let mut failures = 0u32;
+    for (started, ended) in started.iter().zip(ended.iter()) {
+        if !had_memory(rt, started, ended) {
+            failures = failures.wrapping_add(1);
         }
     }
-    holds(rt, wanting <= 1);
+    holds(rt, failures <= 1);
 }
 
-// The replies to calls, once there is room for them. It has no contract, as tests alone call it.
+// The answers to calls, once there is capacity for them. It has no contract, as tests alone call
+// it.
 fn at_last(
     rt: impl Abort + Copy,
     alloc: Global,
     pool: &mut IpDefragPool<u64, u32>,
     calls: &[PoolCall<'_>],
-) -> Vec<PoolReply> {
-    if let Ok(replies) = run_calls(alloc, pool, calls) {
-        return replies;
+) -> Vec<PoolAnswer> {
+    if let Ok(pool_answers) = run_calls(alloc, pool, calls) {
+        return pool_answers;
     }
     match run_calls(alloc, pool, calls) {
-        Ok(replies) => replies,
+        Ok(pool_answers) => pool_answers,
         Err(_) => fail(rt, "no room for the replies, twice"),
     }
 }

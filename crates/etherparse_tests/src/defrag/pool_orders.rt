@@ -1,7 +1,7 @@
-//! A message of three fragments, in each order and with repeats.
+//! A datagram of three fragments, in each order and with repeats.
 
 use crate::defrag::pool_scripts::{NOTHING, Script, goes_through};
-use ep_defrag::defrag::IpDefragPool;
+use etherparse::defrag::IpDefragPool;
 use std::test::*;
 
 // A TCP header with no option, cut at 8 and 16.

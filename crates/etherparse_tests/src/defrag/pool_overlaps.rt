@@ -1,7 +1,7 @@
-//! Overlaps that a pool refuses: over IPv6 they end their message (RFC 5722; RFC 8200, section
-//! 4.5), over IPv4 later bytes go over earlier ones (RFC 791, section 3.2).
+//! Overlaps that a pool refuses: over IPv6 they end their reassembly (RFC 5722; RFC 8200, section
+//! 4.5), over IPv4 later bytes overwrite earlier ones (RFC 791, section 3.2).
 
-use crate::defrag::frames::{FIRST, IPV6_BEHIND, IPV6_FIRST, IPV6_SECOND, IPV6_UDP, SECOND};
+use crate::defrag::frames::{FIRST, IPV6_FIRST, IPV6_LATER, IPV6_SECOND, IPV6_UDP, SECOND};
 use crate::defrag::pool_scripts::{KEEP_FROM, NOTHING, RETAINED, Script, runs_all};
 use std::test::*;
 
@@ -12,7 +12,7 @@ pub const IPV6_OTHER_BYTES: &[u8] = &[
     0, 0, 0x02, 0x11, 0, 0, 0x01, 0, 0, 0, 0x07, 0, 0x01, 0, 0x02, 0, 0x10, 0xf5, 0xb3,
 ];
 
-// The second half, behind which more follow.
+// The second half, after which more follow.
 const IPV6_SECOND_MORE: &[u8] = &[
     0x02, 0, 0, 0, 0, 0x02, 0x02, 0, 0, 0, 0, 0x01, 0x86, 0xdd, 0x60, 0, 0, 0, 0, 0x10, 0x2c, 0x40,
     0xfd, 0, 0, 0, 0, 0, 0, 0, 0, 0, 0, 0, 0, 0, 0, 0x01, 0xfd, 0, 0, 0, 0, 0, 0, 0, 0, 0, 0, 0, 0,
@@ -26,7 +26,7 @@ const OTHER_BYTES: &[u8] = &[
     0xb5,
 ];
 
-// The message over IPv4 with that byte.
+// The datagram over IPv4 with that byte.
 const OTHER_UDP: &str = "Payload(IpDefragPayloadVec { ip_number: IpNumber(17), \
     len_source: Ipv4HeaderTotalLen, \
     payload: [0, 1, 0, 2, 0, 16, 219, 181, 1, 2, 3, 4, 5, 6, 7, 8] })";
@@ -55,7 +55,7 @@ const SCRIPTS: &[Script] = &[
             (IPV6_FIRST, 4, 0, IPV6_UDP, 0, 0),
         ],
     ),
-    // It begins no message.
+    // It starts no reassembly.
     (
         "another flag is an overlap",
         &[
@@ -68,7 +68,7 @@ const SCRIPTS: &[Script] = &[
     (
         "an end below an accepted place",
         &[
-            (IPV6_BEHIND, 1, 0, NOTHING, 1, 0),
+            (IPV6_LATER, 1, 0, NOTHING, 1, 0),
             (IPV6_SECOND, 2, 0, SECOND_CLASHES, 0, 0),
         ],
     ),

@@ -1,9 +1,9 @@
-//! Which messages a pool keeps by their times, and how often it asks.
+//! Which reassemblies a pool keeps by their times, and how often it calls the test.
 
 use crate::checks::holds;
 use crate::defrag::frames::{FIRST, SECOND, UDP, waits};
 use crate::defrag::pool_scripts::{KEEP_FROM, NOTHING, RETAINED, Script, runs_all};
-use ep_defrag::defrag::IpDefragPool;
+use etherparse::defrag::IpDefragPool;
 use std::cell::Cell;
 use std::test::*;
 
@@ -20,7 +20,7 @@ const SCRIPTS: &[Script] = &[
             (SECOND, 4, 2, UDP, 1, 0),
         ],
     ),
-    // An accepted fragment renews its message's time.
+    // An accepted fragment renews its reassembly's time.
     (
         "a renewed time at the bound",
         &[
@@ -39,11 +39,12 @@ fn times_at_the_bound(rt: HostRuntime) {
     runs_all(rt, rt.alloc(), SCRIPTS);
 }
 
-/// No clause says how often the test is asked: once for each message, whether it stays or goes.
+/// No clause states how often the test is called: once for each reassembly, whether it stays or is
+/// dropped.
 #[test]
-fn asked_once_for_each_message(rt: HostRuntime) {
+fn called_once_for_each_reassembly(rt: HostRuntime) {
     let mut pool = IpDefragPool::new(rt.alloc());
-    let asked = Cell::new(0u32);
+    let calls = Cell::new(0u32);
     let times = Cell::new(0u64);
     for (channel, time) in [(0, 1), (1, 10), (2, 100), (3, 1000), (4, 10000)] {
         waits(rt, &mut pool, FIRST, time, channel);
@@ -54,14 +55,14 @@ fn asked_once_for_each_message(rt: HostRuntime) {
         (20000, 2, 11000),
         (0, 0, 0),
     ] {
-        asked.set(0);
+        calls.set(0);
         times.set(0);
         let kept = pool.retain(|time: &u64| {
-            asked.set(asked.get().wrapping_add(1));
+            calls.set(calls.get().wrapping_add(1));
             times.set(times.get().wrapping_add(*time));
             *time >= bound
         });
         holds(rt, kept.is_ok());
-        holds(rt, asked.get() == left && times.get() == sum);
+        holds(rt, calls.get() == left && times.get() == sum);
     }
 }

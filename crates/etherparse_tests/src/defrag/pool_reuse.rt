@@ -1,9 +1,9 @@
-//! Buffers that are kept for messages to come: how many there are, and that nothing of what they
+//! Buffers that are kept for later reassemblies: how many there are, and that nothing of what they
 //! held is seen.
 
 use crate::checks::{equal, fail, holds};
 use crate::defrag::frames::{
-    FIRST, IPV6_FIRST, IPV6_SECOND, LENT_IPV6_UDP, LENT_UDP, MESSAGE, SECOND, UDP, keep_from,
+    DATAGRAM, FIRST, IPV6_FIRST, IPV6_SECOND, LENT_IPV6_UDP, LENT_UDP, SECOND, UDP, keep_from,
     process, waits,
 };
 use crate::defrag::pool_refusals::UNALIGNED;
@@ -11,7 +11,7 @@ use crate::defrag::pool_scripts::{
     KEEP_FROM, NOTHING, REFUSED_UNALIGNED, RETAINED, Script, goes_through, runs_all,
 };
 use ep_base::{IpNumber, LenSource};
-use ep_defrag::defrag::{IpDefragPayloadVec, IpDefragPool};
+use etherparse::defrag::{IpDefragPayloadVec, IpDefragPool};
 use std::process::Abort;
 use std::test::*;
 
@@ -35,8 +35,8 @@ const SCRIPTS: &[Script] = &[
             (UNALIGNED, 1, 0, REFUSED_UNALIGNED, 0, 1),
         ],
     ),
-    // A buffer that held other bytes has 0 at the open places of the next message, and its sections
-    // complete nothing there.
+    // A buffer that held other bytes has 0 at the missing bytes of the next datagram, and its
+    // sections complete nothing there.
     (
         "used memory shows nothing",
         &[
@@ -53,12 +53,12 @@ fn buffers_to_spare(rt: HostRuntime) {
     runs_all(rt, rt.alloc(), SCRIPTS);
 }
 
-/// A pool takes the buffer of a message of another one, too.
+/// A pool takes the buffer of a datagram of another one, too.
 #[test]
-fn a_message_that_is_given(rt: HostRuntime) -> Result<(), Fail> {
+fn a_datagram_that_is_given(rt: HostRuntime) -> Result<(), Fail> {
     let mut pool = IpDefragPool::<u64, u32>::new(rt.alloc());
     let mut payload = Vec::new(rt.alloc());
-    payload.extend_from_slice(MESSAGE)?;
+    payload.extend_from_slice(DATAGRAM)?;
     let message = IpDefragPayloadVec {
         ip_number: IpNumber::UDP,
         len_source: LenSource::Ipv4HeaderTotalLen,
@@ -69,7 +69,7 @@ fn a_message_that_is_given(rt: HostRuntime) -> Result<(), Fail> {
     Ok(())
 }
 
-// Messages in turn, from the front and from the end.
+// Datagrams in turn, from the start and from the end.
 const IN_TURN: Script = (
     "ten times over",
     &[
@@ -88,16 +88,16 @@ fn ten_times_over(rt: HostRuntime) {
     }
 }
 
-// So many messages are on their way, and so many buffers are spare. It has no contract, as tests
-// alone call it.
+// There are so many reassemblies, and so many buffers are spare. It has no contract, as tests alone
+// call it.
 fn has_counts(rt: impl Abort + Copy, pool: &IpDefragPool<u64, u32>, open: usize, spare: usize) {
     equal(rt, (pool.open_len(), pool.spare_len()), (open, spare));
 }
 
-/// To be run with each allocation failing in turn, too: a fragment that finds no memory leaves
-/// both numbers, a buffer is kept or handed back as it was, and the next call has memory.
+/// To be run with each allocation failing in turn, too: a fragment that finds no memory leaves both
+/// numbers, a buffer is kept or returned as it was, and the next call has memory.
 #[test]
-fn reuse_wants_memory(rt: HostRuntime) {
+fn reuse_runs_out_of_memory(rt: HostRuntime) {
     let mut pool = IpDefragPool::new(rt.alloc());
     for channel in 0..3u32 {
         let spare = pool.spare_len();
@@ -111,7 +111,7 @@ fn reuse_wants_memory(rt: HostRuntime) {
     keep_from(rt, &mut pool, u64::MAX);
     has_counts(rt, &pool, 0, 3);
     for channel in 0..3u32 {
-        // The half ends behind what the buffer held.
+        // The half ends after what the buffer held.
         if process(rt, &mut pool, SECOND, 1, channel).is_err() {
             waits(rt, &mut pool, SECOND, 1, channel);
         }
@@ -122,7 +122,7 @@ fn reuse_wants_memory(rt: HostRuntime) {
         if let Err(whole) = pool.return_buf(whole) {
             holds(
                 rt,
-                whole.payload.as_slice() == MESSAGE && pool.spare_len() == spare,
+                whole.payload.as_slice() == DATAGRAM && pool.spare_len() == spare,
             );
             holds(rt, pool.return_buf(whole).is_ok());
         }

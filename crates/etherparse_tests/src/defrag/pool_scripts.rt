@@ -1,22 +1,22 @@
-//! Scripts for pools: calls, the answer to each as `{:?}` shows it, and how many messages are on
-//! their way and how many buffers are spare then. The functions have no contracts: tests alone call
-//! them, and are run.
+//! Scripts for pools: calls, the answer to each as `{:?}` shows it, and how many reassemblies there
+//! are and how many buffers are spare then. The functions have no contracts: tests alone call them,
+//! and are run.
 
 use crate::checks::{equal_in, fail, holds, holds_in};
-use ep_defrag::defrag::{IpDefragPool, PoolCall, PoolReply, run_calls};
 use ep_packet::SlicedPacket;
+use etherparse::defrag::{IpDefragPool, PoolAnswer, PoolCall, run_calls};
 use std::alloc::Global;
 use std::hash::BuildHasher;
 use std::process::Abort;
 
-/// A frame, when it came and where from; the answer; and how many messages are on their way and how
+/// A frame, when it came and its channel; the answer; and how many reassemblies there are and how
 /// many buffers are spare then.
 pub type Step = (&'static [u8], u64, u32, &'static str, usize, usize);
 
 /// A name, and calls of a new pool.
 pub type Script = (&'static str, &'static [Step]);
 
-/// In the place of a frame: the messages of the time and of later ones are kept.
+/// Instead of a frame: the reassemblies of the time and of later ones are kept.
 pub const KEEP_FROM: &[u8] = &[];
 
 pub const NOTHING: &str = "Nothing";
@@ -27,45 +27,50 @@ pub const RETAINED: &str = "Retained";
 pub const REFUSED_LONG: &str =
     "Refused(SegmentTooBig { offset: IpFragOffset(8191), payload_len: 8, max: 65535 })";
 
-/// Seven bytes, behind which more follow.
+/// Seven bytes, after which more follow.
 pub const REFUSED_UNALIGNED: &str =
     "Refused(UnalignedFragmentPayloadLen { offset: IpFragOffset(0), payload_len: 7 })";
 
-/// Bytes behind the message's end.
-pub const REFUSED_BEHIND: &str =
-    "Refused(ConflictingEnd { previous_end: 16, conflicting_end: 24 })";
+/// Bytes after the datagram's end.
+pub const REFUSED_LATER: &str = "Refused(ConflictingEnd { previous_end: 16, conflicting_end: 24 })";
 
-// What stands behind the answer where its message is given back then.
+// What follows the answer where its datagram is given back then.
 const GIVEN_BACK: &str = " given back";
 
-/// Fails where a reply is shown otherwise; no contract, as above.
-pub fn is_shown(rt: impl Abort + Copy, alloc: Global, row: &str, reply: &PoolReply, wanted: &str) {
-    match format!(in alloc; "{reply:?}") {
-        Ok(told) => equal_in(rt, row, &told.as_str(), &wanted),
+/// Fails where an answer is shown otherwise; no contract, as above.
+pub fn is_shown(
+    rt: impl Abort + Copy,
+    alloc: Global,
+    row: &str,
+    pool_answer: &PoolAnswer,
+    wanted: &str,
+) {
+    match format!(in alloc; "{pool_answer:?}") {
+        Ok(described) => equal_in(rt, row, &described.as_str(), &wanted),
         Err(_) => fail(rt, "no memory for a text"),
     }
 }
 
-// The reply to a frame; no contract, as above.
-fn reply_to_frame(pool: &mut IpDefragPool<u64, u32>, step: &Step) -> PoolReply {
+// The answer to a frame; no contract, as above.
+fn answer_to_step(pool: &mut IpDefragPool<u64, u32>, step: &Step) -> PoolAnswer {
     match SlicedPacket::from_ethernet(step.0) {
         Ok(packet) => match pool.process_sliced_packet(&packet, step.1, step.2) {
-            Ok(Some(message)) => PoolReply::Payload(message),
-            Ok(None) => PoolReply::Nothing,
-            Err(error) => PoolReply::Refused(error),
+            Ok(Some(message)) => PoolAnswer::Payload(message),
+            Ok(None) => PoolAnswer::Nothing,
+            Err(error) => PoolAnswer::Refused(error),
         },
-        Err(error) => PoolReply::NotSliced(error),
+        Err(error) => PoolAnswer::NotSliced(error),
     }
 }
 
-// The reply to a call by the pool's own functions; no contract, as above.
-fn reply_to(pool: &mut IpDefragPool<u64, u32>, step: &Step) -> PoolReply {
+// The answer to a call by the pool's own functions; no contract, as above.
+fn answer_to_call(pool: &mut IpDefragPool<u64, u32>, step: &Step) -> PoolAnswer {
     if !step.0.is_empty() {
-        return reply_to_frame(pool, step);
+        return answer_to_step(pool, step);
     }
     match pool.retain(|time: &u64| *time >= step.1) {
-        Ok(()) => PoolReply::Retained,
-        Err(_) => PoolReply::NoMemory,
+        Ok(()) => PoolAnswer::Retained,
+        Err(_) => PoolAnswer::NoMemory,
     }
 }
 
@@ -81,38 +86,38 @@ fn in_list(step: &Step) -> PoolCall<'static> {
     }
 }
 
-// The reply to a list of one call; no contract, as above.
-fn reply_to_list(
+// The answer to a list of one call; no contract, as above.
+fn answer_to_list(
     rt: impl Abort + Copy,
     alloc: Global,
     pool: &mut IpDefragPool<u64, u32>,
     step: &Step,
-) -> PoolReply {
-    let Ok(mut replies) = run_calls(alloc, pool, &[in_list(step)]) else {
+) -> PoolAnswer {
+    let Ok(mut pool_answers) = run_calls(alloc, pool, &[in_list(step)]) else {
         fail(rt, "no room for a reply");
     };
-    match replies.pop() {
-        Some(reply) if replies.is_empty() => reply,
+    match pool_answers.pop() {
+        Some(pool_answer) if pool_answers.is_empty() => pool_answer,
         _ => fail(rt, "the replies to one call are more or none"),
     }
 }
 
-// Fails where the reply or a number is another one; no contract, as above.
+// Fails where the answer or a number is another one; no contract, as above.
 fn settles(
     rt: impl Abort + Copy,
     alloc: Global,
     row: &str,
     pool: &mut IpDefragPool<u64, u32>,
-    reply: PoolReply,
+    pool_answer: PoolAnswer,
     step: &Step,
 ) {
     let (_, _, _, answer, open, spare) = *step;
-    match (answer.strip_suffix(GIVEN_BACK), reply) {
-        (Some(answer), reply) => {
-            is_shown(rt, alloc, row, &reply, answer);
-            give_back(rt, row, pool, reply);
+    match (answer.strip_suffix(GIVEN_BACK), pool_answer) {
+        (Some(answer), pool_answer) => {
+            is_shown(rt, alloc, row, &pool_answer, answer);
+            give_back(rt, row, pool, pool_answer);
         }
-        (None, reply) => is_shown(rt, alloc, row, &reply, answer),
+        (None, pool_answer) => is_shown(rt, alloc, row, &pool_answer, answer),
     }
     equal_in(
         rt,
@@ -122,14 +127,14 @@ fn settles(
     );
 }
 
-// Gives a message back; no contract, as above.
+// Gives a datagram back; no contract, as above.
 fn give_back(
     rt: impl Abort + Copy,
     row: &str,
     pool: &mut IpDefragPool<u64, u32>,
-    reply: PoolReply,
+    pool_answer: PoolAnswer,
 ) {
-    if let PoolReply::Payload(message) = reply {
+    if let PoolAnswer::Payload(message) = pool_answer {
         holds_in(rt, row, pool.return_buf(message).is_ok());
     }
 }
@@ -142,8 +147,8 @@ pub fn goes(
     pool: &mut IpDefragPool<u64, u32>,
     step: &Step,
 ) {
-    let reply = reply_to(pool, step);
-    settles(rt, alloc, row, pool, reply, step);
+    let pool_answer = answer_to_call(pool, step);
+    settles(rt, alloc, row, pool, pool_answer, step);
 }
 
 // The same by a list of the one call; no contract, as above.
@@ -154,8 +159,8 @@ fn goes_by_list(
     pool: &mut IpDefragPool<u64, u32>,
     step: &Step,
 ) {
-    let reply = reply_to_list(rt, alloc, pool, step);
-    settles(rt, alloc, row, pool, reply, step);
+    let pool_answer = answer_to_list(rt, alloc, pool, step);
+    settles(rt, alloc, row, pool, pool_answer, step);
 }
 
 /// Makes a script's calls; no contract, as above.
@@ -178,12 +183,12 @@ fn goes_through_by_lists(rt: impl Abort + Copy, alloc: Global, script: &Script) 
     }
 }
 
-// Fails where replies are others; no contract, as above.
-fn are_shown(rt: impl Abort + Copy, alloc: Global, replies: &[PoolReply], script: &Script) {
-    equal_in(rt, script.0, &replies.len(), &script.1.len());
-    for (reply, step) in replies.iter().zip(script.1.iter()) {
+// Fails where answers are others; no contract, as above.
+fn are_shown(rt: impl Abort + Copy, alloc: Global, pool_answers: &[PoolAnswer], script: &Script) {
+    equal_in(rt, script.0, &pool_answers.len(), &script.1.len());
+    for (pool_answer, step) in pool_answers.iter().zip(script.1.iter()) {
         let answer = step.3.strip_suffix(GIVEN_BACK).unwrap_or(step.3);
-        is_shown(rt, alloc, script.0, reply, answer);
+        is_shown(rt, alloc, script.0, pool_answer, answer);
     }
 }
 
@@ -205,13 +210,13 @@ pub fn goes_in_a_row<S: BuildHasher + Drop>(
 ) {
     let calls = list_of(rt, alloc, script.1);
     match run_calls(alloc, &mut pool, &calls) {
-        Ok(replies) => are_shown(rt, alloc, &replies, script),
+        Ok(pool_answers) => are_shown(rt, alloc, &pool_answers, script),
         Err(_) => fail(rt, "no room for the replies"),
     }
 }
 
-/// Goes through each script by calls, by lists of one call and by one list, each time with a pool of
-/// its own; no contract, as above.
+/// Runs each script by calls, by lists of one call and by one list, each time with a pool of its
+/// own; no contract, as above.
 pub fn runs_all(rt: impl Abort + Copy, alloc: Global, scripts: &[Script]) {
     for script in scripts.iter() {
         goes_through(rt, alloc, &mut IpDefragPool::new(alloc), script);

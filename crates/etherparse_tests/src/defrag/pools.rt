@@ -1,14 +1,14 @@
-//! Many messages put together at a time, with memory enough.
+//! Many datagrams reassembled at a time, with memory enough.
 
 use crate::checks::{equal, fail};
 use crate::defrag::frames::{
-    BEHIND, FIRST, IPV6_FIRST, IPV6_SECOND, IPV6_UDP, LENT_UDP, SECOND, UDP,
+    AFTER, FIRST, IPV6_FIRST, IPV6_SECOND, IPV6_UDP, LENT_UDP, SECOND, UDP,
 };
 use crate::defrag::pool_scripts::{
-    KEEP_FROM, NOTHING, REFUSED_BEHIND, RETAINED, Script, is_shown, runs_all,
+    KEEP_FROM, NOTHING, REFUSED_LATER, RETAINED, Script, is_shown, runs_all,
 };
-use ep_defrag::defrag::{IpDefragError, IpDefragPayloadVec, IpDefragPool, PoolReply};
 use ep_packet::Class;
+use etherparse::defrag::{IpDefragError, IpDefragPayloadVec, IpDefragPool, PoolAnswer};
 use std::process::Abort;
 use std::test::*;
 
@@ -53,7 +53,7 @@ const SCRIPTS: &[Script] = &[
         "refused fragments keep the time",
         &[
             (SECOND, 1, 0, NOTHING, 1, 0),
-            (BEHIND, 5, 0, REFUSED_BEHIND, 1, 0),
+            (AFTER, 5, 0, REFUSED_LATER, 1, 0),
             (KEEP_FROM, 2, 0, RETAINED, 0, 1),
             (FIRST, 6, 0, NOTHING, 1, 0),
         ],
@@ -61,12 +61,12 @@ const SCRIPTS: &[Script] = &[
 ];
 
 #[test]
-fn messages_of_two_halves(rt: HostRuntime) {
+fn datagrams_of_two_halves(rt: HostRuntime) {
     runs_all(rt, rt.alloc(), SCRIPTS);
 }
 
-// Hands in a part by its class. It has no contract, as tests alone call it.
-fn process_part(
+// Passes a fragment to a pool by its class. It has no contract, as tests alone call it.
+fn process_by_class(
     rt: impl Abort + Copy,
     pool: &mut IpDefragPool<u64, u32>,
     frame: &[u8],
@@ -74,16 +74,16 @@ fn process_part(
     let Class::Cut(message) = Class::from_ethernet(frame) else {
         fail(rt, "a frame has no part");
     };
-    pool.process_cut_message(message, 1, 0)
+    pool.process_fragment(message, 1, 0)
 }
 
 #[test]
-fn two_parts_by_their_class(rt: HostRuntime) {
+fn two_fragments_by_their_class(rt: HostRuntime) {
     let mut pool = IpDefragPool::new(rt.alloc());
-    equal(rt, process_part(rt, &mut pool, FIRST), Ok(None));
-    let Ok(Some(message)) = process_part(rt, &mut pool, SECOND) else {
+    equal(rt, process_by_class(rt, &mut pool, FIRST), Ok(None));
+    let Ok(Some(message)) = process_by_class(rt, &mut pool, SECOND) else {
         fail(rt, "the second half doesn't complete the message");
     };
-    let message = PoolReply::Payload(message);
+    let message = PoolAnswer::Payload(message);
     is_shown(rt, rt.alloc(), "two parts", &message, UDP);
 }

@@ -1,7 +1,7 @@
-//! Ranges of places.
+//! Ranges of bytes.
 
 use crate::checks::{equal, holds};
-use ep_defrag::defrag::IpFragRange;
+use etherparse::defrag::IpFragRange;
 use std::test::*;
 
 // Two ranges, and what they are as one.

@@ -1,7 +1,7 @@
-//! Why fragments are refused, in plain numbers: so they stand in tables.
+//! Why fragments are refused, in plain numbers, for use in tables.
 
 use crate::defrag::fragments::offset;
-use ep_defrag::defrag::IpDefragError;
+use etherparse::defrag::IpDefragError;
 use std::process::Abort;
 
 /// Why a fragment is refused; offsets are in units of 8 bytes.
@@ -9,7 +9,7 @@ use std::process::Abort;
 pub enum Refusal {
     /// Its offset and its length.
     Unaligned(u16, usize),
-    /// Its offset, its length, and the greatest length of a message.
+    /// Its offset, its length, and the greatest length of a datagram's payload.
     TooBig(u16, usize, u16),
     /// The end that is known, and its own one.
     Conflict(u16, u16),
@@ -19,7 +19,7 @@ pub enum Refusal {
     Overlap(u16, usize),
 }
 
-/// The refusal as the library tells it. It has no contract, as tests alone call it.
+/// The refusal as the library's error. It has no contract, as tests alone call it.
 pub fn error_of(rt: impl Abort + Copy, refusal: Refusal) -> IpDefragError {
     match refusal {
         Refusal::Unaligned(units, payload_len) => IpDefragError::UnalignedFragmentPayloadLen {

@@ -1,21 +1,21 @@
 //! Memory that served before. The functions have no contracts: tests alone call them, and are run.
 //!
 //! `tools/faults_tried` runs each pair of one round and ten rounds: ten have no more growths than one, and
-//! pass with each growth behind those of the first round refused.
+//! pass with each growth after those of the first round refused.
 
 use crate::checks::{equal, fail, holds};
 use crate::defrag::fragments::{ZEROS, offset};
 use crate::defrag::frames::{
-    FIRST, IPV6_FIRST, IPV6_SECOND, MESSAGE, SECOND, keep_from, process, waits,
+    DATAGRAM, FIRST, IPV6_FIRST, IPV6_SECOND, SECOND, keep_from, process, waits,
 };
 use crate::defrag::pool_refusals::UNALIGNED;
 use ep_base::{IpFragOffset, IpNumber};
-use ep_defrag::defrag::{IpDefragBuf, IpDefragPayloadVec, IpDefragPool, OverlapRule};
+use etherparse::defrag::{IpDefragBuf, IpDefragPayloadVec, IpDefragPool, OverlapRule};
 use std::alloc::{AllocError, Global};
 use std::process::Abort;
 use std::test::*;
 
-// The rest of a message, which is handed out.
+// The rest of a datagram, which is returned.
 fn whole(
     rt: impl Abort + Copy,
     pool: &mut IpDefragPool<u64, u32>,
@@ -33,7 +33,7 @@ fn completes(rt: impl Abort + Copy, pool: &mut IpDefragPool<u64, u32>, frame: &[
     holds(rt, pool.return_buf(message).is_ok());
 }
 
-// Messages over both versions, one that is dropped, and a refused fragment.
+// Datagrams over both versions, one that is dropped, and a refused fragment.
 fn go_round(rt: impl Abort + Copy, pool: &mut IpDefragPool<u64, u32>) {
     waits(rt, pool, FIRST, 1, 0);
     completes(rt, pool, SECOND);
@@ -61,8 +61,8 @@ fn ten_rounds_in_a_pool(rt: HostRuntime) {
     go_rounds(rt, rt.alloc(), 10);
 }
 
-// Nine messages at once, which are dropped, then as many that complete: so many that each place for
-// them is taken more than once.
+// Nine reassemblies at once, which are dropped, then as many that complete: so many that each slot
+// for them is taken more than once.
 fn go_round_at_once(rt: impl Abort + Copy, pool: &mut IpDefragPool<u64, u32>) {
     for channel in 0..9u32 {
         waits(rt, pool, SECOND, 1, channel);
@@ -87,12 +87,12 @@ fn go_rounds_at_once(rt: impl Abort + Copy, alloc: Global, count: usize) {
 }
 
 #[test]
-fn one_round_of_messages_at_once(rt: HostRuntime) {
+fn one_round_of_reassemblies_at_once(rt: HostRuntime) {
     go_rounds_at_once(rt, rt.alloc(), 1);
 }
 
 #[test]
-fn ten_rounds_of_messages_at_once(rt: HostRuntime) {
+fn ten_rounds_of_reassemblies_at_once(rt: HostRuntime) {
     go_rounds_at_once(rt, rt.alloc(), 10);
 }
 
@@ -153,7 +153,7 @@ fn a_buffer_has_the_memory_that_it_is_given(rt: HostRuntime) -> Result<(), Fail>
     Ok(())
 }
 
-// A message with room for so many bytes, given to a pool.
+// A datagram with capacity for so many bytes, given to a pool.
 fn give(
     rt: impl Abort + Copy,
     alloc: Global,
@@ -169,10 +169,10 @@ fn give(
     Ok(())
 }
 
-/// Memory that was given back is that of the next message, also where a message was dropped or
-/// its first fragment refused in between.
+/// Memory that was given back is that of the next datagram, also where one was dropped or its first
+/// fragment refused in between.
 #[test]
-fn the_next_message_has_the_memory_that_was_given_back(rt: HostRuntime) -> Result<(), Fail> {
+fn the_next_reassembly_has_the_memory_that_was_given_back(rt: HostRuntime) -> Result<(), Fail> {
     let mut pool = IpDefragPool::new(rt.alloc());
     give(rt, rt.alloc(), &mut pool, 5000)?;
     let halves = [(FIRST, SECOND), (SECOND, FIRST), (IPV6_FIRST, IPV6_SECOND)];
@@ -182,7 +182,7 @@ fn the_next_message_has_the_memory_that_was_given_back(rt: HostRuntime) -> Resul
         keep_from(rt, &mut pool, 2);
         waits(rt, &mut pool, one, 1, 0);
         let message = whole(rt, &mut pool, other);
-        equal(rt, message.payload.len(), MESSAGE.len());
+        equal(rt, message.payload.len(), DATAGRAM.len());
         equal(rt, message.payload.capacity(), 5000);
         holds(rt, pool.return_buf(message).is_ok());
     }

@@ -3,7 +3,7 @@
 use crate::checks::{equal, holds};
 use crate::defrag::fragments::offset;
 use ep_base::IpNumber;
-use ep_fragments::defrag::{IpDefragBuf, IpDefragError, OverlapRule, checked_end};
+use etherparse::defrag::{IpDefragBuf, IpDefragError, OverlapRule, checked_end};
 use std::test::*;
 
 const RULES: &[OverlapRule] = &[OverlapRule::Overwrites, OverlapRule::Refuses];

@@ -1,10 +1,10 @@
-//! What a frame is to its reader, pieces of messages, and pools, as values.
+//! The class of a frame, fragments, and pools, as values.
 
 use crate::checks::{fail, holds};
 use crate::defrag::frames::{FIRST, SECOND};
 use ep_base::IpFragOffset;
-use ep_defrag::defrag::{IpDefragPool, Piece};
 use ep_packet::Class;
+use etherparse::defrag::{IpDefragPool, ReceivedFragment};
 use std::test::*;
 
 #[test]
@@ -16,17 +16,17 @@ fn classes_are_compared(rt: HostRuntime) {
 }
 
 #[test]
-fn pieces_are_compared(rt: HostRuntime) {
-    let piece = Piece {
+fn received_fragments_are_compared(rt: HostRuntime) {
+    let received = ReceivedFragment {
         offset: IpFragOffset::ZERO,
         more_fragments: true,
         bytes: FIRST,
     };
-    let last = Piece {
+    let last = ReceivedFragment {
         more_fragments: false,
-        ..piece
+        ..received
     };
-    holds(rt, piece == piece && piece != last);
+    holds(rt, received == received && received != last);
 }
 
 #[test]

@@ -39,7 +39,7 @@ fn texts_of_faults_of_ip(rt: HostRuntime) {
 }
 
 #[test]
-fn texts_of_faults_behind_ip(rt: HostRuntime) {
+fn texts_of_faults_after_ip(rt: HostRuntime) {
     let auth = ip_auth::HeaderError::ZeroPayloadLen;
     have_one_text(rt, rt.alloc(), &SliceError::Ipv4Exts(auth), &auth);
     let exts = ipv6_exts::HeaderError::HopByHopNotAtStart;

@@ -47,7 +47,7 @@ fn ipv6_with_fragment(next_header: u8) -> IpHeaders {
 }
 
 // The length of the headers, and whether they are of IPv4 and of IPv6.
-fn told(headers: &IpHeaders) -> (usize, [bool; 2]) {
+fn described(headers: &IpHeaders) -> (usize, [bool; 2]) {
     let versions = [headers.ipv4().is_some(), headers.ipv6().is_some()];
     (headers.header_len(), versions)
 }
@@ -55,8 +55,8 @@ fn told(headers: &IpHeaders) -> (usize, [bool; 2]) {
 // Each is of one version alone.
 #[test]
 fn lengths_and_versions_of_headers(rt: HostRuntime) {
-    equal(rt, told(&ipv4_with_auth(51)), (32, [true, false]));
-    equal(rt, told(&ipv6_with_fragment(44)), (48, [false, true]));
+    equal(rt, described(&ipv4_with_auth(51)), (32, [true, false]));
+    equal(rt, described(&ipv6_with_fragment(44)), (48, [false, true]));
     equal(rt, IpHeaders::MAX_LEN, 9268);
 }
 
@@ -67,7 +67,7 @@ fn not_referenced() -> ipv6_exts::ExtsWalkError {
 }
 
 #[test]
-fn numbers_behind_headers(rt: HostRuntime) {
+fn numbers_after_headers(rt: HostRuntime) {
     equal(rt, ipv6_with_fragment(44).next_header(), Ok(IpNumber(17)));
     let fault = ip_exts::ExtsWalkError::Ipv6Exts(not_referenced());
     equal(rt, ipv6_with_fragment(17).next_header(), Err(fault));
@@ -143,7 +143,7 @@ fn total_lengths(rt: HostRuntime) {
     equal(rt, total_len(65504), (refused, Some(36)));
 }
 
-// An IPv4 packet of 36 bytes, a UDP message in it, and two bytes behind it.
+// An IPv4 packet of 36 bytes, a UDP message in it, and two bytes after it.
 const PACKET: [u8; 38] = [
     0x45, 0, 0, 0x24, 0, 7, 0, 0, 0x40, 0x11, 0x66, 0xc0, 10, 0, 0, 1, 10, 0, 0, 2, 9, 9, 9, 9, 9,
     9, 9, 9, 9, 9, 9, 9, 9, 9, 9, 9, 9, 9,
@@ -211,7 +211,7 @@ fn headers_that_are_not_written(rt: HostRuntime) {
 }
 
 #[test]
-fn what_a_refusal_tells(rt: HostRuntime) {
+fn what_a_refusal_reports(rt: HostRuntime) {
     let error = HeadersWriteError::Ipv6Exts(not_referenced());
     equal(rt, error.memory(), false);
     equal(rt, error.ipv4_exts(), None);

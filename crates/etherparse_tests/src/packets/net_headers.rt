@@ -10,7 +10,7 @@ use std::test::*;
 
 // The functions below have no contracts, as tests alone call them.
 
-// Which tests say yes.
+// Which tests return `true`.
 fn kinds(headers: &NetHeaders) -> [bool; 4] {
     [
         headers.is_ip(),
@@ -29,21 +29,21 @@ fn parts(headers: &NetHeaders) -> [bool; 3] {
     ]
 }
 
-// Both, the length, and the ether type where the headers take the number of what is behind them.
-type Told = (
+// Both, the length, and the ether type where the headers take the number of what follows them.
+type Reported = (
     [bool; 4],
     [bool; 3],
     usize,
     Result<EtherType, NetSetNextHeaderError>,
 );
 
-fn told(mut headers: NetHeaders) -> Told {
+fn described(mut headers: NetHeaders) -> Reported {
     let set = headers.try_set_next_headers(IpNumber(6));
     (kinds(&headers), parts(&headers), headers.header_len(), set)
 }
 
 // Of a request of Ethernet addresses for IPv4 ones.
-fn told_of_arp() -> Option<Told> {
+fn described_arp() -> Option<Reported> {
     let packet = ArpPacket::new(
         ArpHardwareId::ETHERNET,
         EtherType::IPV4,
@@ -54,7 +54,7 @@ fn told_of_arp() -> Option<Told> {
         &[10, 0, 0, 2],
     );
     match packet {
-        Ok(packet) => Some(told(NetHeaders::from(packet))),
+        Ok(packet) => Some(described(NetHeaders::from(packet))),
         Err(_) => None,
     }
 }
@@ -69,7 +69,7 @@ fn headers_of_ip(rt: HostRuntime) {
         20,
         ether_type,
     );
-    equal(rt, told(NetHeaders::from(headers)), wanted);
+    equal(rt, described(NetHeaders::from(headers)), wanted);
     let headers = IpHeaders::Ipv6(Ipv6Header::default(), Ipv6Extensions::default());
     let ether_type = Ok(EtherType(0x86dd));
     let wanted = (
@@ -78,10 +78,10 @@ fn headers_of_ip(rt: HostRuntime) {
         40,
         ether_type,
     );
-    equal(rt, told(NetHeaders::from(headers)), wanted);
+    equal(rt, described(NetHeaders::from(headers)), wanted);
 }
 
-// An ARP packet has no number behind it.
+// An ARP packet has no number of a following header.
 #[test]
 fn headers_of_arp(rt: HostRuntime) {
     let refused = Err(NetSetNextHeaderError::ArpHeader);
@@ -91,5 +91,5 @@ fn headers_of_arp(rt: HostRuntime) {
         28,
         refused,
     );
-    equal(rt, told_of_arp(), Some(wanted));
+    equal(rt, described_arp(), Some(wanted));
 }

@@ -23,7 +23,7 @@ const ARP: [u8; 28] = [
 
 // The functions below have no contracts, as tests alone call them.
 
-// Which tests say yes.
+// Which tests return `true`.
 fn kinds(packet: &NetSlice<'_>) -> [bool; 4] {
     [
         packet.is_ip(),
@@ -43,9 +43,9 @@ fn parts(packet: &NetSlice<'_>) -> [bool; 3] {
 }
 
 // Both, and the length of an IP payload.
-type Told = ([bool; 4], [bool; 3], Option<usize>);
+type Reported = ([bool; 4], [bool; 3], Option<usize>);
 
-fn told(packet: &NetSlice<'_>) -> Told {
+fn described(packet: &NetSlice<'_>) -> Reported {
     let payload = match packet.ip_payload_ref() {
         Some(payload) => Some(payload.payload.len()),
         None => None,
@@ -55,30 +55,30 @@ fn told(packet: &NetSlice<'_>) -> Told {
 
 // The same of these bytes, sliced by each call.
 
-fn of_ipv4(bytes: &[u8]) -> Option<Told> {
+fn of_ipv4(bytes: &[u8]) -> Option<Reported> {
     match Ipv4Slice::from_slice(bytes) {
-        Ok(packet) => Some(told(&NetSlice::from(packet))),
+        Ok(packet) => Some(described(&NetSlice::from(packet))),
         Err(_) => None,
     }
 }
 
-fn of_ipv6(bytes: &[u8]) -> Option<Told> {
+fn of_ipv6(bytes: &[u8]) -> Option<Reported> {
     match Ipv6Slice::from_slice(bytes) {
-        Ok(packet) => Some(told(&NetSlice::from(packet))),
+        Ok(packet) => Some(described(&NetSlice::from(packet))),
         Err(_) => None,
     }
 }
 
-fn of_ip(bytes: &[u8]) -> Option<Told> {
+fn of_ip(bytes: &[u8]) -> Option<Reported> {
     match IpSlice::from_slice(bytes) {
-        Ok(packet) => Some(told(&NetSlice::from(packet))),
+        Ok(packet) => Some(described(&NetSlice::from(packet))),
         Err(_) => None,
     }
 }
 
-fn of_arp(bytes: &[u8]) -> Option<Told> {
+fn of_arp(bytes: &[u8]) -> Option<Reported> {
     match ArpPacketSlice::from_slice(bytes) {
-        Ok(packet) => Some(told(&NetSlice::Arp(packet))),
+        Ok(packet) => Some(described(&NetSlice::Arp(packet))),
         Err(_) => None,
     }
 }

@@ -12,8 +12,8 @@ use std::test::*;
 
 // The functions below have no contracts, as tests alone call them.
 
-// Two VLAN tags in front of an IPv4 packet of 36 bytes: UDP of 16 bytes, of which eight are
-// payload, and two of padding.
+// Two VLAN tags before an IPv4 packet of 36 bytes: UDP of 16 bytes, of which eight are payload, and
+// two of padding.
 const UDP: [u8; 60] = [
     0, 0, 0, 0, 0, 0, 0, 0, 0, 0, 0, 0, 0x88, 0xa8, 0, 5, 0x81, 0, 0, 9, 8, 0, 0x45, 0, 0, 36, 0,
     7, 0, 0, 64, 17, 0, 0, 0, 0, 0, 0, 0, 0, 0, 0, 0, 1, 0, 2, 0, 16, 0, 0, 1, 2, 3, 4, 5, 6, 7, 8,
@@ -63,7 +63,7 @@ fn headers_of_a_packet(rt: HostRuntime) {
 
 // What the first ether type of the frame names.
 #[test]
-fn headers_behind_an_ether_type(rt: HostRuntime) {
+fn headers_after_an_ether_type(rt: HostRuntime) {
     let headers = PacketHeaders::from_ether_type(EtherType(0x88a8), &UDP[14..]);
     are_headers_of_udp(rt, &headers, false, 2);
 }
@@ -126,49 +126,49 @@ fn udp_length_is_not_looked_at(rt: HostRuntime) {
     equal(rt, [is_read(&frame), is_sliced(&frame)], [true, false]);
 }
 
-fn len_error(layer: Layer, required_len: usize, len: usize, place: usize) -> LenError {
+fn len_error(layer: Layer, required_len: usize, len: usize, position: usize) -> LenError {
     LenError {
         required_len,
         len,
         len_source: LenSource::Slice,
         layer,
-        layer_start_offset: place,
+        layer_start_offset: position,
     }
 }
 
-// A MACsec header whose short length leaves two bytes behind the ether type of a VLAN tag.
+// A MACsec header whose short length leaves two bytes after the ether type of a VLAN tag.
 #[test]
 fn vlan_tag_beyond_a_short_length(rt: HostRuntime) {
     let frame = [
         0, 0, 0, 0, 0, 0, 0, 0, 0, 0, 0, 0, 0x88, 0xe5, 0, 4, 0, 0, 0, 1, 0x81, 0, 0, 5, 0xff,
     ];
-    let want = SliceError::Len(len_error(Layer::VlanHeader, 4, 2, 22));
+    let missing = SliceError::Len(len_error(Layer::VlanHeader, 4, 2, 22));
     equal(
         rt,
         PacketHeaders::from_ethernet_slice(&frame).err(),
-        Some(want),
+        Some(missing),
     );
 }
 
 // A timestamp message of ICMPv4 that has eight bytes in place of 20.
 #[test]
-fn want_of_a_message(rt: HostRuntime) {
+fn memory_error_of_a_datagram(rt: HostRuntime) {
     let mut frame = [
         0, 0, 0, 0, 0, 0, 0, 0, 0, 0, 0, 0, 8, 0, 0x45, 0, 0, 28, 0, 7, 0, 0, 64, 1, 0, 0, 0, 0, 0,
         0, 0, 0, 0, 0, 13, 0, 0, 0, 0, 0, 0, 0,
     ];
-    let mut want = len_error(Layer::Icmpv4Timestamp, 20, 8, 34);
-    want.len_source = LenSource::Ipv4HeaderTotalLen;
+    let mut missing = len_error(Layer::Icmpv4Timestamp, 20, 8, 34);
+    missing.len_source = LenSource::Ipv4HeaderTotalLen;
     equal(
         rt,
         PacketHeaders::from_ethernet_slice(&frame).err(),
-        Some(SliceError::Len(want)),
+        Some(SliceError::Len(missing)),
     );
-    want.layer_start_offset = 20;
+    missing.layer_start_offset = 20;
     equal(
         rt,
         PacketHeaders::from_ip_slice(&frame[14..]).err(),
-        Some(SliceError::Len(want)),
+        Some(SliceError::Len(missing)),
     );
 }
 
@@ -180,15 +180,15 @@ fn faults_of_ip(rt: HostRuntime) {
         PacketHeaders::from_ip_slice(&[0x50]).err(),
         Some(SliceError::Ip(other)),
     );
-    let want = SliceError::Len(len_error(Layer::Ipv6Header, 40, 1, 0));
+    let missing = SliceError::Len(len_error(Layer::Ipv6Header, 40, 1, 0));
     equal(
         rt,
         PacketHeaders::from_ether_type(EtherType::IPV6, &[0x60]).err(),
-        Some(want),
+        Some(missing),
     );
 }
 
-// The payload behind an ether type.
+// The payload after an ether type.
 fn is_payload(rt: impl Abort + Copy, ether_type: u16, bytes: &[u8], wanted: PayloadSlice<'_>) {
     match PacketHeaders::from_ether_type(EtherType(ether_type), bytes) {
         Ok(headers) => equal(rt, headers.payload, wanted),
@@ -205,7 +205,7 @@ fn named(len_source: LenSource, payload: &[u8]) -> PayloadSlice<'_> {
 }
 
 // None, encrypted bytes, those that the ether type names, and none within the short length, which
-// bounds what a tag in front of it names.
+// bounds what a tag before it names.
 #[test]
 fn payloads_without_a_message(rt: HostRuntime) {
     is_payload(rt, 0x0806, &[0, 1, 8, 0, 0, 0, 0, 1], PayloadSlice::Empty);
@@ -222,7 +222,7 @@ fn payloads_without_a_message(rt: HostRuntime) {
 
 // An IPv6 packet whose payload length is 16: a fragment header that names this number, with these
 // two bytes of offset and flag, and eight bytes more.
-fn number_behind(next: u8, more: u8) -> Option<IpNumber> {
+fn number_after(next: u8, more: u8) -> Option<IpNumber> {
     let mut packet = [0; 56];
     packet[0] = 0x60;
     packet[5] = 16;
@@ -241,13 +241,13 @@ fn number_behind(next: u8, more: u8) -> Option<IpNumber> {
     }
 }
 
-// A part of a message, another protocol, a second fragment header, and a whole message.
+// A fragment, another protocol, a second fragment header, and a whole message.
 #[test]
 fn payloads_of_ip(rt: HostRuntime) {
-    equal(rt, number_behind(17, 1), Some(IpNumber(17)));
-    equal(rt, number_behind(253, 0), Some(IpNumber(253)));
-    equal(rt, number_behind(44, 0), Some(IpNumber(44)));
-    equal(rt, number_behind(17, 0), None);
+    equal(rt, number_after(17, 1), Some(IpNumber(17)));
+    equal(rt, number_after(253, 0), Some(IpNumber(253)));
+    equal(rt, number_after(44, 0), Some(IpNumber(44)));
+    equal(rt, number_after(17, 0), None);
 }
 
 #[test]

@@ -21,7 +21,7 @@ fn ipv6_packet(next: u8) -> [u8; 57] {
     packet
 }
 
-// The length of the headers, and whether they say that the payload is a fragment.
+// The length of the headers, and whether they mark the payload as a fragment.
 fn headers_of_ipv6(packet: &[u8]) -> Option<(usize, bool)> {
     match IpHeaders::from_ipv6_slice(packet) {
         Ok((headers, _)) => Some((headers.header_len(), headers.is_fragmenting_payload())),
@@ -29,7 +29,7 @@ fn headers_of_ipv6(packet: &[u8]) -> Option<(usize, bool)> {
     }
 }
 
-// The payload behind the headers: its number, whether it is a fragment, what bounds it, its bytes.
+// The payload after the headers: its number, whether it is a fragment, what bounds it, its bytes.
 fn payload_of_ipv6(packet: &[u8]) -> Option<(IpNumber, bool, LenSource, &[u8])> {
     match IpHeaders::from_ipv6_slice(packet) {
         Ok((_, payload)) => Some((
@@ -51,12 +51,12 @@ fn headers_and_payload_of_an_ipv6_packet(rt: HostRuntime) {
     equal(rt, payload_of_ipv6(&packet), Some(payload));
 }
 
-// Destination options behind the fragment header, of (2 + 1) * 8 bytes, where eight are left.
+// Destination options after the fragment header, of (2 + 1) * 8 bytes, where eight are left.
 #[test]
 fn extension_header_cut_off(rt: HostRuntime) {
     let mut packet = ipv6_packet(60);
     packet[49] = 2;
-    let want = LenError {
+    let missing = LenError {
         required_len: 24,
         len: 8,
         len_source: LenSource::Ipv6HeaderPayloadLen,
@@ -64,11 +64,11 @@ fn extension_header_cut_off(rt: HostRuntime) {
         layer_start_offset: 48,
     };
     let refused = IpHeaders::from_ipv6_slice(&packet).err();
-    equal(rt, refused, Some(SliceError::Len(want)));
-    refuses(rt, &packet, HeadersSliceError::Len(want));
+    equal(rt, refused, Some(SliceError::Len(missing)));
+    refuses(rt, &packet, HeadersSliceError::Len(missing));
 }
 
-// Whether the headers are of IPv6, the number behind them, and the length of the payload.
+// Whether the headers are of IPv6, the number after them, and the length of the payload.
 fn read(packet: &[u8]) -> Option<(bool, IpNumber, usize)> {
     match IpHeaders::read_from_slice(packet) {
         Ok((headers, number, payload)) => Some((headers.ipv6().is_some(), number, payload.len())),
@@ -83,7 +83,7 @@ fn second_fragment_header(rt: HostRuntime) {
 }
 
 #[test]
-fn version_tells_the_headers(rt: HostRuntime) {
+fn version_determines_the_headers(rt: HostRuntime) {
     let mut ipv4 = [0; 20];
     ipv4[0] = 0x45;
     ipv4[3] = 20;
@@ -98,14 +98,14 @@ fn refuses(rt: impl Abort + Copy, packet: &[u8], error: HeadersSliceError) {
 
 #[test]
 fn neither_version(rt: HostRuntime) {
-    let want = LenError {
+    let missing = LenError {
         required_len: 1,
         len: 0,
         len_source: LenSource::Slice,
         layer: Layer::IpHeader,
         layer_start_offset: 0,
     };
-    refuses(rt, &[], HeadersSliceError::Len(want));
+    refuses(rt, &[], HeadersSliceError::Len(missing));
     let other = HeaderError::UnsupportedIpVersion { version_number: 5 };
     refuses(
         rt,

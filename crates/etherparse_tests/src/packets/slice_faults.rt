@@ -10,11 +10,11 @@ use std::test::*;
 
 // The functions below have no contracts, as tests alone call them.
 
-// The layer that wants more bytes, how many it needs, how many there are, what bounds them, and
-// where it begins.
-type Want = (Layer, [usize; 2], LenSource, usize);
+// The layer in which bytes are missing, how many it needs, how many there are, what bounds them,
+// and the offset at which it starts.
+type Missing = (Layer, [usize; 2], LenSource, usize);
 
-fn fault_is(rt: impl Abort + Copy, fault: Option<SliceError>, wanted: Want) {
+fn fault_is(rt: impl Abort + Copy, fault: Option<SliceError>, wanted: Missing) {
     let (layer, [required_len, len], len_source, layer_start_offset) = wanted;
     let error = LenError {
         required_len,
@@ -26,13 +26,13 @@ fn fault_is(rt: impl Abort + Copy, fault: Option<SliceError>, wanted: Want) {
     equal(rt, fault, Some(SliceError::Len(error)));
 }
 
-fn refuses(rt: impl Abort + Copy, ether_type: u16, bytes: &[u8], wanted: Want) {
+fn refuses(rt: impl Abort + Copy, ether_type: u16, bytes: &[u8], wanted: Missing) {
     let fault = SlicedPacket::from_ether_type(EtherType(ether_type), bytes).err();
     fault_is(rt, fault, wanted);
 }
 
 // A VLAN tag within a MACsec header's short length of four, two of them for the ether type: a byte
-// behind is not the tag's.
+// after these is not the tag's.
 const TAG_BEYOND_A_SHORT_LENGTH: [u8; 25] = [
     0, 0, 0, 0, 0, 0, 0, 0, 0, 0, 0, 0, 0x88, 0xe5, 0, 4, 0, 0, 0, 1, 0x81, 0, 0, 5, 0xff,
 ];
@@ -86,7 +86,7 @@ fn tags(rt: HostRuntime) {
     );
 }
 
-// An IPv4 header with this many words, total length and protocol, in front of 20 bytes.
+// An IPv4 header with this many words, total length and protocol, before 20 bytes.
 fn ipv4_packet(words: u8, total_len: u8, protocol: u8) -> [u8; 40] {
     let mut bytes = [0; 40];
     bytes[0] = 0x40 | words;
@@ -96,7 +96,7 @@ fn ipv4_packet(words: u8, total_len: u8, protocol: u8) -> [u8; 40] {
 }
 
 // So many bytes of such a packet.
-fn refuses_ipv4(rt: impl Abort + Copy, packet: [u8; 40], len: usize, wanted: Want) {
+fn refuses_ipv4(rt: impl Abort + Copy, packet: [u8; 40], len: usize, wanted: Missing) {
     refuses(rt, 0x0800, packet.get(..len).unwrap_or(&packet), wanted);
 }
 
@@ -153,7 +153,7 @@ fn messages(rt: HostRuntime) {
     refuses_ipv4(rt, ipv4_packet(5, 27, 1), 27, wanted);
 }
 
-// A UDP message of eight bytes says that it has nine, and that it has seven.
+// A UDP message of eight bytes whose length field is nine, and seven.
 #[test]
 fn udp_lengths(rt: HostRuntime) {
     let mut packet = ipv4_packet(5, 28, 17);
@@ -166,7 +166,7 @@ fn udp_lengths(rt: HostRuntime) {
 }
 
 // An IPv6 header with this payload length and next header, and seven bytes.
-fn refuses_ipv6(rt: impl Abort + Copy, payload_len: u8, next: u8, wanted: Want) {
+fn refuses_ipv6(rt: impl Abort + Copy, payload_len: u8, next: u8, wanted: Missing) {
     let mut bytes = [0; 47];
     bytes[0] = 0x60;
     bytes[5] = payload_len;
@@ -174,8 +174,8 @@ fn refuses_ipv6(rt: impl Abort + Copy, payload_len: u8, next: u8, wanted: Want) 
     refuses(rt, 0x86dd, &bytes, wanted);
 }
 
-// What wants more than those seven bytes.
-fn refuses_behind_ipv6(rt: impl Abort + Copy, next: u8, layer: Layer, needed: usize) {
+// A layer that needs more than those seven bytes.
+fn refuses_after_ipv6(rt: impl Abort + Copy, next: u8, layer: Layer, needed: usize) {
     let wanted = (layer, [needed, 7], LenSource::Ipv6HeaderPayloadLen, 40);
     refuses_ipv6(rt, 7, next, wanted);
 }
@@ -186,10 +186,10 @@ fn ipv6_packets(rt: HostRuntime) {
     refuses(rt, 0x86dd, &[0x60], wanted);
     let wanted = (Layer::Ipv6Packet, [48, 47], LenSource::Slice, 0);
     refuses_ipv6(rt, 8, 17, wanted);
-    refuses_behind_ipv6(rt, 0, Layer::Ipv6ExtHeader, 8);
-    refuses_behind_ipv6(rt, 44, Layer::Ipv6FragHeader, 8);
-    refuses_behind_ipv6(rt, 51, Layer::IpAuthHeader, 12);
-    refuses_behind_ipv6(rt, 58, Layer::Icmpv6, 8);
+    refuses_after_ipv6(rt, 0, Layer::Ipv6ExtHeader, 8);
+    refuses_after_ipv6(rt, 44, Layer::Ipv6FragHeader, 8);
+    refuses_after_ipv6(rt, 51, Layer::IpAuthHeader, 12);
+    refuses_after_ipv6(rt, 58, Layer::Icmpv6, 8);
 }
 
 #[test]
@@ -200,11 +200,11 @@ fn arp_packets(rt: HostRuntime) {
         &[0; 7],
         (Layer::Arp, [8, 7], LenSource::Slice, 0),
     );
-    let front = [0, 1, 8, 0, 6, 4, 0, 1];
+    let prefix = [0, 1, 8, 0, 6, 4, 0, 1];
     refuses(
         rt,
         0x0806,
-        &front,
+        &prefix,
         (Layer::Arp, [28, 8], LenSource::ArpAddrLengths, 0),
     );
 }

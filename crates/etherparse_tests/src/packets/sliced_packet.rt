@@ -1,4 +1,4 @@
-//! Parts of packets. The bytes were worked out by hand after IEEE 802.3, 802.1Q and 802.1AE,
+//! The layers of packets. The bytes were worked out by hand after IEEE 802.3, 802.1Q and 802.1AE,
 //! libpcap's page on LINKTYPE_LINUX_SLL, and RFC 768, 791, 8200 and 9293.
 use crate::checks::{equal, fail};
 use ep_base::{EtherType, LenSource};
@@ -6,7 +6,7 @@ use ep_link::LinkSlice;
 use ep_link::err::linux_sll;
 use ep_packet::err::packet::SliceError;
 use ep_packet::{
-    Addresses, Class, CutMessage, Message, NetSlice, SlicedPacket, TransportSlice, WholeMessage,
+    Addresses, Class, IpFragment, Message, NetSlice, SlicedPacket, TransportSlice, WholeMessage,
 };
 use ep_tag::VlanSlice;
 use std::process::Abort;
@@ -26,8 +26,8 @@ const COOKED: [u8; 52] = [
     0xc0, 10, 0, 0, 1, 10, 0, 0, 2, 0, 1, 0, 2, 0, 0x10, 0xdb, 0xb4, 1, 2, 3, 4, 5, 6, 7, 8,
 ];
 
-// It behind a VLAN tag with identifier 5, a MACsec header with a short length of 42 that is behind
-// that, and a tag with identifier 9, whose ether type names it.
+// It after a VLAN tag with identifier 5, a MACsec header with a short length of 42 that follows
+// that tag, and a tag with identifier 9, whose ether type names it.
 const TAGGED: [u8; 66] = [
     0, 0, 0, 0, 0, 0, 0, 0, 0, 0, 0, 0, 0x88, 0xa8, 0, 5, 0x88, 0xe5, 0, 42, 0, 0, 0, 1, 0x81, 0,
     0, 9, 8, 0, 0x45, 0, 0, 0x24, 0, 7, 0, 0, 0x40, 0x11, 0x66, 0xc0, 10, 0, 0, 1, 10, 0, 0, 2, 0,
@@ -35,7 +35,7 @@ const TAGGED: [u8; 66] = [
 ];
 
 // Whether there are a header of a cooked capture, a packet of IPv4, a message of UDP and a payload
-// behind an ether type in it, or why it is refused.
+// after an ether type in it, or why it is refused.
 fn kinds(packet: Result<SlicedPacket<'_>, SliceError>) -> Result<[bool; 4], SliceError> {
     match packet {
         Ok(packet) => Ok([
@@ -71,11 +71,11 @@ fn ip_packet_without_a_link_header(rt: HostRuntime) {
     equal(rt, kinds(SlicedPacket::from_ip(&IPV4)), wanted);
 }
 
-// Where a datagram comes from and goes to, the identification of a part, and whether the bytes are
+// Source and destination of a datagram, the identification of a fragment, and whether the bytes are
 // refused.
-type Told = (Option<[[u8; 4]; 2]>, Option<u32>, bool);
+type Reported = (Option<[[u8; 4]; 2]>, Option<u32>, bool);
 
-fn told(class: &Class<'_>) -> Told {
+fn described(class: &Class<'_>) -> Reported {
     match class {
         Class::Whole(
             WholeMessage {
@@ -87,7 +87,7 @@ fn told(class: &Class<'_>) -> Told {
                 ..
             },
         ) => (Some([*source, *destination]), None, false),
-        Class::Cut(CutMessage { identification, .. }) => (None, Some(*identification), false),
+        Class::Cut(IpFragment { identification, .. }) => (None, Some(*identification), false),
         Class::Refused => (None, None, true),
         _ => (None, None, false),
     }
@@ -98,7 +98,7 @@ const ENDS: Option<[[u8; 4]; 2]> = Some([[10, 0, 0, 1], [10, 0, 0, 2]]);
 #[test]
 fn class_of_a_packet(rt: HostRuntime) {
     match SlicedPacket::from_ip(&IPV4) {
-        Ok(packet) => equal(rt, told(&packet.class()), (ENDS, None, false)),
+        Ok(packet) => equal(rt, described(&packet.class()), (ENDS, None, false)),
         Err(_) => fail(rt, "no packet"),
     }
 }
@@ -107,25 +107,25 @@ fn class_of_a_packet(rt: HostRuntime) {
 fn classes_of_a_frame(rt: HostRuntime) {
     equal(
         rt,
-        told(&Class::from_ethernet(&TAGGED)),
+        described(&Class::from_ethernet(&TAGGED)),
         (ENDS, None, false),
     );
     // More fragments follow.
-    let mut part = TAGGED;
-    part[36] = 0x20;
+    let mut fragment = TAGGED;
+    fragment[36] = 0x20;
     equal(
         rt,
-        told(&Class::from_ethernet(&part)),
+        described(&Class::from_ethernet(&fragment)),
         (None, Some(7), false),
     );
     equal(
         rt,
-        told(&Class::from_ethernet(&TAGGED[..13])),
+        described(&Class::from_ethernet(&TAGGED[..13])),
         (None, None, true),
     );
 }
 
-// The number of VLAN tags, the first identifier, and whether they are told as two.
+// The number of VLAN tags, the first identifier, and whether they are read as a double tag.
 fn tags(packet: &SlicedPacket<'_>) -> (usize, Option<u16>, bool) {
     let ids = packet.vlan_ids();
     let first = match ids.first() {
@@ -139,7 +139,7 @@ fn tags(packet: &SlicedPacket<'_>) -> (usize, Option<u16>, bool) {
     )
 }
 
-// The ether type and the bound of the payload behind the tags.
+// The ether type and the bound of the payload after the tags.
 fn ether_payload(packet: &SlicedPacket<'_>) -> Option<(EtherType, LenSource)> {
     match packet.ether_payload() {
         Some(payload) => Some((payload.ether_type, payload.len_source)),
@@ -174,25 +174,25 @@ fn tags_and_payloads_of_a_frame(rt: HostRuntime) {
     equal(rt, SlicedPacket::LINK_EXTS_CAP, 3);
 }
 
-// How many tags are read behind a VLAN ether type, and the ether type that is not looked into.
-fn behind_tags(bytes: &[u8]) -> Option<(usize, Option<EtherType>)> {
+// How many tags are read after a VLAN ether type, and the ether type that is not looked into.
+fn after_tags(bytes: &[u8]) -> Option<(usize, Option<EtherType>)> {
     match SlicedPacket::from_ether_type(EtherType::VLAN_TAGGED_FRAME, bytes) {
         Ok(packet) => Some((packet.link_exts.len(), packet.payload_ether_type())),
         Err(_) => None,
     }
 }
 
-// A fourth tag is payload, be it whole or not; behind an encrypted MACsec payload and behind one
-// that was changed nothing is named; behind an authenticated one the ether type is.
+// A fourth tag is payload, be it whole or not; after an encrypted MACsec payload and after one that
+// was changed nothing is named; after an authenticated one the ether type is.
 #[test]
 fn ends_of_the_tags(rt: HostRuntime) {
     let bytes = [0, 1, 0x88, 0xa8, 0, 2, 0x91, 0, 0, 3, 0x81, 0, 0];
     let vlan = Some(EtherType::VLAN_TAGGED_FRAME);
-    equal(rt, behind_tags(&bytes), Some((3, vlan)));
+    equal(rt, after_tags(&bytes), Some((3, vlan)));
     let bytes = [0, 1, 0x88, 0xe5, 12, 0, 0, 0, 0, 1, 8, 0, 0x45];
-    equal(rt, behind_tags(&bytes), Some((2, None)));
+    equal(rt, after_tags(&bytes), Some((2, None)));
     let bytes = [0, 1, 0x88, 0xe5, 4, 0, 0, 0, 0, 1, 8, 0, 0x45];
-    equal(rt, behind_tags(&bytes), Some((2, None)));
+    equal(rt, after_tags(&bytes), Some((2, None)));
     let bytes = [0, 1, 0x88, 0xe5, 0, 0, 0, 0, 0, 1, 0x12, 0x34, 0x45];
-    equal(rt, behind_tags(&bytes), Some((2, Some(EtherType(0x1234)))));
+    equal(rt, after_tags(&bytes), Some((2, Some(EtherType(0x1234)))));
 }

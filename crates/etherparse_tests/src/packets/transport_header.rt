@@ -63,7 +63,7 @@ fn icmpv6() -> TransportHeader {
     TransportHeader::Icmpv6(Icmpv6Header::new(Icmpv6Type::EchoRequest(echo())))
 }
 
-// The functions below tell the checksum of a header that is of their protocol.
+// The functions below return the checksum of a header that is of their protocol.
 
 fn as_udp(header: Option<TransportHeader>) -> Option<u16> {
     Some(header?.udp()?.checksum)
@@ -246,7 +246,7 @@ fn appended(header: TransportHeader, bytes: &mut Vec<u8>) -> (bool, usize, usize
     (written, header.header_len(), bytes.len())
 }
 
-// The bytes of each header behind those of the headers before it.
+// The bytes of each header after those of the headers before it.
 #[test]
 fn headers_are_appended(rt: HostRuntime) {
     let mut bytes = Vec::new(rt.alloc());

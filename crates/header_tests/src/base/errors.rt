@@ -5,7 +5,7 @@ use ep_base::IpDscpUnknownValueError;
 use ep_base::err::{Layer, LenError, SliceWriteSpaceError, ValueTooBigError, ValueType};
 
 #[test]
-fn want_at_the_front(rt: HostRuntime) {
+fn too_few_bytes_at_the_start(rt: HostRuntime) {
     let error = LenError::too_few_bytes(Layer::Ipv4Header, 20, 19);
     let fields = "LenError { required_len: 20, len: 19, len_source: Slice, layer: Ipv4Header, \
         layer_start_offset: 0 }";
@@ -15,9 +15,9 @@ fn want_at_the_front(rt: HostRuntime) {
     reads(rt, &error, text);
 }
 
-// At byte 14, and from there to the greatest place that a `usize` names.
+// At byte 14, and from there to the greatest offset that a `usize` holds.
 #[test]
-fn wants_further_on(rt: HostRuntime) {
+fn too_few_bytes_further_on(rt: HostRuntime) {
     let error = LenError::too_few_bytes(Layer::Ipv4Header, 20, 19).add_offset(14);
     equal(rt, error.layer_start_offset, 14);
     let text = "IPv4 header Error: Not enough data to decode 'IPv4 header'. 20 byte(s) would be \

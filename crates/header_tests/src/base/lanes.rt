@@ -38,8 +38,8 @@ fn plain_checksum(text: &[u8]) -> u16 {
 fn sums_of_one_byte_repeated(rt: HostRuntime) {
     for len in &[64usize, 256] {
         let ones = [0xff; 256];
-        let (front, _) = ones.split_at((*len).min(256));
-        let sum = Sum16BitWords::new().add_slice(front);
+        let (prefix, _) = ones.split_at((*len).min(256));
+        let sum = Sum16BitWords::new().add_slice(prefix);
         equal(rt, (*len, sum.ones_complement()), (*len, 0));
         let no_zero = sum.to_ones_complement_with_no_zero();
         equal(rt, (*len, no_zero), (*len, 0xffff));
@@ -56,18 +56,18 @@ fn checksums_of_one_byte_repeated(rt: HostRuntime) {
     equal(rt, checksum(rt, &[1; 289]), 0x6e6f);
 }
 
-// A text whole, and cut at every even place.
+// A text whole, and cut at every even offset.
 fn is_summed(rt: impl Abort + Copy, text: &[u8]) {
     let wanted = plain_checksum(text);
     equal(rt, (text.len(), checksum(rt, text)), (text.len(), wanted));
     for words in 0..=text.len() / 2 {
-        let (front, back) = text.split_at(2 * words);
-        let sum = sum_pieces(&[front, back]).swap_bytes();
+        let (prefix, back) = text.split_at(2 * words);
+        let sum = sum_pieces(&[prefix, back]).swap_bytes();
         equal(rt, (text.len(), words, sum), (text.len(), words, wanted));
     }
 }
 
-// Texts of 1, 2, 3, .., with 0 behind 255.
+// Texts of 1, 2, 3, .., with 0 after 255.
 #[test]
 fn sums_of_every_length(rt: HostRuntime) {
     let mut bytes = [0u8; 300];

@@ -8,7 +8,7 @@ use std::process::Abort;
 const RFC_1071: [u8; 8] = [0x00, 0x01, 0xf2, 0x03, 0xf4, 0xf5, 0xf6, 0xf7];
 
 #[test]
-fn sums_of_pieces(rt: HostRuntime) {
+fn sums_of_chunks(rt: HostRuntime) {
     equal(rt, sum_pieces(&[&[1, 2, 3], &[4]]), 0xfdf7);
     equal(rt, sum_pieces(&[]), 0xffff);
     let halves = sum_pieces(&[&RFC_1071[..4], &RFC_1071[4..]]);
@@ -16,7 +16,7 @@ fn sums_of_pieces(rt: HostRuntime) {
 }
 
 // An IPv4 header whose checksum is b861, without its last eight bytes: once with the field as 0,
-// once as it stands.
+// once with its value.
 fn header_sum() -> Sum16BitWords {
     Sum16BitWords::new()
         .add_8bytes([0x45, 0x00, 0x00, 0x73, 0x00, 0x00, 0x40, 0x00])
@@ -72,8 +72,8 @@ fn wide_is(rt: impl Abort + Copy, sum: u64, wanted: u16) {
     equal(rt, (sum, found), (sum, [wanted, wanted]));
 }
 
-// A start of 1234 and of words in the upper halves, read low byte first, and what they sum to by
-// hand.
+// A start of 1234 and of words in the upper halves, read low byte first, and the sums
+// calculated by hand.
 #[test]
 fn sums_from_another_start(rt: HostRuntime) {
     narrow_is(rt, u32_16bit_word::add_2bytes(0x3412, [0, 1]), 0xedca);
@@ -93,9 +93,9 @@ fn sums_from_another_start(rt: HostRuntime) {
     wide_is(rt, u64_16bit_word::add_slice(0x3412, &RFC_1071), 0x0fd9);
 }
 
-// RFC 1071's words piece by piece: 220d is 0d22 the other way round.
+// RFC 1071's words chunk by chunk: 220d is 0d22 with its bytes swapped.
 #[test]
-fn sums_piece_by_piece(rt: HostRuntime) {
+fn sums_chunk_by_chunk(rt: HostRuntime) {
     let narrow = u32_16bit_word::add_2bytes(0, [0, 1]);
     let narrow = u32_16bit_word::add_4bytes(narrow, [0xf2, 3, 0xf4, 0xf5]);
     narrow_is(rt, u32_16bit_word::add_2bytes(narrow, [0xf6, 0xf7]), 0x220d);

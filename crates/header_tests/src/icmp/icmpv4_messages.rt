@@ -13,7 +13,7 @@ const PING: [u8; 40] = [
     0x65, 0x66, 0x67, 0x68, 0x69,
 ];
 
-// A timestamp request and a byte behind it.
+// A timestamp request and a byte after it.
 const TIMESTAMP: [u8; 21] = [
     13, 0, 0xbc, 0xa0, 0x12, 0x34, 0, 1, 1, 2, 3, 4, 5, 6, 7, 8, 9, 10, 11, 12, 0xff,
 ];
@@ -63,7 +63,7 @@ fn is_taken(rt: impl Abort + Copy, bytes: &[u8]) {
     equal(rt, (bytes, header_refusal(bytes)), (bytes, None));
 }
 
-// Each front of these bytes: of fewer than eight it is refused, else it is taken.
+// Each prefix of these bytes: of fewer than eight it is refused, else it is taken.
 fn is_taken_from_eight_bytes_on(rt: impl Abort + Copy, bytes: &[u8]) {
     for len in 0..8usize {
         is_refused(rt, bytes.split_at(len.min(bytes.len())).0, 8, Layer::Icmpv4);
@@ -74,11 +74,11 @@ fn is_taken_from_eight_bytes_on(rt: impl Abort + Copy, bytes: &[u8]) {
 }
 
 #[test]
-fn every_front_of_an_echo_request(rt: HostRuntime) {
+fn every_prefix_of_an_echo_request(rt: HostRuntime) {
     is_taken_from_eight_bytes_on(rt, &PING);
 }
 
-// Each front and the whole of a timestamp message and a byte behind it.
+// Each prefix and the whole of a timestamp message and a byte after it.
 fn twenty_bytes_are_taken(rt: impl Abort + Copy, bytes: &[u8; 21], layer: Layer) {
     for len in 0..8usize {
         is_refused(rt, &bytes[..len], 8, Layer::Icmpv4);
@@ -91,7 +91,7 @@ fn twenty_bytes_are_taken(rt: impl Abort + Copy, bytes: &[u8; 21], layer: Layer)
 }
 
 #[test]
-fn every_front_of_timestamp_messages(rt: HostRuntime) {
+fn every_prefix_of_timestamp_messages(rt: HostRuntime) {
     twenty_bytes_are_taken(rt, &TIMESTAMP, Layer::Icmpv4Timestamp);
     let mut reply = TIMESTAMP;
     reply[0] = 14;
@@ -101,7 +101,7 @@ fn every_front_of_timestamp_messages(rt: HostRuntime) {
 // Every type with each code that has a variant, and one above them: each kind but the timestamp
 // messages.
 #[test]
-fn every_front_of_every_other_kind(rt: HostRuntime) {
+fn every_prefix_of_every_other_kind(rt: HostRuntime) {
     let mut bytes = [0xa1; 12];
     for type_u8 in 0..=255u8 {
         bytes[0] = type_u8;
@@ -121,7 +121,7 @@ fn timestamp_types_of_another_code(rt: HostRuntime) {
     is_taken_from_eight_bytes_on(rt, &bytes);
 }
 
-// Type, code, checksum, the four bytes behind it, and the length of the header.
+// Type, code, checksum, the four bytes after it, and the length of the header.
 fn numbers(message: &Icmpv4Slice<'_>) -> (u8, u8, u16, [u8; 4], usize) {
     (
         message.type_u8(),
@@ -132,7 +132,7 @@ fn numbers(message: &Icmpv4Slice<'_>) -> (u8, u8, u16, [u8; 4], usize) {
     )
 }
 
-// All bytes, and those behind the header.
+// All bytes, and those after the header.
 fn parts<'a>(message: &Icmpv4Slice<'a>) -> [&'a [u8]; 2] {
     [message.slice(), message.payload()]
 }
@@ -244,7 +244,7 @@ fn an_echo_reply_of_zeros(rt: HostRuntime) {
 }
 
 #[test]
-fn a_header_behind_a_byte_that_is_there(rt: HostRuntime) {
+fn a_header_after_a_byte_that_is_there(rt: HostRuntime) {
     let header = Icmpv4Header::with_checksum(echo_request(), &PING[8..]);
     let mut buffer = Vec::new(rt.alloc());
     let done = buffer.push(9).is_ok() && header.write(&mut buffer).is_ok();

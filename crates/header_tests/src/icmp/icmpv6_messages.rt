@@ -63,13 +63,13 @@ fn is_taken_from_eight_bytes_on(rt: impl Abort + Copy, bytes: &[u8; 12]) {
 }
 
 #[test]
-fn every_front_of_a_message(rt: HostRuntime) {
+fn every_prefix_of_a_message(rt: HostRuntime) {
     is_taken_from_eight_bytes_on(rt, &PING);
 }
 
 // Every type with each code that has a variant, and one above them.
 #[test]
-fn every_front_of_every_kind(rt: HostRuntime) {
+fn every_prefix_of_every_kind(rt: HostRuntime) {
     let mut bytes = [0xa1; 12];
     for type_u8 in 0..=255u8 {
         bytes[0] = type_u8;
@@ -80,7 +80,7 @@ fn every_front_of_every_kind(rt: HostRuntime) {
     }
 }
 
-// Type, code, checksum, the four bytes behind it, and the length of the header.
+// Type, code, checksum, the four bytes after it, and the length of the header.
 fn numbers(message: &Icmpv6Slice<'_>) -> (u8, u8, u16, [u8; 4], usize) {
     (
         message.type_u8(),
@@ -91,7 +91,7 @@ fn numbers(message: &Icmpv6Slice<'_>) -> (u8, u8, u16, [u8; 4], usize) {
     )
 }
 
-// All bytes, and those behind the header.
+// All bytes, and those after the header.
 fn parts<'a>(message: &Icmpv6Slice<'a>) -> [&'a [u8]; 2] {
     [message.slice(), message.payload()]
 }
@@ -198,7 +198,7 @@ fn a_checksum_that_is_set(rt: HostRuntime) {
 }
 
 #[test]
-fn a_header_behind_a_byte_that_is_there(rt: HostRuntime) {
+fn a_header_after_a_byte_that_is_there(rt: HostRuntime) {
     let header = Icmpv6Header {
         icmp_type: too_big(),
         checksum: 0x9857,

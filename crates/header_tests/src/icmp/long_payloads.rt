@@ -1,5 +1,5 @@
-//! Checksums over payloads of each length up to 130, and of a long one. Wanted values are worked
-//! out by hand, or go on from the last length.
+//! Checksums over payloads of each length up to 130, and of a long one. Expected values are
+//! calculated by hand, or from those of the length before.
 
 use crate::payloads::{complement, counted, filled};
 use ep_icmp::{IcmpEchoHeader, Icmpv4Type, Icmpv6Type};
@@ -12,7 +12,7 @@ fn over_v4(payload: &[u8]) -> u16 {
     Icmpv4Type::EchoReply(NOTHING).calc_checksum(payload)
 }
 
-// The same over IPv6 from and to no address: 8100 for its type and 3a for its number are added,
+// The same over IPv6 with addresses of zeros: 8100 for its type and 3a for its number are added,
 // and the length, which is 8 more than that of the payload.
 fn over_v6(payload: &[u8]) -> Option<u16> {
     let kind = Icmpv6Type::EchoReply(NOTHING);
@@ -36,10 +36,10 @@ fn payloads_of_one_byte_repeated(rt: HostRuntime) {
 fn payloads_of_every_length(rt: HostRuntime) {
     let (bytes, sums) = counted();
     for len in 0..=130usize {
-        let front = &bytes[..len];
+        let prefix = &bytes[..len];
         let with_pseudo = sums[len].wrapping_add(0x8100 + 0x3a + 8 + len as u32);
         let wanted = (complement(sums[len]), Some(complement(with_pseudo)));
-        assert!(rt; (over_v4(front), over_v6(front)) == wanted);
+        assert!(rt; (over_v4(prefix), over_v6(prefix)) == wanted);
     }
 }
 

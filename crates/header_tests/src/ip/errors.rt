@@ -40,9 +40,9 @@ fn texts_of_ipv6_errors(rt: HostRuntime) {
     reads(rt, &ipv6::HeaderSliceError::Content(version), text);
 }
 
-// A want of bytes prints as itself, of either version.
+// Too few bytes for either version: the text is that of the `LenError`.
 #[test]
-fn texts_of_wants_of_bytes(rt: HostRuntime) {
+fn texts_of_too_few_bytes(rt: HostRuntime) {
     let error = LenError::too_few_bytes(Layer::Ipv6Header, 40, 39);
     let text = "IPv6 header Error: Not enough data to decode 'IPv6 header'. 40 byte(s) would be \
         required, but only 39 byte(s) are available based on the slice length.";

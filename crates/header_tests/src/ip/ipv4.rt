@@ -11,7 +11,7 @@ use std::hash::FoldHasher;
 use std::process::Abort;
 use std::test::*;
 
-// A header with four bytes of options, made by hand after RFC 791, and two bytes behind it.
+// A header with four bytes of options, written by hand after RFC 791, and two bytes after it.
 const BYTES: [u8; 26] = [
     0x46, 0x21, 0, 30, 0, 7, 0x20, 5, 64, 17, 0x43, 0x9f, 10, 0, 0, 1, 10, 0, 0, 2, 1, 1, 1, 0,
     0xaa, 0xbb,
@@ -161,7 +161,7 @@ fn is_refused(rt: impl Abort + Copy, bytes: &[u8], error: Option<HeaderSliceErro
 }
 
 #[test]
-fn every_front_of_a_header(rt: HostRuntime) {
+fn every_prefix_of_a_header(rt: HostRuntime) {
     for len in 0..20usize {
         is_refused(rt, &BYTES[..len], too_short(20, len));
     }
@@ -170,7 +170,7 @@ fn every_front_of_a_header(rt: HostRuntime) {
     }
 }
 
-// A byte, how often it stands there, and why that is no header.
+// A byte, how often it is repeated, and why that is no header.
 const FAULTS: &[(u8, usize, &str)] = &[
     (
         0x63,
@@ -200,14 +200,14 @@ const FAULTS: &[(u8, usize, &str)] = &[
 fn faults_in_order(rt: HostRuntime) {
     for (byte, len, refused) in FAULTS.iter() {
         let bytes = [*byte; 20];
-        let (front, _) = bytes.split_at((*len).min(20));
-        shows(rt, &refusal(front), refused);
+        let (prefix, _) = bytes.split_at((*len).min(20));
+        shows(rt, &refusal(prefix), refused);
     }
 }
 
-// From byte 14 on to 18, and to the greatest place that a `usize` names.
+// From byte 14 on to 18, and to the greatest offset that a `usize` holds.
 #[test]
-fn errors_in_later_places(rt: HostRuntime) {
+fn errors_at_later_offsets(rt: HostRuntime) {
     let error = LenError::too_few_bytes(Layer::Ipv4Header, 20, 19).add_offset(14);
     let moved = HeaderSliceError::Len(error).add_slice_offset(4);
     let wanted = "Len(LenError { required_len: 20, len: 19, len_source: Slice, \
@@ -278,10 +278,10 @@ fn header_without_options() -> Result<Ipv4Header, ValueTooBigError<u16>> {
     Ipv4Header::new(8, 64, IpNumber::UDP, [10, 0, 0, 1], [10, 0, 0, 2])
 }
 
-// The header behind a byte that is there, with the checksum that is computed, and once more with
+// The header after a byte that is there, with the checksum that is computed, and once more with
 // its own, which is 0.
 #[test]
-fn written_behind_a_byte(rt: HostRuntime) {
+fn written_after_a_byte(rt: HostRuntime) {
     let Ok(header) = header_without_options() else {
         fail(rt, "no header");
     };
@@ -336,7 +336,7 @@ fn payload_lengths(rt: HostRuntime) {
     );
 }
 
-// The total length of a header in front of a payload of this length.
+// The total length of a header before a payload of this length.
 fn total_len(payload_len: u16) -> Result<u16, ValueTooBigError<u16>> {
     match Ipv4Header::new(payload_len, 1, IpNumber::UDP, [0; 4], [0; 4]) {
         Ok(header) => Ok(header.total_len),

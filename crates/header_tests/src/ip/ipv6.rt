@@ -10,7 +10,7 @@ use std::alloc::{AllocError, Global};
 use std::process::Abort;
 use std::test::*;
 
-// A header by the layout of RFC 8200, section 3, and two bytes behind it.
+// A header by the layout of RFC 8200, section 3, and two bytes after it.
 const BYTES: [u8; 42] = [
     0x6a, 0xbc, 0xde, 0xf1, 0x12, 0x34, 17, 64, 0xfd, 0, 0, 0, 0, 0, 0, 0, 0, 0, 0, 0, 0, 0, 0, 1,
     0xfd, 0, 0, 0, 0, 0, 0, 0, 0, 0, 0, 0, 0, 0, 0, 2, 0xaa, 0xbb,
@@ -119,16 +119,16 @@ fn refusal(bytes: &[u8]) -> Option<HeaderSliceError> {
 }
 
 #[test]
-fn every_front_of_a_header(rt: HostRuntime) {
+fn every_prefix_of_a_header(rt: HostRuntime) {
     for len in 0..40usize {
-        let front = &BYTES[..len];
+        let prefix = &BYTES[..len];
         let error = HeaderSliceError::Len(too_short(40, len, Layer::Ipv6Header, 0));
-        equal(rt, header_refusal(front), Some(error));
-        equal(rt, refusal(front), Some(error));
+        equal(rt, header_refusal(prefix), Some(error));
+        equal(rt, refusal(prefix), Some(error));
     }
     for len in 40..43usize {
-        let front = &BYTES[..len];
-        equal(rt, header_refusal(front), None);
+        let prefix = &BYTES[..len];
+        equal(rt, header_refusal(prefix), None);
     }
 }
 
@@ -148,7 +148,7 @@ fn the_length_is_tested_before_the_version(rt: HostRuntime) {
     }
 }
 
-// From byte 5 on to 19, and to the greatest place that a `usize` names.
+// From byte 5 on to 19, and to the greatest offset that a `usize` holds.
 #[test]
 fn errors_further_on(rt: HostRuntime) {
     let error = LenError::too_few_bytes(Layer::Ipv6Header, 40, 3).add_offset(5);
@@ -164,7 +164,7 @@ fn errors_further_on(rt: HostRuntime) {
 }
 
 #[test]
-fn a_header_behind_a_byte_that_is_there(rt: HostRuntime) {
+fn a_header_after_a_byte_that_is_there(rt: HostRuntime) {
     let Ok((header, _)) = Ipv6Header::from_slice(&BYTES) else {
         fail(rt, "no header");
     };
@@ -248,13 +248,13 @@ fn walks(rt: HostRuntime) {
     // To the end of the slice.
     let bytes = [0, 0, 0, 0, 0, 0, 0, 0, 17, 0, 0, 0, 0, 0, 0, 0];
     shows(rt, &walk(&bytes, 60), "Ok((IpNumber(17), []))");
-    let want = "Err(LenError { required_len: 2, len: 1, len_source: Slice, \
+    let missing = "Err(LenError { required_len: 2, len: 1, len_source: Slice, \
         layer: Ipv6ExtHeader, layer_start_offset: 0 })";
-    shows(rt, &walk(&[6], 43), want);
+    shows(rt, &walk(&[6], 43), missing);
 }
 
 // Hop-by-hop options of 16 bytes, an authentication header of 12, a fragment header of 8 whose
-// second byte says nothing, and a routing header of 16.
+// second byte is ignored, and a routing header of 16.
 const ROW: [u8; 54] = [
     51, 1, 0, 0, 0, 0, 0, 0, 0, 0, 0, 0, 0, 0, 0, 0, 44, 1, 0, 0, 0, 0, 0, 0, 0, 0, 0, 0, 43, 9, 0,
     0, 0, 0, 0, 0, 6, 1, 0, 0, 0, 0, 0, 0, 0, 0, 0, 0, 0, 0, 0, 0, 7, 8,
@@ -266,25 +266,25 @@ fn headers_in_a_row(rt: HostRuntime) {
     shows(rt, &found, "(Ok((IpNumber(6), [7, 8])), 5)");
 }
 
-// A front of `ROW` that ends within a header: what is wanted there, and the turns of the walk.
-fn front_wants(rt: impl Abort + Copy, len: usize, want: LenError, turns: usize) {
-    let (front, _) = ROW.split_at(len.min(54));
-    let found = Ipv6Header::skip_counted(front, IpNumber(0));
-    equal(rt, found, (Err(want), turns));
+// A prefix of `ROW` that ends within a header: the expected error, and the turns of the walk.
+fn prefix_is_too_short(rt: impl Abort + Copy, len: usize, missing: LenError, turns: usize) {
+    let (prefix, _) = ROW.split_at(len.min(54));
+    let found = Ipv6Header::skip_counted(prefix, IpNumber(0));
+    equal(rt, found, (Err(missing), turns));
 }
 
-// The headers' places and lengths.
+// The headers' offsets and lengths.
 const HEADERS: &[(usize, usize)] = &[(0, 16), (16, 12), (28, 8), (36, 16)];
 
 #[test]
-fn every_front_of_headers_in_a_row(rt: HostRuntime) {
+fn every_prefix_of_headers_in_a_row(rt: HostRuntime) {
     let mut turns = 0usize;
     for (offset, header_len) in HEADERS.iter() {
         turns = turns.saturating_add(1);
         for len in 0..*header_len {
             let required_len = if len < 2 { 2 } else { *header_len };
-            let want = too_short(required_len, len, Layer::Ipv6ExtHeader, *offset);
-            front_wants(rt, offset.saturating_add(len), want, turns);
+            let missing = too_short(required_len, len, Layer::Ipv6ExtHeader, *offset);
+            prefix_is_too_short(rt, offset.saturating_add(len), missing, turns);
         }
     }
 }
@@ -307,9 +307,9 @@ fn is_skipped(rt: impl Abort + Copy, number: u8, bytes: &[u8; 32], len: usize) {
     let (cut, _) = whole.split_at(len.min(32).saturating_sub(1));
     let next = Ipv6Header::skip_header_extension_in_slice(bytes, IpNumber(number));
     equal(rt, (number, next), (number, Ok((IpNumber(99), rest))));
-    let want = too_short(len, cut.len(), Layer::Ipv6ExtHeader, 0);
+    let missing = too_short(len, cut.len(), Layer::Ipv6ExtHeader, 0);
     let refused = Ipv6Header::skip_header_extension_in_slice(cut, IpNumber(number));
-    equal(rt, (number, refused), (number, Err(want)));
+    equal(rt, (number, refused), (number, Err(missing)));
 }
 
 #[test]
@@ -326,13 +326,13 @@ fn numbers_that_are_skipped(rt: HostRuntime) {
     let bytes = [253, 0, 0, 0, 0, 0, 0, 0, 5];
     for n in 0..=255u8 {
         let skipped = matches!(n, 0 | 43 | 44 | 51 | 60 | 135 | 139 | 140);
-        let (number, behind) = if skipped { (253, 8) } else { (n, 0) };
-        let (_, rest) = bytes.split_at(behind);
+        let (number, following) = if skipped { (253, 8) } else { (n, 0) };
+        let (_, rest) = bytes.split_at(following);
         equal(rt, (n, walk(&bytes, n)), (n, Ok((IpNumber(number), rest))));
     }
 }
 
-// A row of headers of 8 bytes, so many before the last one, and seven bytes behind it.
+// A row of headers of 8 bytes, so many before the last one, and seven bytes after it.
 fn row_of(alloc: Global, before_the_last: usize) -> Result<Vec<u8>, AllocError> {
     let mut bytes = Vec::new(alloc);
     for _ in 0..before_the_last {
@@ -342,11 +342,11 @@ fn row_of(alloc: Global, before_the_last: usize) -> Result<Vec<u8>, AllocError> 
     Ok(bytes)
 }
 
-fn has_turns(rt: impl Abort + AllocGlobal + Copy, before_the_last: usize, told: &str) {
+fn has_turns(rt: impl Abort + AllocGlobal + Copy, before_the_last: usize, reported: &str) {
     match row_of(rt.alloc(), before_the_last) {
         Ok(bytes) => {
             let found = Ipv6Header::skip_counted(&bytes, IpNumber(60));
-            shows(rt, &found, told);
+            shows(rt, &found, reported);
         }
         Err(_) => fail(rt, "no memory"),
     }

@@ -7,7 +7,7 @@ use ep_link::laws::arp::*;
 use ep_link::{ArpHardwareId, ArpOperation, ArpPacket, ArpPacketSlice, Ethernet2Slice};
 use std::process::Abort;
 
-// A request of an IPv4 host on Ethernet, as RFC 826 lays it out, and a byte behind it.
+// A request of an IPv4 host on Ethernet, in the layout of RFC 826, and a byte after it.
 const BYTES: [u8; 29] = [
     0, 1, 8, 0, 6, 4, 0, 1, 2, 0, 0, 0, 0, 1, 10, 0, 0, 1, 0, 0, 0, 0, 0, 0, 10, 0, 0, 2, 0xff,
 ];
@@ -58,8 +58,8 @@ fn a_packet_both_ways(rt: HostRuntime) {
     };
     shows(rt, &types(&packet), TYPES);
     equal(rt, lengths(&packet), (28, 6, 4));
-    for (told, wanted) in addresses(&packet).into_iter().zip(ADDRESSES) {
-        equal_bytes(rt, told, wanted);
+    for (reported, wanted) in addresses(&packet).into_iter().zip(ADDRESSES) {
+        equal_bytes(rt, reported, wanted);
     }
     equal_bytes(rt, packet.to_bytes().as_slice(), &BYTES[..28]);
 }
@@ -128,14 +128,14 @@ fn too_short(required_len: usize, len: usize, len_source: LenSource) -> Option<L
     })
 }
 
-fn is_refused(rt: impl Abort + Copy, front: &[u8], required_len: usize, len_source: LenSource) {
-    let error = too_short(required_len, front.len(), len_source);
-    equal(rt, packet_refusal(front), error);
-    equal(rt, refusal(front), error);
+fn is_refused(rt: impl Abort + Copy, prefix: &[u8], required_len: usize, len_source: LenSource) {
+    let error = too_short(required_len, prefix.len(), len_source);
+    equal(rt, packet_refusal(prefix), error);
+    equal(rt, refusal(prefix), error);
 }
 
 #[test]
-fn every_front_of_a_packet(rt: HostRuntime) {
+fn every_prefix_of_a_packet(rt: HostRuntime) {
     for len in 0..8usize {
         is_refused(rt, &BYTES[..len], 8, LenSource::Slice);
     }
@@ -160,9 +160,9 @@ fn made(lens: &[usize; 4]) -> Result<ArpPacket, ArpNewError> {
     )
 }
 
-// The length of a packet, the two bytes that tell the lengths of its addresses, and whether it is
+// The length of a packet, the two bytes that state the lengths of its addresses, and whether it is
 // read again.
-fn spelled(packet: &ArpPacket) -> Option<(usize, usize, usize, bool)> {
+fn encoded(packet: &ArpPacket) -> Option<(usize, usize, usize, bool)> {
     let bytes = packet.to_bytes();
     let is_read_again = match ArpPacket::from_slice(bytes.as_slice()) {
         Ok(again) => again == *packet,
@@ -184,7 +184,7 @@ fn is_written_with(rt: impl Abort + Copy, hw_len: usize, proto_len: usize) {
         Ok(packet) => {
             let whole = 8 + 2 * hw_len.min(255) + 2 * proto_len.min(255);
             let wanted = Some((whole, hw_len, proto_len, true));
-            equal(rt, spelled(&packet), wanted);
+            equal(rt, encoded(&packet), wanted);
         }
         Err(_) => fail(rt, "no packet"),
     }
@@ -223,7 +223,7 @@ fn addresses_that_make_no_packet(rt: HostRuntime) {
     }
 }
 
-// The ether type of an Ethernet II frame, and the packet behind its header or why there is none,
+// The ether type of an Ethernet II frame, and the packet after its header or why there is none,
 // seen from the frame.
 fn packet_in<'a>(frame: &Ethernet2Slice<'a>) -> Result<(EtherType, &'a [u8]), LenError> {
     let payload = frame.payload();
@@ -233,7 +233,7 @@ fn packet_in<'a>(frame: &Ethernet2Slice<'a>) -> Result<(EtherType, &'a [u8]), Le
     }
 }
 
-// The packet behind an Ethernet II header of ether type 0806, and the same without its last byte.
+// The packet after an Ethernet II header of ether type 0806, and the same without its last byte.
 #[test]
 fn a_packet_in_a_frame(rt: HostRuntime) {
     let mut bytes = [0; 42];
@@ -246,9 +246,10 @@ fn a_packet_in_a_frame(rt: HostRuntime) {
         fail(rt, "no frames");
     };
     equal(rt, packet_in(&whole), Ok((EtherType::ARP, &BYTES[..28])));
-    let want = "Err(LenError { required_len: 28, len: 27, len_source: ArpAddrLengths, layer: Arp, \
+    let missing =
+        "Err(LenError { required_len: 28, len: 27, len_source: ArpAddrLengths, layer: Arp, \
         layer_start_offset: 14 })";
-    shows(rt, &packet_in(&cut), want);
+    shows(rt, &packet_in(&cut), missing);
 }
 
 #[test]
@@ -265,7 +266,7 @@ fn error_texts(rt: HostRuntime) {
 }
 
 #[test]
-fn a_packet_behind_a_byte_that_is_there(rt: HostRuntime) {
+fn a_packet_after_a_byte_that_is_there(rt: HostRuntime) {
     let Ok(packet) = ArpPacket::from_slice(&BYTES) else {
         fail(rt, "no packet");
     };

@@ -6,17 +6,17 @@ use ep_link::laws::ethernet::*;
 use ep_link::{Ethernet2Header, Ethernet2HeaderSlice, Ethernet2Slice};
 use std::process::Abort;
 
-// Destination 1 to 6, source 7 to 12, IPv4; and what stands behind it.
+// Destination 1 to 6, source 7 to 12, IPv4; and what follows it.
 const BYTES: [u8; 16] = [1, 2, 3, 4, 5, 6, 7, 8, 9, 10, 11, 12, 8, 0, 21, 22];
 
-const FRONT: [u8; 14] = [1, 2, 3, 4, 5, 6, 7, 8, 9, 10, 11, 12, 8, 0];
+const PREFIX: [u8; 14] = [1, 2, 3, 4, 5, 6, 7, 8, 9, 10, 11, 12, 8, 0];
 
 // 2048 is 0800.
 const FIELDS: &str = "Ethernet2Header { source: [7, 8, 9, 10, 11, 12], \
     destination: [1, 2, 3, 4, 5, 6], ether_type: EtherType(2048) }";
 
 fn header() -> Ethernet2Header {
-    Ethernet2Header::from_bytes(FRONT)
+    Ethernet2Header::from_bytes(PREFIX)
 }
 
 #[test]
@@ -26,8 +26,8 @@ fn a_header_both_ways(rt: HostRuntime) {
     };
     shows(rt, &header, FIELDS);
     equal(rt, rest, [21, 22].as_slice());
-    equal(rt, (header.to_bytes(), header.header_len()), (FRONT, 14));
-    shows(rt, &Ethernet2Header::from_bytes(FRONT), FIELDS);
+    equal(rt, (header.to_bytes(), header.header_len()), (PREFIX, 14));
+    shows(rt, &Ethernet2Header::from_bytes(PREFIX), FIELDS);
     equal(rt, Ethernet2Header::default().to_bytes(), [0; 14]);
 }
 
@@ -44,7 +44,7 @@ fn fields_of_a_view(rt: HostRuntime) {
     let Ok(slice) = Ethernet2HeaderSlice::from_slice(&BYTES) else {
         fail(rt, "no header");
     };
-    equal(rt, slice.slice(), FRONT.as_slice());
+    equal(rt, slice.slice(), PREFIX.as_slice());
     is_header(rt, &slice);
 }
 
@@ -56,7 +56,7 @@ fn is_frame(rt: impl Abort + AllocGlobal + Copy, frame: &Ethernet2Slice<'_>) {
     shows(rt, &frame.to_header(), FIELDS);
 }
 
-// All bytes, the header and what stands behind it.
+// All bytes, the header and what follows it.
 fn parts<'a>(frame: &Ethernet2Slice<'a>) -> [&'a [u8]; 3] {
     [frame.slice(), frame.header_slice(), frame.payload_slice()]
 }
@@ -68,7 +68,7 @@ fn fields_and_parts_of_a_frame(rt: HostRuntime) {
     };
     is_frame(rt, &frame);
     equal(rt, frame.header_len(), 14);
-    equal(rt, parts(&frame), [&BYTES, &FRONT, &[21, 22]]);
+    equal(rt, parts(&frame), [&BYTES, &PREFIX, &[21, 22]]);
     let payload =
         "EtherPayloadSlice { ether_type: EtherType(2048), len_source: Slice, payload: [21, 22] }";
     shows(rt, &frame.payload(), payload);
@@ -107,17 +107,17 @@ fn too_short(len: usize) -> Option<LenError> {
 }
 
 #[test]
-fn every_front_of_a_header(rt: HostRuntime) {
+fn every_prefix_of_a_header(rt: HostRuntime) {
     for len in 0..14usize {
-        let front = &BYTES[..len];
-        equal(rt, header_refusal(front), too_short(len));
-        equal(rt, header_slice_refusal(front), too_short(len));
-        equal(rt, refusal(front), too_short(len));
+        let prefix = &BYTES[..len];
+        equal(rt, header_refusal(prefix), too_short(len));
+        equal(rt, header_slice_refusal(prefix), too_short(len));
+        equal(rt, refusal(prefix), too_short(len));
     }
-    equal(rt, refusal(&FRONT), None);
+    equal(rt, refusal(&PREFIX), None);
 }
 
-// The ether type 1234, which is 4660, and nothing behind it.
+// The ether type 1234, which is 4660, and nothing after it.
 #[test]
 fn a_frame_of_few_bytes(rt: HostRuntime) {
     let bytes = [2, 0, 0, 0, 0, 2, 2, 0, 0, 0, 0, 1, 0x12, 0x34];
@@ -143,7 +143,7 @@ fn a_header_written_over_a_slice(rt: HostRuntime) {
 }
 
 #[test]
-fn a_header_behind_a_byte_that_is_there(rt: HostRuntime) {
+fn a_header_after_a_byte_that_is_there(rt: HostRuntime) {
     let mut buffer = Vec::new(rt.alloc());
     let done = buffer.push(9).is_ok() && header().write(&mut buffer).is_ok();
     let written = [9, 1, 2, 3, 4, 5, 6, 7, 8, 9, 10, 11, 12, 8, 0];

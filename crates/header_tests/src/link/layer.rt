@@ -78,7 +78,7 @@ fn a_cooked_header_written_anew(rt: HostRuntime) {
 }
 
 #[test]
-fn headers_behind_a_byte_that_is_there(rt: HostRuntime) {
+fn headers_after_a_byte_that_is_there(rt: HostRuntime) {
     let (ethernet, cooked) = (ethernet2(), linux_sll(rt));
     let mut buffer = Vec::new(rt.alloc());
     let done = buffer.push(9).is_ok()
@@ -91,7 +91,7 @@ fn headers_behind_a_byte_that_is_there(rt: HostRuntime) {
     is_written(rt, done, buffer.as_slice(), written.as_slice());
 }
 
-// The header and what an ether type names behind it, if there are such, as texts.
+// The header and what an ether type names after it, if there are such, as texts.
 fn is_link(rt: impl Abort + AllocGlobal + Copy, link: &LinkSlice<'_>, header: &str, payload: &str) {
     shows(rt, &link.to_header(), header);
     shows(rt, &link.ether_payload(), payload);

@@ -11,7 +11,7 @@ use ep_link::{
 use ep_tag::EtherPayloadSlice;
 use std::process::Abort;
 
-// To this machine over Ethernet, an address of 6 bytes, IPv4; and what stands behind it.
+// To this machine over Ethernet, an address of 6 bytes, IPv4; and what follows it.
 const BYTES: [u8; 18] = [0, 0, 0, 1, 0, 6, 1, 2, 3, 4, 5, 6, 0, 0, 8, 0, 21, 22];
 
 // 2048 is 0800.
@@ -76,7 +76,7 @@ fn fields_of_a_packet(rt: HostRuntime) {
     shows(rt, &slice.to_header(), FIELDS);
 }
 
-// All bytes and those behind the header, and the header's length.
+// All bytes and those after the header, and the header's length.
 fn parts<'a>(slice: &LinuxSllSlice<'a>) -> ([&'a [u8]; 2], usize) {
     ([slice.slice(), slice.payload_slice()], slice.header_len())
 }
@@ -121,7 +121,7 @@ const WITHOUT_AN_ETHER_TYPE: &[LinuxSllProtocolType] = &[
 ];
 
 #[test]
-fn payloads_behind_no_ether_type(rt: HostRuntime) {
+fn payloads_after_no_ether_type(rt: HostRuntime) {
     for protocol_type in WITHOUT_AN_ETHER_TYPE.iter() {
         let payload = LinuxSllPayloadSlice {
             protocol_type: *protocol_type,
@@ -172,7 +172,7 @@ fn too_short(len: usize) -> HeaderSliceError {
 }
 
 #[test]
-fn every_front_of_a_header(rt: HostRuntime) {
+fn every_prefix_of_a_header(rt: HostRuntime) {
     for len in 0..16usize {
         is_refused(rt, &BYTES[..len], too_short(len));
     }
@@ -210,12 +210,12 @@ fn errors_further_on(rt: HostRuntime) {
     let unsupported = HeaderError::UnsupportedPacketTypeField { packet_type: 5 };
     let content = HeaderSliceError::from(unsupported);
     equal(rt, content.add_slice_offset(3), content);
-    let want = LenError::too_few_bytes(Layer::LinuxSllHeader, 16, 7).add_offset(4);
+    let missing = LenError::too_few_bytes(Layer::LinuxSllHeader, 16, 7).add_offset(4);
     let further = "Len(LenError { required_len: 16, len: 7, len_source: Slice, \
         layer: LinuxSllHeader, layer_start_offset: 7 })";
     shows(
         rt,
-        &HeaderSliceError::Len(want).add_slice_offset(3),
+        &HeaderSliceError::Len(missing).add_slice_offset(3),
         further,
     );
 }

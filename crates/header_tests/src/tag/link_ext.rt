@@ -6,7 +6,7 @@ use std::process::Abort;
 
 const VLAN: [u8; 6] = [0, 5, 0x81, 0, 7, 8];
 
-// A short length of 3, and a byte behind the payload.
+// A short length of 3, and a byte after the payload.
 const MACSEC: [u8; 10] = [0, 3, 0, 0, 0, 1, 8, 6, 7, 8];
 
 const CHANGED: [u8; 10] = [4, 0, 0, 0, 0, 1, 8, 6, 7, 8];

@@ -1,5 +1,5 @@
 //! MACsec headers (IEEE 802.1AE, clause 9).
-//! Calls have no contracts: tests alone make them, and are run.
+//! The functions have no contracts: tests alone call them, and are run.
 use crate::checks::{equal, equal_bytes, fail, is_written, reads, shows};
 use ep_base::err::{Layer, LenError};
 use ep_base::{EtherType, LenSource};
@@ -9,7 +9,7 @@ use ep_tag::{MacsecHeader, MacsecHeaderSlice, MacsecSlice, SingleVlanSlice};
 use std::process::Abort;
 
 // All flags but the version and C set, association 2, short length 3 with both unused bits set,
-// packet number 01020304, a secure channel identifier; and what stands behind it.
+// packet number 01020304, a secure channel identifier; and what follows it.
 const BYTES: [u8; 18] = [
     0x7a, 0xc3, 1, 2, 3, 4, 0xa, 0xb, 0xc, 0xd, 0xe, 0xf, 0x10, 0x11, 21, 22, 23, 24,
 ];
@@ -24,10 +24,10 @@ const WRITTEN: [u8; 14] = [
     0x7a, 3, 1, 2, 3, 4, 0xa, 0xb, 0xc, 0xd, 0xe, 0xf, 0x10, 0x11,
 ];
 
-// Unmodified, a short length of 4 that leaves two bytes of a VLAN tag, and a byte behind them.
+// Unmodified, a short length of 4 that leaves two bytes of a VLAN tag, and a byte after them.
 const CUT_TAG: [u8; 11] = [0, 4, 0, 0, 0, 1, 0x81, 0, 0, 5, 0xff];
 
-pub(super) fn want(required_len: usize, len: usize, layer: Layer) -> HeaderSliceError {
+pub(super) fn missing(required_len: usize, len: usize, layer: Layer) -> HeaderSliceError {
     HeaderSliceError::Len(LenError {
         required_len,
         len,
@@ -37,8 +37,8 @@ pub(super) fn want(required_len: usize, len: usize, layer: Layer) -> HeaderSlice
     })
 }
 
-// The readers below answer what a test compares and no more: a slice that a test held would bring
-// its contract into the proof of everything behind it.
+// The functions below return what a test compares and no more: a slice that a test held would bring
+// its contract into the proof of everything after it.
 
 // Why these bytes are no header, no view of one, and no header with its payload.
 pub(super) fn header_refusal(bytes: &[u8]) -> Option<HeaderSliceError> {
@@ -169,9 +169,9 @@ fn flags_of_a_header(rt: HostRuntime) {
     }
 }
 
-// A header with its payload, and the length of the header, the ether type behind it, the payload
-// and what the ether type names, if one stands there: 33024 is 8100, 2048 is IPv4. The same packet
-// stands behind a header unmodified, and changed.
+// A header with its payload, and the length of the header, the ether type after it, the payload
+// and what the ether type names, if there is one: 33024 is 8100, 2048 is IPv4. The same packet
+// follows a header unmodified, and changed.
 const PAYLOADS: &[(&[u8], [&str; 4])] = &[
     (
         &CUT_TAG,
@@ -202,7 +202,7 @@ const PAYLOADS: &[(&[u8], [&str; 4])] = &[
     ),
 ];
 
-fn is_behind(rt: impl Abort + AllocGlobal + Copy, macsec: &MacsecSlice<'_>, wanted: &[&str; 4]) {
+fn payload_is(rt: impl Abort + AllocGlobal + Copy, macsec: &MacsecSlice<'_>, wanted: &[&str; 4]) {
     let [header_len, ether_type, payload, ether_payload] = *wanted;
     shows(rt, &macsec.header_len(), header_len);
     shows(rt, &macsec.next_ether_type(), ether_type);
@@ -216,7 +216,7 @@ fn payloads(rt: HostRuntime) {
         let Ok(macsec) = MacsecSlice::from_slice(bytes) else {
             fail(rt, "no payload");
         };
-        is_behind(rt, &macsec, wanted);
+        payload_is(rt, &macsec, wanted);
     }
 }
 
@@ -231,8 +231,8 @@ fn the_header_of_an_unmodified_payload(rt: HostRuntime) {
     equal_bytes(rt, header.to_bytes().as_slice(), &CUT_TAG[..8]);
 }
 
-// The refusal of a VLAN tag behind a MACsec header that stands behind 14 bytes of Ethernet II.
-fn refusal_behind(bytes: &[u8]) -> Option<LenError> {
+// The refusal of a VLAN tag after a MACsec header that follows 14 bytes of Ethernet II.
+fn refusal_after(bytes: &[u8]) -> Option<LenError> {
     let macsec = MacsecSlice::from_slice(bytes).ok()?;
     let tag = macsec.ether_payload()?;
     let error = SingleVlanSlice::from_slice(tag.payload).err()?;
@@ -243,11 +243,11 @@ fn refusal_behind(bytes: &[u8]) -> Option<LenError> {
 fn a_tag_cut_by_a_short_length(rt: HostRuntime) {
     let error = "Some(LenError { required_len: 4, len: 2, len_source: Slice, layer: VlanHeader, \
         layer_start_offset: 22 })";
-    shows(rt, &refusal_behind(&CUT_TAG), error);
+    shows(rt, &refusal_after(&CUT_TAG), error);
 }
 
 // Version 1 and a short length of 1: in too few bytes, in too few for the identifier, and the
-// latter alone; and each in front of a packet.
+// latter alone; and each before a packet.
 const REFUSED: &[(&[u8], &str)] = &[
     // Too few bytes.
     (
@@ -309,7 +309,7 @@ fn texts(rt: HostRuntime) {
 }
 
 #[test]
-fn a_header_behind_a_byte_that_is_there(rt: HostRuntime) {
+fn a_header_after_a_byte_that_is_there(rt: HostRuntime) {
     let Ok((header, _)) = MacsecHeader::from_slice(&BYTES) else {
         fail(rt, "no header");
     };

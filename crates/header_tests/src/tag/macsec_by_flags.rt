@@ -1,5 +1,5 @@
 //! MACsec headers and payloads under every flag and short length (IEEE 802.1AE, clause 9).
-use super::macsec::{header_refusal, header_slice_refusal, refusal, want};
+use super::macsec::{header_refusal, header_slice_refusal, missing, refusal};
 use crate::checks::equal;
 use ep_base::err::Layer;
 use ep_base::{EtherType, LenSource};
@@ -10,7 +10,7 @@ use std::process::Abort;
 const SHORT_LENS: [u8; 6] = [0, 1, 2, 3, 47, 63];
 
 // The flags E, C and SC of the first of 80 bytes, the length of the header, what its payload is,
-// and the lengths of the payload behind `SHORT_LENS`, or none where they are refused: the two
+// and the lengths of the payload after `SHORT_LENS`, or none where they are refused: the two
 // bytes of an ether type belong to the header, and are counted by the short length.
 type Row = (u8, u8, MacsecPType, [Option<u8>; 6]);
 
@@ -67,7 +67,7 @@ fn by_flags() -> [Row; 8] {
     ]
 }
 
-// Each its own place.
+// Each byte is its own offset.
 const NUMBERED: [u8; 80] = [
     0, 1, 2, 3, 4, 5, 6, 7, 8, 9, 10, 11, 12, 13, 14, 15, 16, 17, 18, 19, 20, 21, 22, 23, 24, 25,
     26, 27, 28, 29, 30, 31, 32, 33, 34, 35, 36, 37, 38, 39, 40, 41, 42, 43, 44, 45, 46, 47, 48, 49,
@@ -84,9 +84,9 @@ fn numbered(first: u8, short_len: u8) -> [u8; 80] {
 
 // What the header says of the payload, the ether type of the payload and what bounds it, where it
 // is unmodified, and its bytes.
-type Told<'a> = (MacsecPType, Option<(EtherType, LenSource)>, &'a [u8]);
+type Reported<'a> = (MacsecPType, Option<(EtherType, LenSource)>, &'a [u8]);
 
-fn told<'a>(macsec: &MacsecSlice<'a>) -> Told<'a> {
+fn reported<'a>(macsec: &MacsecSlice<'a>) -> Reported<'a> {
     let ptype = macsec.header.ptype();
     match &macsec.payload {
         MacsecPayloadSlice::Unmodified(payload) => {
@@ -97,15 +97,15 @@ fn told<'a>(macsec: &MacsecSlice<'a>) -> Told<'a> {
     }
 }
 
-fn read(bytes: &[u8]) -> Result<Told<'_>, HeaderSliceError> {
+fn read(bytes: &[u8]) -> Result<Reported<'_>, HeaderSliceError> {
     match MacsecSlice::from_slice(bytes) {
-        Ok(macsec) => Ok(told(&macsec)),
+        Ok(macsec) => Ok(reported(&macsec)),
         Err(error) => Err(error),
     }
 }
 
-// What a row says of a payload of this length behind its header.
-fn expected<'a>(row: &Row, short_len: u8, payload: &'a [u8]) -> Told<'a> {
+// What a row says of a payload of this length after its header.
+fn expected<'a>(row: &Row, short_len: u8, payload: &'a [u8]) -> Reported<'a> {
     let len_source = match short_len {
         0 => LenSource::Slice,
         _ => LenSource::MacsecShortLength,
@@ -116,16 +116,16 @@ fn expected<'a>(row: &Row, short_len: u8, payload: &'a [u8]) -> Told<'a> {
     }
 }
 
-// The part of the bytes behind a header of this length, as far as it is there.
-fn behind(bytes: &[u8], header_len: u8, len: u8) -> &[u8] {
+// So many bytes after a header of this length, and none where they aren't all there.
+fn following(bytes: &[u8], header_len: u8, len: u8) -> &[u8] {
     let start = usize::from(header_len);
     bytes.get(start..start + usize::from(len)).unwrap_or(&[])
 }
 
-fn is_told(rt: impl Abort + Copy, row: &Row, short_len: u8, payload_len: Option<u8>) {
+fn is_reported(rt: impl Abort + Copy, row: &Row, short_len: u8, payload_len: Option<u8>) {
     let bytes = numbered(row.0, short_len);
     let wanted = match payload_len {
-        Some(len) => Ok(expected(row, short_len, behind(&bytes, row.1, len))),
+        Some(len) => Ok(expected(row, short_len, following(&bytes, row.1, len))),
         None => Err(HeaderSliceError::Content(HeaderError::InvalidUnmodifiedShortLen)),
     };
     let flags = [row.0, short_len];
@@ -136,7 +136,7 @@ fn is_told(rt: impl Abort + Copy, row: &Row, short_len: u8, payload_len: Option<
 fn every_flag_and_short_length(rt: HostRuntime) {
     for row in by_flags() {
         for i in 0..6usize {
-            is_told(rt, &row, SHORT_LENS[i], row.3[i]);
+            is_reported(rt, &row, SHORT_LENS[i], row.3[i]);
         }
     }
 }
@@ -155,7 +155,7 @@ fn every_flag_and_short_length_of_version_1(rt: HostRuntime) {
 
 // Tries the first `len` bytes of a header of `header_len` bytes, which needs `whole_len` with its
 // payload.
-fn front_is_refused(
+fn prefix_is_refused(
     rt: impl Abort + Copy,
     bytes: &[u8],
     len: usize,
@@ -169,12 +169,12 @@ fn front_is_refused(
     } else {
         (whole_len, Layer::MacsecPacket)
     };
-    let error = Some(want(required_len, len, layer));
-    let (front, _) = bytes.split_at(len.min(bytes.len()));
-    equal(rt, (bytes.first(), refusal(front)), (bytes.first(), error));
+    let error = Some(missing(required_len, len, layer));
+    let (prefix, _) = bytes.split_at(len.min(bytes.len()));
+    equal(rt, (bytes.first(), refusal(prefix)), (bytes.first(), error));
     if len < header_len {
-        equal(rt, header_refusal(front), error);
-        equal(rt, header_slice_refusal(front), error);
+        equal(rt, header_refusal(prefix), error);
+        equal(rt, header_slice_refusal(prefix), error);
     }
 }
 
@@ -186,7 +186,7 @@ fn every_flag_and_short_length_of_too_few_bytes(rt: HostRuntime) {
             let header_len = usize::from(row.1);
             let whole_len = header_len.saturating_add(usize::from(row.3[i].unwrap_or(0)));
             let bytes = numbered(row.0, SHORT_LENS[i]);
-            front_is_refused(
+            prefix_is_refused(
                 rt,
                 &bytes,
                 whole_len.saturating_sub(1),
@@ -197,23 +197,23 @@ fn every_flag_and_short_length_of_too_few_bytes(rt: HostRuntime) {
     }
 }
 
-// Every front of a header with its payload.
-fn fronts_are_refused(
+// Every prefix of a header with its payload.
+fn prefixes_are_refused(
     rt: impl Abort + Copy,
     bytes: &[u8; 80],
     header_len: usize,
     whole_len: usize,
 ) {
     for len in 0..whole_len {
-        front_is_refused(rt, bytes, len, header_len, whole_len);
+        prefix_is_refused(rt, bytes, len, header_len, whole_len);
     }
     let (whole, _) = bytes.split_at(whole_len.min(80));
     equal(rt, refusal(whole), None);
 }
 
 #[test]
-fn every_front_of_a_header_with_its_payload(rt: HostRuntime) {
+fn every_prefix_of_a_header_with_its_payload(rt: HostRuntime) {
     // Encrypted, with an identifier, and 3 bytes of payload; and unmodified, with 5 of them.
-    fronts_are_refused(rt, &numbered(0x28, 3), 14, 17);
-    fronts_are_refused(rt, &numbered(0x20, 7), 16, 21);
+    prefixes_are_refused(rt, &numbered(0x28, 3), 14, 17);
+    prefixes_are_refused(rt, &numbered(0x20, 7), 16, 21);
 }

@@ -11,7 +11,7 @@ use ep_tag::{
 // Priority, whether it may be dropped first, identifier and ether type.
 type Fields = [u16; 4];
 
-// Priority 5, drop eligible, identifier 0123, IPv6, and what stands behind it; then each field
+// Priority 5, drop eligible, identifier 0123, IPv6, and what follows it; then each field
 // alone.
 const TAGS: &[(&[u8], Fields)] = &[
     (&[0xb1, 0x23, 0x86, 0xdd, 7, 8], [5, 1, 0x123, 0x86dd]),
@@ -25,8 +25,8 @@ const BYTES: [u8; 6] = [0xb1, 0x23, 0x86, 0xdd, 7, 8];
 
 const TWO_TAGS: [u8; 10] = [0, 5, 0x81, 0, 0xb1, 0x23, 0x86, 0xdd, 7, 8];
 
-// The getters below answer what a test compares and no more: a tag that a test held would bring its
-// contract into the proof of everything behind it.
+// The getters below return what a test compares and no more: a tag that a test held would bring its
+// contract into the proof of everything after it.
 
 fn of_header(header: &SingleVlanHeader) -> Fields {
     [
@@ -55,7 +55,7 @@ fn of_slice(tag: &SingleVlanSlice<'_>) -> Fields {
     ]
 }
 
-// A header and what stands behind it.
+// A header and what follows it.
 fn header_read(bytes: &[u8]) -> Result<(Fields, &[u8]), LenError> {
     match SingleVlanHeader::from_slice(bytes) {
         Ok((header, rest)) => Ok((of_header(&header), rest)),
@@ -87,10 +87,10 @@ fn slice_read(bytes: &[u8]) -> Result<([Fields; 2], &[u8]), LenError> {
 #[test]
 fn fields_by_position(rt: HostRuntime) {
     for (bytes, fields) in TAGS.iter() {
-        let (front, rest) = bytes.split_at(4);
+        let (prefix, rest) = bytes.split_at(4);
         equal(rt, header_read(bytes), Ok((*fields, rest)));
         let twice = [*fields, *fields];
-        equal(rt, header_slice_read(bytes), Ok((twice, front)));
+        equal(rt, header_slice_read(bytes), Ok((twice, prefix)));
         equal(rt, slice_read(bytes), Ok((twice, bytes)));
     }
 }
@@ -115,10 +115,10 @@ fn too_short(len: usize) -> LenError {
 }
 
 #[test]
-fn every_front_of_a_tag(rt: HostRuntime) {
+fn every_prefix_of_a_tag(rt: HostRuntime) {
     for len in 0..4usize {
-        let front = &BYTES[..len];
-        equal(rt, refusals(front), [Some(too_short(len)); 3]);
+        let prefix = &BYTES[..len];
+        equal(rt, refusals(prefix), [Some(too_short(len)); 3]);
     }
 }
 
@@ -133,13 +133,13 @@ fn a_header_both_ways(rt: HostRuntime) {
     equal(rt, zeros, [0; 4]);
 }
 
-// The bytes of a tag's header and those behind them, and how many the former are.
+// The bytes of a tag's header and those after them, and how many the former are.
 fn parts<'a>(tag: &SingleVlanSlice<'a>) -> ([&'a [u8]; 2], usize) {
     ([tag.header_slice(), tag.payload_slice()], tag.header_len())
 }
 
 // 34525 is 86dd, IPv6.
-const BEHIND: &str =
+const FOLLOWING: &str =
     "EtherPayloadSlice { ether_type: EtherType(34525), len_source: Slice, payload: [7, 8] }";
 
 #[test]
@@ -148,7 +148,7 @@ fn parts_of_a_tag(rt: HostRuntime) {
         fail(rt, "no tag");
     };
     equal(rt, parts(&tag), ([&BYTES[..4], &[7, 8]], 4));
-    shows(rt, &tag.payload(), BEHIND);
+    shows(rt, &tag.payload(), FOLLOWING);
 }
 
 #[test]
@@ -166,7 +166,7 @@ fn payloads_in_order(rt: HostRuntime) {
     assert!(rt; payload < bounded && payload != bounded);
 }
 
-// The identifier, the ether type behind it, and what follows.
+// The identifier, the ether type after it, and what follows.
 fn next_tag<'a>(tag: &SingleVlanSlice<'a>) -> (u16, u16, &'a [u8]) {
     let payload = tag.payload();
     (
@@ -176,7 +176,7 @@ fn next_tag<'a>(tag: &SingleVlanSlice<'a>) -> (u16, u16, &'a [u8]) {
     )
 }
 
-// Four tags behind a frame's ether type 8100, and nothing behind the last: each names the next.
+// Four tags after a frame's ether type 8100, and nothing after the last: each names the next.
 #[test]
 fn four_tags(rt: HostRuntime) {
     let bytes = [0, 1, 0x81, 0, 0, 2, 0x81, 0, 0, 3, 0x81, 0, 0, 4, 8, 0];
@@ -185,9 +185,9 @@ fn four_tags(rt: HostRuntime) {
         let Ok(tag) = SingleVlanSlice::from_slice(rest) else {
             fail(rt, "no tag");
         };
-        let (_, behind) = rest.split_at(4);
-        equal(rt, next_tag(&tag), (id, next, behind));
-        rest = behind;
+        let (_, following) = rest.split_at(4);
+        equal(rt, next_tag(&tag), (id, next, following));
+        rest = following;
     }
     equal(rt, rest.len(), 0);
 }
@@ -203,7 +203,7 @@ fn two_tags(bytes: &[u8]) -> Option<DoubleVlanSlice<'_>> {
 }
 
 // The length of a header and its bytes.
-fn spelled(header: &DoubleVlanHeader) -> (usize, [u8; 8]) {
+fn encoded(header: &DoubleVlanHeader) -> (usize, [u8; 8]) {
     (header.header_len(), header.to_bytes())
 }
 
@@ -219,15 +219,15 @@ fn of_either(tags: &VlanSlice<'_>) -> (usize, [u8; 8]) {
 }
 
 #[test]
-fn two_tags_and_what_is_behind(rt: HostRuntime) {
+fn two_tags_and_what_follows(rt: HostRuntime) {
     let Some(tags) = two_tags(&TWO_TAGS) else {
         fail(rt, "no tags");
     };
     equal(rt, tags.header_len(), 8);
     equal(rt, tags.payload_slice(), [7, 8].as_slice());
-    shows(rt, &tags.payload(), BEHIND);
+    shows(rt, &tags.payload(), FOLLOWING);
     let bytes = [0, 5, 0x81, 0, 0xb1, 0x23, 0x86, 0xdd];
-    equal(rt, spelled(&tags.to_header()), (8, bytes));
+    equal(rt, encoded(&tags.to_header()), (8, bytes));
 }
 
 #[test]
@@ -241,21 +241,21 @@ fn one_tag_or_two(rt: HostRuntime) {
         of_either(&tag),
         (4, [0xb1, 0x23, 0x86, 0xdd, 0, 0, 0, 0]),
     );
-    shows(rt, &tag.payload(), BEHIND);
+    shows(rt, &tag.payload(), FOLLOWING);
     let tags = VlanSlice::DoubleVlan(tags);
     equal(
         rt,
         of_either(&tags),
         (8, [0, 5, 0x81, 0, 0xb1, 0x23, 0x86, 0xdd]),
     );
-    shows(rt, &tags.payload(), BEHIND);
+    shows(rt, &tags.payload(), FOLLOWING);
 }
 
 fn header() -> SingleVlanHeader {
     SingleVlanHeader::from_bytes([0xb1, 0x23, 0x86, 0xdd])
 }
 
-// A tag of zeros in front of the header above.
+// A tag of zeros before the header above.
 fn double_header() -> DoubleVlanHeader {
     DoubleVlanHeader {
         outer: SingleVlanHeader::default(),
@@ -282,7 +282,7 @@ fn are_written(buffer: &mut Vec<u8>) -> bool {
 }
 
 #[test]
-fn tags_behind_a_byte_that_is_there(rt: HostRuntime) {
+fn tags_after_a_byte_that_is_there(rt: HostRuntime) {
     let mut buffer = Vec::new(rt.alloc());
     let done = buffer.push(9).is_ok() && are_written(&mut buffer);
     let written = [

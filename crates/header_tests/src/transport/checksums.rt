@@ -12,7 +12,7 @@ use std::test::*;
 
 const PAYLOAD: [u8; 8] = [1, 2, 3, 4, 5, 6, 7, 8];
 
-// Where messages come from and go to, over IPv4 and over IPv6.
+// The source and the destination of messages, over IPv4 and over IPv6.
 const V4: [[u8; 4]; 2] = [[10, 0, 0, 1], [10, 0, 0, 2]];
 
 const V6: [[u8; 16]; 2] = [
@@ -90,7 +90,7 @@ fn udp_checksums(rt: HostRuntime) {
     equal(rt, udp_over_ipv6(16, &PAYLOAD), [Ok(0xf5b2); 2]);
 }
 
-// A sum of ffff gives 0, in whose place stands ffff.
+// The complement of a sum of ffff is 0, and ffff is written instead of it.
 #[test]
 fn udp_zero_checksum(rt: HostRuntime) {
     let header = UdpHeader {
@@ -213,7 +213,7 @@ fn tcp_checksums_between_addresses(rt: HostRuntime) {
     equal(rt, over_ipv6(&SYN, V6), [sum(0xb1d8); 3]);
 }
 
-// The same with its three reserved bits set: slices sum them as they stand, which gives 89da over
+// The same with its three reserved bits set: slices sum them as they are, which gives 89da over
 // IPv4 and a3d8 over IPv6, and fields don't have them.
 #[test]
 fn tcp_reserved_bits_are_summed(rt: HostRuntime) {
@@ -236,9 +236,9 @@ fn tcp_zero_checksum(rt: HostRuntime) {
     equal(rt, over_ipv6(&SUM_OF_ZERO, [[0; 16]; 2]), [sum(0); 3]);
 }
 
-// The checksums over IPv4 of a segment of so many bytes, of which all behind this front are 1.
-fn of_ones(rt: impl Abort + Copy, alloc: Global, front: &[u8], len: usize, wanted: Checksums) {
-    equal(rt, over_ipv4(&filled(alloc, front, 1, len), V4), wanted);
+// The checksums over IPv4 of a segment of so many bytes, of which all after the prefix given are 1.
+fn of_ones(rt: impl Abort + Copy, alloc: Global, prefix: &[u8], len: usize, wanted: Checksums) {
+    equal(rt, over_ipv4(&filled(alloc, prefix, 1, len), V4), wanted);
 }
 
 // From port 1 to port 2 with the number 3 and the window 1024.
@@ -246,12 +246,12 @@ const HEADER: [u8; 20] = [
     0, 1, 0, 2, 0, 0, 0, 3, 0, 0, 0, 0, 0x50, 0, 4, 0, 0, 0, 0, 0,
 ];
 
-// The same in front of 40 bytes of options.
+// The same before 40 bytes of options.
 const HEADER_OF_OPTIONS: [u8; 20] = [
     0, 1, 0, 2, 0, 0, 0, 3, 0, 0, 0, 0, 0xf0, 0, 4, 0, 0, 0, 0, 0,
 ];
 
-// The greatest payload over IPv4, of ones, behind headers of 20 and of 60 bytes, and one byte more:
+// The greatest payload over IPv4, of ones, after headers of 20 and of 60 bytes, and one byte more:
 // other tools give 217b and 817a.
 #[test]
 fn tcp_greatest_payload(rt: HostRuntime) {
@@ -275,16 +275,16 @@ fn tcp_greatest_payload_with_options(rt: HostRuntime) {
     of_ones(rt, rt.alloc(), &HEADER_OF_OPTIONS, 65536, longer);
 }
 
-// Over IPv6, where a program apart gives 873a, the limit is above 4 gigabytes; `laws::examples` has
-// it.
+// Over IPv6, where a separate program gives 873a, the limit is above 4 gigabytes; `laws::examples`
+// has it.
 #[test]
 fn tcp_greater_payload_over_ipv6(rt: HostRuntime) {
     let bytes = filled(rt.alloc(), &HEADER_OF_OPTIONS, 1, 60 + 65516);
     equal(rt, over_ipv6(&bytes, V6), [sum(0x873a); 3]);
 }
 
-// Segments of ones, but for the data offset, of 65534 and 65535 bytes, and one byte more: a program
-// apart gives 1e79 and 1d78, and with 40 bytes of options 7e78 and 7d77.
+// Segments of ones, but for the data offset, of 65534 and 65535 bytes, and one byte more: a
+// separate program gives 1e79 and 1d78, and with 40 bytes of options 7e78 and 7d77.
 #[test]
 fn tcp_greatest_segment(rt: HostRuntime) {
     let ones = [1, 1, 1, 1, 1, 1, 1, 1, 1, 1, 1, 1, 0x50];

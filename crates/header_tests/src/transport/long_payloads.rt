@@ -1,6 +1,6 @@
-//! Checksums over payloads of each length up to 130, and of the greatest. Wanted values are worked
-//! out by hand, or go on from the last length. Between no addresses a pseudo header of either
-//! version adds the number and the length, up to 65535.
+//! Checksums over payloads of each length up to 130, and of the greatest. Expected values are
+//! calculated by hand, or from those of the length before. A pseudo header of either version with
+//! addresses of zeros adds the number and the length, up to 65535.
 
 use crate::checks::equal;
 use crate::payloads::{complement, counted, filled};
@@ -54,13 +54,13 @@ fn wanted(len: u8, total: u32) -> [[Checksum; 2]; 2] {
 fn payloads_of_every_length(rt: HostRuntime) {
     let (bytes, sums) = counted();
     for len in 0..=130u8 {
-        let place = usize::from(len);
-        let found = both(&bytes[..place]);
-        equal(rt, (len, found), (len, wanted(len, sums[place])));
+        let index = usize::from(len);
+        let found = both(&bytes[..index]);
+        equal(rt, (len, found), (len, wanted(len, sums[index])));
     }
 }
 
-// Words ffff and a last ff00 behind headers of 8 and of 20 bytes, 65535 bytes in all.
+// Words ffff and a last ff00 after headers of 8 and of 20 bytes, 65535 bytes in all.
 #[test]
 fn greatest_payloads(rt: HostRuntime) {
     let datagram = filled(rt.alloc(), &[], 0xff, 65527);

@@ -169,15 +169,15 @@ fn two(bytes: &[u8]) -> ([Item; 2], usize) {
     ([items.next(), items.next()], items.rest().len())
 }
 
-// Nothing comes behind the end of the list, nor behind a fault.
+// Nothing comes after the end of the list, nor after a fault.
 #[test]
-fn nothing_behind_the_end(rt: HostRuntime) {
+fn nothing_after_the_end(rt: HostRuntime) {
     equal(rt, two(&[1, 0, 1, 1]), ([Some(Ok(Noop)), None], 0));
     let unknown = TcpOptionReadError::UnknownId(6);
     equal(rt, two(&[6, 1, 1, 1]), ([Some(Err(unknown)), None], 0));
 }
 
-// The option of this kind and size at the front of so many bytes.
+// The option of this kind and size at the start of so many bytes.
 fn option(kind: u8, size: u8, len: usize) -> Item {
     let mut bytes = [0; 34];
     bytes[0] = kind;
@@ -258,8 +258,8 @@ const COUNTED: [u8; 40] = [
 // So many of them.
 fn counted<const N: usize>() -> [u8; N] {
     let mut bytes = [0; N];
-    if let Some(front) = COUNTED.get(..N) {
-        bytes.copy_from_slice(front);
+    if let Some(prefix) = COUNTED.get(..N) {
+        bytes.copy_from_slice(prefix);
     }
     bytes
 }

@@ -10,8 +10,8 @@ use std::hash::FoldHasher;
 use std::process::Abort;
 use std::test::*;
 
-// A header with four bytes of options, made by hand after RFC 9293, with all reserved bits set, and
-// two bytes of payload.
+// A header with four bytes of options, written by hand after RFC 9293, with all reserved bits set,
+// and two bytes of payload.
 const BYTES: [u8; 26] = [
     0, 1, 0, 2, 0, 0, 0, 3, 0, 0, 0, 4, 0x6f, 0x91, 0, 5, 0, 6, 0, 7, 1, 1, 1, 0, 0xaa, 0xbb,
 ];
@@ -52,7 +52,7 @@ fn too_short(required_len: usize, len: usize, layer_start_offset: usize) -> Head
     })
 }
 
-// What is left of the options of the header at the front.
+// How many bytes of options are left of the header at the start of these bytes.
 fn options_left(bytes: &[u8]) -> Option<usize> {
     match TcpHeader::from_slice(bytes) {
         Ok((header, _)) => Some(header.options_iterator().rest().len()),
@@ -171,18 +171,18 @@ fn has_flags(rt: impl Abort + Copy, bytes: &[u8], wanted: [bool; 9]) {
     }
 }
 
-// Each flag stands at its own bit (RFC 9293, section 3.1; RFC 3540; RFC 3168).
+// Each flag is its own bit (RFC 9293, section 3.1; RFC 3540; RFC 3168).
 #[test]
 fn flags_at_their_bits(rt: HostRuntime) {
-    for place in 0..9usize {
+    for index in 0..9usize {
         let mut bytes = BYTES;
-        let bits = 1u16 << (8 - place);
+        let bits = 1u16 << (8 - index);
         bytes[12] = 0x60 | (bits >> 8) as u8;
         bytes[13] = (bits & 0xff) as u8;
         let mut wanted = [false; 9];
-        wanted[place] = true;
+        wanted[index] = true;
         has_flags(rt, &bytes, wanted);
-        equal(rt, (place, is_written_again(&bytes)), (place, true));
+        equal(rt, (index, is_written_again(&bytes)), (index, true));
     }
 }
 
@@ -265,7 +265,7 @@ fn faulty_data_offsets(rt: HostRuntime) {
     }
 }
 
-// The place of a want of bytes moves; a fault of the content names none.
+// The offset of an error of too few bytes moves; an error in the content has none.
 #[test]
 fn errors_seen_from_further_out(rt: HostRuntime) {
     let short = HeaderSliceError::Len(LenError {

@@ -7,7 +7,7 @@ use ep_tcpudp::{UdpHeader, UdpHeaderSlice, UdpSlice, laws};
 use std::process::Abort;
 use std::test::*;
 
-// Ports 1 and 2 of a datagram of 16 bytes with the payload 1 to 8, and two bytes behind it.
+// Ports 1 and 2 of a datagram of 16 bytes with the payload 1 to 8, and two bytes after it.
 const BYTES: [u8; 18] = [
     0, 1, 0, 2, 0, 16, 0xdb, 0xb4, 1, 2, 3, 4, 5, 6, 7, 8, 0xaa, 0xbb,
 ];
@@ -23,7 +23,7 @@ fn fields() -> UdpHeader {
     }
 }
 
-fn want(required_len: usize, len: usize, len_source: LenSource, layer: Layer) -> LenError {
+fn missing(required_len: usize, len: usize, len_source: LenSource, layer: Layer) -> LenError {
     LenError {
         required_len,
         len,
@@ -35,7 +35,7 @@ fn want(required_len: usize, len: usize, len_source: LenSource, layer: Layer) ->
 
 #[test]
 fn header_by_position(rt: HostRuntime) {
-    let short = want(8, 7, LenSource::Slice, Layer::UdpHeader);
+    let short = missing(8, 7, LenSource::Slice, Layer::UdpHeader);
     equal(
         rt,
         UdpHeader::from_slice(&BYTES),
@@ -133,8 +133,8 @@ fn lengths_of_datagrams(rt: HostRuntime) {
 
 #[test]
 fn lengths_of_no_datagrams(rt: HostRuntime) {
-    let beyond = want(11, 10, LenSource::Slice, Layer::UdpPayload);
-    let short = want(8, 7, LenSource::Slice, Layer::UdpHeader);
+    let beyond = missing(11, 10, LenSource::Slice, Layer::UdpPayload);
+    let short = missing(8, 7, LenSource::Slice, Layer::UdpHeader);
     equal(rt, payload(&datagram_of(11)), Err(beyond));
     equal(rt, payload(&[0; 7]), Err(short));
 }
@@ -142,7 +142,7 @@ fn lengths_of_no_datagrams(rt: HostRuntime) {
 #[test]
 fn lengths_below_eight(rt: HostRuntime) {
     for length in 1..8u8 {
-        let below = want(8, length.into(), LenSource::UdpHeaderLen, Layer::UdpHeader);
+        let below = missing(8, length.into(), LenSource::UdpHeaderLen, Layer::UdpHeader);
         equal(rt, payload(&datagram_of(length)), Err(below));
     }
 }

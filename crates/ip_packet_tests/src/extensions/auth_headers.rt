@@ -1,10 +1,10 @@
 //! Authentication headers in slices.
 //! Calls have no contracts: tests alone make them, and are run.
 
-use super::headers::{Want, fault_of, front};
+use super::headers::{Missing, fault_of, prefix};
 use super::kinds::{Kind, is_appended, is_copy};
 use super::rows::{Call, rows};
-use crate::checks::{holds, shows, want_in_slice};
+use crate::checks::{holds, missing_in_slice, shows};
 use ep_base::IpNumber;
 use ep_base::err::Layer;
 use ep_ext::err::ip_auth::{HeaderError, HeaderSliceError, IcvLenError};
@@ -17,52 +17,52 @@ const AUTH: [u8; 26] = [
     0xbb,
 ];
 
-// Whether the bytes of a header are those at the front, with the reserved ones cleared.
-fn is_cleared(written: &[u8], front: &[u8]) -> bool {
-    written.len() == front.len()
-        && written.get(..2) == front.get(..2)
+// Whether the bytes of a header are those at the start, with the reserved ones cleared.
+fn is_cleared(written: &[u8], prefix: &[u8]) -> bool {
+    written.len() == prefix.len()
+        && written.get(..2) == prefix.get(..2)
         && written.get(2..4) == Some(&[0, 0])
-        && written.get(4..) == front.get(4..)
+        && written.get(4..) == prefix.get(4..)
 }
 
 /// The fields of a header: its number, its index, its sequence number and its length; and whether
-/// its bytes and its check value are those at the front, and the rest those behind.
+/// its bytes and its check value are those at the start, and the rest those after the header.
 type Shown = (IpNumber, u32, u32, usize, bool, bool, bool);
 
-fn auth(bytes: &[u8]) -> Result<Shown, Result<Want, HeaderError>> {
+fn auth(bytes: &[u8]) -> Result<Shown, Result<Missing, HeaderError>> {
     match IpAuthHeader::from_slice(bytes) {
         Ok((header, rest)) => {
-            let (front, behind) = bytes.split_at(header.header_len().min(bytes.len()));
+            let (prefix, after) = bytes.split_at(header.header_len().min(bytes.len()));
             Ok((
                 header.next_header,
                 header.spi,
                 header.sequence_number,
                 header.header_len(),
-                is_cleared(header.to_bytes().as_slice(), front),
-                front.get(12..) == Some(header.raw_icv()),
-                rest == behind,
+                is_cleared(header.to_bytes().as_slice(), prefix),
+                prefix.get(12..) == Some(header.raw_icv()),
+                rest == after,
             ))
         }
         Err(error) => Err(fault_of(error, bytes.len())),
     }
 }
 
-/// A front of `AUTH`.
-pub fn auth_front(len: usize) -> Result<Shown, Result<Want, HeaderError>> {
-    auth(front(&AUTH, len))
+/// A prefix of `AUTH`.
+pub fn auth_prefix(len: usize) -> Result<Shown, Result<Missing, HeaderError>> {
+    auth(prefix(&AUTH, len))
 }
 
-/// A front of the greatest authentication header and a byte.
-pub fn greatest_auth(len: usize) -> Result<Shown, Result<Want, HeaderError>> {
+/// A prefix of the greatest authentication header and a byte.
+pub fn greatest_auth(len: usize) -> Result<Shown, Result<Missing, HeaderError>> {
     let mut bytes = [0; 1029];
     bytes[1] = 255;
     bytes[1027] = 9;
-    auth(front(&bytes, len))
+    auth(prefix(&bytes, len))
 }
 
 /// So many bytes of zero, of at most 16.
-pub fn zero_auth(len: usize) -> Result<Shown, Result<Want, HeaderError>> {
-    auth(front(&[0; 16], len))
+pub fn zero_auth(len: usize) -> Result<Shown, Result<Missing, HeaderError>> {
+    auth(prefix(&[0; 16], len))
 }
 
 #[test]
@@ -96,15 +96,15 @@ fn a_length_byte_of_zero(rt: HostRuntime) {
 }
 
 #[test]
-fn faults_seen_from_further_in_front(rt: HostRuntime) {
-    let want = HeaderSliceError::Len(want_in_slice(12, 11, Layer::IpAuthHeader));
-    let moved = fault_of(want.add_slice_offset(40), 11);
+fn faults_seen_from_an_earlier_start(rt: HostRuntime) {
+    let missing = HeaderSliceError::Len(missing_in_slice(12, 11, Layer::IpAuthHeader));
+    let moved = fault_of(missing.add_slice_offset(40), 11);
     shows(rt, "a want", &moved, "Ok((12, 0, Slice, IpAuthHeader, 40))");
     let zero = HeaderSliceError::Content(HeaderError::ZeroPayloadLen).add_slice_offset(40);
     shows(rt, "a fault", &zero, "Content(ZeroPayloadLen)");
 }
 
-// Whether the header at the front of `AUTH` is that of its fields.
+// Whether the header at the start of `AUTH` is that of its fields.
 fn is_of_its_fields() -> bool {
     let made = IpAuthHeader::new(IpNumber::TCP, 0x0102_0304, 0x0506_0708, &AUTH[12..24]);
     match (made, IpAuthHeader::from_slice(&AUTH)) {
@@ -134,12 +134,12 @@ fn is_itself(view: &IpAuthHeaderSlice<'_>) -> bool {
     is_copy && view.to_header().raw_icv() == view.raw_icv()
 }
 
-/// What a view of a front of `AUTH` shows: its number, its index and its sequence number; whether
+/// What a view of a prefix of `AUTH` shows: its number, its index and its sequence number; whether
 /// its bytes and its check value are those of `AUTH`, and whether it is itself.
 type Viewed = (IpNumber, u32, u32, bool, bool, bool);
 
-pub fn auth_view(len: usize) -> Result<Viewed, Result<Want, HeaderError>> {
-    match IpAuthHeaderSlice::from_slice(front(&AUTH, len)) {
+pub fn auth_view(len: usize) -> Result<Viewed, Result<Missing, HeaderError>> {
+    match IpAuthHeaderSlice::from_slice(prefix(&AUTH, len)) {
         Ok(view) => Ok((
             view.next_header(),
             view.spi(),
@@ -165,7 +165,7 @@ fn views_of_authentication_headers(rt: HostRuntime) {
 
 // A header with so many bytes of check value, at most 1100.
 fn auth_of_len(len: usize) -> Result<IpAuthHeader, IcvLenError> {
-    IpAuthHeader::new(IpNumber::TCP, 1, 2, front(&[7; 1100], len))
+    IpAuthHeader::new(IpNumber::TCP, 1, 2, prefix(&[7; 1100], len))
 }
 
 /// The length of its check value and its own, or why there is none.
@@ -202,7 +202,7 @@ fn lengths_of_check_values(rt: HostRuntime) {
 pub fn auth_changed(len: usize) -> Option<(bool, Result<(), IcvLenError>, bool)> {
     let mut header = auth_of_len(0).ok()?;
     let is_taken = header.set_raw_icv(&[1, 2, 3, 4]).is_ok();
-    let taken = header.set_raw_icv(front(&[9; 1100], len));
+    let taken = header.set_raw_icv(prefix(&[9; 1100], len));
     let bytes = [6, 2, 0, 0, 0, 0, 0, 1, 0, 0, 0, 2, 1, 2, 3, 4];
     let is_kept = header.to_bytes().as_slice() == bytes.as_slice()
         && header.raw_icv() == &bytes[12..];

@@ -1,6 +1,6 @@
 //! The texts of errors of extension headers in a row.
 
-use crate::checks::{read_alike, read_as, reads_as, want_in_slice};
+use crate::checks::{missing_in_slice, read_alike, read_as, reads_as};
 use ep_base::IpNumber;
 use ep_base::err::Layer;
 use ep_ext::err::{ip_auth, ip_exts, ipv4_exts, ipv6_exts};
@@ -57,10 +57,10 @@ fn texts_of_the_authentication_header_among_others(rt: HostRuntime) {
     );
 }
 
-// An error that holds a want has its text.
+// An error that holds a `LenError` has its text.
 #[test]
-fn texts_of_a_want(rt: HostRuntime) {
-    let error = want_in_slice(8, 7, Layer::Ipv6FragHeader);
+fn texts_of_missing_bytes(rt: HostRuntime) {
+    let error = missing_in_slice(8, 7, Layer::Ipv6FragHeader);
     let of_slice = ipv6_exts::HeaderSliceError::Len(error);
     let limited = ipv6_exts::HeaderLimitedReadError::Len(error);
     let of_headers = ip_exts::HeadersSliceError::Len(error);
@@ -68,7 +68,7 @@ fn texts_of_a_want(rt: HostRuntime) {
 }
 
 #[test]
-fn texts_of_a_want_of_memory(rt: HostRuntime) {
+fn texts_of_out_of_memory(rt: HostRuntime) {
     let v6 = ipv6_exts::HeaderWriteError::Memory;
     reads_as(rt, &v6, "no memory left for IPv6 extension headers");
     let v4 = ipv4_exts::HeaderWriteError::Memory;

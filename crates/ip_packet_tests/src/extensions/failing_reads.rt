@@ -1,5 +1,5 @@
 //! Each read of each header fails, over every length that a header can have: which calls are made,
-//! what is told, and how much was read.
+//! what is returned, and how much was read.
 
 use super::kinds::Kind;
 use super::readers::limited;
@@ -12,7 +12,7 @@ use std::process::Abort;
 use std::test::*;
 
 // What is read: a header whose second byte is the number, within a limit too; options of that
-// length and a header behind them; so many bytes, and eight more.
+// length and a header after them; so many bytes, and eight more.
 #[derive(Clone, Copy)]
 enum Source {
     Header(Kind),
@@ -21,7 +21,7 @@ enum Source {
     Buffers,
 }
 
-// A reader that gives all that it is asked for but for this call, which fails.
+// A reader that gives all that is requested but for this call, which fails.
 fn failing(bytes: &[u8], call: usize) -> FaultReader<'_> {
     FaultReader::failing(bytes, 4096, call, Fault::Fails(ErrorKind::PermissionDenied))
 }
@@ -44,7 +44,7 @@ fn refused(read: Read, len: usize) -> (Option<Refusal>, usize) {
     }
 }
 
-// What is told where this call fails, and how many calls there are.
+// What is returned where this call fails, and how many calls there are.
 fn read_failing(kind: Kind, number: usize, call: usize) -> ((Option<Refusal>, usize), usize) {
     let bytes = header(number);
     let mut reader = failing(&bytes, call);
@@ -62,8 +62,8 @@ fn limited_failing(kind: Kind, number: usize, call: usize) -> ((Option<Refusal>,
     (refused(read, len), reader.take_reader().calls)
 }
 
-// Destination options (number 60) and behind them an authentication header (51) of 20 bytes: what
-// is read, how many bytes are left and were options, and how many calls there are.
+// Destination options (number 60) and after them an authentication header (51) of 20 bytes: what is
+// read, how many bytes are left and were options, and how many calls there are.
 fn chain_failing(number: usize, call: usize) -> (Read, Option<usize>, usize) {
     let options = (usize::from(byte(number)) + 1) * 8;
     let mut bytes = [0x33; 2068];
@@ -92,8 +92,8 @@ fn filled(len: usize, call: usize) -> (bool, bool, usize, usize) {
     (filled, more, counted, reader.take_reader().calls)
 }
 
-// Fails where this is not told, and tells how many calls there are.
-fn is_told(
+// Fails where another result is returned, and returns how many calls there are.
+fn is_reported(
     rt: impl Abort + AllocGlobal + Copy,
     source: Source,
     number: usize,
@@ -102,29 +102,29 @@ fn is_told(
 ) -> usize {
     match source {
         Source::Header(kind) => {
-            let told = read_failing(kind, number, call);
-            shows(rt, number, &told, wanted);
-            told.1
+            let observed = read_failing(kind, number, call);
+            shows(rt, number, &observed, wanted);
+            observed.1
         }
         Source::Limited(kind) => {
-            let told = limited_failing(kind, number, call);
-            shows(rt, number, &told, wanted);
-            told.1
+            let observed = limited_failing(kind, number, call);
+            shows(rt, number, &observed, wanted);
+            observed.1
         }
         Source::Chain => {
-            let told = chain_failing(number, call);
-            shows(rt, number, &told, wanted);
-            told.2
+            let observed = chain_failing(number, call);
+            shows(rt, number, &observed, wanted);
+            observed.2
         }
         Source::Buffers => {
-            let told = filled(number, call);
-            shows(rt, number, &told, wanted);
-            told.3
+            let observed = filled(number, call);
+            shows(rt, number, &observed, wanted);
+            observed.3
         }
     }
 }
 
-// What is told where no call fails, and then where each of them does.
+// What is returned where no call fails, and then where each of them does.
 fn each_call_fails(
     rt: impl Abort + AllocGlobal + Copy,
     tally: &mut Tally,
@@ -135,10 +135,10 @@ fn each_call_fails(
     let Some((whole, failing)) = wanted.split_once(" | ") else {
         panic!(rt; "no row: {wanted}");
     };
-    tally.count(is_told(rt, source, number, usize::MAX, whole));
+    tally.count(is_reported(rt, source, number, usize::MAX, whole));
     let mut call = 0usize;
     for wanted in failing.split(" | ") {
-        let _calls = is_told(rt, source, number, call, wanted);
+        let _calls = is_reported(rt, source, number, call, wanted);
         tally.tries();
         call = call.saturating_add(1);
     }
@@ -156,8 +156,8 @@ fn each_read_fails(
         let Some((row, wanted)) = line.trim().split_once(": ") else {
             panic!(rt; "no row: {line}");
         };
-        let (first, behind) = range(rt, row);
-        for number in first..behind {
+        let (first, after) = range(rt, row);
+        for number in first..after {
             each_call_fails(rt, &mut tally, source, number, wanted);
         }
     }
@@ -233,8 +233,8 @@ fn each_read_of_chains_fails(rt: HostRuntime) {
     );
 }
 
-// Reads into buffers of each size up to the greatest that a header wants, and then into one of 8
-// bytes: one call for each, and none for a buffer with no room.
+// Reads into buffers of each size up to the greatest that a header needs, and then into one of 8
+// bytes: one call for each, and none for an empty buffer.
 #[test]
 fn buffers_of_each_size(rt: HostRuntime) {
     each_read_fails(

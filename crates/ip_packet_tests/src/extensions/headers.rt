@@ -18,12 +18,12 @@ const RAW: [u8; 18] = [17, 1, 1, 4, 0, 0, 0, 0, 1, 6, 0, 0, 0, 0, 0, 0, 0xaa, 0x
 // A fragment header by RFC 8200, section 4.5, with reserved bits set. Two bytes follow.
 const FRAGMENT: [u8; 10] = [58, 0xff, 0xab, 0xcd, 0x12, 0x34, 0x56, 0x78, 0xaa, 0xbb];
 
-/// A want of bytes: how many are wanted, and how many are there; what tells that, the layer and its
-/// offset.
-pub type Want = (usize, usize, LenSource, Layer, usize);
+/// Too few bytes: how many are required, and how many are there; the source of that number, the
+/// layer and its offset.
+pub type Missing = (usize, usize, LenSource, Layer, usize);
 
-/// The want that an error tells.
-pub fn want(error: LenError) -> Want {
+/// The same of an error.
+pub fn missing(error: LenError) -> Missing {
     (
         error.required_len,
         error.len,
@@ -34,55 +34,55 @@ pub fn want(error: LenError) -> Want {
 }
 
 /// The same with how many bytes of so many are not there, which doesn't change with their number.
-pub fn want_of(error: LenError, len: usize) -> Want {
+pub fn missing_of(error: LenError, len: usize) -> Missing {
     let before = len.wrapping_sub(error.len);
-    want(LenError {
+    missing(LenError {
         len: before,
         ..error
     })
 }
 
-/// Why a slice of so many bytes begins with no header: the want, or the fault.
-pub fn fault_of<C>(error: SliceError<C>, len: usize) -> Result<Want, C> {
+/// Why a slice of so many bytes starts with no header: too few bytes, or the fault.
+pub fn fault_of<C>(error: SliceError<C>, len: usize) -> Result<Missing, C> {
     match error {
-        SliceError::Len(error) => Ok(want_of(error, len)),
+        SliceError::Len(error) => Ok(missing_of(error, len)),
         SliceError::Content(fault) => Err(fault),
     }
 }
 
 /// The first bytes, at most so many.
-pub fn front(bytes: &[u8], len: usize) -> &[u8] {
+pub fn prefix(bytes: &[u8], len: usize) -> &[u8] {
     bytes.split_at(len.min(bytes.len())).0
 }
 
 // What a raw header shows: its number and its length; whether its bytes and its payload are those
-// at the front, and the rest those behind.
-fn raw(bytes: &[u8]) -> Result<(IpNumber, usize, bool, bool, bool), Want> {
+// at the start, and the rest those after the header.
+fn raw(bytes: &[u8]) -> Result<(IpNumber, usize, bool, bool, bool), Missing> {
     match Ipv6RawExtHeader::from_slice(bytes) {
         Ok((header, rest)) => {
-            let (front, behind) = bytes.split_at(header.header_len().min(bytes.len()));
+            let (prefix, after) = bytes.split_at(header.header_len().min(bytes.len()));
             Ok((
                 header.next_header,
                 header.header_len(),
-                header.to_bytes().as_slice() == front,
-                front.get(2..) == Some(header.payload()),
-                rest == behind,
+                header.to_bytes().as_slice() == prefix,
+                prefix.get(2..) == Some(header.payload()),
+                rest == after,
             ))
         }
-        Err(error) => Err(want_of(error, bytes.len())),
+        Err(error) => Err(missing_of(error, bytes.len())),
     }
 }
 
-/// A front of `RAW`.
-pub fn raw_front(len: usize) -> Result<(IpNumber, usize, bool, bool, bool), Want> {
-    raw(front(&RAW, len))
+/// A prefix of `RAW`.
+pub fn raw_prefix(len: usize) -> Result<(IpNumber, usize, bool, bool, bool), Missing> {
+    raw(prefix(&RAW, len))
 }
 
-/// A front of the greatest raw header and a byte.
-pub fn greatest_raw(len: usize) -> Result<(IpNumber, usize, bool, bool, bool), Want> {
+/// A prefix of the greatest raw header and a byte.
+pub fn greatest_raw(len: usize) -> Result<(IpNumber, usize, bool, bool, bool), Missing> {
     let mut bytes = [3; 2049];
     bytes[1] = 255;
-    raw(front(&bytes, len))
+    raw(prefix(&bytes, len))
 }
 
 #[test]
@@ -119,17 +119,17 @@ fn raw_view_is_itself(view: &Ipv6RawExtHeaderSlice<'_>) -> bool {
     is_copy && view.to_header().to_bytes().as_slice() == view.slice()
 }
 
-/// What a view of a front of `RAW` shows: its bytes, its number and its payload; and whether it is
+/// What a view of a prefix of `RAW` shows: its bytes, its number and its payload; and whether it is
 /// itself.
-pub fn raw_view(len: usize) -> Result<(&'static [u8], IpNumber, &'static [u8], bool), Want> {
-    match Ipv6RawExtHeaderSlice::from_slice(front(&RAW, len)) {
+pub fn raw_view(len: usize) -> Result<(&'static [u8], IpNumber, &'static [u8], bool), Missing> {
+    match Ipv6RawExtHeaderSlice::from_slice(prefix(&RAW, len)) {
         Ok(view) => Ok((
             view.slice(),
             view.next_header(),
             view.payload(),
             raw_view_is_itself(&view),
         )),
-        Err(error) => Err(want_of(error, len)),
+        Err(error) => Err(missing_of(error, len)),
     }
 }
 
@@ -145,7 +145,7 @@ fn views_of_raw_headers(rt: HostRuntime) {
     );
 }
 
-/// Whether headers and views have the layout of a raw header behind this number.
+/// Whether headers and views have the layout of a raw header after this number.
 pub fn raw_number(number: usize) -> Option<(bool, bool)> {
     match u8::try_from(number) {
         Ok(number) => Some((
@@ -176,7 +176,7 @@ fn numbers_of_raw_headers(rt: HostRuntime) {
 
 // A header with so many bytes of payload, at most 2100.
 fn raw_of_len(len: usize) -> Result<Ipv6RawExtHeader, ExtPayloadLenError> {
-    Ipv6RawExtHeader::new_raw(IpNumber::TCP, front(&[7; 2100], len))
+    Ipv6RawExtHeader::new_raw(IpNumber::TCP, prefix(&[7; 2100], len))
 }
 
 /// The length of its payload and its own, or why there is none.
@@ -214,7 +214,7 @@ fn lengths_of_raw_payloads(rt: HostRuntime) {
 pub fn raw_changed(len: usize) -> Option<(bool, Result<(), ExtPayloadLenError>, bool)> {
     let mut header = raw_of_len(14).ok()?;
     let is_taken = header.set_payload(&[1, 2, 3, 4, 5, 6]).is_ok();
-    let taken = header.set_payload(front(&[9; 2100], len));
+    let taken = header.set_payload(prefix(&[9; 2100], len));
     let bytes = [6, 0, 1, 2, 3, 4, 5, 6];
     let is_kept = header.to_bytes().as_slice() == bytes.as_slice()
         && header.payload() == &bytes[2..];
@@ -244,16 +244,16 @@ fn fields(header: &Ipv6FragmentHeader) -> Fields {
     )
 }
 
-/// The fields of a header at a front of `FRAGMENT`, its length, its bytes and the rest.
-pub fn fragment(len: usize) -> Result<(Fields, usize, [u8; 8], &'static [u8]), Want> {
-    match Ipv6FragmentHeader::from_slice(front(&FRAGMENT, len)) {
+/// The fields of a header at a prefix of `FRAGMENT`, its length, its bytes and the rest.
+pub fn fragment(len: usize) -> Result<(Fields, usize, [u8; 8], &'static [u8]), Missing> {
+    match Ipv6FragmentHeader::from_slice(prefix(&FRAGMENT, len)) {
         Ok((header, rest)) => Ok((
             fields(&header),
             header.header_len(),
             header.to_bytes(),
             rest,
         )),
-        Err(error) => Err(want_of(error, len)),
+        Err(error) => Err(missing_of(error, len)),
     }
 }
 
@@ -297,9 +297,9 @@ fn fragment_view_is_itself(view: &Ipv6FragmentHeaderSlice<'_>) -> bool {
     is_copy && view.to_header().identification == view.identification()
 }
 
-/// What a view of a front of `FRAGMENT` shows: its bytes and its fields; and whether it is itself.
-pub fn fragment_view(len: usize) -> Result<(&'static [u8], Fields, bool), Want> {
-    match Ipv6FragmentHeaderSlice::from_slice(front(&FRAGMENT, len)) {
+/// What a view of a prefix of `FRAGMENT` shows: its bytes and its fields; and whether it is itself.
+pub fn fragment_view(len: usize) -> Result<(&'static [u8], Fields, bool), Missing> {
+    match Ipv6FragmentHeaderSlice::from_slice(prefix(&FRAGMENT, len)) {
         Ok(view) => Ok((
             view.slice(),
             (
@@ -310,7 +310,7 @@ pub fn fragment_view(len: usize) -> Result<(&'static [u8], Fields, bool), Want> 
             ),
             fragment_view_is_itself(&view),
         )),
-        Err(error) => Err(want_of(error, len)),
+        Err(error) => Err(missing_of(error, len)),
     }
 }
 

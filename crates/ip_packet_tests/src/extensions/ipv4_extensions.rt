@@ -1,7 +1,7 @@
 //! The extension headers of IPv4.
 //! Calls have no contracts: tests alone make them, and are run.
 
-use super::headers::{Want, fault_of, front};
+use super::headers::{Missing, fault_of, prefix};
 use super::kinds::{Kind, is_appended};
 use super::rows::{Call, rows};
 use crate::checks::{holds, shows};
@@ -20,9 +20,9 @@ fn auth_header() -> Ipv4Extensions {
     Ipv4Extensions::from_slice_lax(IpNumber(51), &AUTH).0
 }
 
-// Whether there are no headers, the number behind them, how many bytes of the slice are read, and
+// Whether there are no headers, the number after them, how many bytes of the slice are read, and
 // the fault.
-type Lax = (bool, IpNumber, usize, Option<Result<Want, HeaderError>>);
+type Lax = (bool, IpNumber, usize, Option<Result<Missing, HeaderError>>);
 
 fn up_to_the_fault(first: u8, bytes: &[u8]) -> Lax {
     let (headers, number, rest, fault) = Ipv4Extensions::from_slice_lax(IpNumber(first), bytes);
@@ -34,9 +34,9 @@ fn up_to_the_fault(first: u8, bytes: &[u8]) -> Lax {
     (headers.is_empty(), number, read, fault)
 }
 
-// Whether headers behind the number 51 are none, their length, the number behind them and what is
+// Whether headers after the number 51 are none, their length, the number after them and what is
 // left, or why they are refused.
-type Chain<'a> = Result<(bool, usize, IpNumber, &'a [u8]), Result<Want, HeaderError>>;
+type Chain<'a> = Result<(bool, usize, IpNumber, &'a [u8]), Result<Missing, HeaderError>>;
 
 fn chain(bytes: &[u8]) -> Chain<'_> {
     match Ipv4Extensions::from_slice(IpNumber(51), bytes) {
@@ -47,14 +47,14 @@ fn chain(bytes: &[u8]) -> Chain<'_> {
     }
 }
 
-/// A front of `AUTH`, and the same up to the fault.
-pub fn auth_front(len: usize) -> (Chain<'static>, Lax) {
-    let bytes = front(&AUTH, len);
+/// A prefix of `AUTH`, and the same up to the fault.
+pub fn auth_prefix(len: usize) -> (Chain<'static>, Lax) {
+    let bytes = prefix(&AUTH, len);
     (chain(bytes), up_to_the_fault(51, bytes))
 }
 
 #[test]
-fn an_authentication_header_and_its_fronts(rt: HostRuntime) {
+fn an_authentication_header_and_its_prefixes(rt: HostRuntime) {
     rows(
         rt,
         Call::Ipv4,
@@ -74,20 +74,20 @@ fn a_length_field_of_zero_is_refused(rt: HostRuntime) {
     shows(rt, "0", &up_to_the_fault(51, &[0; 12]), wanted);
 }
 
-// The length of no headers, the number behind them, and the one that they name first where the last
+// The length of no headers, the number after them, and the one that they name first where the last
 // names 17.
 fn none() -> (usize, IpNumber, IpNumber) {
     let mut headers = Ipv4Extensions::from_slice_lax(IpNumber::UDP, &[0, 1, 2, 3]).0;
-    let behind = headers.next_header(IpNumber::UDP).unwrap_or(IpNumber(0));
+    let after = headers.next_header(IpNumber::UDP).unwrap_or(IpNumber(0));
     (
         headers.header_len(),
-        behind,
+        after,
         headers.set_next_headers(IpNumber(17)),
     )
 }
 
 #[test]
-fn no_header_behind_udp(rt: HostRuntime) {
+fn no_header_after_udp(rt: HostRuntime) {
     let wanted = "(true, IpNumber(17), 0, None)";
     shows(rt, "UDP", &up_to_the_fault(17, &[0, 1, 2, 3]), wanted);
     shows(rt, "none", &none(), "(0, IpNumber(17), IpNumber(17))");
@@ -99,7 +99,7 @@ fn an_authentication_header_is_appended(rt: HostRuntime) {
     holds(rt, is_so);
 }
 
-// Whether headers are the same that are written over the front of these bytes and read again, and
+// Whether headers are the same that are written over the start of these bytes and read again, and
 // their copy.
 fn read_back(headers: Ipv4Extensions, bytes: &[u8]) -> bool {
     let is_read = match laws::written_ipv4_chain_reads_back(&headers, IpNumber(51), bytes) {
@@ -115,7 +115,7 @@ fn what_is_written_reads_back(rt: HostRuntime) {
     holds(rt, read_back(auth_header(), &AUTH));
 }
 
-// How the header is written behind a number, and how much was written.
+// How the header is written after a number, and how much was written.
 fn written(alloc: Global, first: u8) -> (Result<(), HeaderWriteError>, usize) {
     let mut buffer = Vec::new(alloc);
     let done = auth_header().write(&mut buffer, IpNumber(first));
@@ -123,7 +123,7 @@ fn written(alloc: Global, first: u8) -> (Result<(), HeaderWriteError>, usize) {
 }
 
 #[test]
-fn numbers_behind_a_header(rt: HostRuntime) {
+fn numbers_after_a_header(rt: HostRuntime) {
     let named = auth_header().next_header(IpNumber(51));
     shows(rt, "51", &named, "Ok(IpNumber(6))");
     let missing = auth_header().next_header(IpNumber(6));
@@ -133,7 +133,7 @@ fn numbers_behind_a_header(rt: HostRuntime) {
     shows(rt, "write", &written(rt.alloc(), 6), wanted);
 }
 
-// What a header answers that is made to name 17, and what it names then.
+// What `set_next_headers` returns where a header is made to name 17, and what it names then.
 fn renamed() -> (IpNumber, Option<IpNumber>) {
     let mut headers = auth_header();
     let first = headers.set_next_headers(IpNumber(17));

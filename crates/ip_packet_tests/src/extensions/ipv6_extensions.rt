@@ -1,9 +1,9 @@
 //! IPv6 extension headers in a row, from slices.
 //! Calls have no contracts: tests alone make them, and are run.
 
-use super::headers::{Want, fault_of, front};
+use super::headers::{Missing, fault_of, prefix};
 use super::rows::{Call, rows};
-use crate::checks::{shows, want_in_slice};
+use crate::checks::{missing_in_slice, shows};
 use ep_base::IpNumber;
 use ep_base::err::{Layer, LenError};
 use ep_ext::err::ipv6_exts::{HeaderError, HeaderSliceError};
@@ -12,9 +12,9 @@ use ep_ip::Ipv6Header;
 use std::process::Abort;
 use std::test::*;
 
-/// A header of each place by RFC 8200, section 4, and RFC 4302, section 2, and two bytes:
-/// hop-by-hop options, destination options, a routing header of 16 bytes, a fragment header, an
-/// authentication header of 24 bytes and final destination options.
+/// A header of each slot by RFC 8200, section 4, and RFC 4302, section 2, and two bytes: hop-by-hop
+/// options, destination options, a routing header of 16 bytes, a fragment header, an authentication
+/// header of 24 bytes and final destination options.
 pub const CHAIN: [u8; 74] = [
     60, 0, 1, 4, 0, 0, 0, 0, // at 0
     43, 0, 1, 4, 0, 0, 0, 0, // at 8
@@ -30,9 +30,9 @@ pub fn all_headers() -> Ipv6Extensions {
     Ipv6Extensions::from_slice_lax(IpNumber(0), &CHAIN).0
 }
 
-type Fault = Result<Want, HeaderError>;
+type Fault = Result<Missing, HeaderError>;
 
-// The length of the headers from this number on, the number behind them and what is left, or why
+// The length of the headers from this number on, the number after them and what is left, or why
 // they are refused.
 type Chain<'a> = Result<(usize, IpNumber, &'a [u8]), Fault>;
 
@@ -43,13 +43,13 @@ fn chain(first: u8, bytes: &[u8]) -> Chain<'_> {
     }
 }
 
-/// A front of `CHAIN`.
-pub fn chain_front(len: usize) -> Chain<'static> {
-    chain(0, front(&CHAIN, len))
+/// A prefix of `CHAIN`.
+pub fn chain_prefix(len: usize) -> Chain<'static> {
+    chain(0, prefix(&CHAIN, len))
 }
 
 #[test]
-fn every_front_of_a_chain_is_refused(rt: HostRuntime) {
+fn every_prefix_of_a_chain_is_refused(rt: HostRuntime) {
     rows(
         rt,
         Call::Ipv6,
@@ -65,7 +65,7 @@ fn every_front_of_a_chain_is_refused(rt: HostRuntime) {
     );
 }
 
-// What is seen of the headers from this number on, up to a fault: their length, the number behind
+// What is seen of the headers from this number on, up to a fault: their length, the number after
 // them, how many bytes are read, the fault, and the layer beside it.
 type Lax = (usize, IpNumber, usize, Option<(Fault, Layer)>);
 
@@ -79,14 +79,14 @@ fn up_to_the_fault(first: u8, bytes: &[u8]) -> Lax {
     (headers.header_len(), number, read, fault)
 }
 
-/// A front of `CHAIN`.
+/// A prefix of `CHAIN`.
 pub fn chain_up_to_the_fault(len: usize) -> Lax {
-    up_to_the_fault(0, front(&CHAIN, len))
+    up_to_the_fault(0, prefix(&CHAIN, len))
 }
 
-// The number and the layer of the header in which the front ends.
+// The number and the layer of the header in which the prefix ends.
 #[test]
-fn every_front_of_a_chain_up_to_the_fault(rt: HostRuntime) {
+fn every_prefix_of_a_chain_up_to_the_fault(rt: HostRuntime) {
     rows(
         rt,
         Call::Ipv6UpToTheFault,
@@ -129,7 +129,7 @@ fn all_six_headers(rt: HostRuntime) {
     shows(rt, "skipped", &skipped(&CHAIN), wanted);
 }
 
-// The length of a routing header and of the options behind it, and its payload.
+// The length of a routing header and of the options after it, and its payload.
 fn routing_of(headers: &Ipv6Extensions) -> Option<(usize, &[u8])> {
     match &headers.routing {
         Some(header) => Some((header.header_len(), header.routing.payload())),
@@ -160,7 +160,7 @@ fn icv_of(auth: &Option<IpAuthHeader>) -> Option<&[u8]> {
 }
 
 #[test]
-fn each_header_at_its_place(rt: HostRuntime) {
+fn each_header_in_its_slot(rt: HostRuntime) {
     let headers = all_headers();
     let named = next_of(&headers.hop_by_hop_options);
     shows(rt, "hop by hop", &named, "Some(IpNumber(60))");
@@ -190,11 +190,11 @@ fn a_second_header_of_a_kind_ends_the_chain(rt: HostRuntime) {
     let bytes = &[43, 0, 0, 0, 0, 0, 0, 0, 17, 0, 0, 0, 0, 0, 0, 0];
     let rest = "Ok((8, IpNumber(43), [17, 0, 0, 0, 0, 0, 0, 0]))";
     ends(rt, 43, bytes, rest);
-    // Destination options behind destination options.
+    // Destination options after destination options.
     let bytes = &[60, 0, 0, 0, 0, 0, 0, 0, 17, 0, 0, 0, 0, 0, 0, 0];
     let rest = "Ok((8, IpNumber(60), [17, 0, 0, 0, 0, 0, 0, 0]))";
     ends(rt, 60, bytes, rest);
-    // The same behind a routing header, where one more has a place.
+    // The same after a routing header, where one more has a slot.
     let bytes = &[
         60, 0, 0, 0, 0, 0, 0, 0, 60, 0, 0, 0, 0, 0, 0, 0, 17, 0, 0, 0, 0, 0, 0, 0,
     ];
@@ -209,9 +209,9 @@ fn a_second_header_of_a_kind_ends_the_chain(rt: HostRuntime) {
 }
 
 #[test]
-fn hop_by_hop_options_behind_a_header_are_refused(rt: HostRuntime) {
+fn hop_by_hop_options_after_a_header_are_refused(rt: HostRuntime) {
     let bytes = &[0, 0, 0, 0, 0, 0, 0, 0, 17, 0, 0, 0, 0, 0, 0, 0];
-    // The options in front are there.
+    // The options before it are there.
     let wanted = "(8, IpNumber(0), 8, Some((Err(HopByHopNotAtStart), Ipv6HopByHopHeader)))";
     shows(rt, "lax", &up_to_the_fault(60, bytes), wanted);
     ends(rt, 60, bytes, "Err(Err(HopByHopNotAtStart))");
@@ -225,7 +225,7 @@ fn an_authentication_header_of_length_zero_is_refused(rt: HostRuntime) {
     ends(rt, 51, bytes, "Err(Err(IpAuth(ZeroPayloadLen)))");
 }
 
-/// Whether there is no header behind this number.
+/// Whether there is no header after this number.
 pub fn ends_at_once(number: usize) -> bool {
     let number = IpNumber(u8::try_from(number).unwrap_or(0));
     match Ipv6Extensions::from_slice(number, &[1, 2, 3]) {
@@ -238,7 +238,7 @@ pub fn ends_at_once(number: usize) -> bool {
 
 // Mobility, host identity and shim6 headers end it too.
 #[test]
-fn numbers_without_a_place_end_the_chain(rt: HostRuntime) {
+fn numbers_without_a_slot_end_the_chain(rt: HostRuntime) {
     rows(
         rt,
         Call::NoIpv6,
@@ -255,9 +255,9 @@ fn numbers_without_a_place_end_the_chain(rt: HostRuntime) {
 }
 
 #[test]
-fn an_error_seen_from_further_in_front(rt: HostRuntime) {
-    let want = HeaderSliceError::Len(want_in_slice(8, 7, Layer::Ipv6ExtHeader));
-    let moved = fault_of(want.add_slice_offset(40), 7);
+fn an_error_seen_from_an_earlier_start(rt: HostRuntime) {
+    let missing = HeaderSliceError::Len(missing_in_slice(8, 7, Layer::Ipv6ExtHeader));
+    let moved = fault_of(missing.add_slice_offset(40), 7);
     shows(rt, "a want", &moved, "Ok((8, 0, Slice, Ipv6ExtHeader, 40))");
     let fault = HeaderSliceError::Content(HeaderError::HopByHopNotAtStart).add_slice_offset(40);
     shows(rt, "a fault", &fault, "Content(HopByHopNotAtStart)");

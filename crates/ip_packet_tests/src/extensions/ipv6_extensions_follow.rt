@@ -9,9 +9,9 @@ use std::alloc::Global;
 use std::process::Abort;
 use std::test::*;
 
-// The number behind headers, or the one of the header that is not reached: None for options that
-// are named later.
-fn number_behind(headers: &Ipv6Extensions, first: u8) -> Result<u8, Option<u8>> {
+// The number after headers, or the one of the header that is not reached: None for options that are
+// named later.
+fn number_after(headers: &Ipv6Extensions, first: u8) -> Result<u8, Option<u8>> {
     match headers.next_header(IpNumber(first)) {
         Ok(number) => Ok(number.0),
         Err(ExtsWalkError::ExtNotReferenced { missing_ext }) => Err(Some(missing_ext.0)),
@@ -20,11 +20,11 @@ fn number_behind(headers: &Ipv6Extensions, first: u8) -> Result<u8, Option<u8>> 
 }
 
 fn leads(rt: impl Abort + AllocGlobal + Copy, headers: &Ipv6Extensions, first: u8, wanted: &str) {
-    shows(rt, first, &number_behind(headers, first), wanted);
+    shows(rt, first, &number_after(headers, first), wanted);
 }
 
-// How headers are written behind a byte: the answer, and whether these are the bytes behind it.
-fn written_behind_a_byte(
+// How headers are written after a byte: the result, and whether these are the bytes after it.
+fn written_after_a_byte(
     alloc: Global,
     headers: &Ipv6Extensions,
     first: u8,
@@ -45,7 +45,7 @@ fn is_written(
     first: u8,
     bytes: &[u8],
 ) {
-    let written = written_behind_a_byte(rt.alloc(), headers, first, bytes);
+    let written = written_after_a_byte(rt.alloc(), headers, first, bytes);
     shows(rt, first, &written, "(Ok(()), true)");
 }
 
@@ -56,8 +56,8 @@ fn a_chain_is_followed_and_written(rt: HostRuntime) {
     is_written(rt, &headers, 0, &CHAIN[..72]);
 }
 
-// What headers are that are written over the front of these bytes and read again: whether they are
-// the same, the number behind them, and how many bytes are left.
+// What is read again of headers that are written over the start of these bytes: whether they are
+// the same, the number after them, and how many bytes are left.
 fn read_back(headers: &Ipv6Extensions, bytes: &[u8]) -> Option<(bool, IpNumber, usize)> {
     match laws::read_call_gives_written_chain(headers, IpNumber(0), bytes) {
         Ok((again, number, rest)) => Some((&again == headers, number, rest.len())),
@@ -158,9 +158,9 @@ fn with_later_options() -> Ipv6Extensions {
 fn hop_by_hop_options_that_are_named_later(rt: HostRuntime) {
     let headers = with_later_options();
     leads(rt, &headers, 60, "Err(None)");
-    // Where they were taken in first place, a later 0 ends the walk.
+    // Where they were taken first, a later 0 ends the walk.
     leads(rt, &headers, 0, "Err(Some(43))");
-    let written = written_behind_a_byte(rt.alloc(), &headers, 60, &[]);
+    let written = written_after_a_byte(rt.alloc(), &headers, 60, &[]);
     shows(
         rt,
         "write",

@@ -1,12 +1,12 @@
-//! What is asked of headers of each kind alike: those that stand alone, and those in a row behind a
-//! first number. The calls have no contracts: tests alone make them, and are run.
+//! Checks of headers of each kind alike: single ones, and those in a row after a first number. The
+//! calls have no contracts: tests alone make them, and are run.
 
 use ep_base::IpNumber;
 use ep_ext::err::{ipv4_exts, ipv6_exts};
 use ep_ext::{IpAuthHeader, Ipv4Extensions, Ipv6Extensions, Ipv6FragmentHeader, Ipv6RawExtHeader};
 use std::alloc::Global;
 
-/// A header, or headers in a row behind this number.
+/// A header, or headers in a row after this number.
 #[derive(Clone, Copy)]
 pub enum Kind {
     Raw,
@@ -47,7 +47,7 @@ fn append_ipv6(first: u8, bytes: &[u8], buffer: &mut Vec<u8>) -> Option<bool> {
     Some(headers.write(buffer, IpNumber(first)) != Err(ipv6_exts::HeaderWriteError::Memory))
 }
 
-// Appends the bytes of the header at the front of these, if there is one, and tells whether there
+// Appends the bytes of the header at the start of these, if there is one, and returns whether there
 // was memory.
 fn append(kind: Kind, bytes: &[u8], buffer: &mut Vec<u8>) -> Option<bool> {
     match kind {
@@ -59,7 +59,7 @@ fn append(kind: Kind, bytes: &[u8], buffer: &mut Vec<u8>) -> Option<bool> {
     }
 }
 
-/// Whether the header at the front of these bytes is written so behind a byte that is there.
+/// Whether the header at the start of these bytes is written so after a byte that is there.
 pub fn is_appended(alloc: Global, kind: Kind, bytes: &[u8], written: &[u8]) -> bool {
     let mut buffer = Vec::new(alloc);
     if buffer.push(0x55).is_err() || append(kind, bytes, &mut buffer) != Some(true) {
@@ -76,7 +76,8 @@ pub fn is_copy<T: PartialEq + Drop, E: Drop>(copy: Result<T, E>, other: &T) -> b
     }
 }
 
-/// Whether all bytes of the header at the front of these are written or, for want of memory, none.
+/// Whether all bytes of the header at the start of these are written or, where there is no memory,
+/// none.
 pub fn is_all_or_nothing(alloc: Global, kind: Kind, bytes: &[u8], written: &[u8]) -> bool {
     let mut buffer = Vec::new(alloc);
     match append(kind, bytes, &mut buffer) {

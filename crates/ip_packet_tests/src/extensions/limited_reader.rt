@@ -1,7 +1,7 @@
-//! The reader with a limit, and the words of errors.
+//! The reader with a limit, and the texts of errors.
 
 use super::reads::{Limited, Refusal, unread_limited};
-use crate::checks::{read_alike, read_as, reads_as, shows, want_in_slice};
+use crate::checks::{missing_in_slice, read_alike, read_as, reads_as, shows};
 use ep_base::LenSource;
 use ep_base::err::Layer;
 use ep_ext::err::io::LimitedReadError;
@@ -30,7 +30,7 @@ fn limited(fails: bool) -> Limited<'static> {
 }
 
 // The limit, the layer with its offset, and how many bytes count as read.
-fn told(reader: &Limited<'_>) -> (usize, Layer, usize, usize) {
+fn observed(reader: &Limited<'_>) -> (usize, Layer, usize, usize) {
     let (layer, offset) = (reader.layer(), reader.layer_offset());
     (reader.max_len(), layer, offset, reader.read_len())
 }
@@ -43,7 +43,7 @@ fn taken(reader: Limited<'static>) -> (LenSource, &'static [u8]) {
 #[test]
 fn a_new_reader(rt: HostRuntime) {
     let reader = limited(false);
-    shows(rt, "new", &told(&reader), "(5, Ipv4Packet, 20, 0)");
+    shows(rt, "new", &observed(&reader), "(5, Ipv4Packet, 20, 0)");
     let left = "(Ipv4HeaderTotalLen, [1, 2, 3, 4, 5, 6])";
     shows(rt, "taken", &taken(reader), left);
 }
@@ -90,7 +90,7 @@ fn a_layer_begins(rt: HostRuntime) {
     let mut reader = limited(false);
     fills(rt, &mut reader, 2, "(Ok(()), [1, 2, 9, 9], 2)");
     reader.start_layer(Layer::IpAuthHeader);
-    shows(rt, "begun", &told(&reader), "(3, IpAuthHeader, 22, 0)");
+    shows(rt, "begun", &observed(&reader), "(3, IpAuthHeader, 22, 0)");
 }
 
 #[test]
@@ -141,16 +141,16 @@ fn words_of_faults(rt: HostRuntime) {
     read_as(rt, (&of_slice, &read, &limited), zero);
 }
 
-// An error that holds a want has its words.
+// An error that holds a `LenError` has its text.
 #[test]
-fn words_of_wants(rt: HostRuntime) {
-    let want = want_in_slice(12, 11, Layer::IpAuthHeader);
-    let of_slice = HeaderSliceError::Len(want);
-    let limited = HeaderLimitedReadError::Len(want);
+fn texts_of_len_errors(rt: HostRuntime) {
+    let missing = missing_in_slice(12, 11, Layer::IpAuthHeader);
+    let of_slice = HeaderSliceError::Len(missing);
+    let limited = HeaderLimitedReadError::Len(missing);
     read_alike(
         rt,
-        (&of_slice, &limited, &LimitedReadError::Len(want)),
-        &want,
+        (&of_slice, &limited, &LimitedReadError::Len(missing)),
+        &missing,
     );
 }
 

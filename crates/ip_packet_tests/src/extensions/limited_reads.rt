@@ -1,7 +1,7 @@
 //! Headers of each kind from readers with a limit.
 //! Calls have no contracts: tests alone make them, and are run.
 
-use super::headers::front;
+use super::headers::prefix;
 use super::kinds::Kind;
 use super::readers::{FRAGMENT, RAW, bytes_of, failure, header_of, limited};
 use super::reads::{Limited, Read, Refusal, read_limited};
@@ -14,27 +14,27 @@ use fault_devices::{Fault, FaultReader};
 use std::test::*;
 
 // A reader that gives three bytes a call, of which so many may be read, and how far into a packet.
-fn limited_at(bytes: &[u8], max_len: usize, place: u8) -> Limited<'_> {
+fn limited_at(bytes: &[u8], max_len: usize, position: u8) -> Limited<'_> {
     let source = LenSource::Ipv6HeaderPayloadLen;
     let reader = FaultReader::new(bytes, 3);
-    let (max_len, place) = (max_len.min(4096), usize::from(place));
-    LimitedReader::new(reader, max_len, source, place, Layer::Ipv6Packet)
+    let (max_len, position) = (max_len.min(4096), usize::from(position));
+    LimitedReader::new(reader, max_len, source, position, Layer::Ipv6Packet)
 }
 
-// The place of a header that stands alone, and of headers in a row.
-fn place_of(kind: Kind) -> u8 {
+// The offset of a single header, and of headers in a row.
+fn offset_of(kind: Kind) -> u8 {
     match kind {
         Kind::Ipv4(_) | Kind::Ipv6(_) => 40,
         _ => 10,
     }
 }
 
-// A want with how many bytes of the limit are not there, which doesn't change with the limit.
+// The same with how many bytes of the limit are not there, which doesn't change with the limit.
 fn of_limit(read: Read, limit: usize) -> Read {
     match read {
-        Err(Refusal::Len((required, len, source, layer, place))) => {
+        Err(Refusal::Len((required, len, source, layer, position))) => {
             let before = limit.wrapping_sub(len);
-            Err(Refusal::Len((required, before, source, layer, place)))
+            Err(Refusal::Len((required, before, source, layer, position)))
         }
         read => read,
     }
@@ -43,7 +43,7 @@ fn of_limit(read: Read, limit: usize) -> Read {
 /// What is read within such a limit, how many bytes of which layer count as read, and how many are
 /// left.
 pub fn within(kind: Kind, limit: usize) -> (Read, usize, Layer, usize) {
-    let mut reader = limited_at(bytes_of(kind), limit, place_of(kind));
+    let mut reader = limited_at(bytes_of(kind), limit, offset_of(kind));
     let read = of_limit(read_limited(kind, &mut reader, header_of(kind)), limit);
     let (read_len, layer) = (reader.read_len(), reader.layer());
     (read, read_len, layer, reader.take_reader().rest.len())
@@ -81,7 +81,7 @@ fn an_authentication_header_and_its_limit(rt: HostRuntime) {
     );
 }
 
-// Hop-by-hop options stand at 40, the routing header of 16 bytes at 56, the fragment header at 72,
+// Hop-by-hop options are at 40, the routing header of 16 bytes at 56, the fragment header at 72,
 // the authentication header of 24 bytes at 80, the last header at 104.
 #[test]
 fn a_chain_and_its_limit(rt: HostRuntime) {
@@ -160,9 +160,9 @@ fn each_read_of_limited_chains_fails(rt: HostRuntime) {
     );
 }
 
-/// What is read of a reader that ends behind so many bytes, within its limit.
-pub fn of_front(kind: Kind, len: usize) -> Read {
-    let inner = FaultReader::new(front(header_of(kind), len), 100);
+/// What is read of a reader that ends after so many bytes, within its limit.
+pub fn of_prefix(kind: Kind, len: usize) -> Read {
+    let inner = FaultReader::new(prefix(header_of(kind), len), 100);
     read_limited(kind, &mut limited(inner, header_of(kind).len()), &[])
 }
 
@@ -172,8 +172,8 @@ fn limited_readers_that_end_within_a_chain(rt: HostRuntime) {
         "0..72: Err(Io(UnexpectedEof))",
         "0..16: Err(Io(UnexpectedEof))",
     );
-    rows(rt, Call::LimitedOfFront(Kind::Ipv6(0)), v6);
-    rows(rt, Call::LimitedOfFront(Kind::Ipv4(51)), v4);
+    rows(rt, Call::LimitedOfPrefix(Kind::Ipv6(0)), v6);
+    rows(rt, Call::LimitedOfPrefix(Kind::Ipv4(51)), v4);
 }
 
 // What is read of 16 bytes of zero, and how many of the layer count as read.
@@ -193,7 +193,7 @@ fn faults_of_headers_within_a_limit(rt: HostRuntime) {
     shows(rt, "options", &zeros(Kind::Ipv6(60)), misplaced);
 }
 
-// What is read within 23 bytes of a raw header and of the fragment header behind it.
+// What is read within 23 bytes of a raw header and of the fragment header after it.
 fn in_a_row() -> (Read, Read) {
     let mut bytes = [0; 24];
     bytes[..16].copy_from_slice(&RAW[..16]);

@@ -1,5 +1,5 @@
-//! Want of memory. To be run with each allocation failing in turn, too: then one of the calls wants
-//! memory and leaves its buffer empty, and the others write.
+//! Out of memory. To be run with each allocation failing in turn, too: then one of the calls runs
+//! out of memory and leaves its buffer empty, and the others write.
 
 use super::ipv4_extensions::AUTH;
 use super::ipv6_extensions::CHAIN;
@@ -13,7 +13,7 @@ fn is_so(rt: impl Abort + AllocGlobal + Copy, kind: Kind, bytes: &[u8], written:
 }
 
 #[test]
-fn headers_want_memory(rt: HostRuntime) {
+fn headers_run_out_of_memory(rt: HostRuntime) {
     let fragment = &[17, 0, 0, 9, 0, 0, 0, 7];
     is_so(rt, Kind::Raw, &CHAIN, &CHAIN[..8]);
     is_so(rt, Kind::Fragment, fragment, fragment);

@@ -1,7 +1,7 @@
 //! Headers of each kind from readers.
 //! Calls have no contracts: tests alone make them, and are run.
 
-use super::headers::front;
+use super::headers::prefix;
 use super::ipv4_extensions;
 use super::ipv6_extensions::CHAIN;
 use super::kinds::Kind;
@@ -15,7 +15,7 @@ use fault_devices::{Fault, FaultReader};
 use std::io::ErrorKind;
 use std::test::*;
 
-/// A header with two bytes behind it.
+/// A header with two bytes after it.
 pub const RAW: [u8; 18] = [17, 1, 1, 4, 0, 0, 0, 0, 1, 6, 0, 0, 0, 0, 0, 0, 0xaa, 0xbb];
 
 /// The same.
@@ -25,7 +25,7 @@ const AUTH: [u8; 18] = [
     6, 2, 0, 0, 1, 2, 3, 4, 5, 6, 7, 8, 9, 10, 11, 12, 0xaa, 0xbb,
 ];
 
-/// What is read of each kind, and bytes behind it.
+/// What is read of each kind, and bytes after it.
 pub fn bytes_of(kind: Kind) -> &'static [u8] {
     match kind {
         Kind::Raw => &RAW,
@@ -36,29 +36,29 @@ pub fn bytes_of(kind: Kind) -> &'static [u8] {
     }
 }
 
-/// The same without the bytes behind it.
+/// The same without the bytes after it.
 pub fn header_of(kind: Kind) -> &'static [u8] {
     let len = match kind {
         Kind::Raw | Kind::Auth | Kind::Ipv4(_) => 16,
         Kind::Fragment => 8,
         Kind::Ipv6(_) => 72,
     };
-    front(bytes_of(kind), len)
+    prefix(bytes_of(kind), len)
 }
 
 /// What is read where a call gives so many bytes, and what is left.
-pub fn in_pieces(kind: Kind, piece: usize) -> (Read, &'static [u8]) {
-    let mut reader = FaultReader::new(bytes_of(kind), piece);
+pub fn in_chunks(kind: Kind, chunk: usize) -> (Read, &'static [u8]) {
+    let mut reader = FaultReader::new(bytes_of(kind), chunk);
     let read = read(kind, &mut reader, header_of(kind));
     (read, reader.rest)
 }
 
-// However few bytes a call gives, the header is read, and nothing behind it.
+// However few bytes a call gives, the header is read, and nothing after it.
 #[test]
-fn headers_are_read_in_pieces(rt: HostRuntime) {
+fn headers_are_read_in_chunks(rt: HostRuntime) {
     rows(
         rt,
-        Call::ReadInPieces(Kind::Raw),
+        Call::ReadInChunks(Kind::Raw),
         "1: (Ok((true, IpNumber(17))), [170, 187])
         3: (Ok((true, IpNumber(17))), [170, 187])
         100: (Ok((true, IpNumber(17))), [170, 187])",
@@ -66,10 +66,10 @@ fn headers_are_read_in_pieces(rt: HostRuntime) {
 }
 
 #[test]
-fn fragment_headers_are_read_in_pieces(rt: HostRuntime) {
+fn fragment_headers_are_read_in_chunks(rt: HostRuntime) {
     rows(
         rt,
-        Call::ReadInPieces(Kind::Fragment),
+        Call::ReadInChunks(Kind::Fragment),
         "1: (Ok((true, IpNumber(58))), [170, 187])
         3: (Ok((true, IpNumber(58))), [170, 187])
         100: (Ok((true, IpNumber(58))), [170, 187])",
@@ -77,10 +77,10 @@ fn fragment_headers_are_read_in_pieces(rt: HostRuntime) {
 }
 
 #[test]
-fn authentication_headers_are_read_in_pieces(rt: HostRuntime) {
+fn authentication_headers_are_read_in_chunks(rt: HostRuntime) {
     rows(
         rt,
-        Call::ReadInPieces(Kind::Auth),
+        Call::ReadInChunks(Kind::Auth),
         "1: (Ok((true, IpNumber(6))), [170, 187])
         3: (Ok((true, IpNumber(6))), [170, 187])
         100: (Ok((true, IpNumber(6))), [170, 187])",
@@ -88,16 +88,16 @@ fn authentication_headers_are_read_in_pieces(rt: HostRuntime) {
 }
 
 #[test]
-fn chains_are_read_in_pieces(rt: HostRuntime) {
+fn chains_are_read_in_chunks(rt: HostRuntime) {
     rows(
         rt,
-        Call::ReadInPieces(Kind::Ipv6(0)),
+        Call::ReadInChunks(Kind::Ipv6(0)),
         "1: (Ok((true, IpNumber(17))), [170, 187])
         5: (Ok((true, IpNumber(17))), [170, 187])
         100: (Ok((true, IpNumber(17))), [170, 187])",
     );
     let wanted = "1: (Ok((true, IpNumber(6))), [170])";
-    rows(rt, Call::ReadInPieces(Kind::Ipv4(51)), wanted);
+    rows(rt, Call::ReadInChunks(Kind::Ipv4(51)), wanted);
 }
 
 /// The kind of a failing read.
@@ -109,23 +109,23 @@ pub fn failure(kind: Kind) -> ErrorKind {
 }
 
 // What is read where this call fails so, and how many calls there were.
-fn read_failing(kind: Kind, piece: usize, call: usize, failure: ErrorKind) -> (Read, usize) {
+fn read_failing(kind: Kind, chunk: usize, call: usize, failure: ErrorKind) -> (Read, usize) {
     let fault = Fault::Fails(failure);
-    let mut reader = FaultReader::failing(bytes_of(kind), piece, call, fault);
+    let mut reader = FaultReader::failing(bytes_of(kind), chunk, call, fault);
     let read = read(kind, &mut reader, header_of(kind));
     (read, reader.calls)
 }
 
 /// What is read where this call fails, and where it is interrupted; and how many calls there were
 /// from the one that fails on.
-pub fn failing(kind: Kind, piece: usize, call: usize) -> (Read, Read, usize) {
-    let (read, calls) = read_failing(kind, piece, call, failure(kind));
-    let (interrupted, _) = read_failing(kind, piece, call, ErrorKind::Interrupted);
+pub fn failing(kind: Kind, chunk: usize, call: usize) -> (Read, Read, usize) {
+    let (read, calls) = read_failing(kind, chunk, call, failure(kind));
+    let (interrupted, _) = read_failing(kind, chunk, call, ErrorKind::Interrupted);
     (read, interrupted, calls.wrapping_sub(call))
 }
 
 // Of a header that is read by two calls, or byte by byte: each of them fails, or is made again
-// where it is interrupted, and none behind them is made.
+// where it is interrupted, and none after them is made.
 #[test]
 fn a_raw_header_from_a_failing_reader(rt: HostRuntime) {
     rows(
@@ -198,9 +198,9 @@ fn another_number_than_51_leaves_a_reader(rt: HostRuntime) {
     );
 }
 
-/// What is read of a reader that ends behind so many bytes.
-pub fn of_front(kind: Kind, piece: usize, len: usize) -> Read {
-    let mut reader = FaultReader::new(front(header_of(kind), len), piece);
+/// What is read of a reader that ends after so many bytes.
+pub fn of_prefix(kind: Kind, chunk: usize, len: usize) -> Read {
+    let mut reader = FaultReader::new(prefix(header_of(kind), len), chunk);
     read(kind, &mut reader, &[])
 }
 
@@ -210,11 +210,11 @@ fn readers_that_end_within_a_header(rt: HostRuntime) {
         "0..8: Err(Io(UnexpectedEof))",
         "0..16: Err(Io(UnexpectedEof))",
     );
-    rows(rt, Call::ReadOfFront(Kind::Raw, 5), long);
-    rows(rt, Call::ReadOfFront(Kind::Auth, 5), long);
-    rows(rt, Call::ReadOfFront(Kind::Fragment, 5), short);
+    rows(rt, Call::ReadOfPrefix(Kind::Raw, 5), long);
+    rows(rt, Call::ReadOfPrefix(Kind::Auth, 5), long);
+    rows(rt, Call::ReadOfPrefix(Kind::Fragment, 5), short);
     let wanted = "0..72: Err(Io(UnexpectedEof))";
-    rows(rt, Call::ReadOfFront(Kind::Ipv6(0), 100), wanted);
+    rows(rt, Call::ReadOfPrefix(Kind::Ipv6(0), 100), wanted);
 }
 
 // What is read of 16 bytes of zero, and how many of them are left.
@@ -252,9 +252,9 @@ pub fn of_each_len(kind: Kind, words: usize) -> (Read, usize, Read, usize) {
     bytes[1] = u8::try_from(words).unwrap_or(255);
     let len = named_len(kind, words);
     let mut whole = FaultReader::new(&bytes, 4096);
-    let found = read(kind, &mut whole, front(&bytes, len));
+    let found = read(kind, &mut whole, prefix(&bytes, len));
     let mut reader = limited(FaultReader::new(&bytes, 4096), len);
-    let within = read_limited(kind, &mut reader, front(&bytes, len));
+    let within = read_limited(kind, &mut reader, prefix(&bytes, len));
     let left = whole.rest.len().saturating_add(len);
     (found, left, within, reader.read_len().wrapping_sub(len))
 }

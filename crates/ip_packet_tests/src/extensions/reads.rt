@@ -1,7 +1,7 @@
 //! Headers of each kind from readers, with a limit and without. The calls have no contracts: tests
 //! alone make them, and are run.
 
-use super::headers::{Want, want};
+use super::headers::{Missing, missing};
 use super::kinds::Kind;
 use ep_base::IpNumber;
 use ep_ext::err::io::LimitedReadError;
@@ -16,7 +16,7 @@ use std::io::{self, ErrorKind};
 #[derive(Clone, Copy, Debug)]
 pub enum Refusal {
     Io(ErrorKind),
-    Len(Want),
+    Len(Missing),
     Content(HeaderError),
 }
 
@@ -114,7 +114,7 @@ pub fn read(kind: Kind, reader: &mut FaultReader<'_>, bytes: &[u8]) -> Read {
 pub fn unread_limited(error: LimitedReadError) -> Refusal {
     match error {
         LimitedReadError::Io(error) => Refusal::Io(error.kind()),
-        LimitedReadError::Len(error) => Refusal::Len(want(error)),
+        LimitedReadError::Len(error) => Refusal::Len(missing(error)),
     }
 }
 
@@ -135,7 +135,7 @@ fn limited_fragment(reader: &mut Limited<'_>, bytes: &[u8]) -> Read {
 fn unread_limited_auth(error: ip_auth::HeaderLimitedReadError) -> Read {
     match error {
         ip_auth::HeaderLimitedReadError::Io(error) => failed(error),
-        ip_auth::HeaderLimitedReadError::Len(error) => Err(Refusal::Len(want(error))),
+        ip_auth::HeaderLimitedReadError::Len(error) => Err(Refusal::Len(missing(error))),
         ip_auth::HeaderLimitedReadError::Content(fault) => broken(fault),
     }
 }
@@ -158,7 +158,7 @@ fn limited_ipv6(reader: &mut Limited<'_>, first: u8, bytes: &[u8]) -> Read {
     match Ipv6Extensions::read_limited(reader, IpNumber(first)) {
         Ok((headers, number)) => ipv6_is(&headers, number, first, bytes),
         Err(HeaderLimitedReadError::Io(error)) => failed(error),
-        Err(HeaderLimitedReadError::Len(error)) => Err(Refusal::Len(want(error))),
+        Err(HeaderLimitedReadError::Len(error)) => Err(Refusal::Len(missing(error))),
         Err(HeaderLimitedReadError::Content(fault)) => Err(Refusal::Content(fault)),
     }
 }

@@ -1,6 +1,6 @@
 //! The texts of the errors of IP packets.
 
-use crate::checks::{read_as, reads_as, want_in_slice};
+use crate::checks::{missing_in_slice, read_as, reads_as};
 use ep_base::err::Layer;
 use ep_ext::err::{ip_auth, ipv6_exts};
 use ep_ipslice::err::{ip, ipv4, ipv6};
@@ -28,8 +28,8 @@ fn texts_of_base_headers(rt: HostRuntime) {
 
 // An error that holds another one has its text.
 #[test]
-fn texts_of_a_want(rt: HostRuntime) -> Result<(), Fail> {
-    let error = want_in_slice(20, 3, Layer::Ipv4Header);
+fn texts_of_missing_bytes(rt: HostRuntime) -> Result<(), Fail> {
+    let error = missing_in_slice(20, 3, Layer::Ipv4Header);
     let text = format!(in rt.alloc(); "{error}")?;
     let (v4, v6) = (ipv4::SliceError::Len(error), ipv6::SliceError::Len(error));
     let of_headers = ip::HeadersSliceError::Len(error);

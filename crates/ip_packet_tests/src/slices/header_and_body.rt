@@ -1,4 +1,5 @@
-//! The header of an IPv6 packet and what its payload length gives it, by the packet of `packets`.
+//! The header of an IPv6 packet and the body that its payload length bounds, by the packet of
+//! `packets`.
 use super::packets::IPV6;
 use ep_base::LenSource;
 use ep_base::err::{Layer, LenError};
@@ -26,15 +27,15 @@ fn body_of_a_packet(rt: HostRuntime) {
 
 #[test]
 fn faults_of_packets_are_of_headers(rt: HostRuntime) {
-    let want = LenError {
+    let missing = LenError {
         required_len: 1,
         len: 0,
         len_source: LenSource::Slice,
         layer: Layer::IpHeader,
         layer_start_offset: 0,
     };
-    let fault = HeadersSliceError::of_packet(SliceError::Len(want));
-    assert!(rt; fault == HeadersSliceError::Len(want));
+    let fault = HeadersSliceError::of_packet(SliceError::Len(missing));
+    assert!(rt; fault == HeadersSliceError::Len(missing));
 }
 
 #[test]
@@ -53,8 +54,8 @@ fn faults_of_either_version(rt: HostRuntime) {
 fn faults_of_ipv6_headers(rt: HostRuntime) {
     let error = ep_ip::err::ipv6::HeaderError::UnexpectedVersion { version_number: 4 };
     let version = ipv6::SliceError::of_header(ep_ip::err::ipv6::HeaderSliceError::Content(error));
-    // Behind the header of 40 bytes.
-    let want = LenError {
+    // After the header of 40 bytes.
+    let missing = LenError {
         required_len: 8,
         len: 7,
         len_source: LenSource::Slice,
@@ -62,11 +63,11 @@ fn faults_of_ipv6_headers(rt: HostRuntime) {
         layer_start_offset: 16,
     };
     let source = LenSource::Ipv6HeaderPayloadLen;
-    let fault = ipv6::SliceError::of_extensions(ipv6_exts::HeaderSliceError::Len(want), source);
+    let fault = ipv6::SliceError::of_extensions(ipv6_exts::HeaderSliceError::Len(missing), source);
     let moved = LenError {
         len_source: source,
         layer_start_offset: 56,
-        ..want
+        ..missing
     };
     assert!(rt;
         (version, fault)

@@ -1,7 +1,7 @@
 //! IP packets in slices. The bytes are made by the RFCs' tables.
 //! Calls have no contracts: tests alone make them, and are run.
 
-use crate::checks::{fail, want_in_slice};
+use crate::checks::{fail, missing_in_slice};
 use ep_base::err::{Layer, LenError};
 use ep_base::{IpNumber, LenSource};
 use ep_ext::err::{ip_auth, ipv6_exts};
@@ -89,9 +89,9 @@ fn kind(header: Ipv6ExtensionSlice<'_>) -> u8 {
 fn kinds(extensions: &Ipv6ExtensionsSlice<'_>) -> [u8; 6] {
     let mut kinds = [255; 6];
     let mut headers = extensions.iter();
-    for place in kinds.iter_mut() {
+    for position in kinds.iter_mut() {
         if let Some(header) = headers.next() {
-            *place = kind(header);
+            *position = kind(header);
         }
     }
     kinds
@@ -124,10 +124,8 @@ fn repeated_fragment_headers(rt: HostRuntime) {
     assert!(rt; found == (IpNumber::UDP, &bytes[16..], true, Some(IpNumber(44))));
 }
 
-// Extension headers in a row from the number 44, or 0, and whether they are those of a part of a
-// message.
-// Whether the headers from this number on are those of a part.
-fn is_of_a_part(first: u8, bytes: &[u8]) -> Option<bool> {
+// Whether the extension headers from this number on are those of a fragment.
+fn are_of_a_fragment(first: u8, bytes: &[u8]) -> Option<bool> {
     match Ipv6ExtensionsSlice::from_slice(IpNumber(first), bytes) {
         Ok((extensions, _, _)) => Some(extensions.is_fragmenting_payload()),
         Err(_) => None,
@@ -135,15 +133,15 @@ fn is_of_a_part(first: u8, bytes: &[u8]) -> Option<bool> {
 }
 
 #[test]
-fn which_headers_are_of_a_part(rt: HostRuntime) {
+fn which_headers_are_of_a_fragment(rt: HostRuntime) {
     let whole = [0x11, 0, 0, 0, 0, 0, 0, 7];
-    let whole_then_part = [0x2c, 0, 0, 0, 0, 0, 0, 7, 0x11, 0, 0, 1, 0, 0, 0, 7];
+    let whole_then_fragment = [0x2c, 0, 0, 0, 0, 0, 0, 7, 0x11, 0, 0, 1, 0, 0, 0, 7];
     let others = [43, 0, 1, 4, 0, 0, 0, 0, 17, 0, 0xff, 0xff, 0, 0, 0, 0];
     let found = (
-        is_of_a_part(44, &whole),
-        is_of_a_part(44, &whole_then_part),
-        is_of_a_part(0, &others),
-        is_of_a_part(17, &others),
+        are_of_a_fragment(44, &whole),
+        are_of_a_fragment(44, &whole_then_fragment),
+        are_of_a_fragment(0, &others),
+        are_of_a_fragment(17, &others),
     );
     assert!(rt; found == (Some(false), Some(true), Some(false), Some(false)));
 }
@@ -166,7 +164,7 @@ fn no_headers(rt: HostRuntime) {
     assert!(rt; found == (None, true, IpNumber::TCP, bytes.as_slice(), 0));
 }
 
-// Why the headers from this number on are refused, if they are; and so behind an IPv4 header.
+// Why the headers from this number on are refused, if they are; and so after an IPv4 header.
 fn why_refused(first: u8, bytes: &[u8]) -> Option<ipv6_exts::HeaderSliceError> {
     match Ipv6ExtensionsSlice::from_slice(IpNumber(first), bytes) {
         Ok(_) => None,
@@ -182,16 +180,16 @@ fn why_ipv4_refused(first: u8, bytes: &[u8]) -> Option<ip_auth::HeaderSliceError
 }
 
 #[test]
-fn hop_by_hop_options_behind_another_header(rt: HostRuntime) {
+fn hop_by_hop_options_after_another_header(rt: HostRuntime) {
     let bytes = [0, 0, 0, 0, 0, 0, 0, 0, 0x11, 0, 0, 0, 0, 0, 0, 0];
     let (extensions, number, rest, fault) = Ipv6ExtensionsSlice::from_slice_lax(
         IpNumber(60),
         &bytes,
     );
     let error = ipv6_exts::HeaderSliceError::Content(ipv6_exts::HeaderError::HopByHopNotAtStart);
-    let behind = Some((error, Layer::Ipv6HopByHopHeader));
+    let after = Some((error, Layer::Ipv6HopByHopHeader));
     let found = (fault, number, extensions.slice(), rest);
-    assert!(rt; found == (behind, IpNumber(0), &bytes[..8], &bytes[8..]));
+    assert!(rt; found == (after, IpNumber(0), &bytes[..8], &bytes[8..]));
     assert!(rt; why_refused(60, &bytes) == Some(error));
 }
 
@@ -215,7 +213,7 @@ fn no_number_of_an_authentication_header(rt: HostRuntime) {
     assert!(rt; found == (true, IpNumber::UDP, bytes.as_slice(), None));
 }
 
-// Why bytes begin with no IPv4 packet, if they don't; and so for IPv6 and for either version.
+// Why bytes start with no IPv4 packet, if they don't; and so for IPv6 and for either version.
 pub(super) fn ipv4_fault(bytes: &[u8]) -> Option<ipv4::SliceError> {
     match Ipv4Slice::from_slice(bytes) {
         Ok(_) => None,
@@ -238,13 +236,13 @@ pub(super) fn ip_fault(bytes: &[u8]) -> Option<ip::SliceError> {
 }
 
 #[test]
-fn every_front_of_an_ipv4_packet(rt: HostRuntime) {
+fn every_prefix_of_an_ipv4_packet(rt: HostRuntime) {
     let bytes = IPV4;
     for end in 0..34usize {
         let required = if end < 20 {
-            want_in_slice(20, end, Layer::Ipv4Header)
+            missing_in_slice(20, end, Layer::Ipv4Header)
         } else {
-            want_in_slice(34, end, Layer::Ipv4Packet)
+            missing_in_slice(34, end, Layer::Ipv4Packet)
         };
         assert!(rt; ipv4_fault(&bytes[..end]) == Some(ipv4::SliceError::Len(required)));
     }
@@ -252,21 +250,21 @@ fn every_front_of_an_ipv4_packet(rt: HostRuntime) {
 }
 
 #[test]
-fn every_front_of_an_ipv6_packet(rt: HostRuntime) {
+fn every_prefix_of_an_ipv6_packet(rt: HostRuntime) {
     let bytes = IPV6;
     for end in 0..86usize {
         let required = if end < 40 {
-            want_in_slice(40, end, Layer::Ipv6Header)
+            missing_in_slice(40, end, Layer::Ipv6Header)
         } else {
-            want_in_slice(86, end, Layer::Ipv6Packet)
+            missing_in_slice(86, end, Layer::Ipv6Packet)
         };
         assert!(rt; ipv6_fault(&bytes[..end]) == Some(ipv6::SliceError::Len(required)));
     }
     assert!(rt; ipv6_fault(&bytes[..86]) == None);
 }
 
-// A want inside an extension header names the packet's own length, and the place in the whole
-// slice.
+// An error of too few bytes inside an extension header names the packet's own length, and the
+// offset in the whole slice.
 #[test]
 fn a_cut_extension_header(rt: HostRuntime) {
     let mut v6 = IPV6;
@@ -287,14 +285,14 @@ fn a_cut_extension_header(rt: HostRuntime) {
         layer: Layer::IpAuthHeader,
         layer_start_offset: 20,
     };
-    let wants = (
+    let errors = (
         Some(ipv6::SliceError::Len(of_v6)),
         Some(ipv4::SliceError::Len(of_v4)),
     );
-    assert!(rt; (ipv6_fault(&v6), ipv4_fault(&v4)) == wants);
+    assert!(rt; (ipv6_fault(&v6), ipv4_fault(&v4)) == errors);
 }
 
-// How long the payload of an IPv6 packet is, and what tells it.
+// How long the payload of an IPv6 packet is, and where that length comes from.
 fn payload_len(bytes: &[u8]) -> Option<(usize, LenSource)> {
     match Ipv6Slice::from_slice(bytes) {
         Ok(packet) => {
@@ -319,14 +317,14 @@ fn a_payload_length_of_zero(rt: HostRuntime) {
 fn a_total_length_below_the_header(rt: HostRuntime) {
     let mut bytes = IPV4;
     bytes[3] = 19;
-    let want = LenError {
+    let missing = LenError {
         required_len: 20,
         len: 19,
         len_source: LenSource::Ipv4HeaderTotalLen,
         layer: Layer::Ipv4Packet,
         layer_start_offset: 0,
     };
-    assert!(rt; ipv4_fault(&bytes) == Some(ipv4::SliceError::Len(want)));
+    assert!(rt; ipv4_fault(&bytes) == Some(ipv4::SliceError::Len(missing)));
 }
 
 #[test]
@@ -372,7 +370,7 @@ fn no_bytes_and_another_version(rt: HostRuntime) {
     let version = ip::HeaderError::UnsupportedIpVersion { version_number: 5 };
     let length = ip::HeaderError::Ipv4HeaderLengthSmallerThanHeader { ihl: 4 };
     let faults = (
-        Some(ip::SliceError::Len(want_in_slice(1, 0, Layer::IpHeader))),
+        Some(ip::SliceError::Len(missing_in_slice(1, 0, Layer::IpHeader))),
         Some(ip::SliceError::IpHeaders(ip::HeadersError::Ip(version))),
         Some(ip::SliceError::IpHeaders(ip::HeadersError::Ip(length))),
     );

@@ -1,15 +1,15 @@
-//! Why bytes begin with no IP packet. The bytes are those of `packets`, cut or changed.
+//! Why bytes start with no IP packet. The bytes are those of `packets`, cut or changed.
 
 use super::packets::{IPV4, IPV6, ip_fault, ipv4_fault, ipv6_fault};
-use crate::checks::want_in_slice;
+use crate::checks::missing_in_slice;
 use ep_base::err::{Layer, LenError};
 use ep_base::{IpNumber, LenSource};
 use ep_ext::err::{ip_auth, ipv6_exts};
 use ep_ipslice::err::{ip, ipv4, ipv6};
 use ep_ipslice::{Ipv4ExtensionsSlice, Ipv6ExtensionsSlice};
 
-// Where the extension headers of `IPV6` begin behind its header, how long each is, and the layer in
-// which a want of it is told.
+// The offset of each extension header of `IPV6` after its base header, its length, and the layer
+// that an error of too few bytes reports for it.
 const HEADERS: [(u8, u8, Layer); 5] = [
     (0, 8, Layer::Ipv6ExtHeader),
     (8, 8, Layer::Ipv6ExtHeader),
@@ -18,8 +18,8 @@ const HEADERS: [(u8, u8, Layer); 5] = [
     (36, 8, Layer::Ipv6ExtHeader),
 ];
 
-// What a header of this length, so far behind the base header, wants where it ends too early.
-fn want_of_header(start: u8, end: u8, len: u8, layer: Layer, len_source: LenSource) -> LenError {
+// The error of a header of this length, so far after the base header, that ends too early.
+fn missing_of_header(start: u8, end: u8, len: u8, layer: Layer, len_source: LenSource) -> LenError {
     LenError {
         required_len: usize::from(len),
         len: usize::from(end.saturating_sub(start)),
@@ -36,8 +36,8 @@ fn extension_headers_cut_by_the_payload_length(rt: HostRuntime) {
             let mut bytes = IPV6;
             bytes[5] = end;
             let source = LenSource::Ipv6HeaderPayloadLen;
-            let want = want_of_header(start, end, len, layer, source);
-            assert!(rt; ipv6_fault(&bytes) == Some(ipv6::SliceError::Len(want)));
+            let missing = missing_of_header(start, end, len, layer, source);
+            assert!(rt; ipv6_fault(&bytes) == Some(ipv6::SliceError::Len(missing)));
         }
     }
 }
@@ -49,10 +49,10 @@ fn extension_headers_cut_by_the_slice(rt: HostRuntime) {
     bytes[5] = 0;
     for (start, len, layer) in HEADERS {
         for end in start.max(1)..start.saturating_add(len) {
-            let (front, _) = bytes.split_at(usize::from(end).min(46) + 40);
+            let (prefix, _) = bytes.split_at(usize::from(end).min(46) + 40);
             let source = LenSource::Slice;
-            let want = want_of_header(start, end, len, layer, source);
-            assert!(rt; ipv6_fault(front) == Some(ipv6::SliceError::Len(want)));
+            let missing = missing_of_header(start, end, len, layer, source);
+            assert!(rt; ipv6_fault(prefix) == Some(ipv6::SliceError::Len(missing)));
         }
     }
 }
@@ -64,8 +64,8 @@ fn an_extension_header_longer_than_the_least(rt: HostRuntime) {
     bytes[5] = 23;
     bytes[49] = 1;
     let source = LenSource::Ipv6HeaderPayloadLen;
-    let want = want_of_header(8, 23, 16, Layer::Ipv6ExtHeader, source);
-    assert!(rt; ipv6_fault(&bytes) == Some(ipv6::SliceError::Len(want)));
+    let missing = missing_of_header(8, 23, 16, Layer::Ipv6ExtHeader, source);
+    assert!(rt; ipv6_fault(&bytes) == Some(ipv6::SliceError::Len(missing)));
 }
 
 #[test]
@@ -96,7 +96,7 @@ fn an_authentication_header_that_breaks_its_format(rt: HostRuntime) {
 }
 
 #[test]
-fn hop_by_hop_options_behind_a_routing_header(rt: HostRuntime) {
+fn hop_by_hop_options_after_a_routing_header(rt: HostRuntime) {
     let mut bytes = IPV6;
     bytes[48] = 0;
     let content = ipv6_exts::HeaderError::HopByHopNotAtStart;
@@ -109,28 +109,28 @@ fn hop_by_hop_options_behind_a_routing_header(rt: HostRuntime) {
 
 // A packet of either version refuses as one of its version.
 #[test]
-fn a_want_of_either_version(rt: HostRuntime) {
+fn missing_bytes_of_either_version(rt: HostRuntime) {
     let found = (ip_fault(&[0x45, 0, 0]), ip_fault(&[0x60, 0, 0]));
-    let wants = (
-        Some(ip::SliceError::Len(want_in_slice(20, 3, Layer::Ipv4Header))),
-        Some(ip::SliceError::Len(want_in_slice(40, 3, Layer::Ipv6Header))),
+    let errors = (
+        Some(ip::SliceError::Len(missing_in_slice(20, 3, Layer::Ipv4Header))),
+        Some(ip::SliceError::Len(missing_in_slice(40, 3, Layer::Ipv6Header))),
     );
-    assert!(rt; found == wants);
+    assert!(rt; found == errors);
 }
 
-// Up to the fault: all was handed in is left, or the headers in front of it are there.
+// Up to the fault: all that was passed is left, or the headers before it are there.
 #[test]
-fn a_fault_behind_which_nothing_is_read(rt: HostRuntime) {
+fn a_fault_after_which_nothing_is_read(rt: HostRuntime) {
     let bytes = [17, 1, 0, 0, 1];
     let first = IpNumber::AUTHENTICATION_HEADER;
     let (extensions, number, rest, fault) = Ipv4ExtensionsSlice::from_slice_lax(first, &bytes);
-    let error = ip_auth::HeaderSliceError::Len(want_in_slice(12, 5, Layer::IpAuthHeader));
+    let error = ip_auth::HeaderSliceError::Len(missing_in_slice(12, 5, Layer::IpAuthHeader));
     let found = (extensions.is_empty(), number, rest, fault);
     assert!(rt; found == (true, first, bytes.as_slice(), Some(error)));
 }
 
 #[test]
-fn a_fault_behind_a_routing_header(rt: HostRuntime) {
+fn a_fault_after_a_routing_header(rt: HostRuntime) {
     let bytes = [44, 0, 0, 0, 0, 0, 0, 0, 17, 0, 0];
     let (extensions, number, rest, fault) = Ipv6ExtensionsSlice::from_slice_lax(
         IpNumber(43),
@@ -138,15 +138,15 @@ fn a_fault_behind_a_routing_header(rt: HostRuntime) {
     );
     let error = ipv6_exts::HeaderSliceError::Len(LenError {
         layer_start_offset: 8,
-        ..want_in_slice(8, 3, Layer::Ipv6FragHeader)
+        ..missing_in_slice(8, 3, Layer::Ipv6FragHeader)
     });
     let found = (extensions.slice(), number, rest, fault);
-    let behind = Some((error, Layer::Ipv6FragHeader));
-    assert!(rt; found == (&bytes[..8], IpNumber(44), &bytes[8..], behind));
+    let after = Some((error, Layer::Ipv6FragHeader));
+    assert!(rt; found == (&bytes[..8], IpNumber(44), &bytes[8..], after));
 }
 
 #[test]
-fn a_want_further_on(rt: HostRuntime) {
+fn missing_bytes_further_on(rt: HostRuntime) {
     let len = LenError {
         required_len: 12,
         len: 3,

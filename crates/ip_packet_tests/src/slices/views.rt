@@ -1,4 +1,4 @@
-//! What views tell of packets. The bytes are those of `packets`, or made by the RFCs' tables.
+//! What views say of packets. The bytes are those of `packets`, or made by the RFCs' tables.
 
 use super::packets::{IPV4, IPV6};
 use crate::checks::fail;
@@ -11,10 +11,9 @@ use std::cmp::Ordering;
 use std::hash::{FoldHasher, Hasher};
 use std::test::*;
 
-// Flags and offset of an IPv4 header, and whether the payload is a part of a message.
-// Whether the payload of an IPv4 packet with these flags and this offset is a part: what the packet
-// says, and what its payload says.
-fn is_part_with(flags: u8, offset: u8) -> Option<(bool, bool)> {
+// Whether the payload of an IPv4 packet with these flags and this offset is a fragment: what the
+// packet says, and what its payload says.
+fn is_fragment_with(flags: u8, offset: u8) -> Option<(bool, bool)> {
     let mut bytes = IPV4;
     bytes[6] = flags;
     bytes[7] = offset;
@@ -34,8 +33,8 @@ fn ipv4_fragments(rt: HostRuntime) {
         (0x40, 0, false),
         (0, 0, false),
     ];
-    for (flags, offset, is_part) in rows {
-        assert!(rt; is_part_with(flags, offset) == Some((is_part, is_part)));
+    for (flags, offset, is_fragment) in rows {
+        assert!(rt; is_fragment_with(flags, offset) == Some((is_fragment, is_fragment)));
     }
 }
 
@@ -68,8 +67,7 @@ fn fragment_fields_of_an_ipv6_packet(rt: HostRuntime) {
     assert!(rt; ipv6_fragment_fields(&bytes) == Some((7, 1, false)));
 }
 
-// Two fragment headers behind a routing header, and none.
-// The first fragment header's bytes behind this number.
+// The first fragment header's bytes after this number.
 fn first_fragment(first: u8, bytes: &[u8]) -> Option<&[u8]> {
     let Ok((extensions, _, _)) = Ipv6ExtensionsSlice::from_slice(IpNumber(first), bytes) else {
         return None;
@@ -95,7 +93,7 @@ fn the_first_fragment_header(rt: HostRuntime) {
 
 // An IPv4 packet takes one authentication header, an IPv6 packet each.
 #[test]
-fn authentication_headers_behind_one_another(rt: HostRuntime) {
+fn authentication_headers_after_one_another(rt: HostRuntime) {
     let mut bytes = IPV4;
     bytes[20] = 51;
     let Ok(packet) = Ipv4Slice::from_slice(&bytes) else {
@@ -106,7 +104,7 @@ fn authentication_headers_behind_one_another(rt: HostRuntime) {
 }
 
 #[test]
-fn authentication_headers_behind_an_ipv6_header(rt: HostRuntime) {
+fn authentication_headers_after_an_ipv6_header(rt: HostRuntime) {
     let bytes = [
         51, 1, 0, 0, 1, 2, 3, 4, 5, 6, 7, 8, 17, 1, 0, 0, 1, 2, 3, 4, 5, 6, 7, 8, 0xaa,
     ];
@@ -163,7 +161,7 @@ fn views_of_nothing(rt: HostRuntime) {
     assert!(rt; found == (true, true, true));
 }
 
-// The fields of the authentication header behind an IPv4 header.
+// The fields of the authentication header after an IPv4 header.
 fn auth_fields(bytes: &[u8]) -> Option<(IpNumber, u32, u32)> {
     let Ok((extensions, _, _)) = Ipv4ExtensionsSlice::from_slice(IpNumber(51), bytes) else {
         return None;

@@ -1,16 +1,15 @@
 //! The texts of answers.
 ghost use Rattle.std.specs.Prelude.{◌≡◌, ◌+◌, ◌*◌, ◌≤◌, ◌<◌, ◌++◌, codes, length, take, IfSome};
 ghost use Rattle.std.specs.Prelude.{MatchOption};
-ghost use Rattle.etherparse.specs.defrag.PoolCalls.{HasMemory};
-ghost use Rattle.etherparse.specs.defrag.PoolCalls.Told.{Refused};
-ghost use Rattle.line_answers.specs.Answers.{message_answer, refusal_answer, verdict_word};
+ghost use Rattle.etherparse.specs.PoolCalls.{HasMemory};
+ghost use Rattle.etherparse.specs.PoolCalls.CallResult.{Refused};
+ghost use Rattle.netlines.specs.Answers.{message_answer, refusal_answer, verdict_word};
 
 use crate::Verdict;
 use crate::frames::output::{append, append_decimal, append_hex};
 use etherparse::defrag::IpDefragError;
 
-/// Writes the answer that hands out a message to the front of `out`, and tells how many bytes it
-/// has.
+/// Writes the answer with a message to the start of `out`, and returns its length in bytes.
 #[inline(always)]
 pub fn write_message(number: u8, verdict: Verdict, message: &[u8], out: &mut [u8]) -> usize
     requires { 2 * length message.now + 20 ≤ length out.old }
@@ -27,8 +26,8 @@ pub fn write_message(number: u8, verdict: Verdict, message: &[u8], out: &mut [u8
     }
 }
 
-// Puts the word of a verdict, between spaces, behind the first `used` bytes, and tells how many are
-// used then. Each word is copied where it is chosen, so that its length is known.
+// Writes the word of a verdict, between spaces, after the first `used` bytes, and returns how many
+// are used then. Each word is copied where it is chosen, so that its length is known.
 #[inline(always)]
 fn append_verdict(out: &mut [u8], used: usize, verdict: Verdict) -> usize
     requires { used + 6 ≤ length out.old }
@@ -43,7 +42,7 @@ fn append_verdict(out: &mut [u8], used: usize, verdict: Verdict) -> usize
     }
 }
 
-/// The answer to a fragment that is refused; none where memory ran out for it.
+/// The answer to a fragment that is refused; none where it is out of memory.
 pub fn refusal_text(error: &IpDefragError) -> Option<&'static [u8]>
     ensures text { MatchOption result (HasMemory (Refused error.now) → ⊥)
         (λ text. HasMemory (Refused error.now) × (text.now ≡ refusal_answer error.now)) }

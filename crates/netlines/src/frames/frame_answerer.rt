@@ -1,34 +1,35 @@
-//! Answers to lines by the frames that they and the lines before them hand in.
+//! Answers to lines by their frames and those of the lines before them.
 ghost use Rattle.std.specs.Prelude.{◌≡◌, ◌≤◌, ◌<◌, ◌*◌, ◌+◌, ℕ, List, [], vec_len, length, take};
 ghost use Rattle.std.specs.Prelude.{IfOk, vec_capacity};
-ghost use Rattle.etherparse.specs.defrag.PoolCalls.{ShowsLists};
+ghost use Rattle.etherparse.specs.PoolCalls.{ShowsLists};
 ghost use Rattle.etherparse.specs.packet.Class.{IdentificationFits, as_class, class_of};
-ghost use Rattle.etherparse.specs.packet.Class.{packet_told};
+ghost use Rattle.etherparse.specs.packet.Class.{packet_parsed};
 ghost use Rattle.etherparse.specs.packet.Class.Class.{Whole};
 ghost use Rattle.etherparse.specs.packet.Readable.{ReadMessage, as_read, message_at};
 ghost use Rattle.etherparse.specs.packet.declared.addresses.Addresses.{Addresses as AddressesValue};
-ghost use Rattle.etherparse.specs.packet.declared.class.Class.TheVariants as told;
-ghost use Rattle.etherparse.specs.streams.Counts.{HasPlace};
-ghost use Rattle.line_answers.specs.Answers.{frame_meaning, completed_answer, message_answer};
-ghost use Rattle.line_answers.specs.Arrivals.{lists_after_lines};
-ghost use Rattle.commands.specs.Commands.Command.{Forget};
-ghost use Rattle.commands.specs.Reads.{Reads};
-ghost use Rattle.commands.specs.Request.{as_command, frame_len};
+ghost use Rattle.etherparse.specs.packet.declared.class.Class.TheVariants as reported;
+ghost use Rattle.etherparse.specs.Counts.{HasSlot};
+ghost use Rattle.netlines.specs.Answers.{frame_meaning, completed_answer, message_answer};
+ghost use Rattle.netlines.specs.Arrivals.{lists_after_lines};
+ghost use Rattle.line_grammar.specs.Commands.Command.{Forget};
+ghost use Rattle.line_grammar.specs.Reads.{Reads};
+ghost use Rattle.line_grammar.specs.Request.{as_command, frame_len};
 ghost use Rattle.netlines.specs.PoolAnswers.{AnswersClass, AnswersCommand};
 ghost use Rattle.netlines.specs.PoolBuffers.{KeepsBuffers, TakesBack};
-ghost use Rattle.verdicts.specs.Verdict.{verdict_of};
-ghost use Rattle.commands.specs.declared.hex_digits.TheConstants.{FRAME_ROOM};
-ghost use Rattle.lines.specs.declared.limits.TheConstants.{REPLY_ROOM};
+ghost use Rattle.checksum_verdicts.specs.Verdict.{verdict_of};
+ghost use Rattle.line_grammar.specs.declared.hex_digits.TheConstants.{FRAME_CAPACITY};
+ghost use Rattle.lines.specs.declared.limits.TheConstants.{ANSWER_CAPACITY};
 
 use crate::frames::answer::{refusal_text, write_message};
 use crate::frames::output::append;
-use crate::{Addresses, Answerer, REPLY_ROOM, judge, read_message};
-use commands::{LineReader, Request};
+use crate::{ANSWER_CAPACITY, Addresses, Answerer, judge, read_message};
 use etherparse::defrag::{IpDefragPayloadVec, IpDefragPool};
-use etherparse::laws::defrag::streams::{
-    a_new_pool_shows_no_lists, packets_are_answered, spare_buffers_show_nothing, wants_are_told,
+use etherparse::laws::defrag::reassemblies::{
+    a_new_pool_shows_no_lists, memory_errors_are_reported, packets_are_answered,
+    spare_buffers_show_nothing,
 };
-use etherparse::{Class, CutMessage, SlicedPacket, WholeMessage};
+use etherparse::{Class, IpFragment, SlicedPacket, WholeMessage};
+use line_grammar::{LineReader, Request};
 use std::alloc::{AllocError, Global};
 use std::hash::{BuildHasher, BuildHasherDefault, FoldHasher};
 
@@ -40,9 +41,9 @@ const REFUSED_FRAME: &[u8; 13] = b"refused frame";
 /// and drops messages where a line says so.
 #[derive(Drop)]
 pub struct FrameAnswerer<S: BuildHasher = BuildHasherDefault<FoldHasher>> {
-    // The messages on their way, each with the line of the fragment that was accepted last.
+    // The reassemblies, each with the number of the line whose fragment was accepted last.
     pool: IpDefragPool<u64, u32, S>,
-    // The line that has begun.
+    // The line that has started.
     reader: LineReader,
 }
 
@@ -58,8 +59,8 @@ impl FrameAnswerer<BuildHasherDefault<FoldHasher>> {
 }
 
 impl<S: BuildHasher + Drop> FrameAnswerer<S> {
-    /// No message is on its way and no line has begun. The names of messages are hashed by this
-    /// state. The room of a line's frame is taken here.
+    /// There is no reassembly, and no line has started. The names of messages are hashed by this
+    /// state. The buffer for a line's frame is allocated here.
     pub fn with_hasher(alloc: Global, state: S) -> Result<FrameAnswerer<S>, AllocError>
         ensures pool { IfOk result
             (λ answerer. ShowsLists answerer.pool (lists_after_lines [])) }
@@ -76,8 +77,8 @@ impl<S: BuildHasher + Drop> FrameAnswerer<S> {
 impl<S: BuildHasher> Answerer for FrameAnswerer<S> {
     ghost meaning = { frame_meaning };
 
-    ghost shows = { λ answerer earlier front.
-        ShowsLists answerer.pool (lists_after_lines earlier) × Reads front answerer.reader };
+    ghost shows = { λ answerer earlier prefix.
+        ShowsLists answerer.pool (lists_after_lines earlier) × Reads prefix answerer.reader };
 
     fn take(&mut self, bytes: &[u8]) {
         self.reader.take(bytes);
@@ -90,15 +91,15 @@ impl<S: BuildHasher> Answerer for FrameAnswerer<S> {
     }
 }
 
-// Writes the answer to what a line asks for.
+// Writes the answer to the request of a line.
 fn answer_request<S: BuildHasher>(
     pool: &mut IpDefragPool<u64, u32, S>,
     request: Request<'_>,
     number: u64,
     out: &mut [u8],
 ) -> Result<usize, AllocError>
-    requires frame { frame_len request ≤ FRAME_ROOM }
-    requires room { REPLY_ROOM ≤ length out.old }
+    requires frame { frame_len request ≤ FRAME_CAPACITY }
+    requires room { ANSWER_CAPACITY ≤ length out.old }
     ensures fits { IfOk result (λ end. end < length out.new) }
     ensures answers { AnswersCommand pool.old pool.new number (as_command request.entry) out.new result }
 {
@@ -117,8 +118,8 @@ fn answer_frame<S: BuildHasher>(
     channel: u32,
     out: &mut [u8],
 ) -> Result<usize, AllocError>
-    requires frame { length frame.now ≤ FRAME_ROOM }
-    requires room { REPLY_ROOM ≤ length out.old }
+    requires frame { length frame.now ≤ FRAME_CAPACITY }
+    requires room { ANSWER_CAPACITY ≤ length out.old }
     ensures fits { IfOk result (λ end. end < length out.new) }
     ensures answers { AnswersClass pool.old pool.new number
         (class_of frame.now) channel out.new result }
@@ -129,7 +130,7 @@ fn answer_frame<S: BuildHasher>(
     }
 }
 
-// Writes the answer to a frame that was sliced.
+// Writes the answer to a frame that was read as slices.
 fn answer_packet<S: BuildHasher>(
     pool: &mut IpDefragPool<u64, u32, S>,
     packet: &SlicedPacket<'_>,
@@ -138,15 +139,15 @@ fn answer_packet<S: BuildHasher>(
     out: &mut [u8],
 ) -> Result<usize, AllocError>
     requires short { (addresses : AddressesValue) (n : ℕ) (bytes : List ℕ) (read : ReadMessage)
-        → packet_told packet.now ≡ Whole addresses n bytes read → length bytes ≤ FRAME_ROOM }
-    requires room { REPLY_ROOM ≤ length out.old }
+        → packet_parsed packet.now ≡ Whole addresses n bytes read → length bytes ≤ FRAME_CAPACITY }
+    requires room { ANSWER_CAPACITY ≤ length out.old }
     ensures fits { IfOk result (λ end. end < length out.new) }
     ensures answers { AnswersClass pool.old pool.new number
-        (packet_told packet.now) channel out.new result }
+        (packet_parsed packet.now) channel out.new result }
 {
     match packet.class() {
         Class::Whole(message) => Ok(write_whole(&message, out)),
-        Class::Cut(message) => answer_part(pool, message, number, channel, out),
+        Class::Cut(message) => answer_fragment(pool, message, number, channel, out),
         Class::Other => Ok(append(out, 0, b"other")),
         Class::Refused => Ok(append(out, 0, REFUSED_FRAME)),
     }
@@ -163,27 +164,27 @@ fn write_whole(message: &WholeMessage<'_>, out: &mut [u8]) -> usize
     write_message(message.ip_number.0, verdict, message.bytes, out)
 }
 
-// Takes a part of a message, and writes the answer to it.
-fn answer_part<S: BuildHasher>(
+// Adds a fragment to the pool, and writes the answer to it.
+fn answer_fragment<S: BuildHasher>(
     pool: &mut IpDefragPool<u64, u32, S>,
-    message: CutMessage<'_>,
+    message: IpFragment<'_>,
     number: u64,
     channel: u32,
     out: &mut [u8],
 ) -> Result<usize, AllocError>
-    requires part { IdentificationFits message.addresses message.identification }
-    requires room { REPLY_ROOM ≤ length out.old }
+    requires fragment { IdentificationFits message.addresses message.identification }
+    requires room { ANSWER_CAPACITY ≤ length out.old }
     ensures fits { IfOk result (λ end. end < length out.new) }
     ensures answers { AnswersClass pool.old pool.new number
-        (as_class (told.Cut message.entry)) channel out.new result }
+        (as_class (reported.Cut message.entry)) channel out.new result }
     ensures buffers { IfOk result (λ end. KeepsBuffers pool.old pool.new (take end out.new)) }
 {
     packets_are_answered();
-    wants_are_told();
+    memory_errors_are_reported();
     spare_buffers_show_nothing();
     let addresses = message.addresses;
-    match pool.process_cut_message(message, number, channel) {
-        Ok(Some(payload)) => Ok(hand_out(pool, &addresses, payload, out)),
+    match pool.process_fragment(message, number, channel) {
+        Ok(Some(payload)) => Ok(answer_completed(pool, &addresses, payload, out)),
         Ok(None) => Ok(append(out, 0, b"wait")),
         Err(error) => match refusal_text(&error) {
             Some(text) => Ok(append(out, 0, text)),
@@ -192,32 +193,32 @@ fn answer_part<S: BuildHasher>(
     }
 }
 
-// Writes the answer to the part that completes a message, and gives the message's memory back, also
-// where the message is refused.
-fn hand_out<S: BuildHasher>(
+// Writes the answer to the fragment that completes a message, and returns the message's buffer to
+// the pool, also where the message is refused.
+fn answer_completed<S: BuildHasher>(
     pool: &mut IpDefragPool<u64, u32, S>,
     addresses: &Addresses,
     payload: IpDefragPayloadVec,
     out: &mut [u8],
 ) -> usize
-    requires place { HasPlace pool.old }
+    requires position { HasSlot pool.old }
     requires short { length payload.payload.items ≤ 65535 }
-    requires room { REPLY_ROOM ≤ length out.old }
+    requires room { ANSWER_CAPACITY ≤ length out.old }
     ensures end { result < length out.new }
     ensures bytes { take result out.new ≡ completed_answer addresses.now payload.ip_number.0
         payload.payload.items (message_at payload.ip_number.0 payload.payload.items) }
     ensures back { TakesBack pool.old pool.new (vec_capacity payload.payload) }
 {
     let end = write_completed(addresses, &payload, out);
-    // There is a place for it.
+    // The pool has a slot for it.
     drop(pool.return_buf(payload));
     end
 }
 
-// Writes the answer to the part that completes a message.
+// Writes the answer to the fragment that completes a message.
 fn write_completed(addresses: &Addresses, payload: &IpDefragPayloadVec, out: &mut [u8]) -> usize
     requires short { length payload.now.payload.items ≤ 65535 }
-    requires room { REPLY_ROOM ≤ length out.old }
+    requires room { ANSWER_CAPACITY ≤ length out.old }
     ensures end { result < length out.new }
     ensures bytes { take result out.new ≡ completed_answer addresses.now payload.now.ip_number.0
         payload.now.payload.items (message_at payload.now.ip_number.0 payload.now.payload.items) }
@@ -229,13 +230,13 @@ fn write_completed(addresses: &Addresses, payload: &IpDefragPayloadVec, out: &mu
     }
 }
 
-// Drops the messages whose last fragment stood before the line of this number.
+// Drops the reassemblies whose last accepted fragment came before the line of this number.
 fn forget<S: BuildHasher>(
     pool: &mut IpDefragPool<u64, u32, S>,
     from: u64,
     out: &mut [u8],
 ) -> Result<usize, AllocError>
-    requires room { REPLY_ROOM ≤ length out.old }
+    requires room { ANSWER_CAPACITY ≤ length out.old }
     ensures fits { IfOk result (λ end. end < length out.new) }
     ensures answers { (number : ℕ)
         → AnswersCommand pool.old pool.new number (Forget from) out.new result }

@@ -1,27 +1,27 @@
 //! Runs in which each line is answered by its frame and those of the lines before it.
 ghost use Rattle.std.specs.Prelude.{◌≡◌, ◌≤◌, length, OnOk, IfOk, IfSome, IsErrOf};
 ghost use Rattle.std.specs.Io.KnownBytes.{Appends, IsAtEnd};
-ghost use Rattle.runs.specs.Known.{KnownCall, known_of};
-ghost use Rattle.line_answers.specs.Answers.{answers_of};
+ghost use Rattle.device_runs.specs.Known.{KnownCall, known_of};
+ghost use Rattle.netlines.specs.Answers.{answers_of};
 ghost use Rattle.netlines.specs.Runs.{Runs, Transfers};
 
 use crate::frames::frame_answerer::FrameAnswerer;
+use device_runs::{Device, ReaderWriter};
 use lines::{READ_COUNT_LIMIT, RunError, answers_by, run_with};
-use runs::{Device, ReaderWriter};
 use std::alloc::{AllocError, Global};
 use std::hash::{BuildHasher, BuildHasherDefault, FoldHasher};
 use std::io::{Read, Write};
 
 /// Answers each line of the reader by a line on the writer, up to the end of the reader.
 ///
-/// A read that gives nothing tells the end, and nothing is read after it. Any fault that a read or
-/// a write answers ends the run, an interrupted call too. That an error was caused by such a call
-/// is said by [`run_over`] alone: `Read` and `Write` give a failing call no meaning.
+/// A read that returns no bytes is the end, and nothing is read after it. Any error that a read or
+/// a write returns ends the run, that of an interrupted call too. Only [`run_over`] says that such
+/// a call caused an error: the contracts of `Read` and `Write` don't say what a failed call does.
 ///
-/// Memory is taken before the first read, and then for fragments that aren't refused alone. Where
+/// Memory is taken before the first read, and then only for fragments that no rule refuses. Where
 /// it runs out for one of these, the answers to all lines before it are written.
 ///
-/// The names of messages are hashed by a fixed seed. Where strangers choose the names, take
+/// The names of messages are hashed by a fixed seed. Where untrusted senders choose the names, use
 /// [`run_with_hasher`].
 pub fn run<R: Read, W: Write>(alloc: Global, reader: &mut R, writer: &mut W) -> Result<(), RunError>
     // All lines are answered, and no byte is left to read.
@@ -45,7 +45,7 @@ pub fn run<R: Read, W: Write>(alloc: Global, reader: &mut R, writer: &mut W) -> 
     run_bounded(alloc, reader, writer, READ_COUNT_LIMIT)
 }
 
-/// [`run`] of at most so many reads, of which the one that tells the end is one.
+/// [`run`] with a bound on the number of reads; the one that finds the end counts too.
 pub fn run_bounded<R: Read, W: Write>(
     alloc: Global,
     reader: &mut R,
@@ -74,8 +74,8 @@ pub fn run_bounded<R: Read, W: Write>(
 }
 
 /// [`run_bounded`] with the names of messages hashed by this state. The state changes no byte of
-/// the output: no clause names it. A [`std::hash::RandomState`] keeps names that strangers choose
-/// from colliding by intent.
+/// the output: no clause names it. A [`std::hash::RandomState`] keeps names that untrusted senders
+/// choose from colliding by intent.
 pub fn run_with_hasher<S: BuildHasher + Drop, R: Read, W: Write>(
     alloc: Global,
     state: S,

@@ -1,10 +1,10 @@
-//! The message that becomes frames.
+//! Frames made of a message.
 ghost use Rattle.std.specs.Prelude.{◌≡◌, ◌≤◌, ◌/◌, length, map, None, IfOk, IsOk, IsOkUnless};
 ghost use Rattle.std.specs.Prelude.{MatchOption, OnOk};
-ghost use Rattle.line_answers.specs.Posted.{is_cut, pieces_from, posted_frames};
-ghost use Rattle.line_answers.specs.PostRefusal.{bad_cut, is_good_cut, is_icmp_of_other_version};
-ghost use Rattle.line_answers.specs.PostRefusal.{long_piece, long_piece_from, names_extension};
-ghost use Rattle.line_answers.specs.PostRefusal.{post_refusal, room};
+ghost use Rattle.netlines.specs.Posted.{is_fragmented, fragments_from, posted_frames};
+ghost use Rattle.netlines.specs.PostRefusal.{bad_cut, is_good_cut, is_icmp_of_other_version};
+ghost use Rattle.netlines.specs.PostRefusal.{long_fragment, long_fragment_from, names_extension};
+ghost use Rattle.netlines.specs.PostRefusal.{post_refusal, room};
 
 use crate::messages::posted_frame::frame;
 use crate::{IpFragVersionSpecId, Letter, PostError};
@@ -14,19 +14,19 @@ use std::alloc::{AllocError, Global};
 /// The greatest length of a message in bytes.
 const MESSAGE_LIMIT: usize = 65535;
 
-/// The frames of Ethernet II that bring a message to where a letter says, cut at these offsets in
-/// bytes: one for each piece. Their IP packets have 64 hops and no options, over IPv4
+/// The frames of Ethernet II in which a message is sent as a letter says, cut at these offsets in
+/// bytes: one for each fragment. Their IP packets have 64 hops and no options, over IPv4
 /// don't-fragment is unset, over IPv6 only a message that is cut has an extension header, the
-/// fragment header, and nothing follows the piece.
+/// fragment header, and nothing follows the fragment.
 ///
-/// Where several refusals stand, the first one in the order of [`PostError`] is given.
+/// Where several refusals apply, the first one in the order of [`PostError`] is returned.
 pub fn post(
     alloc: Global,
     letter: &Letter,
     message: &[u8],
     cuts: &[u32],
 ) -> Result<Vec<Vec<u8>>, PostError>
-    // Refused where a refusal stands, and else only where memory is missing.
+    // Refused where a refusal applies, and else only where it is out of memory.
     ensures refusal { MatchOption (post_refusal letter.now message.now cuts.now)
         (IsOkUnless result PostError.Memory) (λ e. result ≡ Err e) }
     ensures frames { IfOk result (λ frames. map (λ frame. frame.items) frames.items
@@ -36,13 +36,13 @@ pub fn post(
     Ok(frames(alloc, letter, message, cuts)?)
 }
 
-// The refusal that stands.
+// The first refusal that applies.
 fn refuse(letter: &Letter, message: &[u8], cuts: &[u32]) -> Result<(), PostError>
     ensures refusal { MatchOption (post_refusal letter.now message.now cuts.now) (IsOk result)
         (λ e. result ≡ Err e) }
     ensures cuts { OnOk result (bad_cut (length message.now) cuts.now ≡ None) }
     ensures short { OnOk result (length message.now ≤ 65535) }
-    ensures fits { OnOk result (long_piece letter.now.stream message.now cuts.now ≡ None) }
+    ensures fits { OnOk result (long_fragment letter.now.stream message.now cuts.now ≡ None) }
 {
     if let Some(index) = bad_cut(message.len(), cuts) {
         return Err(PostError::Cuts { index });
@@ -56,8 +56,8 @@ fn refuse(letter: &Letter, message: &[u8], cuts: &[u32]) -> Result<(), PostError
     if is_icmp_of_other_version(&letter.stream, letter.number) {
         return Err(PostError::IcmpOfOtherVersion);
     }
-    let room = room(&letter.stream, is_cut(cuts));
-    if let Some(index) = long_piece(room, message, cuts) {
+    let room = room(&letter.stream, is_fragmented(cuts));
+    if let Some(index) = long_fragment(room, message, cuts) {
         return Err(PostError::PieceTooLong { index });
     }
     Ok(())
@@ -86,21 +86,21 @@ fn is_good_cut(len: usize, before: usize, cut: usize) -> bool
     cut % 8 == 0 && before < cut && cut < len
 }
 
-// The index of the first piece of more bytes than these.
-fn long_piece(room: usize, message: &[u8], cuts: &[u32]) -> Option<usize>
+// The index of the first fragment of more bytes than these.
+fn long_fragment(room: usize, message: &[u8], cuts: &[u32]) -> Option<usize>
     requires { bad_cut (length message.now) cuts.now ≡ None }
-    ensures { result ≡ long_piece_from room 0 (pieces_from 0 cuts.now message.now) }
+    ensures { result ≡ long_fragment_from room 0 (fragments_from 0 cuts.now message.now) }
 {
     let mut rest = message;
     let mut start = 0usize;
     let mut index = 0usize;
     for cut in cuts {
         let end = *cut as usize;
-        let (piece, behind) = rest.split_at(end - start);
-        if piece.len() > room {
+        let (posted_fragment, following) = rest.split_at(end - start);
+        if posted_fragment.len() > room {
             return Some(index);
         }
-        rest = behind;
+        rest = following;
         start = end;
         index += 1;
     }
@@ -132,24 +132,24 @@ fn is_icmp_of_other_version(stream: &IpFragVersionSpecId, number: IpNumber) -> b
     }
 }
 
-// The bytes that a packet has room for behind its headers.
-fn room(stream: &IpFragVersionSpecId, is_cut: bool) -> usize
-    ensures { result ≡ room stream.now is_cut }
+// The greatest number of bytes that fit a packet after its headers.
+fn room(stream: &IpFragVersionSpecId, is_fragmented: bool) -> usize
+    ensures { result ≡ room stream.now is_fragmented }
 {
     match stream {
         IpFragVersionSpecId::Ipv4 { .. } => 65515,
-        IpFragVersionSpecId::Ipv6 { .. } if is_cut => 65527,
+        IpFragVersionSpecId::Ipv6 { .. } if is_fragmented => 65527,
         IpFragVersionSpecId::Ipv6 { .. } => 65535,
     }
 }
 
-fn is_cut(cuts: &[u32]) -> bool
-    ensures { result ≡ is_cut cuts.now }
+fn is_fragmented(cuts: &[u32]) -> bool
+    ensures { result ≡ is_fragmented cuts.now }
 {
     !cuts.is_empty()
 }
 
-// A frame for each piece.
+// A frame for each fragment.
 fn frames(
     alloc: Global,
     letter: &Letter,
@@ -158,28 +158,35 @@ fn frames(
 ) -> Result<Vec<Vec<u8>>, AllocError>
     requires short { length message.now ≤ 65535 }
     requires cuts { bad_cut (length message.now) cuts.now ≡ None }
-    requires fits { long_piece letter.now.stream message.now cuts.now ≡ None }
+    requires fits { long_fragment letter.now.stream message.now cuts.now ≡ None }
     ensures { IfOk result (λ frames. map (λ frame. frame.items) frames.items
         ≡ posted_frames letter.now message.now cuts.now) }
 {
     let mut frames = Vec::with_capacity(alloc, cuts.len() + 1)?;
-    let in_pieces = is_cut(cuts);
+    let in_fragments = is_fragmented(cuts);
     let mut rest = message;
     let mut start = 0usize;
     for cut in cuts {
         let end = *cut as usize;
-        let (piece, behind) = rest.split_at(end - start);
-        let bytes = frame(alloc, letter, in_pieces, offset(start), true, piece)?;
+        let (posted_fragment, following) = rest.split_at(end - start);
+        let bytes = frame(
+            alloc,
+            letter,
+            in_fragments,
+            offset(start),
+            true,
+            posted_fragment,
+        )?;
         frames.push(bytes).unwrap();
-        rest = behind;
+        rest = following;
         start = end;
     }
-    let bytes = frame(alloc, letter, in_pieces, offset(start), false, rest)?;
+    let bytes = frame(alloc, letter, in_fragments, offset(start), false, rest)?;
     frames.push(bytes).unwrap();
     Ok(frames)
 }
 
-// A place in a message in units of 8 bytes.
+// An offset in a message, from bytes to units of 8 bytes.
 fn offset(start: usize) -> IpFragOffset
     requires { start ≤ 65535 }
     ensures { result ≡ start / 8 }

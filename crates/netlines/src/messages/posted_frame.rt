@@ -1,9 +1,9 @@
-//! The frame with a piece of a message.
+//! The frame with a fragment of a message.
 ghost use Rattle.std.specs.Prelude.{◌≡◌, ◌≤◌, ◌<◌, ◌^◌, length, IfOk, None};
-ghost use Rattle.etherparse.specs.build.Built.{packet_with_number, refusal_of, size_of};
-ghost use Rattle.line_answers.specs.PostRefusal.{room};
-ghost use Rattle.line_answers.specs.Posted.{frame};
-ghost use Rattle.line_answers.specs.PostedHeaders.{fragment_of, headers_of, ip_headers_of};
+ghost use Rattle.etherparse.specs.Built.{packet_with_number, refusal_of, size_of};
+ghost use Rattle.netlines.specs.PostRefusal.{room};
+ghost use Rattle.netlines.specs.Posted.{frame};
+ghost use Rattle.netlines.specs.PostedHeaders.{fragment_of, headers_of, ip_headers_of};
 
 use crate::{IpFragVersionSpecId, Letter};
 use etherparse::{
@@ -14,44 +14,47 @@ use std::alloc::{AllocError, Global};
 
 const HOPS: u8 = 64;
 
-// The frame with a piece of a letter's message: whether the message is cut, the place of the piece
-// there, and whether more pieces follow.
+// The frame with a fragment of a letter's message: whether the message is cut, the offset of the
+// fragment, and whether more fragments follow.
 pub(crate) fn frame(
     alloc: Global,
     letter: &Letter,
-    is_cut: bool,
+    is_fragmented: bool,
     offset: IpFragOffset,
     more: bool,
     text: &[u8],
 ) -> Result<Vec<u8>, AllocError>
-    requires { length text.now ≤ room letter.now.stream is_cut }
+    requires { length text.now ≤ room letter.now.stream is_fragmented }
     ensures { IfOk result (λ bytes. bytes.items
-        ≡ frame letter.now is_cut (record { offset = offset; more = more; text = text.now })) }
+        ≡ frame letter.now is_fragmented (record { offset = offset; more = more; text = text.now })) }
 {
-    let step = step(letter, is_cut, offset, more, text);
+    let step = step(letter, is_fragmented, offset, more, text);
     let mut bytes = Vec::with_capacity(alloc, step.size(text.len()))?;
     step.write(&mut bytes, letter.number, text).unwrap();
     Ok(bytes)
 }
 
-// The builder of the frame with this piece.
+// The builder of the frame with this fragment.
 fn step(
     letter: &Letter,
-    is_cut: bool,
+    is_fragmented: bool,
     offset: IpFragOffset,
     more: bool,
     text: &[u8],
 ) -> PacketBuilderStep<IpHeaders>
-    requires { length text.now ≤ room letter.now.stream is_cut }
+    requires { length text.now ≤ room letter.now.stream is_fragmented }
     ensures frame { packet_with_number result letter.now.number.0 text.now
-        ≡ frame letter.now is_cut (record { offset = offset; more = more; text = text.now }) }
+        ≡ frame letter.now is_fragmented (record { offset = offset; more = more; text = text.now }) }
     ensures refusal { refusal_of result (length text.now) ≡ None }
     ensures size { size_of result (length text.now) < 2 ^ 64 }
 {
-    headers(letter, ip_headers(&letter.stream, is_cut, offset, more))
+    headers(
+        letter,
+        ip_headers(&letter.stream, is_fragmented, offset, more),
+    )
 }
 
-// Link header and tags of a letter's frames, and behind them these IP headers.
+// Link header and tags of a letter's frames, followed by these IP headers.
 fn headers(letter: &Letter, ip: IpHeaders) -> PacketBuilderStep<IpHeaders>
     ensures { result ≡ headers_of letter.now ip }
 {
@@ -63,15 +66,15 @@ fn headers(letter: &Letter, ip: IpHeaders) -> PacketBuilderStep<IpHeaders>
     }
 }
 
-// The IP headers of a piece. Their lengths, numbers and checksum are set when the packet is
+// The IP headers of a fragment. Their lengths, numbers and checksum are set when the packet is
 // written.
 fn ip_headers(
     stream: &IpFragVersionSpecId,
-    is_cut: bool,
+    is_fragmented: bool,
     offset: IpFragOffset,
     more: bool,
 ) -> IpHeaders
-    ensures { result ≡ ip_headers_of stream.now is_cut offset more }
+    ensures { result ≡ ip_headers_of stream.now is_fragmented offset more }
 {
     match stream {
         IpFragVersionSpecId::Ipv4 {
@@ -109,7 +112,7 @@ fn ip_headers(
                 hop_by_hop_options: None,
                 destination_options: None,
                 routing: None,
-                fragment: fragment_header(is_cut, offset, more, *identification),
+                fragment: fragment_header(is_fragmented, offset, more, *identification),
                 auth: None,
             };
             IpHeaders::Ipv6(header, extensions)
@@ -119,14 +122,14 @@ fn ip_headers(
 
 // The fragment header of a message that is cut.
 fn fragment_header(
-    is_cut: bool,
+    is_fragmented: bool,
     offset: IpFragOffset,
     more: bool,
     identification: u32,
 ) -> Option<Ipv6FragmentHeader>
-    ensures { result ≡ fragment_of is_cut offset more identification }
+    ensures { result ≡ fragment_of is_fragmented offset more identification }
 {
-    if is_cut {
+    if is_fragmented {
         Some(Ipv6FragmentHeader::new(IpNumber(0), offset, more, identification))
     } else {
         None

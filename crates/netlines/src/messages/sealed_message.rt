@@ -1,8 +1,8 @@
-//! Headers and payloads that become messages.
+//! Messages made of headers and payloads.
 ghost use Rattle.std.specs.Prelude.{◌≡◌, IfOk, IsOk, IsOkUnless, MatchOption};
 ghost use Rattle.etherparse.specs.packet.declared.transport.transport_header.TransportHeader.{TransportHeader};
-ghost use Rattle.line_answers.specs.Sealed.{addresses_of, seal_refusal, sealed_message_bytes};
-ghost use Rattle.line_answers.specs.Sealed.{sealed_header};
+ghost use Rattle.netlines.specs.Sealed.{addresses_of, seal_refusal, sealed_message_bytes};
+ghost use Rattle.netlines.specs.Sealed.{sealed_header};
 
 use crate::{IpFragVersionSpecId, SealError};
 use etherparse::err::packet::TransportChecksumError;
@@ -12,18 +12,18 @@ use std::alloc::Global;
 /// The greatest length of a message in bytes, header and payload.
 const MESSAGE_LIMIT: usize = 65535;
 
-/// The bytes of a message: the header, with the checksum that belongs to the payload and the
-/// addresses of the stream and, of UDP, with the length; and after it the payload. What the header
-/// has in those fields is ignored.
+/// The bytes of a message: the header, with the checksum that belongs to the payload and these
+/// addresses and, of UDP, with the length; and after it the payload. What the header has in those
+/// fields is ignored.
 ///
-/// Where several refusals stand, the first one in the order of [`SealError`] is given.
+/// Where several refusals apply, the first one in the order of [`SealError`] is returned.
 pub fn seal_message(
     alloc: Global,
     stream: &IpFragVersionSpecId,
     header: TransportHeader,
     payload: &[u8],
 ) -> Result<Vec<u8>, SealError>
-    // Refused where a refusal stands, and else only where memory is missing.
+    // Refused where a refusal applies, and else only where it is out of memory.
     ensures refusal { MatchOption (seal_refusal stream.now header payload.now)
         (IsOkUnless result SealError.Memory) (λ e. result ≡ Err e) }
     ensures message { IfOk result (λ message. message.items
@@ -36,7 +36,7 @@ pub fn seal_message(
     Ok(message)
 }
 
-// The header with its length and checksum, where no refusal stands.
+// The header with its length and checksum, where no refusal applies.
 fn sealed_with(
     stream: &IpFragVersionSpecId,
     mut header: TransportHeader,

@@ -1,10 +1,10 @@
 //! Errors as objects: the variant's name, and its fields.
 
 use ep_base::IpFragOffset;
-use ep_fragments::defrag::IpDefragError;
 use ep_packet::err::packet::SliceError;
-use header_texts::json::faults;
-use header_texts::json::fields::{begin, number};
+use etherparse::defrag::IpDefragError;
+use header_descriptions::json::faults;
+use header_descriptions::json::fields::{begin, number};
 use serde::Serializer;
 
 /// Why a packet is refused. It has no contract: tests compare the texts.
@@ -32,8 +32,8 @@ fn variant<S: Serializer>(out: &mut S, error: &SliceError) -> Result<(), S::Erro
     }
 }
 
-/// Why a part of a message is refused. It has no contract: tests compare the texts.
-pub(crate) fn part<S: Serializer>(out: &mut S, error: &IpDefragError) -> Result<(), S::Error> {
+/// Why a fragment is refused. It has no contract: tests compare the texts.
+pub(crate) fn fragment<S: Serializer>(out: &mut S, error: &IpDefragError) -> Result<(), S::Error> {
     begin(out, "error")?;
     begin_variant(out, error)?;
     out.end_map()?;
@@ -45,13 +45,13 @@ fn begin_variant<S: Serializer>(out: &mut S, error: &IpDefragError) -> Result<()
         IpDefragError::UnalignedFragmentPayloadLen {
             offset,
             payload_len,
-        } => placed(out, "UnalignedFragmentPayloadLen", *offset, *payload_len),
+        } => with_offset(out, "UnalignedFragmentPayloadLen", *offset, *payload_len),
         IpDefragError::SegmentTooBig {
             offset,
             payload_len,
             max,
         } => {
-            placed(out, "SegmentTooBig", *offset, *payload_len)?;
+            with_offset(out, "SegmentTooBig", *offset, *payload_len)?;
             number(out, "max", u64::from(*max))
         }
         IpDefragError::ConflictingEnd {
@@ -69,12 +69,12 @@ fn begin_variant<S: Serializer>(out: &mut S, error: &IpDefragError) -> Result<()
         IpDefragError::OverlappingFragment {
             offset,
             payload_len,
-        } => placed(out, "OverlappingFragment", *offset, *payload_len),
+        } => with_offset(out, "OverlappingFragment", *offset, *payload_len),
     }
 }
 
-// Begins a variant by where the part stands in its message, and its length.
-fn placed<S: Serializer>(
+// Begins a variant by the offset of the fragment in its datagram, and its length.
+fn with_offset<S: Serializer>(
     out: &mut S,
     variant: &str,
     offset: IpFragOffset,

@@ -1,29 +1,29 @@
-//! What became of a part of a message.
+//! What became of a fragment.
 
 use crate::Fragment;
 use crate::json::errors;
-use header_texts::json::fields::{begin as begin_object, number};
+use header_descriptions::json::fields::{begin as begin_object, number};
 use serde::Serializer;
 
-/// Begins the object that tells it, up to what is told of a message that is complete. It has no
+/// Begins the object of a fragment, up to the members of a message that is complete. It has no
 /// contract: tests compare the texts.
-pub(crate) fn begin<S: Serializer>(out: &mut S, part: &Fragment) -> Result<(), S::Error> {
+pub(crate) fn begin<S: Serializer>(out: &mut S, fragment: &Fragment) -> Result<(), S::Error> {
     begin_object(out, "fragment")?;
-    match part {
-        Fragment::Waits { begun } => {
+    match fragment {
+        Fragment::Waits { started } => {
             begin_object(out, "Waits")?;
-            number(out, "begun", *begun)
+            number(out, "begun", *started)
         }
-        Fragment::Completes { begun, .. } => {
+        Fragment::Completes { started, .. } => {
             begin_object(out, "Completes")?;
-            number(out, "begun", *begun)
+            number(out, "begun", *started)
         }
-        Fragment::Refused { begun, error } => {
+        Fragment::Refused { started, error } => {
             begin_object(out, "Refused")?;
-            if let Some(begun) = begun {
-                number(out, "begun", *begun)?;
+            if let Some(started) = started {
+                number(out, "begun", *started)?;
             }
-            errors::part(out, error)
+            errors::fragment(out, error)
         }
     }
 }

@@ -1,9 +1,9 @@
-//! The members that tell the headers of a packet.
+//! The members of an object for the headers of a packet.
 
 use crate::json::{link, net, transport};
 use captures::Header;
 use ep_packet::SlicedPacket;
-use header_texts::json::link::tags;
+use header_descriptions::json::link::tags;
 use serde::Serializer;
 
 /// The headers of a packet, the outer one first. One may have been made in place of the link's own.

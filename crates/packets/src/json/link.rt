@@ -3,8 +3,8 @@
 use captures::Header;
 use ep_link::LinkSlice;
 use ep_packet::SlicedPacket;
-use header_texts::json::fields::{begin, hardware, number};
-use header_texts::json::link::ethernet2;
+use header_descriptions::json::fields::{begin, hardware, number};
+use header_descriptions::json::link::ethernet2;
 use serde::Serializer;
 
 /// The link header of a packet, or that which was made in its place. It has no contract: tests

@@ -1,9 +1,9 @@
 //! Packets of the network layer.
 
 use ep_packet::{NetSlice, SlicedPacket};
-use header_texts::json::arp::arp;
-use header_texts::json::fields::begin;
-use header_texts::json::ip::{ipv4, ipv6};
+use header_descriptions::json::arp::arp;
+use header_descriptions::json::fields::begin;
+use header_descriptions::json::ip::{ipv4, ipv6};
 use serde::Serializer;
 
 /// The packet of the network layer, if there is one. It has no contract: tests compare the texts.

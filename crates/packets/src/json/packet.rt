@@ -5,7 +5,7 @@ use crate::json::{errors, fragment, headers};
 use crate::payload::payload_of;
 use crate::{Dissection, Fragment};
 use ep_packet::SlicedPacket;
-use header_texts::json::fields::{named, number, text};
+use header_descriptions::json::fields::{named, number, text};
 use serde::{Described, Serialize, Serializer};
 use std::alloc::{AllocError, Global};
 
@@ -22,14 +22,14 @@ impl JsonLines {
         JsonLines { alloc, payload }
     }
 
-    /// Puts the object of a packet behind `out`, in one line and without an end. It has no contract:
-    /// tests compare the texts.
+    /// Appends the object of a packet to `out`, in one line and without the newline that ends it.
+    /// It has no contract: tests compare the texts.
     pub fn write_line(&self, packet: &Dissection<'_>, out: &mut Vec<u8>) -> Result<(), AllocError> {
         let object = PacketObject {
             lines: self,
             packet,
         };
-        // Nothing else can be wrong than that there is no memory.
+        // The only error is that memory ran out.
         let Ok(bytes) = serde_json::to_vec(self.alloc, &object) else {
             return Err(AllocError);
         };
@@ -56,7 +56,7 @@ impl Serialize for PacketObject<'_, '_> {
 }
 
 impl PacketObject<'_, '_> {
-    // What its capture tells of it.
+    // What its capture states of it.
     fn record<S: Serializer>(&self, out: &mut S) -> Result<(), S::Error> {
         let packet = self.packet;
         number(out, "number", packet.number)?;
@@ -93,14 +93,14 @@ impl PacketObject<'_, '_> {
             self.bytes("payload", payload, out)?;
         }
         match &self.packet.fragment {
-            Some(part) => self.part(part, out),
+            Some(fragment) => self.fragment(fragment, out),
             None => Ok(()),
         }
     }
 
-    fn part<S: Serializer>(&self, part: &Fragment, out: &mut S) -> Result<(), S::Error> {
-        fragment::begin(out, part)?;
-        if let Fragment::Completes { message, .. } = part {
+    fn fragment<S: Serializer>(&self, fragment: &Fragment, out: &mut S) -> Result<(), S::Error> {
+        fragment::begin(out, fragment)?;
+        if let Fragment::Completes { message, .. } = fragment {
             let bytes = message.payload.as_slice();
             completed(out, message.ip_number, bytes)?;
             if self.lines.payload {

@@ -3,10 +3,10 @@
 use crate::json::errors;
 use ep_base::IpNumber;
 use ep_packet::{Message, SlicedPacket, TransportSlice, read_message};
-use header_texts::json::fields::{begin, number};
-use header_texts::json::icmp;
-use header_texts::json::tcp::tcp;
-use header_texts::json::udp::udp;
+use header_descriptions::json::fields::{begin, number};
+use header_descriptions::json::icmp;
+use header_descriptions::json::tcp::tcp;
+use header_descriptions::json::udp::udp;
 use serde::Serializer;
 
 /// The message of a packet, if there is one that is read. It has no contract: tests compare the
@@ -32,8 +32,8 @@ fn slice<S: Serializer>(out: &mut S, transport: &TransportSlice<'_>) -> Result<(
     }
 }
 
-/// A message that was put together of parts: its protocol, its length, and its header or why it is
-/// refused. It has no contract: tests compare the texts.
+/// A reassembled message: its protocol, its length, and its header or why it is refused. It has no
+/// contract: tests compare the texts.
 pub(crate) fn completed<S: Serializer>(
     out: &mut S,
     ip_number: IpNumber,

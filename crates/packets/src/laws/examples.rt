@@ -1,5 +1,5 @@
-//! The definitions at values from outside: what the standards and docs/PACKETS.md say of packets
-//! that were written by hand, so that a definition can't change with the code.
+//! The definitions at literal values: what the standards and docs/PACKETS.md say of packets that
+//! were written down byte by byte, so that a definition can't change with the code.
 
 pub mod conditions;
 pub mod counts;

@@ -1,17 +1,17 @@
 //! What is written and flushed.
 ghost use Rattle.std.specs.Prelude.{Result};
-ghost use Rattle.runs.specs.Endings.{EndsFlushed};
+ghost use Rattle.device_runs.specs.Endings.{EndsFlushed};
 ghost use Rattle.captures.specs.declared.translation.run_error.RunError.{RunError};
 ghost use Rattle.packets.specs.Written.{WritesLines};
 
 use crate::{LineWriter, Report, Rules, write_lines};
 use captures::{RunError, Skipped};
-use runs::flush_behind;
+use device_runs::flush_after;
 use std::alloc::Global;
 use std::hash::BuildHasher;
 use std::io::{ErrorKind, Read, Write};
 
-/// [`write_lines`], and a flush behind it, where the input is refused too. A flush that fails behind
+/// [`write_lines`], and a flush after it, also where the input is refused. A flush that fails after
 /// a whole input is a failed write.
 pub fn write_flushed<R: Read + Drop, W: Write, L: LineWriter>(
     alloc: Global,
@@ -22,14 +22,14 @@ pub fn write_flushed<R: Read + Drop, W: Write, L: LineWriter>(
     skipped: &mut Skipped,
 ) -> Result<(), RunError>
     ensures { (done : Result Unit RunError) × EndsFlushed RunError.Write done result
-        × WritesLines (L.tells lines.now) rules.now skipped.new (R.remaining reader)
+        × WritesLines (L.describes lines.now) rules.now skipped.new (R.remaining reader)
         (W.contents writer.old) (W.contents writer.new) done }
 {
     let written = write_lines(alloc, rules, lines, reader, writer, skipped);
-    flush_behind(writer, written, RunError::Write)
+    flush_after(writer, written, RunError::Write)
 }
 
-/// Writes what is told of a capture at its end. It has no contract: tests compare the texts.
+/// Writes the report on a capture at its end. It has no contract: tests compare the texts.
 pub fn write_report<S: BuildHasher, W: Write>(
     alloc: Global,
     report: &Report<'_, S>,
@@ -39,7 +39,7 @@ pub fn write_report<S: BuildHasher, W: Write>(
         return Err(RunError::Memory);
     };
     match writer.write_all(text.as_bytes()) {
-        Ok(()) => flush_behind(writer, Ok(()), RunError::Write),
+        Ok(()) => flush_after(writer, Ok(()), RunError::Write),
         Err(error) if error.kind() == ErrorKind::WriteZero => Err(RunError::WriteZero),
         Err(_) => Err(RunError::Write),
     }

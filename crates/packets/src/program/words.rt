@@ -1,24 +1,24 @@
-//! What the words of the command line ask for.
+//! What the words of the command line request.
 use crate::{Condition, Filter, Rules, TimeForm, WordError};
 use captures::Unfit;
 use clap::ArgMatches;
 use std::alloc::{AllocError, Global};
 use thiserror::Error;
 
-/// What the words ask for.
+/// What the words request.
 #[derive(Drop)]
-pub struct Asked<'m> {
+pub struct Requested<'m> {
     /// What is written.
     pub output: Output,
-    /// Of which packets, and what becomes of the others and of messages.
+    /// Of which packets, and what becomes of the others and of reassemblies.
     pub rules: Rules,
     /// The file's name, or `-` for standard input.
     pub name: &'m str,
 }
 
-/// Why words ask for nothing.
+/// Why words request nothing.
 #[derive(Debug, Drop, Error)]
-pub enum AskError {
+pub enum RequestError {
     /// This word is no condition.
     #[error("invalid value '{word}' for '--only <WHAT>': {error}")]
     Word { word: String, error: WordError },
@@ -49,12 +49,12 @@ pub enum Coloring {
     Never,
 }
 
-/// What the words ask for, if they name a command. It has no contract: tests compare what words ask
-/// for.
-pub fn asked_for<'m>(
+/// What the words request, if they name a command. It has no contract: tests compare what words
+/// request.
+pub fn requested_by<'m>(
     alloc: Global,
     matches: &'m ArgMatches,
-) -> Result<Option<Asked<'m>>, AskError> {
+) -> Result<Option<Requested<'m>>, RequestError> {
     let (output, words) = match matches.subcommand() {
         Some(("show", words)) => (
             Output::Show(time_form(words), width(words), when_colored(words)),
@@ -64,7 +64,7 @@ pub fn asked_for<'m>(
         Some(("summary", words)) => (Output::Summary, words),
         _ => return Ok(None),
     };
-    Ok(Some(Asked {
+    Ok(Some(Requested {
         output,
         rules: Rules {
             filter: filter_of(alloc, words.get_strs("only").unwrap_or(&[]))?,
@@ -79,14 +79,14 @@ pub fn asked_for<'m>(
     }))
 }
 
-fn filter_of(alloc: Global, words: &[&str]) -> Result<Filter, AskError> {
+fn filter_of(alloc: Global, words: &[&str]) -> Result<Filter, RequestError> {
     let mut filter = Filter::new(alloc);
     for word in words {
         match word.parse::<Condition>() {
             Ok(condition) => filter.add(condition)?,
             Err(error) => {
                 let word = String::from_str(alloc, word)?;
-                return Err(AskError::Word { word, error });
+                return Err(RequestError::Word { word, error });
             }
         }
     }

@@ -10,28 +10,29 @@ use crate::run::rules::Rules;
 use crate::run::walk::{Visitor, walk};
 use crate::{Dissection, Dissector, JsonLines, ShowOptions};
 use captures::{PacketReader, RunError, Skipped};
-use runs::{Fault, ReaderWriter, write_whole};
+use device_runs::{Fault, ReaderWriter, write_whole};
 use std::alloc::{AllocError, Global};
 use std::io::{self, Read, Write};
 
-// So many bytes of lines are written at once, but for the line that reaches them.
+// Lines are written once they have so many bytes; the line that reaches that number is written with
+// them.
 const WRITTEN_AT_ONCE: usize = 1 << 16;
 
-/// Tells of a packet in one line.
+/// Describes a packet in one line.
 pub trait LineWriter {
-    // Such a text may be told of a packet.
-    ghost tells: { Self → Dissection → List ℕ → Type 0 };
+    // Such a text may describe a packet.
+    ghost describes: { Self → Dissection → List ℕ → Type 0 };
 
-    /// Puts the line of a packet into `out`, which is empty, without the 0a that ends it. Where it
-    /// has others, they are left out of the line.
+    /// Puts the line of a packet into `out`, which is empty, without the 0a that ends it. Other 0a
+    /// bytes in it are left out of the line.
     fn write_line(&self, packet: &Dissection<'_>, out: &mut Vec<u8>) -> Result<(), AllocError>
         requires { out.old.items ≡ [] }
-        ensures { IfOk result (λ _. tells self.now packet.now out.new.items) };
+        ensures { IfOk result (λ _. describes self.now packet.now out.new.items) };
 }
 
 impl LineWriter for ShowOptions {
     // Its texts are compared by tests.
-    ghost tells = { λ options packet text. Unit {0} };
+    ghost describes = { λ options packet text. Unit {0} };
 
     fn write_line(&self, packet: &Dissection<'_>, out: &mut Vec<u8>) -> Result<(), AllocError> {
         ShowOptions::write_line(self, packet, out)
@@ -40,7 +41,7 @@ impl LineWriter for ShowOptions {
 
 impl LineWriter for JsonLines {
     // Its texts are compared by tests.
-    ghost tells = { λ options packet text. Unit {0} };
+    ghost describes = { λ options packet text. Unit {0} };
 
     fn write_line(&self, packet: &Dissection<'_>, out: &mut Vec<u8>) -> Result<(), AllocError> {
         JsonLines::write_line(self, packet, out)
@@ -51,10 +52,10 @@ impl LineWriter for JsonLines {
 /// where it is refused. All lines are written before the next read; `skipped` becomes how many
 /// packets are passed over.
 ///
-/// Lines of packets before a refusal are written, also where memory is wanting for the next one. An
-/// error of the writer goes before why the packets end. No write is tried again, and none follows
-/// one that failed. No clause says when lines are written, nor that no write follows a failed one:
-/// tests do.
+/// Lines of packets before a refusal are written, also where memory runs out for the next one. An
+/// error of the writer is returned rather than why the packets end. No write is tried again, and
+/// none follows one that failed. No clause says when lines are written, nor that no write follows a
+/// failed one: tests do.
 pub fn write_lines<R: Read + Drop, W: Write, L: LineWriter>(
     alloc: Global,
     rules: &Rules,
@@ -63,7 +64,7 @@ pub fn write_lines<R: Read + Drop, W: Write, L: LineWriter>(
     writer: &mut W,
     skipped: &mut Skipped,
 ) -> Result<(), RunError>
-    ensures { WritesLines (L.tells lines.now) rules.now skipped.new (R.remaining reader)
+    ensures { WritesLines (L.describes lines.now) rules.now skipped.new (R.remaining reader)
         (W.contents writer.old) (W.contents writer.new) result }
 {
     *skipped = Skipped::NONE;
@@ -98,14 +99,14 @@ pub fn write_lines<R: Read + Drop, W: Write, L: LineWriter>(
     }
 }
 
-// The last line, or what was put there of it, and the lines that wait to be written.
+// The last line, or what of it is in the buffer, and the lines that wait to be written.
 #[derive(Drop)]
 struct Texts {
     line: Vec<u8>,
     waiting: Vec<u8>,
 }
 
-// Where lines go.
+// The output of the lines.
 #[derive(Drop)]
 struct LineOutput<'a, L, W> {
     lines: &'a L,
@@ -122,13 +123,13 @@ impl<'a, L: LineWriter, W: Write> Visitor for LineOutput<'a, L, W> {
     ghost goes = { λ start now seen. (now.writer.ghost_name ≡ start.writer.ghost_name)
         × (now.lines ≡ start.lines) × (written : List ℕ)
         × Appends (W.contents start.writer.now) (W.contents now.writer.now) written
-        × AreLines (L.tells start.lines.now) seen (written ++ now.texts.waiting.items) };
+        × AreLines (L.describes start.lines.now) seen (written ++ now.texts.waiting.items) };
 
-    // What is written is a front of the lines, and none wait.
+    // What is written is a prefix of the lines, and none wait.
     ghost breaks = { λ start now seen. (now.writer.ghost_name ≡ start.writer.ghost_name)
         × (now.texts.waiting.items ≡ []) × (written : List ℕ) × (rest : List ℕ)
         × Appends (W.contents start.writer.now) (W.contents now.writer.now) written
-        × AreLines (L.tells start.lines.now) seen (written ++ rest) };
+        × AreLines (L.describes start.lines.now) seen (written ++ rest) };
 
     fn visit(&mut self, packet: &Dissection<'_>) -> Result<(), AllocError> {
         self.texts.take_line(self.lines, packet)
@@ -156,9 +157,9 @@ impl<'a, L: LineWriter, W: Write> LineOutput<'a, L, W> {
         ensures written { MatchResult result
             (λ _. Appends (W.contents self.old.writer.now) (W.contents self.new.writer.now)
             self.old.texts.waiting.items)
-            (λ error. BreaksBy true error ((front : List ℕ) × (rest : List ℕ)
-            × Appends (W.contents self.old.writer.now) (W.contents self.new.writer.now) front
-            × (self.old.texts.waiting.items ≡ front ++ rest))) }
+            (λ error. BreaksBy true error ((prefix : List ℕ) × (rest : List ℕ)
+            × Appends (W.contents self.old.writer.now) (W.contents self.new.writer.now) prefix
+            × (self.old.texts.waiting.items ≡ prefix ++ rest))) }
     {
         let written = write_text(&mut *self.writer, self.texts.waiting.as_slice());
         self.texts.waiting.clear();
@@ -167,14 +168,14 @@ impl<'a, L: LineWriter, W: Write> LineOutput<'a, L, W> {
 }
 
 impl Texts {
-    // Has the line of a packet wait behind the others. Where memory is wanting for it, these stay.
+    // Appends the line of a packet to those that wait. Where memory runs out for it, these stay.
     fn take_line<L: LineWriter>(
         &mut self,
         lines: &L,
         packet: &Dissection<'_>,
     ) -> Result<(), AllocError>
         ensures { MatchResult result
-            (λ _. (line : List ℕ) × L.tells lines.now packet.now line
+            (λ _. (line : List ℕ) × L.describes lines.now packet.now line
             × (self.new.waiting.items ≡ self.old.waiting.items ++ one_line line))
             (λ _. self.new.waiting.items ≡ self.old.waiting.items) }
     {
@@ -193,9 +194,9 @@ impl Texts {
 fn write_text<W: Write>(writer: &mut W, text: &[u8]) -> Result<(), RunError>
     ensures { MatchResult result
         (λ _. Appends (W.contents writer.old) (W.contents writer.new) text.now)
-        (λ error. BreaksBy true error ((front : List ℕ) × (rest : List ℕ)
-        × Appends (W.contents writer.old) (W.contents writer.new) front
-        × (text.now ≡ front ++ rest))) }
+        (λ error. BreaksBy true error ((prefix : List ℕ) × (rest : List ℕ)
+        × Appends (W.contents writer.old) (W.contents writer.new) prefix
+        × (text.now ≡ prefix ++ rest))) }
 {
     let mut nothing = io::empty();
     let mut device = ReaderWriter {

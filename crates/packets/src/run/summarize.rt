@@ -2,11 +2,11 @@
 ghost use Rattle.std.specs.Prelude.{◌≡◌, ◌++◌, false, List, ℕ, Option, map};
 ghost use Rattle.std.specs.Io.KnownBytes.{Consumes};
 ghost use Rattle.captures.specs.declared.packet.Packet.{Packet};
-ghost use Rattle.ep_defrag.specs.OpenMessages.{IsOpenCount};
+ghost use Rattle.etherparse.specs.OpenReassemblies.{IsOpenCount};
 ghost use Rattle.packets.specs.Counts.{Counts};
 ghost use Rattle.packets.specs.Courses.{AreDissected, course_after, no_course, shown};
 ghost use Rattle.packets.specs.Outlines.{outline_of};
-ghost use Rattle.packets.specs.Runs.{EndsBy, UnlessWanting};
+ghost use Rattle.packets.specs.Runs.{EndsBy, UnlessOutOfMemory};
 ghost use Rattle.packets.specs.declared.dissection.Dissection.{Dissection};
 ghost use Rattle.packets.specs.declared.outline.Outline.{Outline};
 
@@ -23,7 +23,7 @@ use std::io::Read;
 /// How a run over a capture ended.
 #[derive(Clone, Copy, Debug, PartialEq, Eq)]
 pub struct Ending {
-    /// How many messages were on their way still.
+    /// How many datagrams were not complete.
     pub open: usize,
     /// How many packets were passed over by then.
     pub skipped: Skipped,
@@ -41,14 +41,14 @@ pub fn summarize<R: Read + Drop, S: BuildHasher, P: Progress>(
     progress: &mut P,
 ) -> Ending
     ensures { (read : List ℕ) × (left : Option (List ℕ)) × (given : List Packet)
-        × (told : List Dissection) × Consumes (R.remaining reader) left read
+        × (reported : List Dissection) × Consumes (R.remaining reader) left read
         × EndsBy false rules.now.unfit result.skipped left read given result.result
-        × AreDissected rules.now.forget no_course given told
+        × AreDissected rules.now.forget no_course given reported
         × ((counted : List Outline)
         → Counts ⟦<Reason as PartialEq>⟧.eq ⟦<Addresses as PartialEq>⟧.eq summary.old counted
         → Counts ⟦<Reason as PartialEq>⟧.eq ⟦<Addresses as PartialEq>⟧.eq summary.new
-        (counted ++ map outline_of (shown rules.now.filter told)))
-        × UnlessWanting result.result
+        (counted ++ map outline_of (shown rules.now.filter reported)))
+        × UnlessOutOfMemory result.result
         (IsOpenCount (course_after rules.now.forget no_course given).lists result.open) }
 {
     let mut dissector = Dissector::new(alloc);

@@ -5,22 +5,22 @@ ghost use Rattle.std.specs.Io.KnownBytes.{Consumes};
 ghost use Rattle.captures.specs.Readers.{ComesTo, HasRead, skipped_by, source_of};
 ghost use Rattle.captures.specs.declared.packet.Packet.{Packet};
 ghost use Rattle.captures.specs.declared.unfit.Unfit.{Unfit};
-ghost use Rattle.ep_defrag.specs.PoolCalls.{no_lists};
-ghost use Rattle.packets.specs.Begun.{ShowsBegun, ShowsParts, none_begun};
+ghost use Rattle.etherparse.specs.PoolCalls.{no_lists};
+ghost use Rattle.packets.specs.Started.{ShowsStarted, ShowsFragments, none_started};
 ghost use Rattle.packets.specs.Conditions.{lets_through};
 ghost use Rattle.packets.specs.Courses.{AreDissected, Course, HasCourse, IsDissected, course_after};
 ghost use Rattle.packets.specs.Courses.{forgotten, next_course, no_course, shown};
-ghost use Rattle.packets.specs.Runs.{BreaksBy, EndsBy, Unbroken, UnlessWanting};
+ghost use Rattle.packets.specs.Runs.{BreaksBy, EndsBy, Unbroken, UnlessOutOfMemory};
 ghost use Rattle.packets.specs.declared.dissection.Dissection.{Dissection};
 
-use crate::run::progress::{Progress, tell_step};
+use crate::run::progress::{Progress, notify_step};
 use crate::run::rules::{Rules, drop_idle};
 use crate::{Dissection, Dissector};
 use captures::{Packet, PacketReader, RunError, Spans};
 use std::alloc::AllocError;
 use std::io::Read;
 
-/// Is shown the packets that a filter lets through, one after the other.
+/// Takes the packets that a filter lets through, one after the other.
 pub(crate) trait Visitor {
     // Whether it writes.
     ghost writes: { Bool };
@@ -31,7 +31,7 @@ pub(crate) trait Visitor {
     // And to this one where a write then failed.
     ghost breaks: { Self → Self → List Dissection → Type 0 };
 
-    /// Goes on by a packet, unless memory is wanting for it.
+    /// Takes a packet; it fails where memory runs out for it.
     fn visit(&mut self, packet: &Dissection<'_>) -> Result<(), AllocError>
         ensures { (start : Self) (seen : List Dissection) → goes start self.old seen
             → MatchResult result (λ _. goes start self.new (seen ++ packet.now ∷ []))
@@ -53,8 +53,8 @@ pub(crate) trait Visitor {
 /// Shows a visitor each packet that the filter lets through, up to the end of the capture or to
 /// where it is refused.
 ///
-/// Before each read the visitor is told, so that it keeps nothing back while a read waits. As many
-/// packets as 64 bits count end a walk as too many reads do.
+/// Before each read the visitor is called, so that it keeps nothing back while a read waits. A walk
+/// over as many packets as 64 bits count ends as too many reads do.
 pub(crate) fn walk<R: Read + Drop, V: Visitor, P: Progress>(
     rules: &Rules,
     packets: &mut PacketReader<R>,
@@ -63,19 +63,19 @@ pub(crate) fn walk<R: Read + Drop, V: Visitor, P: Progress>(
     progress: &mut P,
 ) -> Result<(), RunError>
     requires unread { HasRead rules.now.unfit packets.old [] [] }
-    requires messages { ShowsParts dissector.old.messages no_lists }
-    requires begun { ShowsBegun dissector.old.messages none_begun }
+    requires datagrams { ShowsFragments dissector.old.datagrams no_lists }
+    requires started { ShowsStarted dissector.old.datagrams none_started }
     requires number { dissector.old.number ≡ 0 }
     requires first_time { dissector.old.first_time ≡ None }
     requires begins { V.goes visitor.old visitor.old [] }
-    ensures { (read : List ℕ) × (given : List Packet) × (told : List Dissection)
+    ensures { (read : List ℕ) × (given : List Packet) × (reported : List Dissection)
         × Consumes (R.remaining (source_of packets.old)) (R.remaining (source_of packets.new)) read
         × EndsBy V.writes rules.now.unfit (skipped_by packets.new)
         (R.remaining (source_of packets.new)) read given result
-        × AreDissected rules.now.forget no_course given told
-        × Unbroken result (V.goes visitor.old visitor.new (shown rules.now.filter told))
-        (V.breaks visitor.old visitor.new (shown rules.now.filter told))
-        × UnlessWanting result (ShowsParts dissector.new.messages
+        × AreDissected rules.now.forget no_course given reported
+        × Unbroken result (V.goes visitor.old visitor.new (shown rules.now.filter reported))
+        (V.breaks visitor.old visitor.new (shown rules.now.filter reported))
+        × UnlessOutOfMemory result (ShowsFragments dissector.new.datagrams
         (course_after rules.now.forget no_course given).lists) }
 {
     let mut spans = Spans::new();
@@ -98,8 +98,8 @@ pub(crate) fn walk<R: Read + Drop, V: Visitor, P: Progress>(
     Err(RunError::TooManyReads)
 }
 
-// Goes on to the next packet, and tells whether there is one. The visitor is told before, and once
-// more where a read is wanted for it.
+// Goes on to the next packet, and returns whether there is one. The visitor is called before, and
+// once more where a read is needed for it.
 fn go_on<R: Read + Drop, V: Visitor, P: Progress>(
     packets: &mut PacketReader<R>,
     visitor: &mut V,
@@ -128,14 +128,14 @@ fn go_on<R: Read + Drop, V: Visitor, P: Progress>(
     if let Err(error) = visitor.before_read() {
         return Err(error);
     }
-    tell_step(progress, steps, packets.consumed());
+    notify_step(progress, steps, packets.consumed());
     match packets.advance() {
         Ok(found) => Ok(found),
         Err(error) => Err(RunError::from(error)),
     }
 }
 
-// Takes the next packet, unless memory is wanting for it.
+// Takes the next packet; it fails where memory runs out for it.
 fn take<V: Visitor>(
     rules: &Rules,
     packet: &Packet<'_>,
@@ -146,9 +146,9 @@ fn take<V: Visitor>(
     ensures { (course : Course) (start : V) (seen : List Dissection)
         → HasCourse course dissector.old spans.old → V.goes start visitor.old seen
         → MatchResult result
-        (λ _. (told : Dissection)
-        × IsDissected (forgotten rules.now.forget packet.now.time course) packet.now told
-        × V.goes start visitor.new (seen ++ filter (lets_through rules.now.filter) (told ∷ []))
+        (λ _. (reported : Dissection)
+        × IsDissected (forgotten rules.now.forget packet.now.time course) packet.now reported
+        × V.goes start visitor.new (seen ++ filter (lets_through rules.now.filter) (reported ∷ []))
         × HasCourse (next_course rules.now.forget course packet.now) dissector.new spans.new)
         (λ _. V.goes start visitor.new seen) }
 {

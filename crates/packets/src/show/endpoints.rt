@@ -1,8 +1,8 @@
 //! Where packets come from and go to.
 
 use ep_packet::Addresses;
-use header_texts::show::Line;
-use header_texts::show::addresses::{ipv4, ipv6};
+use header_descriptions::show::Line;
+use header_descriptions::show::addresses::{ipv4, ipv6};
 use std::alloc::AllocError;
 
 /// The ports of a message.

@@ -2,30 +2,29 @@
 
 use crate::show::endpoints::endpoints;
 use ep_base::IpNumber;
-use ep_packet::{Addresses, CutMessage, Part};
-use header_texts::show::{Line, Tone, names};
+use ep_packet::{Addresses, IpFragment, SlicedFragment};
+use header_descriptions::show::{Line, Tone, names};
 use std::alloc::AllocError;
 
-/// A part of a message: where it came from and went to, its protocol, where it stands in its
-/// message, and its identification in a parenthesis that stays open. It has no contract: tests
-/// compare the texts.
-pub(crate) fn part(line: &mut Line<'_>, cut: &CutMessage<'_>) -> Result<(), AllocError> {
+/// A fragment: where it came from and went to, its protocol, its offset in its datagram, and its
+/// identification in a parenthesis that stays open. It has no contract: tests compare the texts.
+pub(crate) fn fragment(line: &mut Line<'_>, cut: &IpFragment<'_>) -> Result<(), AllocError> {
     endpoints(line, &cut.addresses, None)?;
     line.text(" ")?;
-    names::protocol(line, cut.part.ip_number)?;
+    names::protocol(line, cut.fragment.ip_number)?;
     line.text(" ")?;
-    place(line, &cut.part)?;
+    position(line, &cut.fragment)?;
     line.text(" (id 0x")?;
     identification(line, cut)
 }
 
-// Where a part stands in its message.
-fn place(line: &mut Line<'_>, part: &Part<'_>) -> Result<(), AllocError> {
-    line.begin_tone(Tone::Part)?;
-    line.counted("fragment at ", part.offset.byte_offset().into())?;
+// The offset and length of a fragment.
+fn position(line: &mut Line<'_>, fragment: &SlicedFragment<'_>) -> Result<(), AllocError> {
+    line.begin_tone(Tone::Fragment)?;
+    line.counted("fragment at ", fragment.offset.byte_offset().into())?;
     line.end_tone()?;
-    line.counted(" len ", part.bytes.len() as u64)?;
-    line.text(if part.more_fragments {
+    line.counted(" len ", fragment.bytes.len() as u64)?;
+    line.text(if fragment.more_fragments {
         ", more follow"
     } else {
         ", last"
@@ -33,7 +32,7 @@ fn place(line: &mut Line<'_>, part: &Part<'_>) -> Result<(), AllocError> {
 }
 
 // Four hex digits over IPv4, and eight over IPv6.
-fn identification(line: &mut Line<'_>, cut: &CutMessage<'_>) -> Result<(), AllocError> {
+fn identification(line: &mut Line<'_>, cut: &IpFragment<'_>) -> Result<(), AllocError> {
     let [a, b, c, d] = cut.identification.to_be_bytes();
     if let Addresses::V6 { .. } = cut.addresses {
         line.hex(a)?;
@@ -43,8 +42,8 @@ fn identification(line: &mut Line<'_>, cut: &CutMessage<'_>) -> Result<(), Alloc
     line.hex(d)
 }
 
-/// A fragment header that tells of no part, before one that does. It has no contract: tests compare
-/// the texts.
+/// A packet whose first fragment header describes no fragment, where a later one does. It has no
+/// contract: tests compare the texts.
 pub(crate) fn two_fragment_headers(
     line: &mut Line<'_>,
     addresses: Option<Addresses>,

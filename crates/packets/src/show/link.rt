@@ -5,7 +5,7 @@ use captures::Header;
 use ep_link::LinkSlice;
 use ep_packet::SlicedPacket;
 use ep_tag::{LinkExtSlice, MacsecPayloadSlice};
-use header_texts::show::{Line, addresses, names};
+use header_descriptions::show::{Line, addresses, names};
 use std::alloc::AllocError;
 
 /// A packet that has nothing of the network layer that is looked into: its addresses and what it
@@ -47,7 +47,7 @@ fn content(line: &mut Line<'_>, layers: &SlicedPacket<'_>) -> Result<(), AllocEr
     }
 }
 
-// What stands behind tags that hide it.
+// What follows tags that hide it.
 fn hidden(layers: &SlicedPacket<'_>) -> &'static str {
     match layers.link_exts.as_slice().last() {
         Some(LinkExtSlice::Macsec(tag)) => match &tag.payload {

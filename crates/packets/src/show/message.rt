@@ -2,14 +2,14 @@
 
 use crate::show::endpoints::{Ports, endpoints};
 use crate::show::refusal;
+use checksum_verdicts::Verdict;
 use ep_base::IpNumber;
 use ep_packet::{Message, WholeMessage, read_message};
-use header_texts::show::{Line, Tone, icmp, names, tcp};
+use header_descriptions::show::{Line, Tone, icmp, names, tcp};
 use std::alloc::AllocError;
-use verdicts::Verdict;
 
-/// A message that stands whole in a packet: where it came from and went to, its protocol, what its
-/// header says, and what its checksum tells. It has no contract: tests compare the texts.
+/// A message that is whole in a packet: where it came from and went to, its protocol, what its
+/// header says, and the verdict on its checksum. It has no contract: tests compare the texts.
 pub(crate) fn whole(
     line: &mut Line<'_>,
     whole: &WholeMessage<'_>,
@@ -21,8 +21,8 @@ pub(crate) fn whole(
     verdict(line, checked, &whole.message)
 }
 
-/// A message that was put together of parts: its ports, its protocol, what its header says and its
-/// checksum tells, or why it is refused. It has no contract: tests compare the texts.
+/// A reassembled message: its ports, its protocol, what its header says and the verdict on its
+/// checksum, or why it is refused. It has no contract: tests compare the texts.
 pub(crate) fn completed(
     line: &mut Line<'_>,
     ip_number: IpNumber,
@@ -70,7 +70,7 @@ fn message(line: &mut Line<'_>, number: IpNumber, message: &Message<'_>) -> Resu
     }
 }
 
-// What the checksum of a message tells. Only UDP can be sent without one: that of ICMP over the
+// The verdict on the checksum of a message. Only UDP can be sent without one: that of ICMP over the
 // other IP version is not read.
 fn verdict(
     line: &mut Line<'_>,

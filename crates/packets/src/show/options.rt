@@ -1,13 +1,13 @@
 //! How the line of a packet looks.
 
-use header_texts::show::{Style, TimeForm};
+use header_descriptions::show::{Style, TimeForm};
 
 /// How the line of a packet looks.
 #[derive(Clone, Copy, Debug, PartialEq, Eq)]
 pub struct ShowOptions {
     /// Whether it has colours.
     pub style: Style,
-    /// Which time stands in it.
+    /// Which time it has.
     pub time: TimeForm,
     /// How many columns it has at most, if it is cut.
     pub width: Option<usize>,

@@ -2,20 +2,20 @@
 
 use crate::show::fragment_headers::two_fragment_headers;
 use crate::show::options::ShowOptions;
-use crate::show::{link, message, part, refusal};
+use crate::show::{fragment, link, message, refusal};
 use crate::{Dissection, Headers};
 use ep_packet::{Class, NetSlice, SlicedPacket};
-use header_texts::show::Line;
-use header_texts::show::arp::arp;
-use header_texts::show::tags::tags;
-use header_texts::show::time::number_and_time;
+use header_descriptions::show::Line;
+use header_descriptions::show::arp::arp;
+use header_descriptions::show::tags::tags;
+use header_descriptions::show::time::number_and_time;
 use std::alloc::AllocError;
 
 impl ShowOptions {
-    /// Puts the line of a packet behind `out`, without an end: the number and time of the packet,
-    /// its VLANs, addresses and ports, its protocol with what its header says, and what the
-    /// checksum tells. Of a part of a message it says where it stands there and what became of it,
-    /// and of a packet that is refused, why. It has no contract: tests compare the texts.
+    /// Appends the line of a packet to `out`, without the newline that ends it: the number and time
+    /// of the packet, its VLANs, addresses and ports, its protocol with what its header says, and
+    /// the verdict on the checksum. Of a fragment it gives the offset and what became of it, and of
+    /// a packet that is refused, why. It has no contract: tests compare the texts.
     pub fn write_line(&self, packet: &Dissection<'_>, out: &mut Vec<u8>) -> Result<(), AllocError> {
         let mut line = Line::begin(self.style, self.width, out);
         number_and_time(
@@ -40,7 +40,7 @@ fn body(
     tags(line, layers.link_exts.as_slice())?;
     match layers.class() {
         Class::Whole(whole) => message::whole(line, &whole, packet.verdict),
-        Class::Cut(cut) => part::part(
+        Class::Cut(cut) => fragment::fragment(
             line,
             packet.number,
             &cut,

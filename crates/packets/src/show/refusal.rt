@@ -1,8 +1,8 @@
-//! Why a packet or a part of a message is refused, in words.
+//! Why a packet or a fragment is refused, in words.
 
-use ep_fragments::defrag::IpDefragError;
 use ep_packet::err::packet::SliceError;
-use header_texts::show::{Line, Tone, faults};
+use etherparse::defrag::IpDefragError;
+use header_descriptions::show::{Line, Tone, faults};
 use std::alloc::AllocError;
 
 /// Why a packet is refused. It has no contract: tests compare the texts.
@@ -21,7 +21,7 @@ pub(crate) fn packet(line: &mut Line<'_>, error: &SliceError) -> Result<(), Allo
     }
 }
 
-/// Why a message that was put together is refused. Places in it count from its own front. It has no
+/// Why a reassembled message is refused. Offsets in it count from its own start. It has no
 /// contract: tests compare the texts.
 pub(crate) fn message(line: &mut Line<'_>, error: &SliceError) -> Result<(), AllocError> {
     match error {
@@ -33,8 +33,8 @@ pub(crate) fn message(line: &mut Line<'_>, error: &SliceError) -> Result<(), All
     }
 }
 
-/// Why a part of a message is refused. It has no contract: tests compare the texts.
-pub(crate) fn part(line: &mut Line<'_>, error: &IpDefragError) -> Result<(), AllocError> {
+/// Why a fragment is refused. It has no contract: tests compare the texts.
+pub(crate) fn fragment(line: &mut Line<'_>, error: &IpDefragError) -> Result<(), AllocError> {
     refused(line)?;
     match error {
         IpDefragError::UnalignedFragmentPayloadLen { payload_len, .. } => {

@@ -43,8 +43,8 @@ pub(crate) fn column(eighths: u32) -> &'static str {
     }
 }
 
-/// How many of `steps` a part of a whole is, rounded up, so that no part that is there has none. It
-/// has no contract: tests compare the texts.
+/// How many of `steps` a part of a whole is, rounded up, so that no part above 0 has none. It has
+/// no contract: tests compare the texts.
 pub(crate) fn steps_of(part: u64, whole: u64, steps: u32) -> u32 {
     if part == 0 {
         return 0;

@@ -1,4 +1,4 @@
-//! Counts of IP packets by the protocol of their message.
+//! Counts of IP packets by the protocol they carry.
 ghost use Rattle.std.specs.Prelude.{◌≡◌, ◌<◌, ◌++◌, ◌∷◌, ℕ, [], List, length};
 ghost use Rattle.std.specs.List.{slice_index_or};
 ghost use Rattle.packets.specs.Table.{no_tally};
@@ -30,7 +30,7 @@ impl NumberTallies {
     pub fn get(&self, number: IpNumber) -> Tally
         ensures { result ≡ number_tally self.now number.0 }
     {
-        self.tallies[place_of(number)]
+        self.tallies[tally_index(number)]
     }
 
     pub(crate) fn add(&mut self, packet: &Outline)
@@ -39,18 +39,18 @@ impl NumberTallies {
     {
         match packet.headers.carried() {
             Some(number) => {
-                let place = place_of(number);
-                let mut tally = self.tallies[place];
+                let position = tally_index(number);
+                let mut tally = self.tallies[position];
                 tally.add(packet);
-                self.tallies[place] = tally;
+                self.tallies[position] = tally;
             }
             None => {}
         }
     }
 }
 
-fn place_of(number: IpNumber) -> usize
-    ensures place { result ≡ number.0 }
+fn tally_index(number: IpNumber) -> usize
+    ensures position { result ≡ number.0 }
     ensures bound { result < 256 }
 {
     usize::from(number.0)

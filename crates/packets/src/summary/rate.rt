@@ -5,7 +5,7 @@ ghost use Rattle.captures.specs.Numbers.{capped};
 
 use crate::Outline;
 
-/// The spans that are told apart.
+/// How many spans there are.
 pub const SPAN_COUNT: usize = 64;
 
 // 1/512 second, which is a whole number of nanoseconds. Nine times doubled it is a second.
@@ -13,7 +13,7 @@ const SHORTEST: u64 = 1_953_125;
 
 /// How many packets came in each of 64 spans of equal length, from the first packet on. What came
 /// with a time before it counts to the first span. A span has 1/512 second, or that doubled as
-/// often as it takes to reach the last packet: where one comes behind the last span, each two spans
+/// often as it takes to reach the last packet: where one comes after the last span, each two spans
 /// become one. So the memory is the same however long a capture is. Counts stop at the greatest
 /// number of 64 bits.
 #[derive(Drop)]
@@ -52,9 +52,9 @@ impl Rate {
         'spans: while since / self.span >= SPAN_COUNT as u64 {
             self.double();
         }
-        let place = (since / self.span) as usize;
+        let position = (since / self.span) as usize;
         self.begin = Some(begin);
-        self.counts[place] = self.counts[place].saturating_add(1);
+        self.counts[position] = self.counts[position].saturating_add(1);
     }
 
     // Makes one span of each two.
@@ -79,8 +79,8 @@ fn joined(counts: &[u64; SPAN_COUNT]) -> [u64; SPAN_COUNT]
     ensures size { length result ≡ SPAN_COUNT }
 {
     let mut joined = no_counts();
-    'pairs: for place in 0..SPAN_COUNT / 2 {
-        joined[place] = counts[2 * place].saturating_add(counts[2 * place + 1]);
+    'pairs: for position in 0..SPAN_COUNT / 2 {
+        joined[position] = counts[2 * position].saturating_add(counts[2 * position + 1]);
     }
     joined
 }

@@ -17,18 +17,18 @@ use std::net::{Ipv4Addr, Ipv6Addr};
 // The titles of the columns before the last.
 const TITLES: &str = "   packets   share           bytes   share     first  ";
 
-// So many talkers are told.
+// At most so many talkers are listed.
 const TALKER_COUNT: usize = 10;
 
-// So many columns has the longest bar.
+// The longest bar has so many columns.
 const BAR_COLUMNS: u32 = 32;
 
-/// What is told of a capture at its end. It has no contract: tests compare the texts.
+/// The report on a capture at its end. It has no contract: tests compare the texts.
 #[derive(Drop)]
 pub struct Report<'s, S: BuildHasher> {
     /// Its packets, counted.
     pub summary: &'s Summary<S>,
-    /// How many messages were on their way still.
+    /// How many datagrams were not complete.
     pub open: usize,
     /// How many packets were passed over.
     pub skipped: Skipped,
@@ -46,16 +46,16 @@ impl<S: BuildHasher> Report<'_, S> {
         let summary = self.summary;
         if summary.all.packets == 0 {
             writeln!(f, "no packets")?;
-            return self.write_parts(f);
+            return self.write_fragments(f);
         }
         write_kinds(f, summary)?;
-        self.write_parts(f)?;
+        self.write_fragments(f)?;
         write_talkers(f, &summary.talkers, &summary.all)?;
         write_sizes(f, &summary.sizes, summary.all.packets)?;
         write_rate(f, &summary.rate)
     }
 
-    fn write_parts<W: fmt::Write>(&self, f: &mut fmt::Formatter<W>) -> fmt::Result {
+    fn write_fragments<W: fmt::Write>(&self, f: &mut fmt::Formatter<W>) -> fmt::Result {
         let parts = &self.summary.parts;
         let all = &self.summary.all;
         let open = self.open;
@@ -68,7 +68,7 @@ impl<S: BuildHasher> Report<'_, S> {
             write_title(f, "fragments")?;
             write_rows(f, &rows, all)?;
         } else if open > 0 {
-            // Of fragments that aren't among the packets told.
+            // Reassemblies may be of fragments that the filter doesn't let through.
             writeln!(f)?;
         } else {
             return Ok(());
@@ -101,7 +101,7 @@ fn write_kinds<W: fmt::Write, S: BuildHasher>(
     write_checksums(f, &summary.checksums, &all)
 }
 
-// What checksums tell, if a message was read.
+// The verdicts on checksums, if a message was read.
 fn write_checksums<W: fmt::Write>(
     f: &mut fmt::Formatter<W>,
     tallies: &ChecksumTallies,
@@ -156,7 +156,7 @@ fn write_row<W: fmt::Write>(
     )
 }
 
-// A part of a whole. It is told in tenths of a percent, rounded. No part is more than its whole,
+// A part of a whole. It is written in tenths of a percent, rounded. No part is more than its whole,
 // and one that is less has less than 100 percent.
 #[derive(Clone, Copy)]
 struct Share {
@@ -263,7 +263,7 @@ fn write_talker<W: fmt::Write>(
     }
 }
 
-// The place of a talker among all: by its bytes, and then by when it came first.
+// The rank of a talker among all: by its bytes, and then by when it came first.
 #[derive(Clone, Copy)]
 struct Rank {
     bytes: u64,

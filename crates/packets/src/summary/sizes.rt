@@ -5,7 +5,7 @@ ghost use Rattle.packets.specs.declared.outline.Outline.{Outline};
 
 use crate::Outline;
 
-/// Sizes are told apart by their number of binary digits.
+/// Sizes are distinguished by their number of binary digits, 0 to 64.
 pub const SIZE_COUNT: usize = 65;
 
 /// How many packets there are of each size: of `counts[n]` the bytes of the frame are a number of n

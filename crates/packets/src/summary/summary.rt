@@ -2,17 +2,17 @@
 ghost use Rattle.std.specs.Prelude.{◌≡◌, ◌<◌, ◌++◌, ◌∷◌, [], List, OnOk, OnErr};
 ghost use Rattle.packets.specs.declared.outline.Outline.{Outline};
 
-use crate::outline::PartState;
+use crate::outline::FragmentState;
 use crate::summary::numbers::NumberTallies;
 use crate::summary::rate::Rate;
 use crate::summary::sizes::Sizes;
 use crate::summary::table::Table;
 use crate::summary::tally::Tally;
 use crate::{Dissection, Outline, Protocol, Reason};
+use checksum_verdicts::Verdict;
 use ep_packet::Addresses;
 use std::alloc::{AllocError, Global};
 use std::hash::{BuildHasher, BuildHasherDefault, FoldHasher};
-use verdicts::Verdict;
 
 /// What is in a capture. Its memory grows with the number of pairs of addresses that packets go
 /// between, and with nothing else.
@@ -24,10 +24,10 @@ pub struct Summary<S: BuildHasher = BuildHasherDefault<FoldHasher>> {
     pub refused: Tally,
     /// By their headers.
     pub protocols: ProtocolTallies,
-    /// By what their checksums tell.
+    /// By the verdicts on their checksums.
     pub checksums: ChecksumTallies,
-    /// By what became of parts of messages.
-    pub parts: PartTallies,
+    /// By what became of fragments.
+    pub parts: FragmentTallies,
     /// By their bytes.
     pub sizes: Sizes,
     /// By their times.
@@ -53,14 +53,14 @@ pub struct ProtocolTallies {
     pub ipv4: Tally,
     /// IPv6 packets.
     pub ipv6: Tally,
-    /// IP packets, by the number of their message's protocol.
+    /// IP packets, by the number of the protocol they carry.
     pub over_ip: NumberTallies,
 }
 
-/// How many packets have a checksum of each kind.
+/// How many packets there are by the verdict on their checksum.
 #[derive(Clone, Copy, Debug, PartialEq, Eq)]
 pub struct ChecksumTallies {
-    /// Those whose message came as it was sent, as far as its checksum tells.
+    /// Those whose message came as it was sent, by its checksum.
     pub good: Tally,
     /// Those whose checksum is wrong.
     pub bad: Tally,
@@ -68,12 +68,12 @@ pub struct ChecksumTallies {
     pub none: Tally,
 }
 
-/// What became of parts of messages.
+/// What became of fragments.
 #[derive(Clone, Copy, Debug, PartialEq, Eq)]
-pub struct PartTallies {
-    /// All parts.
+pub struct FragmentTallies {
+    /// All fragments.
     pub all: Tally,
-    /// Those that completed their message.
+    /// Those that completed their datagram.
     pub completing: Tally,
     /// Those that were refused.
     pub refused: Tally,
@@ -104,7 +104,7 @@ impl<S: BuildHasher> Summary<S> {
             refused: Tally::NONE,
             protocols: ProtocolTallies::none(),
             checksums: ChecksumTallies::NONE,
-            parts: PartTallies::NONE,
+            parts: FragmentTallies::NONE,
             sizes: Sizes::NONE,
             rate: Rate::new(),
             reasons: Table::with_hasher(alloc, reasons),
@@ -205,24 +205,24 @@ impl ChecksumTallies {
     }
 }
 
-impl PartTallies {
-    ghost use Rattle.packets.specs.Counts.{CountsParts};
+impl FragmentTallies {
+    ghost use Rattle.packets.specs.Counts.{CountsFragments};
 
-    const NONE: PartTallies = PartTallies {
+    const NONE: FragmentTallies = FragmentTallies {
         all: Tally::NONE,
         completing: Tally::NONE,
         refused: Tally::NONE,
     };
 
     fn add(&mut self, packet: &Outline)
-        ensures { (packets : List Outline) → CountsParts self.old packets
-            → CountsParts self.new (packets ++ packet.now ∷ []) }
+        ensures { (packets : List Outline) → CountsFragments self.old packets
+            → CountsFragments self.new (packets ++ packet.now ∷ []) }
     {
-        let part = packet.part;
-        self.all.add_if(part.is_some(), packet);
+        let fragment = packet.fragment;
+        self.all.add_if(fragment.is_some(), packet);
         self.completing
-            .add_if(matches!(part, Some(PartState::Completes)), packet);
+            .add_if(matches!(fragment, Some(FragmentState::Completes)), packet);
         self.refused
-            .add_if(matches!(part, Some(PartState::Refused)), packet);
+            .add_if(matches!(fragment, Some(FragmentState::Refused)), packet);
     }
 }

@@ -41,9 +41,9 @@ impl<K: Eq + Hash + Drop, S: BuildHasher> Table<K, S> {
         }
     }
 
-    /// Makes room for one key more.
+    /// Reserves the capacity for one key more.
     pub(crate) fn reserve(&mut self) -> Result<(), AllocError>
-        ensures room { OnOk result (0 < self.new.spare) }
+        ensures capacity { OnOk result (0 < self.new.spare) }
         ensures same { self.new.entries ≡ self.old.entries }
     {
         self.tallies.reserve(1)
@@ -51,8 +51,8 @@ impl<K: Eq + Hash + Drop, S: BuildHasher> Table<K, S> {
 
     /// Counts a packet that has this key, or none.
     pub(crate) fn add_keyed(&mut self, key: Option<K>, packet: &Outline)
-        requires room { 0 < self.old.spare }
-        // Keys are told apart by all that they are.
+        requires capacity { 0 < self.old.spare }
+        // Keys are equal only where they are the same value.
         requires exact { (a b : K) → K.eq a b ≡ true → a ≡ b }
         ensures { (key_of : Outline → Option K) (packets : List Outline)
             → key_of packet.now ≡ key → CountsKeys K.eq key_of self.old packets
@@ -65,8 +65,8 @@ impl<K: Eq + Hash + Drop, S: BuildHasher> Table<K, S> {
     }
 
     fn add(&mut self, key: K, packet: &Outline)
-        requires room { 0 < self.old.spare }
-        // Keys are told apart by all that they are.
+        requires capacity { 0 < self.old.spare }
+        // Keys are equal only where they are the same value.
         requires exact { (a b : K) → K.eq a b ≡ true → a ≡ b }
         ensures { (key_of : Outline → Option K) (packets : List Outline)
             → key_of packet.now ≡ Some key → CountsKeys K.eq key_of self.old packets
@@ -74,7 +74,7 @@ impl<K: Eq + Hash + Drop, S: BuildHasher> Table<K, S> {
     {
         let mut tally = self.tally_at(&key);
         tally.add(packet);
-        // There is room.
+        // The capacity is reserved.
         self.tallies.insert(key, tally).unwrap();
     }
 

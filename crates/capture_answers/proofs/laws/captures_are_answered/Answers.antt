@@ -1,6 +1,6 @@
 use Rattle.std.proofs.Common.{[], refl}
-use Rattle.etherparse.specs.defrag.PoolCalls.{no_lists}
-use Rattle.line_answers.proofs.AnswerLemmas.{lists_after_lines-nil}
+use Rattle.etherparse.specs.PoolCalls.{no_lists}
+use Rattle.netlines.proofs.AnswerLemmas.{lists_after_lines-nil}
 use Rattle.capture_answers.proofs.PlainLemmas.{plain_answered}
 use Rattle.capture_answers.proofs.SpanLemmas.{spans_answered}
 use Rattle.capture_answers.proofs.laws.captures_are_answered.Goals as goal

@@ -1,4 +1,4 @@
-use Rattle.captures.proofs.SpellingLemmas.{capture_is}
+use Rattle.captures.proofs.EncodingLemmas.{capture_is}
 use Rattle.captures.proofs.laws.written_frames_are_read.Goals as goal
 
 pub returns : goal.returns

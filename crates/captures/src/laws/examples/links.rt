@@ -4,7 +4,7 @@
 ghost use Rattle.std.specs.Prelude.{◌≡◌, ℕ, List, [], ◌∷◌, length, replicate, Some, None, Ok, Err};
 ghost use Rattle.captures.specs.Framed.{address_at, captured_limit, cooked_type, family_type};
 ghost use Rattle.captures.specs.Framed.{frame_bytes, frame_parts, link_for, link_of, own_frame};
-ghost use Rattle.captures.specs.Framed.{taken_limit, told_frame, told_of};
+ghost use Rattle.captures.specs.Framed.{taken_limit, reported_frame, reported_of};
 ghost use Rattle.captures.specs.declared.link.kind.Link.TheVariants.{Ethernet, Ip, Null, Loop};
 ghost use Rattle.captures.specs.declared.link.kind.Link.TheVariants.{Other, Sll, Sll2};
 ghost use Rattle.captures.specs.declared.translation.skipped.Reason.TheVariants.{NoFrame, TooLong};
@@ -26,8 +26,8 @@ pub fn link_types()
     ensures skipped { (link_for Skip 9 ≡ Some Other) × (link_for Skip 276 ≡ Some Sll2) }
 {}
 
-/// The bytes of a packet at most. A line holds a frame of 99,991 bytes, in which 14 stand in place
-/// of 0, 4, 16 or 20; of a packet that is passed over 262,128 are held, whatever its link.
+/// The bytes of a packet at most. A line holds a frame of 99,991 bytes, in which 14 replace 0, 4,
+/// 16 or 20; of a packet that is passed over 262,128 are held, whatever its link.
 pub fn greatest_packets()
     ensures ethernet { captured_limit Ethernet ≡ 99_991 }
     ensures ip { captured_limit Ip ≡ 99_977 }
@@ -97,7 +97,7 @@ pub fn packets_are_framed()
       bytes = 0x60 ∷ [];
     }) }
     ensures openbsd_low { frame_parts Loop (24 ∷ 0 ∷ 0 ∷ 0 ∷ 0x60 ∷ []) ≡ None }
-    // Sent by us (4), of Ethernet (1), with an address of six bytes and two behind it.
+    // Sent by us (4), of Ethernet (1), with an address of six bytes and two after it.
     ensures cooked { frame_parts Sll (0 ∷ 4 ∷ 0 ∷ 1 ∷ 0 ∷ 6 ∷ 2 ∷ 0 ∷ 0 ∷ 0 ∷ 0 ∷ 1 ∷ 8 ∷ 9
         ∷ 0x08 ∷ 0x06 ∷ 7 ∷ []) ≡ Some (record {
           header = Some (record { source = 2 ∷ 0 ∷ 0 ∷ 0 ∷ 0 ∷ 1 ∷ []; ether_type = 0x0806 });
@@ -120,17 +120,17 @@ pub fn packets_are_framed()
     }) ≡ 0 ∷ 0 ∷ 0 ∷ 0 ∷ 0 ∷ 0 ∷ 2 ∷ 0 ∷ 0 ∷ 0 ∷ 0 ∷ 1 ∷ 0x86 ∷ 0xdd ∷ 0x60 ∷ [] }
 {}
 
-/// Why packets are not told: they are too long for a line, have no frame, or no link that is read;
-/// where such packets are passed over no byte is told of them.
-pub fn packets_are_not_told()
+/// Why packets are not reported: they are too long for a line, have no frame, or no link that is
+/// read; where such packets are passed over no byte is reported of them.
+pub fn packets_are_not_reported()
     ensures longest { (packet : List ℕ) → length packet ≡ 99_991
-        → told_of Ethernet packet ≡ Ok packet }
+        → reported_of Ethernet packet ≡ Ok packet }
     ensures too_long { (packet : List ℕ) → length packet ≡ 99_992
-        → told_of Ethernet packet ≡ Err TooLong }
+        → reported_of Ethernet packet ≡ Err TooLong }
     ensures cooked_too_long { (packet : List ℕ) → length packet ≡ 99_998
-        → told_of Sll2 packet ≡ Err TooLong }
-    ensures no_frame { told_of Ip (0x50 ∷ []) ≡ Err NoFrame }
-    ensures other { told_of Other (0x45 ∷ []) ≡ Err OtherLink }
-    ensures refused { told_frame Refuse Ip (0x50 ∷ []) ≡ None }
-    ensures skipped { told_frame Skip Ip (0x50 ∷ []) ≡ Some [] }
+        → reported_of Sll2 packet ≡ Err TooLong }
+    ensures no_frame { reported_of Ip (0x50 ∷ []) ≡ Err NoFrame }
+    ensures other { reported_of Other (0x45 ∷ []) ≡ Err OtherLink }
+    ensures refused { reported_frame Refuse Ip (0x50 ∷ []) ≡ None }
+    ensures skipped { reported_frame Skip Ip (0x50 ∷ []) ≡ Some [] }
 {}

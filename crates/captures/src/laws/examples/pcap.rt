@@ -2,14 +2,14 @@
 
 ghost use Rattle.std.specs.Prelude.{◌≡◌, ◌^◌, ℕ, List, [], ◌∷◌, ◌++◌, replicate, length, codes};
 ghost use Rattle.std.specs.Prelude.{true, false, None};
-ghost use Rattle.commands.specs.TimedLines.{TimedFrame};
+ghost use Rattle.line_grammar.specs.TimedLines.{TimedFrame};
 ghost use Rattle.captures.specs.Examples.{file_header, opened_file, packet_at, packet_record};
 ghost use Rattle.captures.specs.Lines.{blank};
 ghost use Rattle.captures.specs.Numbers.{half, word};
 ghost use Rattle.captures.specs.Pcap.{IsFileHeader, IsPacketRecord, is_magic, link_type};
 ghost use Rattle.captures.specs.Runs.{IsCapture};
 ghost use Rattle.captures.specs.Skipping.{none_skipped};
-ghost use Rattle.captures.specs.Spelling.{IsWritable};
+ghost use Rattle.captures.specs.Encoding.{IsWritable};
 ghost use Rattle.captures.specs.Units.{HasLinkType, HasLongFrame, HasNoFrame, IsShortRecord, Takes};
 ghost use Rattle.captures.specs.declared.byte_order.ByteOrder.TheVariants.{Big, Little};
 ghost use Rattle.captures.specs.declared.extra.Extra.TheVariants.{Nothing};
@@ -48,7 +48,7 @@ pub fn file_headers()
     ensures sequence { link_type Big (replicate 20 0 ++ 0x48 ∷ 0 ∷ 0 ∷ 1 ∷ []) ≡ 1 }
 {}
 
-/// A record tells how many bytes follow it, and how many the packet had: 2 of 1500.
+/// A record states how many bytes follow it, and how many the packet had: 2 of 1500.
 pub fn packet_records()
     ensures { IsPacketRecord Little (replicate 8 0 ++ 2 ∷ 0 ∷ 0 ∷ 0 ∷ 0xdc ∷ 5 ∷ 0 ∷ 0 ∷ 7 ∷ 8
         ∷ []) (7 ∷ 8 ∷ []) }
@@ -60,9 +60,9 @@ pub fn captures_of_records()
         (packet_at 1700000000250000000 ∷ []) none_skipped }
 {}
 
-/// Where a capture stops: a file header of PPP (9) with a byte behind it; the head of a record that
-/// tells two bytes, with one behind it; one that tells 99,992 bytes of an Ethernet frame, more than a
-/// line can hold; and a record of an IP packet of version 5.
+/// Where a capture stops: a file header of PPP (9) with a byte after it; the head of a record that
+/// states two bytes, with one after it; one that states 99,992 bytes of an Ethernet frame, more
+/// than a line can hold; and a record of an IP packet of version 5.
 pub fn captures_that_stop()
     ensures link { HasLinkType Refuse (0xd4 ∷ 0xc3 ∷ 0xb2 ∷ 0xa1 ∷ 2 ∷ 0 ∷ 4 ∷ 0 ∷ replicate 8 0
         ++ 0xff ∷ 0xff ∷ 0 ∷ 0 ∷ 9 ∷ 0 ∷ 0 ∷ 0 ∷ 7 ∷ []) 9 }
@@ -74,7 +74,7 @@ pub fn captures_that_stop()
         (replicate 8 0 ++ 0 ∷ 0 ∷ 0 ∷ 2 ∷ 0 ∷ 0 ∷ 5 ∷ 0xdc ∷ 0x50 ∷ 0 ∷ []) }
 {}
 
-/// The line of that packet is told before the five bytes behind it, which begin another record.
+/// The line of that packet is reported before the five bytes after it, which begin another record.
 pub fn packets_before_a_rest()
     ensures { Takes (blank Nothing) (Start Refuse)
         (file_header ++ packet_record ++ 0x65 ∷ 0x53 ∷ 0xf1 ∷ 0 ∷ 0x0e ∷ []) opened_file
@@ -82,8 +82,8 @@ pub fn packets_before_a_rest()
         (codes "frame 0 000000000000020000000001080045\n") None (blank Nothing) }
 {}
 
-/// The greatest frame that is written has as many bytes as a line can hold, and its time is the last
-/// nanosecond that 32 bits of seconds tell.
+/// The greatest frame that is written has as many bytes as a line can hold, and its time is the
+/// last nanosecond of 32 bits of seconds.
 pub fn greatest_written_frames()
     ensures greatest { (frame : List ℕ) → length frame ≡ 99_991 → IsWritable
         (record { seconds = 4_294_967_295; nanoseconds = 999_999_999; frame = frame }) }

@@ -26,7 +26,7 @@ ghost use Rattle.captures.specs.declared.origin.Origin.{Origin};
 ghost use Rattle.captures.specs.declared.pcapng.section.Section.{Section};
 ghost use Rattle.captures.specs.declared.unfit.Unfit.TheVariants.{Refuse, Skip};
 
-/// The types of blocks, and the magic number that tells the byte order (sections 4.1 to 4.4 and
+/// The types of blocks, and the magic number that gives the byte order (sections 4.1 to 4.4 and
 /// appendix A).
 pub fn block_types()
     ensures section { section_header ≡ 0x0a0d0d0a }
@@ -99,8 +99,8 @@ pub fn captures_of_blocks()
         (packet_at 0 ∷ longer_packet ∷ packet_at 1700000000250000000 ∷ []) none_skipped }
 {}
 
-/// A packet in a block of each kind, behind the description of that interface: a simple packet has
-/// no time, an older kind counts dropped packets behind its interface's number.
+/// A packet in a block of each kind, after the description of that interface: a simple packet has
+/// no time, an older kind counts dropped packets after its interface's number.
 pub fn packets_of_blocks()
     ensures simple { IsSimplePacket described_section Little simple_block (origin_at 0) Sll2
         cooked_packet }
@@ -112,8 +112,8 @@ pub fn packets_of_blocks()
         (origin_at 1700000000250000000) Sll2 cooked_packet }
 {}
 
-/// Blocks that are cut off or have another length at their end than at their front, lengths below 12
-/// and of no whole words, and a block that is read and has 262,148 bytes.
+/// Blocks that are cut off or have another length at their end than at their start, lengths below
+/// 12 and of no whole words, and a block that is read and has 262,148 bytes.
 pub fn lengths_that_stop()
     ensures cut_off { IsShortBlock (no_section Refuse) (take 24 section_block) }
     ensures other_back { HasOtherBack Little (5 ∷ 0 ∷ 0 ∷ 0 ∷ 12 ∷ 0 ∷ 0 ∷ 0 ∷ 16 ∷ 0 ∷ 0 ∷ 0 ∷ []) }
@@ -127,8 +127,8 @@ pub fn lengths_that_stop()
         (6 ∷ 0 ∷ 0 ∷ 0 ∷ 4 ∷ 0 ∷ 4 ∷ 0 ∷ 0 ∷ 0 ∷ 0 ∷ 0 ∷ []) 262_148 }
 {}
 
-/// Whole blocks that are refused for what they say: an interface of PPP (9), and a description of one
-/// that has no room for its snap length.
+/// Whole blocks that are refused for what they say: an interface of PPP (9), and a description of
+/// one that is too short for its snap length.
 pub fn blocks_that_are_refused()
     ensures link { HasRefusedBlock described_section (1 ∷ 0 ∷ 0 ∷ 0 ∷ 20 ∷ 0 ∷ 0 ∷ 0 ∷ 9 ∷ 0 ∷ 0 ∷ 0
         ∷ 0 ∷ 0 ∷ 4 ∷ 0 ∷ 20 ∷ 0 ∷ 0 ∷ 0 ∷ 5 ∷ []) (LinkType 9) }

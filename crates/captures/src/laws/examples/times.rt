@@ -8,8 +8,8 @@ ghost use Rattle.captures.specs.declared.byte_order.ByteOrder.TheVariants.{Big, 
 ghost use Rattle.captures.specs.declared.time.time_unit.TimeUnit.TheVariants.{Microseconds};
 ghost use Rattle.captures.specs.declared.time.time_unit.TimeUnit.TheVariants.{Nanoseconds};
 
-/// Times of classic captures, by the magic number: parts of a second may be more than one, and the
-/// last time is that of 32 bits of seconds.
+/// Times of classic captures, by the magic number: the fraction of a second may be more than one
+/// second, and the last time is that of 32 bits of seconds.
 pub fn record_times()
     ensures micro { unit_of 0xa1b2c3d4 ≡ Microseconds }
     ensures nano { unit_of 0xa1b23c4d ≡ Nanoseconds }
@@ -19,7 +19,7 @@ pub fn record_times()
     ensures last { record_time Microseconds 4294967295 1000000 ≡ 4294967295999999999 }
 {}
 
-/// Counts of a clock's parts of a second, by `if_tsresol`: a power of ten, or of two where its
+/// Counts of a clock's units, by `if_tsresol`: a power of ten make a second, or of two where its
 /// highest bit is set.
 pub fn resolutions()
     ensures seconds { nanoseconds_of 0 5 ≡ 5000000000 }
@@ -64,10 +64,10 @@ pub fn clocks_by_options()
         ≡ record { resolution = 6; offset = 3600 } }
     ensures high_first { clock_of Big (0 ∷ 14 ∷ 0 ∷ 8 ∷ 0 ∷ 0 ∷ 0 ∷ 1 ∷ 0 ∷ 0 ∷ 0 ∷ 2 ∷ [])
         ≡ record { resolution = 6; offset = 2 ^ 32 + 2 } }
-    ensures behind_comment { clock_of Little (1 ∷ 0 ∷ 5 ∷ 0 ∷ 104 ∷ 101 ∷ 108 ∷ 108 ∷ 111 ∷ 0
+    ensures after_comment { clock_of Little (1 ∷ 0 ∷ 5 ∷ 0 ∷ 104 ∷ 101 ∷ 108 ∷ 108 ∷ 111 ∷ 0
         ∷ 0 ∷ 0 ∷ 9 ∷ 0 ∷ 1 ∷ 0 ∷ 138 ∷ 0 ∷ 0 ∷ 0 ∷ [])
         ≡ record { resolution = 138; offset = 0 } }
-    ensures behind_end { clock_of Little (0 ∷ 0 ∷ 0 ∷ 0 ∷ 9 ∷ 0 ∷ 1 ∷ 0 ∷ 9 ∷ 0 ∷ 0 ∷ 0 ∷ [])
+    ensures after_end { clock_of Little (0 ∷ 0 ∷ 0 ∷ 0 ∷ 9 ∷ 0 ∷ 1 ∷ 0 ∷ 9 ∷ 0 ∷ 0 ∷ 0 ∷ [])
         ≡ record { resolution = 6; offset = 0 } }
     ensures other_length { clock_of Little (9 ∷ 0 ∷ 2 ∷ 0 ∷ 9 ∷ 0 ∷ 0 ∷ 0 ∷ [])
         ≡ record { resolution = 6; offset = 0 } }

@@ -3,6 +3,6 @@ use Rattle.std.specs.List.{sum_by}
 use Rattle.ep_base.specs.Sum.{fold, total}
 use Rattle.ep_base.proofs.checksum.sum_pieces.Given as goal
 
-abbrev pub invariant-loop-piece : goal.invariant-loop-piece
-invariant-loop-piece l =
-    l.sum ≡ fold (sum_by (λ piece. total piece.now) (take l.piece-index l.pieces))
+abbrev pub invariant-loop-chunk : goal.invariant-loop-chunk
+invariant-loop-chunk l =
+    l.sum ≡ fold (sum_by (λ chunk. total chunk.now) (take l.chunk-index l.chunks))

@@ -4,10 +4,10 @@ use thiserror::Error;
 /// Why the headers of a value don't follow one another, of either version.
 #[derive(Clone, Copy, Debug, PartialEq, Eq, Hash, Error)]
 pub enum ExtsWalkError {
-    /// The extension headers of IPv4 don't.
+    /// The extension headers of IPv4 don't follow one another.
     #[error("{0}")]
     Ipv4Exts(ipv4_exts::ExtsWalkError),
-    /// The extension headers of IPv6 don't.
+    /// The extension headers of IPv6 don't follow one another.
     #[error("{0}")]
     Ipv6Exts(ipv6_exts::ExtsWalkError),
 }

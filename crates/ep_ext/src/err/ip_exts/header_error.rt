@@ -4,10 +4,10 @@ use thiserror::Error;
 /// What is wrong with the content of extension headers, of either version.
 #[derive(Clone, Copy, Debug, PartialEq, Eq, Hash, Error)]
 pub enum HeaderError {
-    /// The authentication header behind an IPv4 header is none.
+    /// The bytes after an IPv4 header are no authentication header.
     #[error("{0}")]
     Ipv4Ext(ip_auth::HeaderError),
-    /// The extension headers behind an IPv6 header are none.
+    /// The bytes after an IPv6 header are no extension headers.
     #[error("{0}")]
     Ipv6Ext(ipv6_exts::HeaderError),
 }

@@ -19,7 +19,7 @@ pub enum DestUnreachableHeader {
     /// The packet is too big for the next network and may not be fragmented (code 4).
     FragmentationNeeded {
         /// The greatest packet in bytes that the next network takes, in bytes 6 and 7 (RFC 1191,
-        /// section 4). 0 is written by nodes that don't tell it.
+        /// section 4). 0 is written by nodes that don't report it.
         next_hop_mtu: u16,
     },
     /// The source route failed (code 5).
@@ -99,7 +99,7 @@ impl DestUnreachableHeader {
         }
     }
 
-    // What stands behind the checksum.
+    // What follows the checksum.
     pub(crate) fn bytes5to8(&self) -> [u8; 4]
         ensures bytes { result ≡ bytes_of_fields (unreachable_fields self.now) }
         ensures fits { UnreachableFits self.now }

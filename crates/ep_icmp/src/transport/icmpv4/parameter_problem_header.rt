@@ -16,7 +16,7 @@ pub enum ParameterProblemHeader {
 }
 
 impl ParameterProblemHeader {
-    // The one with this code, if one has it, and for code 0 with this place.
+    // The one with this code, if one has it, and for code 0 with this offset.
     pub(crate) fn from_values(code_u8: u8, pointer: u8) -> Option<ParameterProblemHeader>
         ensures { MatchOption result (3 ≤ code_u8)
             (λ header. (problem_code header ≡ code_u8) × HasPointer header pointer) }
@@ -39,7 +39,7 @@ impl ParameterProblemHeader {
         }
     }
 
-    // What stands behind the checksum.
+    // What follows the checksum.
     pub(crate) fn bytes5to8(&self) -> [u8; 4]
         ensures bytes { result ≡ bytes_of_fields (problem_fields self.now) }
         ensures fits { ProblemFits self.now }

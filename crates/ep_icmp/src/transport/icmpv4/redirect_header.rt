@@ -2,8 +2,7 @@
 
 use super::RedirectCode;
 
-/// What a redirect message carries in front of the packet's first bytes (RFC 792, "Redirect
-/// Message").
+/// What a redirect message carries before the packet's first bytes (RFC 792, "Redirect Message").
 #[derive(Clone, Copy, Debug, PartialEq, Eq)]
 pub struct RedirectHeader {
     /// For which traffic.

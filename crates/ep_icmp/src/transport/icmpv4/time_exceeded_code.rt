@@ -5,7 +5,7 @@ ghost use Rattle.ep_icmp.specs.Icmpv4.{time_exceeded_code};
 /// The code of a time exceeded message (RFC 792, "Time Exceeded Message").
 #[derive(Clone, Copy, Debug, PartialEq, Eq)]
 pub enum TimeExceededCode {
-    /// The time to live ended on the way (code 0).
+    /// The time to live ended in transit (code 0).
     TtlExceededInTransit,
     /// Not all fragments came in time (code 1).
     FragmentReassemblyTimeExceeded,

@@ -2,8 +2,8 @@
 ghost use Rattle.std.specs.Prelude.{◌≡◌};
 ghost use Rattle.ep_icmp.specs.Fields.{TimestampFits, timestamp_bytes, timestamp_in};
 
-/// What stands behind the checksum of a timestamp request and of its reply, which carry no data
-/// (RFC 792, "Timestamp or Timestamp Reply Message"). Times are milliseconds since midnight UT.
+/// What follows the checksum of a timestamp request and of its reply, which carry no data (RFC 792,
+/// "Timestamp or Timestamp Reply Message"). Times are milliseconds since midnight UT.
 #[derive(Clone, Copy, Debug, PartialEq, Eq)]
 pub struct TimestampMessage {
     /// The identifier, which the reply repeats.
@@ -22,7 +22,7 @@ impl TimestampMessage {
     /// The length of the whole message in bytes, type, code and checksum among them.
     pub const LEN: usize = 20;
 
-    /// The fields that these bytes spell, those behind the checksum.
+    /// The fields that these bytes, those after the checksum, encode.
     pub fn from_bytes(bytes: [u8; 16]) -> TimestampMessage
         ensures { result ≡ timestamp_in bytes 0 }
     {
@@ -35,7 +35,7 @@ impl TimestampMessage {
         }
     }
 
-    // What stands behind the checksum.
+    // What follows the checksum.
     pub(crate) fn to_bytes(&self) -> [u8; 16]
         ensures bytes { result ≡ timestamp_bytes self.now }
         ensures fits { TimestampFits self.now }

@@ -2,7 +2,7 @@
 
 use super::ParameterProblemCode;
 
-/// What a parameter problem message carries in front of the packet's first bytes (RFC 4443, section
+/// What a parameter problem message carries before the packet's first bytes (RFC 4443, section
 /// 3.4).
 #[derive(Clone, Copy, Debug, PartialEq, Eq)]
 pub struct ParameterProblemHeader {

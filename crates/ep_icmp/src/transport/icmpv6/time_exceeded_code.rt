@@ -5,7 +5,7 @@ ghost use Rattle.ep_icmp.specs.Icmpv6.{time_exceeded_code};
 /// The code of a time exceeded message (RFC 4443, section 3.3).
 #[derive(Clone, Copy, Debug, PartialEq, Eq)]
 pub enum TimeExceededCode {
-    /// The hop limit ended on the way (code 0).
+    /// The hop limit ended in transit (code 0).
     HopLimitExceeded,
     /// Not all fragments came in time (code 1).
     FragmentReassemblyTimeExceeded,

@@ -34,8 +34,8 @@ impl SliceError {
         }
     }
 
-    /// The fault of a packet of which the extension headers, behind the header, have this fault in
-    /// bytes whose length came from this source.
+    /// The fault of a packet whose extension headers, after the header, have this fault. The length
+    /// of their bytes came from this source.
     pub fn of_extensions(error: ipv6_exts::HeaderSliceError, len_source: LenSource) -> Self
         requires { CanMove error 40 }
         ensures { result ≡ of_exts_fault len_source error }

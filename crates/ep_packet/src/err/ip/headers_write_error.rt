@@ -19,7 +19,7 @@ pub enum HeadersWriteError {
 }
 
 impl HeadersWriteError {
-    /// Whether memory was missing.
+    /// Whether it ran out of memory.
     pub fn memory(&self) -> bool
         ensures { result ≡ is_memory self.now }
     {

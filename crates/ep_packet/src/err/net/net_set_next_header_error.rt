@@ -1,6 +1,6 @@
 use thiserror::Error;
 
-/// Why no number was set behind headers of the network layer.
+/// Why no next header number was set in headers of the network layer.
 #[derive(Clone, Copy, Debug, PartialEq, Eq, Hash, Error)]
 pub enum NetSetNextHeaderError {
     /// They are an ARP packet, which nothing follows.

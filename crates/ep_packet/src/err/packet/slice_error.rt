@@ -19,7 +19,7 @@ pub enum SliceError {
     /// A MACsec header breaks its format.
     #[error("{0}")]
     Macsec(macsec::HeaderError),
-    /// An IP header breaks its format, where either version may stand.
+    /// An IP header breaks its format, where it may be of either version.
     #[error("{0}")]
     Ip(ip::HeaderError),
     /// An IPv4 header breaks its format.
@@ -28,7 +28,7 @@ pub enum SliceError {
     /// An IPv6 header breaks its format.
     #[error("{0}")]
     Ipv6(ipv6::HeaderError),
-    /// The authentication header behind an IPv4 header breaks its format.
+    /// The authentication header after an IPv4 header breaks its format.
     #[error("{0}")]
     Ipv4Exts(ip_auth::HeaderError),
     /// An IPv6 extension header breaks its format, or is out of order.

@@ -6,7 +6,7 @@ pub enum HeaderError {
     /// The version, the top bit of the first byte, is not 0 (IEEE 802.1AE, section 9.5).
     #[error("MACsec header error: unexpected version 1")]
     UnexpectedVersion,
-    /// The payload is unmodified, so an ether type is to stand before it, and the short length is
+    /// The payload is unmodified, so an ether type has to precede it, and the short length is
     /// 1, which leaves no room for the ether type.
     #[error("MACsec header error: short length 1 leaves no room for the ether type")]
     InvalidUnmodifiedShortLen,

@@ -1,4 +1,4 @@
-//! Why a slice begins with no TCP header.
+//! Why a slice starts with no TCP header.
 
 ghost use Rattle.std.specs.Prelude.{◌≡◌};
 ghost use Rattle.ep_base.specs.declared.err.slice_error.SliceError.TheVariants as slice_error;

@@ -1,14 +1,14 @@
 use Rattle.std.proofs.Common.{◌∙◌, length, sym}
 use Rattle.std.specs.Option.{option_map, option_or}
-use Rattle.etherparse.specs.build.Built.{refusal_of}
-use Rattle.etherparse_structs.specs.Plan.{field_of, front_in, headers_in, wrong_front}
+use Rattle.etherparse.specs.Built.{refusal_of}
+use Rattle.etherparse_structs.specs.Plan.{field_of, lower_headers_in, headers_in, wrong_lower_headers}
 use Rattle.etherparse_structs.specs.Plan.{wrong_transport}
-use Rattle.etherparse_structs.proofs.PlanLemmas.{at_fault_behind}
+use Rattle.etherparse_structs.proofs.PlanLemmas.{at_fault_after}
 use Rattle.etherparse_structs.proofs.build.append.Goals as goal
 
 pub returns-in-Ok-clause-refused : goal.returns-in-Ok-clause-refused
 returns-in-Ok-clause-refused c =
     let plan = c.args.plan.now in
-    at_fault_behind (wrong_front plan) (option_or (wrong_transport plan)
+    at_fault_after (wrong_lower_headers plan) (option_or (wrong_transport plan)
     (option_map field_of (refusal_of (headers_in plan) (length c.args.payload.now))))
-    (front_in plan) _ _ _ (sym c.front.ensures ∙ c.in-Ok.is) c.append_behind.ensures.refused
+    (lower_headers_in plan) _ _ _ (sym c.lower_headers.ensures ∙ c.in-Ok.is) c.append_rest.ensures.refused

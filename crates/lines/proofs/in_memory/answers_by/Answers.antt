@@ -1,9 +1,9 @@
 use Rattle.std.proofs.Common.{Some, Ok, Err, arith}
-use Rattle.runs.specs.Known.{KnownCall, known_of}
-use Rattle.runs.proofs.KnownLemmas.{Goes-map, Makes-map}
+use Rattle.device_runs.specs.Known.{KnownCall, known_of}
+use Rattle.device_runs.proofs.KnownLemmas.{Goes-map, Makes-map}
 use Rattle.lines.specs.Endings.{ending_of}
 use Rattle.lines.specs.Known.{MemoryCall}
-use Rattle.lines.specs.Runs.{reply_task}
+use Rattle.lines.specs.Runs.{answer_task}
 use Rattle.lines.specs.declared.in_memory.TextDevice.{TextDevice}
 use Rattle.lines.proofs.MemoryLemmas.{memory_fits, memory_ok, memory_read, memory_write_zero}
 use Rattle.lines.proofs.MemoryLemmas.{memory_too_many}
@@ -17,28 +17,28 @@ answer_input-requires-clause-numbers g c new calls made each few =
 
 pub unreachable-requires : goal.unreachable-requires
 unreachable-requires g c =
-    let runs = Goes-map (reply_task g.A.Answerer.meaning) _ MemoryCall
+    let runs = Goes-map (answer_task g.A.Answerer.meaning) _ MemoryCall
     (λ (s : TextDevice). known_of (Some s.input.now) (Some s.output.items))
     (λ s t call h. h) _ _ _ (ending_of (Err c.in-Err.error)) c.in-Err.ensures in
     memory_read g.A.Answerer.meaning _ _ _ c.in-Err.error runs c.in-Read.is
 
 pub unreachable-requires-in-WriteZero : goal.unreachable-requires-in-WriteZero
 unreachable-requires-in-WriteZero g c =
-    let runs = Goes-map (reply_task g.A.Answerer.meaning) _ MemoryCall
+    let runs = Goes-map (answer_task g.A.Answerer.meaning) _ MemoryCall
     (λ (s : TextDevice). known_of (Some s.input.now) (Some s.output.items))
     (λ s t call h. h) _ _ _ (ending_of (Err c.in-Err.error)) c.in-Err.ensures in
     memory_write_zero g.A.Answerer.meaning _ _ _ c.in-Err.error runs c.in-WriteZero.is
 
 pub unreachable-requires-in-TooManyReads : goal.unreachable-requires-in-TooManyReads
 unreachable-requires-in-TooManyReads g c =
-    let runs = Goes-map (reply_task g.A.Answerer.meaning) _ MemoryCall
+    let runs = Goes-map (answer_task g.A.Answerer.meaning) _ MemoryCall
     (λ (s : TextDevice). known_of (Some s.input.now) (Some s.output.items))
     (λ s t call h. h) _ _ _ (ending_of (Err c.in-Err.error)) c.in-Err.ensures in
     memory_too_many g.A.Answerer.meaning c.args.text.now c.new.result.items _ c.in-Err.error runs c.in-TooManyReads.is
 
 pub returns-in-Ok : goal.returns-in-Ok
 returns-in-Ok g c =
-    let runs = Goes-map (reply_task g.A.Answerer.meaning) _ MemoryCall
+    let runs = Goes-map (answer_task g.A.Answerer.meaning) _ MemoryCall
     (λ (s : TextDevice). known_of (Some s.input.now) (Some s.output.items))
     (λ s t call h. h) _ _ _ (ending_of (Ok tt)) c.in-Ok.ensures in
     memory_ok g.A.Answerer.meaning _ c.args.text.now c.new.result.items c.answer_input.new.device.input.now

@@ -2,7 +2,7 @@ use Rattle.std.proofs.Common.{rules, arith, ◌≡◌, ◌<◌, ◌≤◌, ap, s
 use Rattle.std.proofs.lemmas.Result.{err_from_is_err_and}
 use Rattle.lines.specs.Endings.{ending_of}
 use Rattle.lines.specs.Lines.{split, ended_lines_of}
-use Rattle.lines.specs.Replies.{Begun}
+use Rattle.lines.specs.LineAnswers.{Started}
 use Rattle.lines.specs.declared.limits.TheConstants.{READ_SIZE_LIMIT}
 use Rattle.lines.proofs.Going.{Answered, answered_start, answered_more, answered_stops}
 use Rattle.lines.proofs.Going.{answered_end, answered_fails, answered_all}
@@ -11,12 +11,12 @@ use Rattle.lines.proofs.run_lines.answer_reads.Goals as goal
 
 pub reads-init : goal.reads-init
 reads-init g c = answered_start g.D.Device.transition g.A.Answerer.meaning c.args.device.now _
-    c.args.lines.now.replies c.requires.begun c.requires.replies
+    c.args.lines.now.answers c.requires.started c.requires.answers
 
 pub returns-in-Ok-eq0 : goal.returns-in-Ok-eq0
 returns-in-Ok-eq0 g c =
     let answered = c.reads.invariant in
-    let some : 0 < length c.reads.piece = search rules in
+    let some : 0 < length c.reads.chunk = search rules in
     answered_end g.D.Device.transition g.A.Answerer.meaning c.reads.counter c.args.device.now
     c.reads.device _ _ _ _ answered c.args.reads c.reads-test.true
     (take c.in-Ok-eq0.field-0 c.read_some.new.buf)
@@ -34,7 +34,7 @@ finish-requires-clause-number g c =
 pub feed-requires-clause-numbers : goal.feed-requires-clause-numbers
 feed-requires-clause-numbers g c =
     let answered = c.reads.invariant in
-    let some : 0 < length c.reads.piece = search rules in
+    let some : 0 < length c.reads.chunk = search rules in
     let given : 0 < length (take c.in-Ok.n c.read_some.new.buf) =
     omega (arith, c.in-Ok.ensures.bound.1, c.in-Ok.n-test.1) in
     let size : length (take c.in-Ok.n c.read_some.new.buf) ≤ READ_SIZE_LIMIT =
@@ -47,7 +47,7 @@ feed-requires-clause-numbers g c =
 pub reads-preserved : goal.reads-preserved
 reads-preserved g c =
     let answered = c.reads.invariant in
-    let some : 0 < length c.reads.piece = search rules in
+    let some : 0 < length c.reads.chunk = search rules in
     let earlier = ended_lines_of answered.came in
     let rest = (split answered.came).rest in
     let given : 0 < length (take c.in-Ok.n c.read_some.new.buf) =
@@ -58,15 +58,15 @@ reads-preserved g c =
     c.reads.device _ c.feed.new.device _ _ answered
     (take c.in-Ok.n c.read_some.new.buf) (c.in-Ok.ensures.call some) size given
     (c.in_ok-feed-in-Ok.ensures.serves earlier rest answered.keeps)
-    (Begun (g.A.Answerer.shows c.feed.new.self.answerer) c.feed.new.self.count
-    c.feed.new.self.has_begun) c.feed.new.self.replies
+    (Started (g.A.Answerer.shows c.feed.new.self.answerer) c.feed.new.self.count
+    c.feed.new.self.has_started) c.feed.new.self.answers
     (c.in_ok-feed-in-Ok.ensures.keeps earlier rest answered.keeps)
-    c.in_ok-feed-in-Ok.ensures.replies
+    c.in_ok-feed-in-Ok.ensures.answers
 
 pub returns-in_err-feed-in-Ok : goal.returns-in_err-feed-in-Ok
 returns-in_err-feed-in-Ok g c =
     let answered = c.reads.invariant in
-    let some : 0 < length c.reads.piece = search rules in
+    let some : 0 < length c.reads.chunk = search rules in
     let exit = err_from_is_err_and c.from_residual.result c.from_residual.ensures.1 in
     let given : 0 < length (take c.in-Ok.n c.read_some.new.buf) =
     omega (arith, c.in-Ok.ensures.bound.1, c.in-Ok.n-test.1) in
@@ -82,7 +82,7 @@ returns-in_err-feed-in-Ok g c =
 
 pub returns-in-Err : goal.returns-in-Err
 returns-in-Err g c =
-    let some : 0 < length c.reads.piece = search rules in
+    let some : 0 < length c.reads.chunk = search rules in
     answered_fails g.D.Device.transition g.A.Answerer.meaning c.reads.counter c.args.device.now
     c.reads.device c.reads.device _ _ _ c.reads.invariant c.args.reads c.reads-test.true
     (c.in-Err.ensures.call some)
@@ -94,5 +94,5 @@ returns g c =
     c.args.device.now c.reads.device _ _
     (subst (λ (n : ℕ). Answered g.D.Device.transition g.A.Answerer.meaning n
     c.args.device.now c.reads.device
-    (Begun (g.A.Answerer.shows c.reads.lines.answerer) c.reads.lines.count c.reads.lines.has_begun)
-    c.reads.lines.replies) all c.reads.invariant)
+    (Started (g.A.Answerer.shows c.reads.lines.answerer) c.reads.lines.count c.reads.lines.has_started)
+    c.reads.lines.answers) all c.reads.invariant)

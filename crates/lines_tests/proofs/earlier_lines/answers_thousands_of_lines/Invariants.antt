@@ -1,5 +1,5 @@
 use Rattle.std.proofs.Common.{◌≡◌, false}
-use Rattle.sessions.specs.Sessions.{IsWrittenOut}
+use Rattle.lines.specs.Sessions.{IsWrittenOut}
 use Rattle.lines_tests.proofs.earlier_lines.answers_thousands_of_lines.Given as goal
 
 abbrev pub invariant-loop-round : goal.invariant-loop-round

@@ -1,8 +1,8 @@
 use Rattle.std.proofs.Common.{List, ℕ}
 use Rattle.std.specs.Io.KnownBytes.{Appends}
-use Rattle.line_answers.specs.Answers.{answers_of}
-use Rattle.line_answers.specs.TwoRuns.{AreIsolated}
-use Rattle.line_answers.proofs.WrittenLines.{on_both, runs_isolated}
+use Rattle.netlines.specs.Answers.{answers_of}
+use Rattle.netlines.specs.TwoRuns.{AreIsolated}
+use Rattle.netlines.proofs.WrittenLines.{on_both, runs_isolated}
 use Rattle.netlines.proofs.pairs.two_runs.Goals as goal
 
 pub returns : goal.returns

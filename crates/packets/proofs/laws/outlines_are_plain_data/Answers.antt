@@ -15,17 +15,17 @@ returns c = record {
       (field c.holders_are_plain_data.ensures.headers.equals (λ outline. outline.headers)
       (field (options_same c.types_are_plain_data.ensures.reason.equals)
       (λ outline. outline.refusal)
-      (field (options_same c.types_are_plain_data.ensures.part_state.equals)
-      (λ outline. outline.part)
+      (field (options_same c.types_are_plain_data.ensures.fragment_state.equals)
+      (λ outline. outline.fragment)
       (last_field (options_same c.verdicts_are_plain_data.ensures.equals)
       (λ outline. outline.verdict))))))))
-      (λ number time len headers refusal part verdict i. record {
+      (λ number time len headers refusal fragment verdict i. record {
         number = number i;
         time = time i;
         len = len i;
         headers = headers i;
         refusal = refusal i;
-        part = part i;
+        fragment = fragment i;
         verdict = verdict i;
       });
 }

@@ -2,16 +2,16 @@
 
 ghost use Rattle.std.specs.Prelude.{◌≡◌, ℕ, List, [], ◌∷◌, true, false, None, Some, Ok, Err};
 ghost use Rattle.captures.specs.declared.link.kind.Link.TheVariants as link;
-ghost use Rattle.ep_defrag.specs.declared.defrag.ip_defrag_payload_vec.IpDefragPayloadVec.{IpDefragPayloadVec};
+ghost use Rattle.etherparse.specs.declared.defrag.ip_defrag_payload_vec.IpDefragPayloadVec.{IpDefragPayloadVec};
 ghost use Rattle.ep_ipslice.specs.Packet.{Ipv6Packet};
 ghost use Rattle.ep_packet.specs.Readable.{message_at};
 ghost use Rattle.ep_packet.specs.declared.err.packet.slice_error.SliceError.TheVariants as fault;
 ghost use Rattle.ep_packet.specs.declared.net.net_slice.NetSlice.TheVariants as slice;
 ghost use Rattle.ep_packet.specs.declared.sliced_packet.SlicedPacket.{SlicedPacket};
 ghost use Rattle.ep_packet.specs.declared.transport.transport_slice.TransportSlice.TheVariants as transport;
-ghost use Rattle.ep_fragments.specs.declared.defrag.ip_defrag_error.IpDefragError.TheVariants as part_error;
+ghost use Rattle.etherparse.specs.declared.defrag.ip_defrag_error.IpDefragError.TheVariants as fragment_error;
 ghost use Rattle.ep_tcpudp.specs.declared.err.tcp.header_error.HeaderError.TheVariants as tcp;
-ghost use Rattle.header_texts.specs.declared.protocol.Protocol.TheVariants as protocol;
+ghost use Rattle.header_descriptions.specs.declared.protocol.Protocol.TheVariants as protocol;
 ghost use Rattle.packets.specs.Conditions.{arp_has_host, conditions_of, has_host, has_ipv4_host};
 ghost use Rattle.packets.specs.Conditions.{has_ipv6_host, has_port, holds, lets_through};
 ghost use Rattle.packets.specs.Conditions.{message_has_port, net_has_host, packet_has_port};
@@ -20,7 +20,7 @@ ghost use Rattle.packets.specs.Dissected.{verdict_on};
 ghost use Rattle.packets.specs.Examples.{arp_for_another_protocol, arp_of_arcnet, arp_of_ieee_802};
 ghost use Rattle.packets.specs.Examples.{arp_request, datagram_with, ipv4_ends, ipv4_header};
 ghost use Rattle.packets.specs.Examples.{ipv6_header, segment_with};
-ghost use Rattle.ep_defrag.specs.PoolCalls.Told.{Delivered, Nothing};
+ghost use Rattle.etherparse.specs.PoolCalls.CallResult.{Delivered, Nothing};
 ghost use Rattle.ep_base.specs.declared.len_source.LenSource.TheVariants as source;
 ghost use Rattle.ep_packet.specs.Class.Class.{Cut};
 ghost use Rattle.packets.specs.declared.dissection.Dissection.{Dissection};
@@ -28,10 +28,10 @@ ghost use Rattle.packets.specs.declared.dissection.Fragment.TheVariants as fragm
 ghost use Rattle.packets.specs.declared.filter.Condition.TheVariants as condition;
 ghost use Rattle.packets.specs.declared.filter.Filter.{Filter};
 ghost use Rattle.std.specs.declared.net.ip_addr.IpAddr.TheVariants as ip_addr;
-ghost use Rattle.verdicts.specs.declared.verdict.Verdict.TheVariants as verdict;
+ghost use Rattle.checksum_verdicts.specs.declared.verdict.Verdict.TheVariants as verdict;
 
-/// The words of headers: of an ARP packet in an Ethernet frame, and of a TCP segment that breaks its
-/// format, which has no header but `eth`.
+/// The protocol conditions: of an ARP packet in an Ethernet frame, and of a TCP segment that breaks
+/// its format, which has no header but `eth`.
 pub fn headers_of_packets()
     ensures arp { (packet : Dissection) → packet.link ≡ link.Ethernet
         → packet.layers ≡ Ok (record {
@@ -49,8 +49,8 @@ pub fn headers_of_packets()
         × (holds (condition.Protocol (protocol.OverIp (record { 0 = 6 }))) packet ≡ false) }
 {}
 
-/// `host` of ARP packets (RFC 826): those for the addresses of IPv4, whatever the hardware type and the
-/// length of its addresses.
+/// `host` of ARP packets (RFC 826): those for the addresses of IPv4, whatever the hardware type and
+/// the length of its addresses.
 pub fn hosts_of_arp_packets()
     ensures sender { arp_has_host arp_request (10 ∷ 0 ∷ 0 ∷ 1 ∷ []) ≡ true }
     ensures target { arp_has_host arp_request (10 ∷ 0 ∷ 0 ∷ 2 ∷ []) ≡ true }
@@ -99,7 +99,7 @@ pub fn hosts_of_ip_packets()
         (ip_addr.V4 (record { octets = 10 ∷ 0 ∷ 0 ∷ 1 ∷ [] })) ≡ false }
 {}
 
-/// `port` of a message that stands whole in a packet: of TCP from 443 to 51234, and of UDP from 53 to
+/// `port` of a message that is whole in a packet: of TCP from 443 to 51234, and of UDP from 53 to
 /// 5353. ICMP has none.
 pub fn ports_of_messages()
     ensures tcp { (transport_has_port (Some (transport.Tcp (segment_with 5))) 443 ≡ true)
@@ -116,7 +116,7 @@ pub fn ports_of_messages()
     ensures refused { packet_has_port (Err (fault.Tcp (tcp.DataOffsetTooSmall 4))) 443 ≡ false }
 {}
 
-/// Also of the message that a part completes, where that can be read, and of no other part.
+/// Also of the message that a fragment completes, where that can be read, and of no other fragment.
 pub fn ports_of_completed_messages()
     ensures read { (message_has_port (message_at 6 (segment_with 5)) 443 ≡ true)
         × (message_has_port (message_at 17 (datagram_with 0x11 0xef)) 5353 ≡ true)
@@ -133,7 +133,7 @@ pub fn ports_of_completed_messages()
         })) (Some (fragment.Completes 5 message)) 5353 ≡ true }
     ensures others { (packet : SlicedPacket) → packet.transport ≡ None
         → (has_port (Ok packet) (Some (fragment.Waits 5)) 53 ≡ false)
-        × (has_port (Ok packet) (Some (fragment.Refused None (part_error.ConflictingEnd 24 32))) 53
+        × (has_port (Ok packet) (Some (fragment.Refused None (fragment_error.ConflictingEnd 24 32))) 53
         ≡ false) }
 {}
 
@@ -176,14 +176,14 @@ pub fn bad_checksums()
     }) 0 true (datagram_with 0x11 0xf0)) Nothing ≡ None }
 {}
 
-/// `refused` by a packet's own headers, as a part, and by the message that a part completes;
-/// `fragments` whatever becomes of a part.
+/// `refused` by a packet's own headers, as a fragment, and by the message that a fragment
+/// completes; `fragments` whatever becomes of a fragment.
 pub fn refused_packets_and_fragments()
     ensures headers { (packet : Dissection)
         → packet.layers ≡ Err (fault.Tcp (tcp.DataOffsetTooSmall 4)) → packet.fragment ≡ None
         → (holds condition.Refused packet ≡ true) × (holds condition.Fragment packet ≡ false) }
-    ensures part { (packet : Dissection) (layers : SlicedPacket) → packet.layers ≡ Ok layers
-        → packet.fragment ≡ Some (fragment.Refused None (part_error.ConflictingEnd 24 32))
+    ensures fragment { (packet : Dissection) (layers : SlicedPacket) → packet.layers ≡ Ok layers
+        → packet.fragment ≡ Some (fragment.Refused None (fragment_error.ConflictingEnd 24 32))
         → (holds condition.Refused packet ≡ true) × (holds condition.Fragment packet ≡ true) }
     ensures breaking { (packet : Dissection) (layers : SlicedPacket)
         (message : IpDefragPayloadVec) → packet.layers ≡ Ok layers
@@ -203,8 +203,8 @@ pub fn refused_packets_and_fragments()
         → (holds condition.Refused packet ≡ false) × (holds condition.Fragment packet ≡ false) }
 {}
 
-/// All conditions have to hold, and none lets everything through: of a part that is refused, whose
-/// message has no checksum that was read.
+/// All conditions have to hold, and no condition lets everything through: of a fragment that is
+/// refused, whose message has no checksum that was read.
 pub fn filters()
     ensures none { (filter : Filter) (packet : Dissection) → conditions_of filter ≡ []
         → lets_through filter packet ≡ true }

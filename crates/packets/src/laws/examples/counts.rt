@@ -3,17 +3,17 @@
 ghost use Rattle.std.specs.Prelude.{◌≡◌, ℕ, [], ◌∷◌, true, false, None, Some, slice_index};
 ghost use Rattle.std.specs.Map.{keys_of};
 ghost use Rattle.ep_base.specs.declared.err.layer.Layer.TheVariants as layer;
-ghost use Rattle.packets.specs.Counts.{Counts, is_bad, is_completing, is_good, is_refused_part};
+ghost use Rattle.packets.specs.Counts.{Counts, is_bad, is_completing, is_good, is_refused_fragment};
 ghost use Rattle.packets.specs.Counts.{is_unchecked};
-ghost use Rattle.packets.specs.Examples.{back_ends, ipv4_ends, ipv6_ends, page, part_of_message};
+ghost use Rattle.packets.specs.Examples.{back_ends, ipv4_ends, ipv6_ends, page, outline_of_fragment};
 ghost use Rattle.packets.specs.Examples.{tally};
 ghost use Rattle.packets.specs.Numbers.{number_tally};
-ghost use Rattle.packets.specs.Rate.{is_behind, span_at};
+ghost use Rattle.packets.specs.Rate.{is_past_spans, span_at};
 ghost use Rattle.packets.specs.Table.{no_tally, tally_at};
-ghost use Rattle.packets.specs.declared.outline.PartState.TheVariants as state;
+ghost use Rattle.packets.specs.declared.outline.FragmentState.TheVariants as state;
 ghost use Rattle.packets.specs.declared.reason.Reason.TheVariants as reason;
 ghost use Rattle.packets.specs.declared.summary.summary.Summary.{Summary};
-ghost use Rattle.verdicts.specs.declared.verdict.Verdict.TheVariants as verdict;
+ghost use Rattle.checksum_verdicts.specs.declared.verdict.Verdict.TheVariants as verdict;
 
 use crate::Reason;
 use ep_packet::Addresses;
@@ -48,7 +48,7 @@ pub fn rows_of_the_page<S, H>()
         × (slice_index summary.sizes.counts 6 ≡ 8) × (slice_index summary.sizes.counts 7 ≡ 1) }
 {}
 
-/// The reasons in the order in which they came, and the pairs of addresses.
+/// The reasons in the order of their first packets, and the pairs of addresses.
 pub fn keys_of_the_page<S, H>()
     ensures reasons { (summary : Summary S H)
         → Counts ⟦<Reason as PartialEq>⟧.eq ⟦<Addresses as PartialEq>⟧.eq summary page
@@ -71,21 +71,21 @@ pub fn keys_of_the_page<S, H>()
         × (tally_at ⟦<Addresses as PartialEq>⟧.eq summary.talkers back_ends ≡ tally 1 44 9) }
 {}
 
-/// In spans of 1/32 second, 0.03125 s, packets an eighth of a second apart come in each fourth, and
-/// the tenth in the 37th; it would come behind the 64th of spans half as long.
+/// With spans of 1/32 second, 0.03125 s, packets an eighth of a second apart come in every fourth
+/// span, and the tenth in the 37th; it would come after the 64th of spans half as long.
 pub fn spans_of_the_page()
     ensures second { span_at 31250000 1700000000250000000 1700000000375000000 ≡ 4 }
     ensures tenth { span_at 31250000 1700000000250000000 1700000001375000000 ≡ 36 }
     ensures just_before { span_at 31250000 1700000000250000000 1700000000374999999 ≡ 3 }
     ensures before { span_at 31250000 1700000000250000000 1600000000000000000 ≡ 0 }
     ensures half_as_long { span_at 15625000 1700000000250000000 1700000001375000000 ≡ 72 }
-    ensures behind { (is_behind 15625000 1700000000250000000
-        (part_of_message 10 9 state.Waits None) ≡ true)
-        × (is_behind 31250000 1700000000250000000 (part_of_message 10 9 state.Waits None)
+    ensures beyond { (is_past_spans 15625000 1700000000250000000
+        (outline_of_fragment 10 9 state.Waits None) ≡ true)
+        × (is_past_spans 31250000 1700000000250000000 (outline_of_fragment 10 9 state.Waits None)
         ≡ false) }
 {}
 
-/// What checksums tell, and what became of parts.
+/// The verdicts on checksums, and what became of fragments.
 pub fn kinds_of_packets()
     ensures good { (is_good (Some verdict.Good) ≡ true) × (is_good (Some verdict.Bad) ≡ false)
         × (is_good (Some verdict.None) ≡ false) × (is_good None ≡ false) }
@@ -97,7 +97,7 @@ pub fn kinds_of_packets()
     ensures completing { (is_completing (Some state.Completes) ≡ true)
         × (is_completing (Some state.Waits) ≡ false)
         × (is_completing (Some state.Refused) ≡ false) × (is_completing None ≡ false) }
-    ensures refused { (is_refused_part (Some state.Refused) ≡ true)
-        × (is_refused_part (Some state.Waits) ≡ false)
-        × (is_refused_part (Some state.Completes) ≡ false) × (is_refused_part None ≡ false) }
+    ensures refused { (is_refused_fragment (Some state.Refused) ≡ true)
+        × (is_refused_fragment (Some state.Waits) ≡ false)
+        × (is_refused_fragment (Some state.Completes) ≡ false) × (is_refused_fragment None ≡ false) }
 {}

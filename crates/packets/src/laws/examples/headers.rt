@@ -3,7 +3,7 @@
 
 ghost use Rattle.std.specs.Prelude.{◌≡◌, [], ◌∷◌, true, false, None, Some};
 ghost use Rattle.ep_packet.specs.declared.addresses.Addresses.TheVariants.{V4};
-ghost use Rattle.header_texts.specs.declared.protocol.Protocol.TheVariants as protocol;
+ghost use Rattle.header_descriptions.specs.declared.protocol.Protocol.TheVariants as protocol;
 ghost use Rattle.packets.specs.Examples.{back_ends, headers_over, ipv4_ends, ipv6_ends, no_headers};
 ghost use Rattle.packets.specs.Headers.{has_header, net_addresses, net_number};
 ghost use Rattle.packets.specs.declared.outline.Net.TheVariants as net;
@@ -22,7 +22,7 @@ pub fn headers_over_ipv4()
         × (has_header (headers_over ipv4_ends 6) (protocol.OverIp (record { 0 = 17 })) ≡ false) }
 {}
 
-/// A message of ICMPv6, number 58, over IPv6 in a VLAN behind MACsec, captured on another link.
+/// An ICMPv6 message, number 58, over IPv6 in a VLAN after MACsec, captured on another link.
 pub fn headers_over_ipv6()
     ensures tags { (has_header (record (headers_over ipv6_ends 58) {
       ethernet = false;
@@ -56,7 +56,7 @@ pub fn headers_without_ip()
         × (has_header no_headers (protocol.OverIp (record { 0 = 0 })) ≡ false) }
 {}
 
-/// The addresses of IP packets, the source first, and the number of the message's protocol. An ARP
+/// The addresses of IP packets, the source first, and the number of the protocol they carry. An ARP
 /// packet has none of an IP header.
 pub fn addresses_and_numbers()
     ensures ipv4 { (net_addresses (headers_over ipv4_ends 6).net ≡ Some ipv4_ends)

@@ -1,5 +1,5 @@
-//! The headers of frames, those of Ethernet II frames by their own bytes, and those behind a header that
-//! was made (RFC 894).
+//! The headers of frames, those of Ethernet II frames by their own bytes, and those after a header
+//! that was made (RFC 894).
 
 ghost use Rattle.std.specs.Prelude.{◌≡◌, ◌-◌, ◌^◌, ◌++◌, [], ◌∷◌, replicate, None, Some, Ok, Err, IfOk};
 ghost use Rattle.std.specs.Prelude.{IsOk};
@@ -10,12 +10,12 @@ ghost use Rattle.ep_packet.specs.declared.net.net_slice.NetSlice.TheVariants as 
 ghost use Rattle.ep_packet.specs.declared.transport.transport_slice.TransportSlice.TheVariants as transport;
 ghost use Rattle.ep_tcpudp.specs.declared.err.tcp.header_error.HeaderError.TheVariants as tcp;
 ghost use Rattle.packets.specs.Examples.{arp_request, datagram_with, ipv4_header, segment_with};
-ghost use Rattle.packets.specs.Layers.{behind_header, layers_of};
+ghost use Rattle.packets.specs.Layers.{after_header, layers_of};
 
-/// A place is 14 bytes further on from the front of the header before, up to the greatest of 64 bits;
-/// a field that is wrong has no place.
-pub fn places_behind_a_header()
-    ensures first { behind_header (fault.Len (record {
+/// An offset is 14 bytes more from the start of the header before, up to the greatest of 64 bits; a
+/// field that is wrong has no offset.
+pub fn offsets_after_a_header()
+    ensures first { after_header (fault.Len (record {
       required_len = 20;
       len = 7;
       len_source = source.Slice;
@@ -28,7 +28,7 @@ pub fn places_behind_a_header()
       layer = layer.Ipv4Header;
       layer_start_offset = 14;
     }) }
-    ensures later { behind_header (fault.Len (record {
+    ensures later { after_header (fault.Len (record {
       required_len = 8;
       len = 3;
       len_source = source.Ipv6HeaderPayloadLen;
@@ -41,7 +41,7 @@ pub fn places_behind_a_header()
       layer = layer.Ipv6ExtHeader;
       layer_start_offset = 54;
     }) }
-    ensures greatest { behind_header (fault.Len (record {
+    ensures greatest { after_header (fault.Len (record {
       required_len = 8;
       len = 3;
       len_source = source.Slice;
@@ -54,12 +54,12 @@ pub fn places_behind_a_header()
       layer = layer.UdpHeader;
       layer_start_offset = 2 ^ 64 - 1;
     }) }
-    ensures field { behind_header (fault.Tcp (tcp.DataOffsetTooSmall 4))
+    ensures field { after_header (fault.Tcp (tcp.DataOffsetTooSmall 4))
         ≡ fault.Tcp (tcp.DataOffsetTooSmall 4) }
 {}
 
-/// A frame that is cut off in its header, an IPv4 header that is cut off behind a header that was
-/// made and behind the frame's own: its place counts from the front of the frame.
+/// A frame that is cut off in its header, and an IPv4 header that is cut off after a header that
+/// was made and after the frame's own: its offset counts from the start of the frame.
 pub fn frames_cut_off()
     ensures header { layers_of None (replicate 10 0) ≡ Err (fault.Len (record {
       required_len = 14;
@@ -86,8 +86,8 @@ pub fn frames_cut_off()
         })) }
 {}
 
-/// What stands behind a header: an ARP packet by the frame's own ether type, 0x0806, and by that of a
-/// header that was made; nothing that is read behind 0x88b5; and a UDP datagram in an IPv4 packet.
+/// What follows a header: an ARP packet by the frame's own ether type, 0x0806, and by that of a
+/// header that was made; nothing that is read after 0x88b5; and a UDP datagram in an IPv4 packet.
 pub fn frames_by_their_ether_types()
     ensures arp { IfOk (layers_of None (replicate 12 2 ++ 8 ∷ 6 ∷ arp_request))
         (λ packet. (packet.net ≡ Some (net.Arp arp_request)) × (packet.link_exts.items ≡ [])) }

@@ -1,11 +1,11 @@
-//! What filters and summaries take of packets, by the table of docs/PACKETS.md.
+//! What filters and summaries need of packets, by the table of docs/PACKETS.md.
 
 ghost use Rattle.std.specs.Prelude.{◌≡◌, ℕ, List, [], ◌∷◌, true, false, None, Some, Ok, Err, replicate};
 ghost use Rattle.captures.specs.declared.link.kind.Link.TheVariants as link;
 ghost use Rattle.ep_base.specs.declared.err.layer.Layer.TheVariants as layer;
 ghost use Rattle.ep_base.specs.declared.len_source.LenSource.TheVariants as source;
-ghost use Rattle.ep_defrag.specs.declared.defrag.ip_defrag_payload_vec.IpDefragPayloadVec.{IpDefragPayloadVec};
-ghost use Rattle.ep_fragments.specs.declared.defrag.ip_defrag_error.IpDefragError.TheVariants as part_error;
+ghost use Rattle.etherparse.specs.declared.defrag.ip_defrag_payload_vec.IpDefragPayloadVec.{IpDefragPayloadVec};
+ghost use Rattle.etherparse.specs.declared.defrag.ip_defrag_error.IpDefragError.TheVariants as fragment_error;
 ghost use Rattle.ep_ipslice.specs.Packet.{Ipv6Packet};
 ghost use Rattle.ep_packet.specs.Readable.{message_at};
 ghost use Rattle.ep_packet.specs.declared.err.packet.slice_error.SliceError.TheVariants as fault;
@@ -16,17 +16,17 @@ ghost use Rattle.ep_tag.specs.declared.link.macsec_slice.MacsecSlice.{MacsecSlic
 ghost use Rattle.ep_tcpudp.specs.declared.err.tcp.header_error.HeaderError.TheVariants as tcp;
 ghost use Rattle.packets.specs.Examples.{arp_request, datagram_with, headers_over, ipv4_ends};
 ghost use Rattle.packets.specs.Examples.{ipv4_header, ipv6_ends, ipv6_header, message, no_headers};
-ghost use Rattle.packets.specs.Examples.{part_of_message, refused, segment_with};
+ghost use Rattle.packets.specs.Examples.{outline_of_fragment, refused, segment_with};
 ghost use Rattle.packets.specs.Outlines.{headers_of, is_ethernet, is_macsec, is_vlan};
-ghost use Rattle.packets.specs.Outlines.{message_refusal, net_of, outline_of, part_of, part_refusal};
+ghost use Rattle.packets.specs.Outlines.{message_refusal, net_of, outline_of, fragment_state_of, fragment_refusal};
 ghost use Rattle.packets.specs.Outlines.{refusal_of};
 ghost use Rattle.packets.specs.declared.dissection.Fragment.TheVariants as fragment;
 ghost use Rattle.packets.specs.declared.outline.Net.TheVariants as net;
-ghost use Rattle.packets.specs.declared.outline.PartState.TheVariants as state;
+ghost use Rattle.packets.specs.declared.outline.FragmentState.TheVariants as state;
 ghost use Rattle.packets.specs.declared.reason.Reason.TheVariants as reason;
-ghost use Rattle.verdicts.specs.declared.verdict.Verdict.TheVariants as verdict;
+ghost use Rattle.checksum_verdicts.specs.declared.verdict.Verdict.TheVariants as verdict;
 
-/// `eth` was captured as an Ethernet frame, and on no other link.
+/// `eth` is a packet that was captured as an Ethernet frame, and on no other link.
 pub fn links()
     ensures ethernet { is_ethernet link.Ethernet ≡ true }
     ensures others { (is_ethernet link.Ip ≡ false) × (is_ethernet link.Null ≡ false)
@@ -34,7 +34,7 @@ pub fn links()
         × (is_ethernet link.Sll2 ≡ false) × (is_ethernet link.Other ≡ false) }
 {}
 
-/// The tag of VLAN 5 in front of an ARP packet (IEEE 802.1Q), and a MACsec header.
+/// The tag of VLAN 5 before an ARP packet (IEEE 802.1Q), and a MACsec header.
 pub fn tags()
     ensures vlan { (is_vlan (tag.Vlan (0 ∷ 5 ∷ 8 ∷ 6 ∷ arp_request)) ≡ true)
         × (is_macsec (tag.Vlan (0 ∷ 5 ∷ 8 ∷ 6 ∷ arp_request)) ≡ false) }
@@ -42,8 +42,8 @@ pub fn tags()
         × (is_vlan (tag.Macsec header) ≡ false) }
 {}
 
-/// The header of the network layer, with the number of the message's protocol: of UDP, 17, also
-/// behind an authentication header (RFC 4302), which has 51.
+/// The header of the network layer, with the number of the protocol it carries: of UDP, 17, also
+/// after an authentication header (RFC 4302), which has 51.
 pub fn headers_of_the_network_layer()
     ensures ipv4 { net_of (Some (slice.Ipv4 (record {
       header = ipv4_header 17;
@@ -62,8 +62,8 @@ pub fn headers_of_the_network_layer()
     ensures none { net_of None ≡ None }
 {}
 
-/// The headers of an ARP packet in a VLAN; of a packet that breaks a format none are known but that it
-/// was captured as an Ethernet frame.
+/// The headers of an ARP packet in a VLAN; of a packet that breaks a format nothing is known but
+/// that it was captured as an Ethernet frame.
 pub fn headers_of_packets()
     ensures tagged { headers_of link.Sll2 (Ok (record {
       link = None;
@@ -91,8 +91,9 @@ pub fn headers_of_packets()
         ≡ record { ethernet = false; vlan = false; macsec = false; net = None }) }
 {}
 
-/// Messages that were put together: a TCP header of 4 words is refused and one of 5 isn't; a UDP datagram
-/// of which 11 of 12 bytes are there, and an ICMP message of 7 bytes; what isn't read is never refused.
+/// Reassembled messages: a TCP header of 4 words is refused and one of 5 isn't; a UDP datagram of
+/// which 11 of 12 bytes are there, and an ICMP message of 7 bytes; what isn't read is never
+/// refused.
 pub fn messages_are_refused()
     ensures segment { (message_refusal (message_at 6 (segment_with 4))
         ≡ Some reason.TcpDataOffset) × (message_refusal (message_at 6 (segment_with 5)) ≡ None) }
@@ -104,40 +105,40 @@ pub fn messages_are_refused()
     ensures other { message_refusal (message_at 132 []) ≡ None }
 {}
 
-/// What became of a part, and why it is refused: one that waits isn't, and one that completes a
+/// What became of a fragment, and why it is refused: one that waits isn't, and one that completes a
 /// message is where that breaks its format.
 pub fn parts()
-    ensures states { (message : IpDefragPayloadVec) → (part_of None ≡ None)
-        × (part_of (Some (fragment.Waits 5)) ≡ Some state.Waits)
-        × (part_of (Some (fragment.Completes 5 message)) ≡ Some state.Completes)
-        × (part_of (Some (fragment.Refused None (part_error.ConflictingEnd 24 32)))
+    ensures states { (message : IpDefragPayloadVec) → (fragment_state_of None ≡ None)
+        × (fragment_state_of (Some (fragment.Waits 5)) ≡ Some state.Waits)
+        × (fragment_state_of (Some (fragment.Completes 5 message)) ≡ Some state.Completes)
+        × (fragment_state_of (Some (fragment.Refused None (fragment_error.ConflictingEnd 24 32)))
         ≡ Some state.Refused) }
-    ensures none { part_refusal None ≡ None }
-    ensures waiting { part_refusal (Some (fragment.Waits 5)) ≡ None }
-    ensures refused { part_refusal (Some (fragment.Refused (Some 3)
-        (part_error.ConflictingEnd 24 32))) ≡ Some reason.FragmentEnd }
+    ensures none { fragment_refusal None ≡ None }
+    ensures waiting { fragment_refusal (Some (fragment.Waits 5)) ≡ None }
+    ensures refused { fragment_refusal (Some (fragment.Refused (Some 3)
+        (fragment_error.ConflictingEnd 24 32))) ≡ Some reason.FragmentEnd }
     ensures breaking { (message : IpDefragPayloadVec) → message.ip_number ≡ record { 0 = 6 }
         → message.payload.items ≡ segment_with 4
-        → part_refusal (Some (fragment.Completes 5 message)) ≡ Some reason.TcpDataOffset }
+        → fragment_refusal (Some (fragment.Completes 5 message)) ≡ Some reason.TcpDataOffset }
     ensures completing { (message : IpDefragPayloadVec) → message.ip_number ≡ record { 0 = 6 }
         → message.payload.items ≡ segment_with 5
-        → part_refusal (Some (fragment.Completes 5 message)) ≡ None }
+        → fragment_refusal (Some (fragment.Completes 5 message)) ≡ None }
 {}
 
-/// A packet is refused by its own headers, or as a part.
+/// A packet is refused by its own headers, or as a fragment.
 pub fn packets_are_refused()
     ensures headers { refusal_of (Err (fault.Tcp (tcp.DataOffsetTooSmall 4))) None
         ≡ Some reason.TcpDataOffset }
-    ensures part { (packet : SlicedPacket) → refusal_of (Ok packet)
-        (Some (fragment.Refused None (part_error.SegmentTooBig 8191 8 65535)))
+    ensures fragment { (packet : SlicedPacket) → refusal_of (Ok packet)
+        (Some (fragment.Refused None (fragment_error.SegmentTooBig 8191 8 65535)))
         ≡ Some reason.FragmentTooLong }
     ensures waiting { (packet : SlicedPacket)
         → refusal_of (Ok packet) (Some (fragment.Waits 5)) ≡ None }
     ensures other { (packet : SlicedPacket) → refusal_of (Ok packet) None ≡ None }
 {}
 
-/// The seventh packet of the capture of docs/PACKETS.md, an IPv4 header that is cut off, the sixth,
-/// which completes a message that began in the fifth, and the second, whose checksum is wrong.
+/// The seventh packet of the capture of docs/PACKETS.md, an IPv4 header that is cut off; the sixth,
+/// which completes a message that started in the fifth; and the second, whose checksum is wrong.
 pub fn outlines_of_the_page()
     ensures seventh { outline_of (record {
       number = 7;
@@ -178,7 +179,7 @@ pub fn outlines_of_the_page()
           });
           fragment = Some (fragment.Completes 5 message);
           verdict = Some verdict.Good;
-        }) ≡ part_of_message 6 5 state.Completes (Some verdict.Good) }
+        }) ≡ outline_of_fragment 6 5 state.Completes (Some verdict.Good) }
     ensures second { outline_of (record {
       number = 2;
       first_time = 1700000000250000000;

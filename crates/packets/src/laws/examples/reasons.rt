@@ -5,7 +5,7 @@ ghost use Rattle.ep_base.specs.declared.err.layer.Layer.TheVariants as layer;
 ghost use Rattle.ep_base.specs.declared.len_source.LenSource.TheVariants as source;
 ghost use Rattle.ep_ext.specs.declared.err.ip_auth.header_error.HeaderError.TheVariants as auth;
 ghost use Rattle.ep_ext.specs.declared.err.ipv6_exts.header_error.HeaderError.TheVariants as exts;
-ghost use Rattle.ep_fragments.specs.declared.defrag.ip_defrag_error.IpDefragError.TheVariants as part;
+ghost use Rattle.etherparse.specs.declared.defrag.ip_defrag_error.IpDefragError.TheVariants as fragment;
 ghost use Rattle.ep_ip.specs.declared.err.ipv4.header_error.HeaderError.TheVariants as v4;
 ghost use Rattle.ep_ip.specs.declared.err.ipv6.header_error.HeaderError.TheVariants as v6;
 ghost use Rattle.ep_ipslice.specs.declared.err.ip.header_error.HeaderError.TheVariants as ip;
@@ -13,11 +13,11 @@ ghost use Rattle.ep_link.specs.declared.err.linux_sll.header_error.HeaderError.T
 ghost use Rattle.ep_packet.specs.declared.err.packet.slice_error.SliceError.TheVariants as fault;
 ghost use Rattle.ep_tag.specs.declared.err.macsec.header_error.HeaderError.TheVariants as macsec;
 ghost use Rattle.ep_tcpudp.specs.declared.err.tcp.header_error.HeaderError.TheVariants as tcp;
-ghost use Rattle.packets.specs.Reasons.{part_reason, reason_of};
+ghost use Rattle.packets.specs.Reasons.{fragment_reason, reason_of};
 ghost use Rattle.packets.specs.declared.reason.Reason.TheVariants as reason;
 
-/// Of what is cut off, the layer that wants bytes is told: an IPv4 header of which 7 bytes of 20 are
-/// there, and a UDP datagram of which 12 of 100 are, by the IPv4 total length.
+/// Of what is cut off, the layer with too few bytes is named: an IPv4 header of which 7 bytes of 20
+/// are there, and a UDP datagram of which 12 of 100 are, by the IPv4 total length.
 pub fn layers_cut_off()
     ensures header { reason_of (fault.Len (record {
       required_len = 20;
@@ -35,9 +35,8 @@ pub fn layers_cut_off()
     })) ≡ reason.CutOff layer.UdpPayload }
 {}
 
-/// Packet type 5 of a cooked capture, and hardware type 824, that of netlink
-/// (LINKTYPE_LINUX_SLL); version 1 of MACsec, and a short length of 1 in front of an ether type (IEEE
-/// 802.1AE, 9.5 and 9.7).
+/// Packet type 5 of a cooked capture, and hardware type 824, that of netlink (LINKTYPE_LINUX_SLL);
+/// version 1 of MACsec, and a short length of 1 before an ether type (IEEE 802.1AE, 9.5 and 9.7).
 pub fn faults_of_links()
     ensures packet_type { reason_of (fault.LinuxSll (cooked.UnsupportedPacketTypeField 5))
         ≡ reason.CookedPacketType }
@@ -48,10 +47,10 @@ pub fn faults_of_links()
         ≡ reason.MacsecShortLen }
 {}
 
-/// Version 7 of IP, 5 where IPv4 was named and 4 where IPv6 was; an IPv4 header of 4 words (RFC 791,
-/// section 3.1); authentication headers of length 0 over both (RFC 4302, section 2.2); hop-by-hop
-/// options behind another header (RFC 8200, section 4.1); and a TCP header of 4 words (RFC 9293,
-/// section 3.1).
+/// Version 7 of IP, 5 where IPv4 was named and 4 where IPv6 was; an IPv4 header of 4 words (RFC
+/// 791, section 3.1); authentication headers of length 0 over both (RFC 4302, section 2.2);
+/// hop-by-hop options after another header (RFC 8200, section 4.1); and a TCP header of 4 words
+/// (RFC 9293, section 3.1).
 pub fn faults_of_ip()
     ensures version { (reason_of (fault.Ip (ip.UnsupportedIpVersion 7)) ≡ reason.IpVersion)
         × (reason_of (fault.Ipv4 (v4.UnexpectedVersion 5)) ≡ reason.IpVersion)
@@ -66,16 +65,16 @@ pub fn faults_of_ip()
     ensures tcp { reason_of (fault.Tcp (tcp.DataOffsetTooSmall 4)) ≡ reason.TcpDataOffset }
 {}
 
-/// Parts of 11 bytes where more follow, beyond 65,535 bytes, that end at 32 where their message ends at
-/// 24 (RFC 791, section 3.2), that overlap another (RFC 8200, section 4.5), and for which there is no
-/// memory.
-pub fn faults_of_parts()
-    ensures unaligned { part_reason (part.UnalignedFragmentPayloadLen 0 11)
+/// Fragments of 11 bytes where more follow, beyond 65,535 bytes, that end at 32 where their
+/// datagram ends at 24 (RFC 791, section 3.2), that overlap another (RFC 8200, section 4.5), and
+/// for which there is no memory.
+pub fn faults_of_fragments()
+    ensures unaligned { fragment_reason (fragment.UnalignedFragmentPayloadLen 0 11)
         ≡ reason.FragmentUnaligned }
-    ensures too_long { part_reason (part.SegmentTooBig 8191 8 65535)
+    ensures too_long { fragment_reason (fragment.SegmentTooBig 8191 8 65535)
         ≡ reason.FragmentTooLong }
-    ensures ending { part_reason (part.ConflictingEnd 24 32) ≡ reason.FragmentEnd }
-    ensures overlap { part_reason (part.OverlappingFragment 1 16)
+    ensures ending { fragment_reason (fragment.ConflictingEnd 24 32) ≡ reason.FragmentEnd }
+    ensures overlap { fragment_reason (fragment.OverlappingFragment 1 16)
         ≡ reason.FragmentOverlap }
-    ensures memory { part_reason (part.AllocationFailure 8) ≡ reason.FragmentMemory }
+    ensures memory { fragment_reason (fragment.AllocationFailure 8) ≡ reason.FragmentMemory }
 {}

@@ -2,8 +2,8 @@ use Rattle.std.proofs.Common.{◌∙◌, ◌+◌, ◌-◌, ◌++◌, length, sym
 use Rattle.captures.specs.Pcap.{IsPacketRecord}
 use Rattle.captures.specs.Units.{StandsAt}
 use Rattle.captures.specs.declared.translation.state.State.TheVariants.{Classic}
-use Rattle.captures.proofs.BlockLemmas.{origin_front}
-use Rattle.captures.proofs.PlaceLemmas.{stands_back}
+use Rattle.captures.proofs.BlockLemmas.{origin_prefix}
+use Rattle.captures.proofs.OffsetLemmas.{stands_back}
 use Rattle.captures.proofs.pcap.unit.packet_record.Goals as goal
 
 pub returns-clause-found : goal.returns-clause-found
@@ -28,11 +28,11 @@ returns-clause-found c =
             packet = packet;
             is_record = is_record;
             fits = omega arith;
-            is_told = c.in-Some.ensures.told.0;
+            is_reported = c.in-Some.ensures.reported.0;
             next = ap (Classic c.args.order c.args.time_unit c.args.link)
-                c.in-Some.ensures.told.1;
+                c.in-Some.ensures.reported.1;
           },
-          c.record_origin.ensures ∙ origin_front c.args.order c.args.time_unit head packet
+          c.record_origin.ensures ∙ origin_prefix c.args.order c.args.time_unit head packet
               (omega (arith, c.split_at.ensures.front_len)),
         );
       };
@@ -53,11 +53,11 @@ returns-clause-at c =
     let frame = c.in-Some.frame in
     let whole : StandsAt c.args.bytes.now 16 packet = record {
       before = head;
-      behind = c.split_at-2.result.1.now;
+      following = c.split_at-2.result.1.now;
       parts =
           c.split_at.ensures.by_index.0
           ∙ ap (λ (l : List ℕ). head ++ l) c.split_at-2.ensures.by_index.0;
-      place = c.split_at.ensures.front_len;
+      position = c.split_at.ensures.front_len;
     } in
     stands_back c.args.bytes.now packet frame.bytes 16 _ whole c.in-Some.ensures.back
     (ap (λ (l : List ℕ). 16 + (length packet - length l)) c.bytes.ensures)
@@ -81,7 +81,7 @@ returns-in_default-clause-refused c =
           captured = omega arith;
         };
         fits = omega arith;
-        none = c.in_default.ensures.told.0;
+        none = c.in_default.ensures.reported.0;
       },
-      c.in_default.ensures.told.1,
+      c.in_default.ensures.reported.1,
     )

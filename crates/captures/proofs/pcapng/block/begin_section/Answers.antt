@@ -1,7 +1,7 @@
 use Rattle.std.proofs.Common.{rules, refl, ap}
 use Rattle.captures.specs.Framed.{frame_bytes}
 use Rattle.captures.specs.Pcapng.Content.{Opens}
-use Rattle.captures.proofs.PlaceLemmas.{none_of, stands_empty}
+use Rattle.captures.proofs.OffsetLemmas.{none_of, stands_empty}
 use Rattle.captures.proofs.pcapng.block.begin_section.Goals as goal
 
 pub returns-clause-reads : goal.returns-clause-reads

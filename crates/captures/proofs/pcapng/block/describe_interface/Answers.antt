@@ -2,7 +2,7 @@ use Rattle.std.proofs.Common.{rules, arith, sym, ap, ◌≡◌, ◌∙◌, ◌+�
 use Rattle.captures.specs.Framed.{frame_bytes}
 use Rattle.captures.specs.Pcapng.Content.{Describes}
 use Rattle.captures.proofs.BlockLemmas.{described}
-use Rattle.captures.proofs.PlaceLemmas.{none_of, stands_empty}
+use Rattle.captures.proofs.OffsetLemmas.{none_of, stands_empty}
 use Rattle.captures.proofs.pcapng.block.describe_interface.Goals as goal
 
 pub returns-clause-reads : goal.returns-clause-reads

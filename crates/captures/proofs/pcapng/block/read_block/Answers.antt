@@ -1,4 +1,4 @@
-use Rattle.captures.proofs.PlaceLemmas.{stands_empty}
+use Rattle.captures.proofs.OffsetLemmas.{stands_empty}
 use Rattle.captures.proofs.pcapng.block.read_block.Goals as goal
 
 pub returns-in_default-clause-at : goal.returns-in_default-clause-at

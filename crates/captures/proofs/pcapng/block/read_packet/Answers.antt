@@ -1,7 +1,7 @@
 use Rattle.std.proofs.Common.{arith, refl, ap, ◌+◌, ◌-◌, length, List, ℕ}
 use Rattle.captures.specs.Pcapng.Content.{Holds}
 use Rattle.captures.specs.declared.translation.skipped.Passing.{Passing}
-use Rattle.captures.proofs.PlaceLemmas.{stands_back}
+use Rattle.captures.proofs.OffsetLemmas.{stands_back}
 use Rattle.captures.proofs.pcapng.block.read_packet.Goals as goal
 
 pub returns-then-held-taken_limit-clause-refused : goal.returns-then-held-taken_limit-clause-refused
@@ -27,15 +27,15 @@ returns-clause-reads c =
       says = c.in-Some.ensures.found;
       becomes = (
         ap (λ (p : Passing). record c.args.section.now { passing = p })
-            c.in-Some-tell.ensures.told.1,
+            c.in-Some-report.ensures.reported.1,
         refl,
-        c.in-Some-tell.ensures.told.0,
+        c.in-Some-report.ensures.reported.0,
         omega arith,
       );
     }
 
-pub returns-in_default-tell-clause-refused : goal.returns-in_default-tell-clause-refused
-returns-in_default-tell-clause-refused c =
+pub returns-in_default-report-clause-refused : goal.returns-in_default-report-clause-refused
+returns-in_default-report-clause-refused c =
     let held = c.in-Some.held in
     let captured = c.in-Some.ensures.captured in (
       (
@@ -44,10 +44,10 @@ returns-in_default-tell-clause-refused c =
         held.packet.now,
         c.in-Some.ensures.found,
         omega arith,
-        c.in_default-tell.ensures.told.0,
+        c.in_default-report.ensures.reported.0,
       ),
       ap (λ (p : Passing). record c.args.section.now { passing = p })
-          c.in_default-tell.ensures.told.1,
+          c.in_default-report.ensures.reported.1,
     )
 
 pub returns-clause-on : goal.returns-clause-on
@@ -57,13 +57,13 @@ returns-clause-on c some =
       origin = held.origin;
       packet = held.packet.now;
       says = c.in-Some.ensures.found;
-      parts = c.in-Some-tell.ensures.parts some;
+      parts = c.in-Some-report.ensures.parts some;
     }
 
 pub returns-clause-at : goal.returns-clause-at
 returns-clause-at c =
     let held = c.in-Some.held in
     let packet = held.packet.now in
-    stands_back c.args.block.now packet c.in-Some-tell.frame.bytes held.at _ c.in-Some.ensures.at
-    c.in-Some-tell.ensures.back
+    stands_back c.args.block.now packet c.in-Some-report.frame.bytes held.at _ c.in-Some.ensures.at
+    c.in-Some-report.ensures.back
     (ap (λ (l : List ℕ). held.at + (length packet - length l)) c.bytes.ensures)

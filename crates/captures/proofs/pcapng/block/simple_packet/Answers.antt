@@ -1,5 +1,5 @@
 use Rattle.std.proofs.Common.{arith, refl, ◌+◌, ◌-◌}
-use Rattle.captures.proofs.PlaceLemmas.{stands_range}
+use Rattle.captures.proofs.OffsetLemmas.{stands_range}
 use Rattle.captures.proofs.pcapng.block.simple_packet.Goals as goal
 
 pub returns-clause-at : goal.returns-clause-at

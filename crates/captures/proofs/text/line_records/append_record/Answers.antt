@@ -1,7 +1,7 @@
 use Rattle.std.proofs.Common.{rules, arith, ◌∙◌, ap, Some, length, ℕ, ◌/◌, inl, inr}
-use Rattle.commands.specs.Commands.{frame_on}
-use Rattle.commands.specs.TimedLines.{frame_at}
-use Rattle.captures.specs.Spelling.{record_head}
+use Rattle.line_grammar.specs.Commands.{frame_on}
+use Rattle.line_grammar.specs.TimedLines.{frame_at}
+use Rattle.captures.specs.Encoding.{record_head}
 use Rattle.captures.proofs.RecordLemmas.{no_frame_at, decoded, frame_is, record_put}
 use Rattle.captures.proofs.text.line_records.append_record.Goals as goal
 use Rattle.captures.proofs.text.line_records.append_record.Goals.{then-len-eq0-via-then-len-eq0}

@@ -1,7 +1,7 @@
 use Rattle.std.proofs.Common.{rules, arith, ◌≡◌, ◌∙◌, ◌+◌, ◌-◌, ◌<◌, sym, ap, subst, refl, length}
 use Rattle.std.proofs.Common.{take, drop, ℕ, List, Some, None}
 use Rattle.std.proofs.lemmas.List.{length-drop}
-use Rattle.commands.specs.TimedLines.{timed_frame_of}
+use Rattle.line_grammar.specs.TimedLines.{timed_frame_of}
 use Rattle.captures.proofs.TextLemmas.{taking_line, found_line, none_found, left_line, left_bad}
 use Rattle.captures.proofs.TextLemmas.{after_line}
 use Rattle.captures.proofs.text.line_records.take_lines.Goals as goal
@@ -15,8 +15,8 @@ returns-in_default-append_record-clause-takes c =
     c.in_default-append_record.ensures.record in
     record {
       frames = taking.frames;
-      hands = taking.hands;
-      spelled = c.in_default-append_record.ensures.same refl ∙ taking.spelled;
+      gives_frames = taking.gives_frames;
+      encoded = c.in_default-append_record.ensures.same refl ∙ taking.encoded;
       left = left_bad rest (take c.in-Some.end rest)
           (drop (c.in-Some.end + 1) rest) found.1 found.0 none;
     }
@@ -53,8 +53,8 @@ returns-clause-takes c =
     let taking = c.lines.invariant.taking in
     record {
       frames = taking.frames;
-      hands = taking.hands;
-      spelled = taking.spelled;
+      gives_frames = taking.gives_frames;
+      encoded = taking.encoded;
       left = left_line c.lines.rest.now
           (none_found c.lines.rest.now (sym c.newline_in.ensures ∙ c.in_default.is));
     }

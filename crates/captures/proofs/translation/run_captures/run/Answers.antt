@@ -1,7 +1,7 @@
 use Rattle.std.proofs.Common.{rules}
-use Rattle.runs.proofs.KnownLemmas.{Goes-reader_writer, goes_memory, goes_end, goes_transfer}
-use Rattle.runs.proofs.KnownLemmas.{goes_too_many}
-use Rattle.runs.specs.declared.limits.TheConstants.{READ_COUNT_LIMIT}
+use Rattle.device_runs.proofs.KnownLemmas.{Goes-reader_writer, goes_memory, goes_end, goes_transfer}
+use Rattle.device_runs.proofs.KnownLemmas.{goes_too_many}
+use Rattle.device_runs.specs.declared.limits.TheConstants.{READ_COUNT_LIMIT}
 use Rattle.captures.specs.Endings.{cause, ending_of}
 use Rattle.captures.specs.Runs.{capture_to_lines}
 use Rattle.captures.proofs.KnownLemmas.{passed_known, runs_ok}
@@ -59,7 +59,7 @@ returns-clause-memory g c is =
     let reader = seen.0 in
     let writer = seen.1 in
     let same = goes_memory task _ READ_COUNT_LIMIT _ _
-    (λ told read written starved. starved.0) (rw is at c.run_over-result.ensures.runs) in
+    (λ reported read written out_of_memory. out_of_memory.0) (rw is at c.run_over-result.ensures.runs) in
     let none = (rw is at c.run_over-result.ensures.runs).output.2 in
     search rules
 

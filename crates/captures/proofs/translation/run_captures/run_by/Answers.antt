@@ -1,12 +1,12 @@
 use Rattle.std.proofs.Common.{◌∙◌, ap}
 use Rattle.captures.specs.declared.text.ledger.Ledger.{Ledger}
-use Rattle.captures.proofs.Telling.{tells_start, due_as, goes_as, passes_over}
+use Rattle.captures.proofs.Reporting.{reports_start, due_as, goes_as, passes_over}
 use Rattle.captures.proofs.translation.run_captures.run_by.Goals as goal
 
 pub run_translator-result-requires-clause-begins :
     goal.run_translator-result-requires-clause-begins
 run_translator-result-requires-clause-begins g c =
-    rw (c.by.ensures, c.blank.ensures) (tells_start c.args.extra _)
+    rw (c.by.ensures, c.blank.ensures) (reports_start c.args.extra _)
 
 pub run_translator-result-requires-clause-due : goal.run_translator-result-requires-clause-due
 run_translator-result-requires-clause-due g c t t' same = due_as same

@@ -1,7 +1,7 @@
 use Rattle.std.proofs.Common.{rules}
-use Rattle.runs.proofs.KnownLemmas.{Goes-reader_writer, goes_memory, goes_end, goes_transfer}
-use Rattle.runs.proofs.KnownLemmas.{goes_too_many}
-use Rattle.runs.specs.declared.limits.TheConstants.{READ_COUNT_LIMIT}
+use Rattle.device_runs.proofs.KnownLemmas.{Goes-reader_writer, goes_memory, goes_end, goes_transfer}
+use Rattle.device_runs.proofs.KnownLemmas.{goes_too_many}
+use Rattle.device_runs.specs.declared.limits.TheConstants.{READ_COUNT_LIMIT}
 use Rattle.captures.specs.Endings.{cause, ending_of}
 use Rattle.captures.specs.Texts.{lines_to_capture}
 use Rattle.captures.proofs.KnownLemmas.{writes_ok}
@@ -53,7 +53,7 @@ returns-clause-memory g c is =
     let reader = seen.0 in
     let writer = seen.1 in
     let same = goes_memory (lines_to_capture c.args.time_unit) _ READ_COUNT_LIMIT _ _
-    (λ told read written starved. starved.0) (rw is at c.write_capture_over-result.ensures) in
+    (λ reported read written out_of_memory. out_of_memory.0) (rw is at c.write_capture_over-result.ensures) in
     search rules
 
 pub returns-clause-too_many : goal.returns-clause-too_many

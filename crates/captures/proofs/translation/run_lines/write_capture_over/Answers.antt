@@ -1,6 +1,6 @@
 use Rattle.std.proofs.Common.{refl, subst, sym}
 use Rattle.captures.specs.declared.time.time_unit.TimeUnit.{TimeUnit}
-use Rattle.runs.specs.Runs.{Goes}
+use Rattle.device_runs.specs.Runs.{Goes}
 use Rattle.captures.specs.Endings.{ending_of}
 use Rattle.captures.specs.Texts.{lines_to_capture}
 use Rattle.captures.specs.Translations.{IsDueBy}

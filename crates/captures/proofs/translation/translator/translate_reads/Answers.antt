@@ -2,8 +2,8 @@ use Rattle.std.proofs.Common.{rules, arith, ◌≡◌, ◌∙◌, ◌<◌, ◌�
 use Rattle.std.proofs.Common.{take, drop, length, length-take, length-append}
 use Rattle.std.proofs.lemmas.Result.{err_from_is_err_and}
 use borrow.Rule.Slice.PartMut.{put_mid}
-use Rattle.captures.specs.declared.limits.TheConstants.{INPUT_ROOM}
-use Rattle.captures.proofs.BufferLemmas.{read_front, read_nothing, moved_front}
+use Rattle.captures.specs.declared.limits.TheConstants.{INPUT_CAPACITY}
+use Rattle.captures.proofs.BufferLemmas.{some_read, read_nothing, moved_to_start}
 use Rattle.captures.proofs.Translating.{Translated, translating_start, header_stops}
 use Rattle.captures.proofs.Translating.{translating_more, translating_stops, translating_refused}
 use Rattle.captures.proofs.Translating.{translating_fails, finish_stops, finish_ends}
@@ -37,125 +37,96 @@ returns-in-Err-clause-ends g c =
     let room = c.reads.invariant.room in
     let left = c.reads.left in
     let input = c.reads.input in
-    let asked : ℕ = c.min-end.result - left in
+    let requested : ℕ = c.min-end.result - left in
     let end = c.min-end.ensures in
-    let some : 0 < length (take asked (drop left input)) = search rules in
+    let some : 0 < length (take requested (drop left input)) = search rules in
     translating_fails task transition t c.reads-test.true c.requires.most
     c.reads.invariant.translated.full (c.in-Err.ensures.call some)
 
 pub returns-in_err-write_whole-2-clause-ends : goal.returns-in_err-write_whole-2-clause-ends
 returns-in_err-write_whole-2-clause-ends g c =
-    let task = g.T.Translator.task c.finish-finished.new.self in
-    let transition = g.D.Device.transition in
-    let t = translating_by (c.requires.due c.reads.translator
-    c.finish-finished.new.self c.finish-finished.ensures.kept) c.reads.invariant.translated.translating in
+    let due = c.requires.due c.reads.translator c.finish-finished.new.self
+    c.finish-finished.ensures.kept in
     let room = c.reads.invariant.room in
-    let left = c.reads.left in
-    let input = c.reads.input in
-    let buf = c.read_some.new.buf in
-    let asked : ℕ = c.min-end.result - left in
     let end = c.min-end.ensures in
-    let some : 0 < length (take asked (drop left input)) = search rules in
+    let some : 0 < length (take (c.min-end.result - c.reads.left) (drop c.reads.left c.reads.input)) =
+    search rules in
+    let same = read_nothing c.reads.input c.read_some.new.buf c.reads.left
+    (c.min-end.result - c.reads.left) (omega arith) in
     let exit = err_from_is_err_and c.from_residual-in_err-write_whole-2.result
     c.from_residual-in_err-write_whole-2.ensures.1 in
-    let none = ap (λ n. take n buf) c.if-given-eq0.true in
-    let same = read_nothing input buf left asked (omega arith) in
-    rw (exit.1, exit.2) (finish_stops task transition t c.reads-test.true c.requires.most none
+    rw (exit.1, exit.2) (finish_stops _ _
+    (translating_by due c.reads.invariant.translated.translating)
+    c.reads-test.true c.requires.most (ap (λ n. take n c.read_some.new.buf) c.if-given-eq0.true)
     (c.in-Ok.ensures.call some) same c.finish-finished.ensures.finishes
     c.in_err-write_whole-2.field-0.0 c.in_err-write_whole-2.ensures)
 
 pub returns-in-Ok-result-clause-ends : goal.returns-in-Ok-result-clause-ends
 returns-in-Ok-result-clause-ends g c =
-    let task = g.T.Translator.task c.finish-finished.new.self in
-    let transition = g.D.Device.transition in
-    let t = translating_by (c.requires.due c.reads.translator
-    c.finish-finished.new.self c.finish-finished.ensures.kept) c.reads.invariant.translated.translating in
+    let due = c.requires.due c.reads.translator c.finish-finished.new.self
+    c.finish-finished.ensures.kept in
     let room = c.reads.invariant.room in
-    let left = c.reads.left in
-    let input = c.reads.input in
-    let buf = c.read_some.new.buf in
-    let asked : ℕ = c.min-end.result - left in
     let end = c.min-end.ensures in
-    let some : 0 < length (take asked (drop left input)) = search rules in
-    let none = ap (λ n. take n buf) c.if-given-eq0.true in
-    let same = read_nothing input buf left asked (omega arith) in
-    let done = finish_ends task transition t c.reads-test.true c.requires.most none
+    let some : 0 < length (take (c.min-end.result - c.reads.left) (drop c.reads.left c.reads.input)) =
+    search rules in
+    let same = read_nothing c.reads.input c.read_some.new.buf c.reads.left
+    (c.min-end.result - c.reads.left) (omega arith) in
+    rw c.in-Ok-result.is at (finish_ends _ _
+    (translating_by due c.reads.invariant.translated.translating)
+    c.reads-test.true c.requires.most (ap (λ n. take n c.read_some.new.buf) c.if-given-eq0.true)
     (c.in-Ok.ensures.call some) same c.finish-finished.ensures.finishes
-    c.in_ok-write_whole-2.ensures in
-    rw c.in-Ok-result.is at done
+    c.in_ok-write_whole-2.ensures)
 
 pub returns-in-Err-result-clause-ends : goal.returns-in-Err-result-clause-ends
 returns-in-Err-result-clause-ends g c =
-    let task = g.T.Translator.task c.finish-finished.new.self in
-    let transition = g.D.Device.transition in
-    let t = translating_by (c.requires.due c.reads.translator
-    c.finish-finished.new.self c.finish-finished.ensures.kept) c.reads.invariant.translated.translating in
+    let due = c.requires.due c.reads.translator c.finish-finished.new.self
+    c.finish-finished.ensures.kept in
     let room = c.reads.invariant.room in
-    let left = c.reads.left in
-    let input = c.reads.input in
-    let buf = c.read_some.new.buf in
-    let asked : ℕ = c.min-end.result - left in
     let end = c.min-end.ensures in
-    let some : 0 < length (take asked (drop left input)) = search rules in
-    let none = ap (λ n. take n buf) c.if-given-eq0.true in
-    let same = read_nothing input buf left asked (omega arith) in
-    let done = finish_ends task transition t c.reads-test.true c.requires.most none
+    let some : 0 < length (take (c.min-end.result - c.reads.left) (drop c.reads.left c.reads.input)) =
+    search rules in
+    let same = read_nothing c.reads.input c.read_some.new.buf c.reads.left
+    (c.min-end.result - c.reads.left) (omega arith) in
+    rw c.from.ensures (rw c.in-Err-result.is at (finish_ends _ _
+    (translating_by due c.reads.invariant.translated.translating)
+    c.reads-test.true c.requires.most (ap (λ n. take n c.read_some.new.buf) c.if-given-eq0.true)
     (c.in-Ok.ensures.call some) same c.finish-finished.ensures.finishes
-    c.in_ok-write_whole-2.ensures in
-    rw c.from.ensures (rw c.in-Err-result.is at done)
+    c.in_ok-write_whole-2.ensures))
 
 pub returns-in_err-write_whole-3-clause-ends : goal.returns-in_err-write_whole-3-clause-ends
 returns-in_err-write_whole-3-clause-ends g c =
-    let task = g.T.Translator.task c.translate-taken.new.self in
-    let transition = g.D.Device.transition in
-    let t = translating_by (c.requires.due c.reads.translator
-    c.translate-taken.new.self c.translate-taken.ensures.kept) c.reads.invariant.translated.translating in
+    let due = c.requires.due c.reads.translator c.translate-taken.new.self
+    c.translate-taken.ensures.kept in
     let room = c.reads.invariant.room in
-    let to_read = (c.requires.due c.reads.translator c.translate-taken.new.self
-    c.translate-taken.ensures.kept).room ∙ c.reads.invariant.size in
-    let left = c.reads.left in
-    let input = c.reads.input in
-    let buf = c.read_some.new.buf in
-    let asked : ℕ = c.min-end.result - left in
     let end = c.min-end.ensures in
-    let some : 0 < length (take asked (drop left input)) = search rules in
-    let held : length buf ≡ asked = search rules in
-    let not_zero = c.if-given-eq0.false in
-    let count = length-take c.in-Ok.given buf in
-    let size : length (take c.in-Ok.given buf) ≤ INPUT_ROOM = omega arith in
-    let given : 0 < length (take c.in-Ok.given buf) = omega (arith, c.in-Ok.ensures.bound.0) in
-    let front = read_front input buf left asked c.in-Ok.given (omega arith) c.in-Ok.ensures.bound.0 in
+    let some : 0 < length (take (c.min-end.result - c.reads.left) (drop c.reads.left c.reads.input)) =
+    search rules in
+    let read = some_read c.reads.input c.read_some.new.buf c.reads.left
+    (c.min-end.result - c.reads.left) c.in-Ok.given (omega arith) (search rules) (omega arith)
+    c.in-Ok.ensures.bound.0 (omega (arith, c.if-given-eq0.false)) in
     let exit = err_from_is_err_and c.from_residual-in_err-write_whole-3.result
     c.from_residual-in_err-write_whole-3.ensures.1 in
-    rw (exit.1, exit.2) (translating_stops task transition t c.reads-test.true c.requires.most
-    (c.in-Ok.ensures.call some) size to_read given front
-    c.translate-taken.ensures.translates
+    rw (exit.1, exit.2) (translating_stops _ _
+    (translating_by due c.reads.invariant.translated.translating)
+    c.reads-test.true c.requires.most (c.in-Ok.ensures.call some) read.size
+    (due.room ∙ c.reads.invariant.size) read.some read.prefix c.translate-taken.ensures.translates
     c.in_err-write_whole-3.field-0.0 c.in_err-write_whole-3.ensures)
 
 pub returns-in-Some-clause-ends : goal.returns-in-Some-clause-ends
 returns-in-Some-clause-ends g c =
-    let task = g.T.Translator.task c.translate-taken.new.self in
-    let transition = g.D.Device.transition in
-    let t = translating_by (c.requires.due c.reads.translator
-    c.translate-taken.new.self c.translate-taken.ensures.kept) c.reads.invariant.translated.translating in
+    let due = c.requires.due c.reads.translator c.translate-taken.new.self
+    c.translate-taken.ensures.kept in
     let room = c.reads.invariant.room in
-    let to_read = (c.requires.due c.reads.translator c.translate-taken.new.self
-    c.translate-taken.ensures.kept).room ∙ c.reads.invariant.size in
-    let left = c.reads.left in
-    let input = c.reads.input in
-    let buf = c.read_some.new.buf in
-    let asked : ℕ = c.min-end.result - left in
     let end = c.min-end.ensures in
-    let some : 0 < length (take asked (drop left input)) = search rules in
-    let held : length buf ≡ asked = search rules in
-    let not_zero = c.if-given-eq0.false in
-    let count = length-take c.in-Ok.given buf in
-    let size : length (take c.in-Ok.given buf) ≤ INPUT_ROOM = omega arith in
-    let given : 0 < length (take c.in-Ok.given buf) = omega (arith, c.in-Ok.ensures.bound.0) in
-    let front = read_front input buf left asked c.in-Ok.given (omega arith) c.in-Ok.ensures.bound.0 in
-    rw c.from-in-Some.ensures (translating_refused task transition t c.reads-test.true
-    c.requires.most (c.in-Ok.ensures.call some) size to_read given front
-    c.translate-taken.ensures.translates
+    let some : 0 < length (take (c.min-end.result - c.reads.left) (drop c.reads.left c.reads.input)) =
+    search rules in
+    let read = some_read c.reads.input c.read_some.new.buf c.reads.left
+    (c.min-end.result - c.reads.left) c.in-Ok.given (omega arith) (search rules) (omega arith)
+    c.in-Ok.ensures.bound.0 (omega (arith, c.if-given-eq0.false)) in
+    rw c.from-in-Some.ensures (translating_refused _ _
+    (translating_by due c.reads.invariant.translated.translating)
+    c.reads-test.true c.requires.most (c.in-Ok.ensures.call some) read.size
+    (due.room ∙ c.reads.invariant.size) read.some read.prefix c.translate-taken.ensures.translates
     c.in-Some.refusal c.in-Some.is c.in_ok-write_whole-3.ensures)
 
 pub overflow_sub-left : goal.overflow_sub-left
@@ -174,48 +145,39 @@ overflow_sub-left g c =
 
 pub reads-preserved : goal.reads-preserved
 reads-preserved g c =
-    let task = g.T.Translator.task c.translate-taken.new.self in
-    let transition = g.D.Device.transition in
-    let t = translating_by (c.requires.due c.reads.translator
-    c.translate-taken.new.self c.translate-taken.ensures.kept) c.reads.invariant.translated.translating in
+    let due = c.requires.due c.reads.translator c.translate-taken.new.self
+    c.translate-taken.ensures.kept in
     let room = c.reads.invariant.room in
-    let to_read = (c.requires.due c.reads.translator c.translate-taken.new.self
-    c.translate-taken.ensures.kept).room ∙ c.reads.invariant.size in
-    let left = c.reads.left in
-    let input = c.reads.input in
-    let buf = c.read_some.new.buf in
-    let asked : ℕ = c.min-end.result - left in
     let end = c.min-end.ensures in
-    let some : 0 < length (take asked (drop left input)) = search rules in
-    let held : length buf ≡ asked = search rules in
-    let not_zero = c.if-given-eq0.false in
-    let count = length-take c.in-Ok.given buf in
-    let size : length (take c.in-Ok.given buf) ≤ INPUT_ROOM = omega arith in
-    let given : 0 < length (take c.in-Ok.given buf) = omega (arith, c.in-Ok.ensures.bound.0) in
-    let front = read_front input buf left asked c.in-Ok.given (omega arith) c.in-Ok.ensures.bound.0 in
-    let rest = c.translate-taken.result.rest.now in
-    let shown' = g.T.Translator.shows c.translate-taken.new.self in
-    let whole : left + c.in-Ok.given ≤ length (put_mid left asked input buf) =
+    let some : 0 < length (take (c.min-end.result - c.reads.left) (drop c.reads.left c.reads.input)) =
     search rules in
-    let moved = moved_front (put_mid left asked input buf) c.copy_within.new.self
-    c.translate-taken.ensures.parts.0 rest
+    let read = some_read c.reads.input c.read_some.new.buf c.reads.left
+    (c.min-end.result - c.reads.left) c.in-Ok.given (omega arith) (search rules) (omega arith)
+    c.in-Ok.ensures.bound.0 (omega (arith, c.if-given-eq0.false)) in
+    let left = c.reads.left in
+    let requested : ℕ = c.min-end.result - left in
+    let rest = c.translate-taken.result.rest.now in
+    let filled = put_mid left requested c.reads.input c.read_some.new.buf in
+    let whole : left + c.in-Ok.given ≤ length filled = search rules in
+    let moved = moved_to_start filled c.copy_within.new.self c.translate-taken.ensures.parts.0 rest
     (left + c.in-Ok.given) whole c.translate-taken.ensures.parts.1
     c.copy_within.ensures.after in
-    let same : length c.copy_within.new.self ≡ INPUT_ROOM = search rules in
+    let same : length c.copy_within.new.self ≡ INPUT_CAPACITY = search rules in
     record {
       translated =
-          subst (λ (l : List ℕ). Translated task transition shown'
+          subst (λ (l : List ℕ). Translated (g.T.Translator.task c.translate-taken.new.self)
+          g.D.Device.transition (g.T.Translator.shows c.translate-taken.new.self)
           (c.reads.counter + 1) c.args.device.now c.write_whole-in-reads.new.device l)
           (sym moved)
-          (translating_more task transition t c.reads-test.true c.requires.most
-          (c.in-Ok.ensures.call some) size to_read given front
-          c.translate-taken.ensures.translates
-          c.in_default.is c.in_ok-write_whole-3.ensures);
+          (translating_more _ _ (translating_by due c.reads.invariant.translated.translating)
+          c.reads-test.true c.requires.most (c.in-Ok.ensures.call some) read.size
+          (due.room ∙ c.reads.invariant.size) read.some read.prefix
+          c.translate-taken.ensures.translates c.in_default.is c.in_ok-write_whole-3.ensures);
       room = let few = c.translate-taken.ensures.room c.in_default.is in omega arith;
       output =
-          let kept = c.make_room-in-reads.ensures.capacity in
+          let kept = c.make_usable-in-reads.ensures.capacity in
           let before = c.reads.invariant.output in omega arith;
-      size = to_read;
+      size = due.room ∙ c.reads.invariant.size;
       kept = c.translate-taken.ensures.kept ∙ c.reads.invariant.kept;
     }
 

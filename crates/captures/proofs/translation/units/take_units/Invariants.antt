@@ -1,10 +1,10 @@
 use Rattle.std.proofs.Common.{◌≡◌, ◌+◌, ◌*◌, ◌≤◌, length, take}
-use Rattle.captures.proofs.UnitLemmas.{Told}
+use Rattle.captures.proofs.UnitLemmas.{Reported}
 use Rattle.captures.proofs.translation.units.take_units.Given as goal
 
 abbrev pub invariant-lines : goal.invariant-lines
 invariant-lines l = record {
-  told : Told l.fn.ledger l.fn.state l.bytes l.packets.state l.packets.rest.now l.count
+  reported : Reported l.fn.ledger l.fn.state l.bytes l.packets.state l.packets.rest.now l.count
       (take l.used l.out) l.noted;
   room : l.used + 5 * length l.packets.rest.now ≤ length l.out;
   few : l.count + length l.packets.rest.now ≤ length l.bytes;

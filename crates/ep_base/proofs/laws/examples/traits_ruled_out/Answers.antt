@@ -20,4 +20,4 @@ pub returns-clause-default : goal.returns-clause-default
 returns-clause-default c = λ h. absurd (omega (arith, h 1 tt))
 
 pub returns-clause-variant : goal.returns-clause-variant
-returns-clause-variant c = λ h. let no_place_fed = h 0 in cc
+returns-clause-variant c = λ h. let no_index_fed = h 0 in cc

@@ -32,7 +32,7 @@ returns c = record {
       (record copy { routing = b }))
       (λ x y h. types.ipv6_routing_extensions.copies x y h.1.1.0) (λ x h. h.1.1.0)
       (λ y h. h.1.1.0) value.routing copy.routing is in
-      let part : copy.fragment ≡ value.fragment =
+      let same_fragment : copy.fragment ≡ value.fragment =
       option_copy (λ a b. clone.ghosts.is_clone (record value { fragment = a })
       (record copy { fragment = b }))
       (λ x y h. types.ipv6_fragment_header.copies x y h.1.1.1.0) (λ x h. h.1.1.1.0)
@@ -46,7 +46,7 @@ returns c = record {
         hop_by_hop_options = hop i;
         destination_options = destination i;
         routing = route i;
-        fragment = part i;
+        fragment = same_fragment i;
         auth = last i;
       };
   never_fails = search rules;
@@ -58,11 +58,11 @@ returns c = record {
       (field (options_same types.ipv6_routing_extensions.equals) (λ x. x.routing)
       (field (options_same types.ipv6_fragment_header.equals) (λ x. x.fragment)
       (last_field (options_same types.ip_auth_header.equals) (λ x. x.auth))))))
-      (λ hop destination route part last i. record {
+      (λ hop destination route same_fragment last i. record {
         hop_by_hop_options = hop i;
         destination_options = destination i;
         routing = route i;
-        fragment = part i;
+        fragment = same_fragment i;
         auth = last i;
       });
 }

@@ -4,37 +4,32 @@ use Rattle.ep_ext.specs.Auth.{auth_len}
 use Rattle.ep_ext.specs.Limited.{Refuses}
 use Rattle.ep_ext.specs.Reads.{RefusesAuthWithin}
 use Rattle.ep_ext.specs.declared.err.ip_auth.header_limited_read_error.HeaderLimitedReadError.{HeaderLimitedReadError}
-use Rattle.ep_ext.proofs.Reading.{asked, joined, auth_joined, auth_len_again, takes_both}
+use Rattle.ep_ext.proofs.Reading.{requested, auth_written, auth_len_again, takes_both}
 use Rattle.ep_ext.proofs.Reading.{auth_within}
 use Rattle.ep_ext.proofs.net.ip_auth_header_read.read_bytes_limited.Goals as goal
 
 pub returns-in-Ok-read_exact-clause-found : goal.returns-in-Ok-read_exact-clause-found
 returns-in-Ok-read_exact-clause-found g c =
-    let front = c.read_exact.new.buf in
+    let prefix = c.read_exact.new.buf in
     let tail = c.read_exact-2.new.buf in
-    let whole : length front ≡ 12 = search rules in
-    let len : c.len_by-len.result ≡ auth_len front =
-    auth_len_again front (drop 12 c.args.bytes.now) c.len_by-len.result whole
-    c.len_by-len.ensures in
-    let enough : 12 ≤ c.len_by-len.result = omega arith in
-    let rest : length tail ≡ c.len_by-len.result - 12 = search rules in
-    let read = joined 12 c.len_by-len.result front tail c.args.bytes.now whole rest enough in
-    rw read (
+    let written = auth_written prefix tail c.args.bytes.now c.len_by-len.result
+    (search rules) c.len_by-len.ensures (omega arith) (search rules) in
+    rw written.0 (
       omega arith,
-      auth_joined front tail whole (omega arith) (rest ∙ ap (λ n. n - 12) len),
+      written.1,
       takes_both g.R.Read.remaining c.args.reader.now c.read_exact.new.self c.read_exact-2.new.self
-          front tail c.in-Ok.ensures.read c.in-Ok-read_exact.ensures.read,
+          prefix tail c.in-Ok.ensures.read c.in-Ok-read_exact.ensures.read,
     )
 
 pub returns-in-Err-read_exact-clause-err : goal.returns-in-Err-read_exact-clause-err
 returns-in-Err-read_exact-clause-err g c =
-    let front = c.read_exact.new.buf in
-    let whole : length front ≡ 12 = search rules in
-    let len : c.len_by-len.result ≡ auth_len front =
-    auth_len_again front (drop 12 c.args.bytes.now) c.len_by-len.result whole
+    let prefix = c.read_exact.new.buf in
+    let whole : length prefix ≡ 12 = search rules in
+    let len : c.len_by-len.result ≡ auth_len prefix =
+    auth_len_again prefix (drop 12 c.args.bytes.now) c.len_by-len.result whole
     c.len_by-len.ensures in
     let enough : 12 ≤ c.len_by-len.result = omega arith in
-    let more = asked 12 c.len_by-len.result front c.args.bytes.now whole (omega arith) enough
+    let more = requested 12 c.len_by-len.result prefix c.args.bytes.now whole (omega arith) enough
     ∙ ap (λ n. n - 12) len in
     let P : ℕ → Type 0 = λ n. Refuses c.read_exact.new.self n c.in-Err-read_exact.error
     c.read_exact-2.new.self in
@@ -44,7 +39,7 @@ returns-in-Err-read_exact-clause-err g c =
     (auth_within g.R.Read.remaining c.args.reader.now c.read_exact-2.new.self
     c.in-Err-read_exact.error
     (inr (
-      front,
+      prefix,
       c.read_exact.new.self,
       whole,
       c.in-Ok.ensures.read,

@@ -1,4 +1,4 @@
-use Rattle.ep_ip.proofs.Ipv4Spelling.{same_fields}
+use Rattle.ep_ip.proofs.Ipv4Encoding.{same_fields}
 use Rattle.ep_ip.proofs.laws.ipv4.same_fields_from_same_bytes.Goals as goal
 
 pub returns : goal.returns

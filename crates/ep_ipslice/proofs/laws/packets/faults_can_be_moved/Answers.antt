@@ -1,5 +1,5 @@
 use Rattle.ep_ipslice.specs.Ipv6Exts.{view_order}
-use Rattle.ep_ipslice.proofs.FaultPlaces.{ip_fits, ipv4_fits, ipv6_fits}
+use Rattle.ep_ipslice.proofs.FaultOffsets.{ip_fits, ipv4_fits, ipv6_fits}
 use Rattle.ep_ipslice.proofs.laws.packets.faults_can_be_moved.Goals as goal
 
 pub returns-clause-ipv4 : goal.returns-clause-ipv4

@@ -2,7 +2,7 @@ use Rattle.std.proofs.Common.{rules}
 use Rattle.ep_link.proofs.laws.ethernet.header_is_read_again.Goals as goal
 
 pub returns : goal.returns
-returns c = λ rest front_is.
+returns c = λ rest prefix_is.
     let read = c.from_slice.ensures.only c.to_bytes-bytes.result rest (search rules)
-    (rw c.to_bytes-bytes.ensures.bytes front_is) in
+    (rw c.to_bytes-bytes.ensures.bytes prefix_is) in
     rw (c.to_bytes-bytes.ensures.fields) at read

@@ -1,4 +1,4 @@
-use Rattle.ep_link.proofs.SllSpelling.{number-protocol_of}
+use Rattle.ep_link.proofs.SllEncoding.{number-protocol_of}
 use Rattle.ep_link.proofs.laws.linux_sll.number_stays.Goals as goal
 
 pub returns : goal.returns

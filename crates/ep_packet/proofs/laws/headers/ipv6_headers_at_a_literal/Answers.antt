@@ -1,6 +1,6 @@
 use Rattle.std.proofs.Common.{◌++◌, ◌∷◌, [], refl}
 use Rattle.ep_base.specs.declared.len_source.LenSource.TheVariants.{Ipv6HeaderPayloadLen}
-use Rattle.ep_ext.specs.declared.net.ipv6_ext_place.Ipv6ExtPlace.TheVariants.{Fragment}
+use Rattle.ep_ext.specs.declared.net.ipv6_ext_slot.Ipv6ExtSlot.TheVariants.{Fragment}
 use Rattle.ep_packet.specs.Examples.{eight_bytes, ipv6_header, second_fragment}
 use Rattle.ep_packet.proofs.laws.headers.ipv6_headers_at_a_literal.Goals as goal
 
@@ -21,9 +21,9 @@ returns c = record {
   chain = record {
     row = (refl, record { whole = refl }, refl);
     cut = refl;
-    ended = λ place header behind named piece is. cc named;
+    ended = λ position header following named piece is. cc named;
   };
   ended = refl;
   value = refl;
-  told = refl;
+  returned = refl;
 }

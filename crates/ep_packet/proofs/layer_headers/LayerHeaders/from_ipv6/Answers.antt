@@ -1,20 +1,20 @@
 use Rattle.std.proofs.Common.{◌∙◌, ap, arith, length}
-use Rattle.ep_ext.specs.Place.{place_of as order}
+use Rattle.ep_ext.specs.Slot.{slot_of as order}
 use Rattle.ep_packet.specs.SliceFault.{fault_offset}
-use Rattle.ep_packet.proofs.FaultLemmas.{place_of_ipv6}
+use Rattle.ep_packet.proofs.FaultLemmas.{offset_of_ipv6}
 use Rattle.ep_packet.proofs.HeaderLemmas.{within_room}
 use Rattle.ep_packet.proofs.layer_headers.LayerHeaders.from_ipv6.Goals as goal
 
-pub returns-in-Ok-clause-place : goal.returns-in-Ok-clause-place
-returns-in-Ok-clause-place c =
-    within_room (length c.args.slice.now) c.in_packet.result c.in_packet.ensures.place
+pub returns-in-Ok-clause-offset : goal.returns-in-Ok-clause-offset
+returns-in-Ok-clause-offset c =
+    within_room (length c.args.slice.now) c.in_packet.result c.in_packet.ensures.offset
 
-pub returns-in-Err-clause-place : goal.returns-in-Err-clause-place
-returns-in-Err-clause-place c = λ n fits.
+pub returns-in-Err-clause-offset : goal.returns-in-Err-clause-offset
+returns-in-Err-clause-offset c = λ n fits.
     omega (
       arith,
       c.faults_can_be_moved.ensures.ipv6_in order c.args.slice.now c.in-Err.error
           c.in-Err.ensures.refused n fits,
       ap fault_offset c.of_ipv6.ensures
-          ∙ place_of_ipv6 c.in-Err.error,
+          ∙ offset_of_ipv6 c.in-Err.error,
     )

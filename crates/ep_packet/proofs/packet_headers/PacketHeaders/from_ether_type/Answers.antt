@@ -4,22 +4,22 @@ use Rattle.ep_packet.specs.SliceFault.{later}
 use Rattle.ep_packet.proofs.packet_headers.PacketHeaders.from_ether_type.Goals as goal
 use Rattle.ep_packet.specs.FrameFault.{IsEtherTypeHeadersFault}
 use Rattle.ep_packet.specs.PacketHeaders.{ether_type_headers}
-use Rattle.ep_packet.proofs.FrameFaults.{if_err_told, later_nothing}
+use Rattle.ep_packet.proofs.FrameFaults.{if_err_agrees, later_nothing}
 
 pub returns-clause-agrees : goal.returns-clause-agrees
 returns-clause-agrees c = λ packet headers is are.
-    c.behind_link.ensures
+    c.after_link.ensures
     ∙ ap (later 0)
     (ether_type_same
     (record {
       found = c.rows_are_found.ensures;
-      views = c.placed_rows_are_views.ensures;
+      views = c.rows_in_slots_are_views.ensures;
       begins = c.ipv6_packet_found_is_there.ensures;
     }) c.args.ether_type
     c.args.slice.now packet headers is are)
 
 pub returns-clause-first : goal.returns-clause-first
-returns-clause-first c = if_err_told (IsEtherTypeHeadersFault c.args.ether_type c.args.slice.now)
-    c.behind_link.result (ether_type_headers c.args.ether_type c.args.slice.now)
-    (c.behind_link.ensures ∙ later_nothing _)
+returns-clause-first c = if_err_agrees (IsEtherTypeHeadersFault c.args.ether_type c.args.slice.now)
+    c.after_link.result (ether_type_headers c.args.ether_type c.args.slice.now)
+    (c.after_link.ensures ∙ later_nothing _)
     (c.refusals_are_first_faults.ensures.ether_type_headers c.args.ether_type c.args.slice.now)

@@ -3,7 +3,7 @@ use Rattle.ep_link.specs.Sll.{sll_len}
 use Rattle.ep_link.specs.SllPayload.{named_payload, payload_of}
 use Rattle.ep_link.specs.declared.link.link_slice.LinkSlice.TheVariants as link
 use Rattle.ep_packet.specs.Sliced.{IsSliced}
-use Rattle.ep_packet.proofs.FoundLemmas.{found_behind}
+use Rattle.ep_packet.proofs.FoundLemmas.{found_after}
 use Rattle.ep_packet.proofs.SlicedLemmas.{named_at, parts_in_frame, sll_whole, some_named}
 use Rattle.ep_packet.proofs.sliced_packet.SlicedPacket.from_linux_sll.Goals as goal
 use Rattle.ep_tag.specs.Ether.{EtherPayload}
@@ -12,8 +12,8 @@ use Rattle.ep_packet.specs.FrameFault.{IsCookedFault}
 use Rattle.ep_packet.specs.Sliced.{sliced_linux_sll}
 use Rattle.ep_packet.proofs.FrameFaults.{if_err}
 
--- what the protocol names is what was handed in behind the header
-named : (c : goal.After-behind_link)
+-- what the protocol names is the payload that was passed with the header
+named : (c : goal.After-after_link)
     → named_payload (payload_of c.args.slice.now) ≡ Some c.in-Ok-try_from.payload
 named c =
     ap (λ (xs : List ℕ). named_payload (payload_of xs))
@@ -23,22 +23,22 @@ named c =
 
 pub returns-in-Ok-try_from-clause-found : goal.returns-in-Ok-try_from-clause-found
 returns-in-Ok-try_from-clause-found c =
-    subst (λ (o : Option EtherPayload). IfOk c.behind_link.result
+    subst (λ (o : Option EtherPayload). IfOk c.after_link.result
     (λ packet. IfSome o (λ p. IsSliced p packet))) (sym (named c))
-    (found_behind
+    (found_after
     (record {
       found = c.payload_is_read.ensures.found;
       only = c.payload_is_read.ensures.only;
     })
-    (link.LinuxSll c.in-Ok.packet) c.in-Ok-try_from.payload sll_len c.behind_link.result
-    c.behind_link.ensures.exact)
+    (link.LinuxSll c.in-Ok.packet) c.in-Ok-try_from.payload sll_len c.after_link.result
+    c.after_link.ensures.exact)
 
 pub returns-in-Ok-try_from-clause-parts : goal.returns-in-Ok-try_from-clause-parts
 returns-in-Ok-try_from-clause-parts c =
     let whole = sll_whole c.args.slice.now c.in-Ok.packet c.in-Ok.ensures.exact in
-    parts_in_frame c.args.slice.now c.in-Ok-try_from.payload.payload sll_len c.behind_link.result
+    parts_in_frame c.args.slice.now c.in-Ok-try_from.payload.payload sll_len c.after_link.result
     (named_at c.args.slice.now c.in-Ok-try_from.payload whole.1 (named c))
-    c.behind_link.ensures.parts
+    c.after_link.ensures.parts
 
 pub returns-in-Err-clause-first : goal.returns-in-Err-clause-first
 returns-in-Err-clause-first c =
@@ -47,7 +47,7 @@ returns-in-Err-clause-first c =
 
 pub returns-in-Ok-try_from-clause-first : goal.returns-in-Ok-try_from-clause-first
 returns-in-Ok-try_from-clause-first c =
-    let here : c.behind_link.result ≡ sliced_linux_sll c.args.slice.now = search rules in
-    if_err (IsCookedFault c.args.slice.now) c.behind_link.result
+    let here : c.after_link.result ≡ sliced_linux_sll c.args.slice.now = search rules in
+    if_err (IsCookedFault c.args.slice.now) c.after_link.result
     (sliced_linux_sll c.args.slice.now) here
     (c.refusals_are_first_faults.ensures.linux_sll c.args.slice.now)

@@ -4,7 +4,7 @@ use Rattle.ep_packet.specs.SliceFault.{fault_offset}
 use Rattle.ep_packet.specs.Tags.{tags_in}
 use Rattle.ep_tag.specs.declared.link.link_ext_slice.LinkExtSlice.{LinkExtSlice}
 use Rattle.ep_packet.specs.declared.err.packet.slice_error.SliceError.{SliceError}
-use Rattle.ep_packet.proofs.FaultLemmas.{place_moved}
+use Rattle.ep_packet.proofs.FaultLemmas.{offset_moved}
 use Rattle.ep_packet.proofs.PartsLemmas.{Passed, ended_with, ended_without, next_at, nothing_passed}
 use Rattle.ep_packet.proofs.PartsLemmas.{passed_fits, passed_more, tag_found}
 use Rattle.ep_packet.proofs.TagsLemmas.{ends_faulty, ends_full, ends_untagged, goes_on_none}
@@ -30,11 +30,11 @@ returns-in-Err-clause-tags c =
     c.loop-count.invariant.so_far (omega arith)
     (sym c.tag_of.ensures.tag ∙ c.in-Err.is)
 
-pub returns-in-Err-clause-place : goal.returns-in-Err-clause-place
-returns-in-Err-clause-place c =
+pub returns-in-Err-clause-offset : goal.returns-in-Err-clause-offset
+returns-in-Err-clause-offset c =
     subst (λ (e : SliceError). fault_offset e ≤ length c.args.payload.payload) (sym c.moved.ensures)
-    (place_moved c.in-Err.error c.loop-count.len
-    (length c.args.payload.payload) c.in-Err.ensures.place
+    (offset_moved c.in-Err.error c.loop-count.len
+    (length c.args.payload.payload) c.in-Err.ensures.offset
     (passed_fits _ c.loop-count.tags.items c.loop-count.len c.loop-count.rest.payload
     c.loop-count.invariant.passed))
 

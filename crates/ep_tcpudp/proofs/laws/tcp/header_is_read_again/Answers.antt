@@ -1,7 +1,7 @@
 use Rattle.ep_tcpudp.proofs.laws.tcp.header_is_read_again.Goals as goal
 
 pub returns : goal.returns
-returns c = λ rest front_is.
+returns c = λ rest prefix_is.
     let read = c.from_slice.ensures.only c.to_bytes-bytes.result.items rest
-    c.to_bytes-bytes.ensures.header (rw c.to_bytes-bytes.ensures.bytes front_is) in
+    c.to_bytes-bytes.ensures.header (rw c.to_bytes-bytes.ensures.bytes prefix_is) in
     rw (c.to_bytes-bytes.ensures.fields) at read

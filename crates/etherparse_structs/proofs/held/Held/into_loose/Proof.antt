@@ -22,7 +22,7 @@ use Rattle.std.proofs.raw_atomic.Walks.{proved_at, leaves}
 use Rattle.std.specs.contracts.alloc.Global.{the_row as Z}
 use Rattle.std.proofs.alloc.Global.TheLaws.{the_row_laws as L}
 use Rattle.std.specs.contracts.impls.GlobalAllocator.TheImpl.{ghosts}
-use Rattle.handles.proofs.LooseValues.{both, loose_good, loose_in}
+use Rattle.c_handles.proofs.LooseValues.{both, loose_good, loose_in}
 use Rattle.etherparse_structs.specs.contracts.frame_pool.FramePool.{the_row as R}
 use Rattle.etherparse_structs.specs.contracts.held.Held.{the_row as Row}
 use Rattle.etherparse_structs.proofs.HeldValues.{held_out, value_of, word}
@@ -48,8 +48,8 @@ into_loose_spec 𝓤 𝓛 𝓜 𝓡 wired =
     let κs = z.0.0 in let v = z.0.3.0 in let a = z.0.3.1.0 in
     let Post : Val → SProp 𝓤 = (walk_of 𝓛 f.ended stayed c).post z in
     let Run : List Val → SProp 𝓤 = λ ws. WpFn 𝓤 H 𝓣.C 𝓣.Λ fn ws Post in
-    let asked = raw (fact 𝓤 (IsSome v.value)) in
-    qed 𝓛 ((‵ ftrue ⊛ ‵ (owns (types_at f.signature.params κs) z.0.3 z.0.4)) ∷ asked ∷ []) ∵
+    let required = raw (fact 𝓤 (IsSome v.value)) in
+    qed 𝓛 ((‵ ftrue ⊛ ‵ (owns (types_at f.signature.params κs) z.0.3 z.0.4)) ∷ required ∷ []) ∵
     move ! (1 ∷ []) $ heard ! (IsSome v.value) (λ some. let x = (value_of v.value some).0 in
     let is = (value_of v.value some).1 in
     split ! $ move ! (1 ∷ []) $ fsplit ! $ held_out ! v x is z.0.4.0 (λ b o ws. move ! (1 ∷ []) $

@@ -26,8 +26,8 @@ none_spec 𝓤 𝓛 𝓜 𝓡 wired =
     let fn = code.function in
     proved_at 𝓛 f.ended tt c 𝓜 𝓡 tt f.Key.name fn (code.unfolded 𝓤 H 𝓜 𝓡 wired) (λ z are.
     let Post : Val → SProp 𝓤 = (walk_of 𝓛 f.ended tt c).post z in
-    let asked = raw ((c z.0.0 z.0.3).requires z.1) in let no : Option R.Denot = None in
-    qed 𝓛 ((‵ ftrue ⊛ ‵ ftrue) ∷ asked ∷ []) ∵
+    let required = raw ((c z.0.0 z.0.3).requires z.1) in let no : Option R.Denot = None in
+    qed 𝓛 ((‵ ftrue ⊛ ‵ ftrue) ∷ required ∷ []) ∵
     enter ! 𝓣.C 𝓣.Λ fn [] Post $ alloc_all ! (λ l. pass_all ! refl tt $
     sets ! (agg ! (and_then ! (lit ! tt) (no_more !))) refl (tt, (record { fits = lit< tt }, tt)) $
     nothing ! $ held_in ! null_ptr None $

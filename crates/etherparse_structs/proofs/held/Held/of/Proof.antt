@@ -20,7 +20,7 @@ use Rattle.std.proofs.raw_atomic.Walks.{proved_at, leaves}
 use Rattle.std.specs.contracts.alloc.Global.{the_row as Z}
 use Rattle.std.proofs.alloc.Global.TheLaws.{the_row_laws as L}
 use Rattle.std.specs.contracts.impls.GlobalAllocator.TheImpl.{ghosts}
-use Rattle.handles.proofs.LooseValues.{both, Loose, loose_good, loose_out}
+use Rattle.c_handles.proofs.LooseValues.{both, Loose, loose_good, loose_out}
 use Rattle.etherparse_structs.specs.contracts.frame_pool.FramePool.{the_row as R}
 use Rattle.etherparse_structs.proofs.HeldValues.{held_in, word}
 use Rattle.etherparse_structs.specs.contracts.held.Held.of as f
@@ -42,8 +42,8 @@ of_spec 𝓤 𝓛 𝓜 𝓡 wired =
     let κs = z.0.0 in let v = z.0.3.0 in let a = v.alloc in
     let Post : Val → SProp 𝓤 = (walk_of 𝓛 f.ended stayed c).post z in
     let Run : List Val → SProp 𝓤 = λ ws. WpFn 𝓤 H 𝓣.C 𝓣.Λ fn ws Post in
-    let asked = raw ((c κs z.0.3).requires z.1) in
-    qed 𝓛 ((‵ ftrue ⊛ ‵ (owns (types_at f.signature.params κs) z.0.3 z.0.4)) ∷ asked ∷ []) ∵
+    let required = raw ((c κs z.0.3).requires z.1) in
+    qed 𝓛 ((‵ ftrue ⊛ ‵ (owns (types_at f.signature.params κs) z.0.3 z.0.4)) ∷ required ∷ []) ∵
     split ! $ move ! (1 ∷ []) $ fsplit ! $ loose_out R Z L ghosts ! v z.0.4.0 (λ b o h e ws
     fits.
     let w : Val = both (vptr b o) h in let typed = loose_good R Z L ghosts b o h fits in

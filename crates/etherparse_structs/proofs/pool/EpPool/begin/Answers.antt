@@ -1,5 +1,5 @@
 use Rattle.std.proofs.Common.{ap}
-use Rattle.etherparse_structs.specs.FramePool.{kept_told}
+use Rattle.etherparse_structs.specs.FramePool.{kept_of_message}
 use Rattle.etherparse_structs.proofs.pool.EpPool.begin.Goals as goal
 
 pub returns-clause-opened : goal.returns-clause-opened
@@ -8,5 +8,5 @@ returns-clause-opened c zero = record {
   is_open = c.put.ensures.opened;
   held = c.put.ensures.held;
   shows = c.in-Ok.ensures.lists;
-  is_kept = ap kept_told c.in-Ok.ensures.kept;
+  is_kept = ap kept_of_message c.in-Ok.ensures.kept;
 }

@@ -2,11 +2,11 @@ use Rattle.std.proofs.Common.{ap, ◌+◌}
 use Rattle.lines.proofs.line_answerer.LineAnswerer.end_line.Goals as goal
 
 pub returns-clause-gathers : goal.returns-clause-gathers
-returns-clause-gathers g c earlier front begun =
-    c.push.ensures.gathers earlier _ (c.take.ensures earlier front begun.shows)
-    (ap (λ n. n + 1) begun.counted)
+returns-clause-gathers g c earlier prefix started =
+    c.push.ensures.gathers earlier _ (c.take.ensures earlier prefix started.shows)
+    (ap (λ n. n + 1) started.counted)
 
 pub returns-clause-shows : goal.returns-clause-shows
-returns-clause-shows g c earlier front begun =
-    c.push.ensures.shows earlier _ (c.take.ensures earlier front begun.shows)
-    (ap (λ n. n + 1) begun.counted)
+returns-clause-shows g c earlier prefix started =
+    c.push.ensures.shows earlier _ (c.take.ensures earlier prefix started.shows)
+    (ap (λ n. n + 1) started.counted)

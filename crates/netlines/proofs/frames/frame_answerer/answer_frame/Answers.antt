@@ -1,5 +1,5 @@
 use Rattle.std.proofs.Common.{◌∙◌, sym, ap, subst, arith}
-use Rattle.etherparse.specs.packet.Class.{Class, class_told}
+use Rattle.etherparse.specs.packet.Class.{Class, sliced_class}
 use Rattle.netlines.specs.PoolAnswers.{AnswersClass}
 use Rattle.netlines.proofs.FrameLemmas.{whole_fits}
 use Rattle.netlines.proofs.frames.frame_answerer.answer_frame.Goals as goal
@@ -14,4 +14,4 @@ pub returns-in-Ok-clause-answers : goal.returns-in-Ok-clause-answers
 returns-in-Ok-clause-answers g c =
     subst (λ (k : Class). AnswersClass c.args.pool.now c.answer_packet.new.pool c.args.number k
     c.args.channel c.answer_packet.new.out c.answer_packet.result)
-    (ap class_told (sym c.in-Ok.is) ∙ c.from_ethernet.ensures.class) c.answer_packet.ensures.answers
+    (ap sliced_class (sym c.in-Ok.is) ∙ c.from_ethernet.ensures.class) c.answer_packet.ensures.answers

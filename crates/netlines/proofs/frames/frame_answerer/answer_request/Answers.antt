@@ -1,6 +1,6 @@
 use Rattle.std.proofs.Common.{sym, ap, subst}
-use Rattle.commands.specs.Commands.{Command}
-use Rattle.commands.specs.Request.{as_command}
+use Rattle.line_grammar.specs.Commands.{Command}
+use Rattle.line_grammar.specs.Request.{as_command}
 use Rattle.netlines.specs.PoolAnswers.{AnswersCommand}
 use Rattle.netlines.proofs.frames.frame_answerer.answer_request.Goals as goal
 

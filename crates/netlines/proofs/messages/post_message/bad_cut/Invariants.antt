@@ -1,5 +1,5 @@
 use Rattle.std.proofs.Common.{◌≡◌, drop}
-use Rattle.line_answers.specs.PostRefusal.{bad_cut_from}
+use Rattle.netlines.specs.PostRefusal.{bad_cut_from}
 use Rattle.netlines.proofs.messages.post_message.bad_cut.Given as goal
 
 abbrev pub invariant-loop-cut : goal.invariant-loop-cut

@@ -4,6 +4,6 @@ use Rattle.packets.proofs.program.outputs.write_flushed.Goals as goal
 
 pub returns : goal.returns
 returns g c =
-    let lines = lines_flushed (g.L.LineWriter.tells c.args.lines.now) c.args.rules.now _ _ _ _ _ _
-    c.write_lines-written.ensures c.flush_behind.ensures.bytes in
+    let lines = lines_flushed (g.L.LineWriter.describes c.args.lines.now) c.args.rules.now _ _ _ _ _ _
+    c.write_lines-written.ensures c.flush_after.ensures.bytes in
     search rules

@@ -29,7 +29,7 @@ returns-in_default g c = (
 pub returns-in-Ok-written : goal.returns-in-Ok-written
 returns-in-Ok-written g c =
     let rules = c.args.rules.now in
-    let tells = g.L.LineWriter.tells c.args.lines.now in
+    let describes = g.L.LineWriter.describes c.args.lines.now in
     let result = c.walk-result.result in
     let walked = c.walk-result.ensures in
     let source = g.R.Read.remaining c.args.reader in
@@ -41,13 +41,13 @@ returns-in-Ok-written g c =
     let writer = c.write_out-written.ensures.name ∙ either_way result _ _
     (output.writer.ghost_name ≡ _) walked.6 (λ held here. held.0)
     (λ held here. held.0) in
-    let told = ended_whole tells result first mid
+    let reported = ended_whole describes result first mid
     (g.W.Write.contents c.write_out-written.new.self.writer.now) seen output.texts.waiting.items
-    (weaker_unbroken result _ _ (Wait tells first mid seen output.texts.waiting.items)
-    ((output.texts.waiting.items ≡ []) × Break tells first mid seen)
+    (weaker_unbroken result _ _ (Wait describes first mid seen output.texts.waiting.items)
+    ((output.texts.waiting.items ≡ []) × Break describes first mid seen)
     (λ held. (held.2, held.3, held.4)) (λ held. (held.1, (held.2, held.3, held.4, held.5))) walked.6)
     c.in-Ok-written.ensures.written in
-    subst (λ writer. WritesLines tells rules c.skipped.result
+    subst (λ writer. WritesLines describes rules c.skipped.result
     source first (g.W.Write.contents writer) result) (sym (c.writer-1.given.1 (sym writer))) (
       walked.0,
       left,
@@ -58,17 +58,17 @@ returns-in-Ok-written g c =
       subst (λ skipped. EndsBy true rules.unfit skipped left walked.0 walked.1 result)
           (sym c.skipped.ensures) walked.4,
       walked.5,
-      told.0,
-      told.1,
-      told.2,
-      told.3,
-      told.4,
+      reported.0,
+      reported.1,
+      reported.2,
+      reported.3,
+      reported.4,
     )
 
 pub returns : goal.returns
 returns g c =
     let rules = c.args.rules.now in
-    let tells = g.L.LineWriter.tells c.args.lines.now in
+    let describes = g.L.LineWriter.describes c.args.lines.now in
     let result = c.walk-result.result in
     let walked = c.walk-result.ensures in
     let source = g.R.Read.remaining c.args.reader in
@@ -80,13 +80,13 @@ returns g c =
     let by = c.in-Err.ensures.written in
     let writer = c.write_out-written.ensures.name ∙ either_way result _ _
     (output.writer.ghost_name ≡ _) walked.6 (λ held here. held.0) (λ held here. held.0) in
-    let told = ended_broken tells result c.in-Err.error first mid
+    let reported = ended_broken describes result c.in-Err.error first mid
     (g.W.Write.contents c.write_out-written.new.self.writer.now) seen output.texts.waiting.items
-    (weaker_unbroken result _ _ (Wait tells first mid seen output.texts.waiting.items)
-    ((output.texts.waiting.items ≡ []) × Break tells first mid seen)
+    (weaker_unbroken result _ _ (Wait describes first mid seen output.texts.waiting.items)
+    ((output.texts.waiting.items ≡ []) × Break describes first mid seen)
     (λ held. (held.2, held.3, held.4)) (λ held. (held.1, (held.2, held.3, held.4, held.5))) walked.6)
     by in
-    subst (λ writer. WritesLines tells rules c.skipped.result
+    subst (λ writer. WritesLines describes rules c.skipped.result
     source first (g.W.Write.contents writer) (Err c.in-Err.error))
     (sym (c.writer-1.given.1 (sym writer))) (
       walked.0,
@@ -99,9 +99,9 @@ returns g c =
           (subst (λ skipped. AreTaken rules.unfit skipped walked.0 walked.1) (sym c.skipped.ensures)
           (ends_taken rules.unfit _ left walked.0 walked.1 true result walked.4)),
       walked.5,
-      told.0,
-      told.1,
-      told.2,
-      told.3,
-      told.4,
+      reported.0,
+      reported.1,
+      reported.2,
+      reported.3,
+      reported.4,
     )

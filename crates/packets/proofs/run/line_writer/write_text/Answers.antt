@@ -19,8 +19,8 @@ returns-in-Err g c =
     let seen = stops_appends (λ reader. ghosts.remaining reader) g.W.Write.contents c.in-Err.fault _
     c.write_whole-written.new.device c.args.text.now c.in-Err.ensures in
     let writer = seen.0 in
-    subst (λ writer. BreaksBy true c.write_error.result ((front : List ℕ) × (rest : List ℕ)
-    × Appends (g.W.Write.contents c.args.writer.now) (g.W.Write.contents writer) front
-    × (c.args.text.now ≡ front ++ rest))) (search rules)
+    subst (λ writer. BreaksBy true c.write_error.result ((prefix : List ℕ) × (rest : List ℕ)
+    × Appends (g.W.Write.contents c.args.writer.now) (g.W.Write.contents writer) prefix
+    × (c.args.text.now ≡ prefix ++ rest))) (search rules)
     (weaker_break true c.write_error.result (Unit {0}) _ (λ done. (seen.1, seen.2, seen.3, seen.4))
     c.write_error.ensures)

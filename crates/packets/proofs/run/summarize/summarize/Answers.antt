@@ -3,7 +3,7 @@ use Rattle.std.proofs.KnownBytes.{Consumes-nil}
 use Rattle.std.specs.Io.KnownBytes.{Consumes}
 use Rattle.captures.specs.Readers.{source_of}
 use Rattle.packets.specs.Runs.{EndsBy}
-use Rattle.packets.proofs.EndLemmas.{nothing_first, unbroken_always, weaker_wanting}
+use Rattle.packets.proofs.EndLemmas.{nothing_first, unbroken_always, weaker_out_of_memory}
 use Rattle.packets.proofs.WalkLemmas.{counted_none}
 use Rattle.packets.proofs.run.summarize.summarize.Goals as goal
 
@@ -36,5 +36,5 @@ returns g c =
           (sym c.skipped.ensures) walked.4,
       walked.5,
       unbroken_always result _ walked.6,
-      weaker_wanting result _ _ (λ shows. c.open.ensures _ shows) walked.7,
+      weaker_out_of_memory result _ _ (λ shows. c.open.ensures _ shows) walked.7,
     )

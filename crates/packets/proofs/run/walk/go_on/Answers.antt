@@ -58,7 +58,7 @@ pub returns-in-Err-before_read : goal.returns-in-Err-before_read
 returns-in-Err-before_read g c unfit read given start seen h goes =
     let new = c.advance_held.new.self in
     let left = g.R.Read.remaining (source_of new) in
-    let front = rw c.in-Ok-false.field-0-test at
+    let prefix = rw c.in-Ok-false.field-0-test at
     (c.in-Ok-false.ensures.comes unfit read given h) in
     let by = c.in-Err-before_read.ensures start seen (c.in_default.ensures start seen goes) in (
       [],
@@ -67,7 +67,7 @@ returns-in-Err-before_read g c unfit read given start seen h goes =
       (
         break_ends g.V.Visitor.writes unfit _ left (read ++ []) given c.in-Err-before_read.error _ by
             (subst (λ (l : List ℕ). AreTaken unfit (skipped_by new) l given)
-            (sym (append-nil read)) (inl (given_but_none unfit new read given front.0))),
+            (sym (append-nil read)) (inl (given_but_none unfit new read given prefix.0))),
         (broken g.V.Visitor.writes c.in-Err-before_read.error _ by).1 _ _ (broken g.V.Visitor.writes c.in-Err-before_read.error _ by).0,
       ),
     )
@@ -75,11 +75,11 @@ returns-in-Err-before_read g c unfit read given start seen h goes =
 pub returns-in-Ok : goal.returns-in-Ok
 returns-in-Ok g c unfit read given start seen h goes =
     let left = g.R.Read.remaining (source_of c.advance.new.self) in
-    let front = rw c.in-Ok-false.field-0-test at
+    let prefix = rw c.in-Ok-false.field-0-test at
     (c.in-Ok-false.ensures.comes unfit read given h) in
     let goes_on = c.in_default-before_read.ensures start seen
     (c.in_default.ensures start seen goes) in
-    let came = c.in-Ok.ensures.comes unfit read given front.0 in (
+    let came = c.in-Ok.ensures.comes unfit read given prefix.0 in (
       came.0,
       subst (λ r. Consumes (g.R.Read.remaining r) left came.0) c.advance_held.ensures.source came.1,
       (came.2, goes_on),
@@ -89,11 +89,11 @@ pub returns-in-Err-advance : goal.returns-in-Err-advance
 returns-in-Err-advance g c unfit read given start seen h goes =
     let new = c.advance.new.self in
     let left = g.R.Read.remaining (source_of new) in
-    let front = rw c.in-Ok-false.field-0-test at
+    let prefix = rw c.in-Ok-false.field-0-test at
     (c.in-Ok-false.ensures.comes unfit read given h) in
     let goes_on = c.in_default-before_read.ensures start seen
     (c.in_default.ensures start seen goes) in
-    let came = c.in-Err-advance.ensures.comes unfit read given front.0 in (
+    let came = c.in-Err-advance.ensures.comes unfit read given prefix.0 in (
       came.0,
       subst (λ r. Consumes (g.R.Read.remaining r) left came.0) c.advance_held.ensures.source came.1,
       (

@@ -5,7 +5,7 @@ use Rattle.captures.specs.Readers.{HasRead, source_of}
 use Rattle.captures.specs.declared.packet.Packet.{Packet}
 use Rattle.packets.specs.Courses.{Course, HasCourse, course_after, no_course, shown}
 use Rattle.packets.specs.declared.dissection.Dissection.{Dissection}
-use Rattle.packets.proofs.EndLemmas.{unless_wanting}
+use Rattle.packets.proofs.EndLemmas.{unless_out_of_memory}
 use Rattle.packets.proofs.WalkLemmas.{course_more, dissected_more, first_but_last, first_given}
 use Rattle.packets.proofs.WalkLemmas.{same_packet, shown_more}
 use Rattle.packets.proofs.run.walk.walk.Goals as goal
@@ -14,15 +14,15 @@ pub packets-init : goal.packets-init
 packets-init g c = record {
   read = [];
   given = [];
-  told = [];
+  reported = [];
   has = c.requires.unread;
   consumed = Consumes-nil (g.R.Read.remaining (source_of c.args.packets.now));
   dissected = refl;
   course = record {
     number = c.requires.number;
     first = c.requires.first_time;
-    lists = c.requires.messages;
-    begun = c.requires.begun;
+    lists = c.requires.datagrams;
+    started = c.requires.started;
     begin = c.new-spans.ensures;
   };
   goes = c.requires.begins;
@@ -33,10 +33,10 @@ pub returns-in-Ok-false : goal.returns-in-Ok-false
 returns-in-Ok-false g c =
     let i = c.packets.invariant in
     let came = rw c.in-Ok-false.field-0-test at (c.in-Ok-false.ensures c.args.rules.now.unfit i.read
-    i.given c.args.visitor.now (shown c.args.rules.now.filter i.told) i.has i.goes) in (
+    i.given c.args.visitor.now (shown c.args.rules.now.filter i.reported) i.has i.goes) in (
       i.read ++ came.0,
       i.given,
-      i.told,
+      i.reported,
       Consumes-trans _ _ _ i.read came.0 i.consumed came.1,
       (came.2.0.1, came.2.0.2),
       i.dissected,
@@ -48,35 +48,35 @@ pub returns-in-Err : goal.returns-in-Err
 returns-in-Err g c =
     let i = c.packets.invariant in
     let came = c.in-Err.ensures c.args.rules.now.unfit i.read i.given c.args.visitor.now
-    (shown c.args.rules.now.filter i.told) i.has i.goes in (
+    (shown c.args.rules.now.filter i.reported) i.has i.goes in (
       i.read ++ came.0,
       i.given,
-      i.told,
+      i.reported,
       Consumes-trans _ _ _ i.read came.0 i.consumed came.1,
       came.2.0,
       i.dissected,
       came.2.1,
-      unless_wanting (Err c.in-Err.error) _ i.course.lists,
+      unless_out_of_memory (Err c.in-Err.error) _ i.course.lists,
     )
 
 pub returns-in_default : goal.returns-in_default
 returns-in_default g c =
     let i = c.packets.invariant in
     let came = rw c.in-Ok-true.field-0-test at (c.in-Ok-true.ensures c.args.rules.now.unfit i.read
-    i.given c.args.visitor.now (shown c.args.rules.now.filter i.told) i.has i.goes) in
+    i.given c.args.visitor.now (shown c.args.rules.now.filter i.reported) i.has i.goes) in
     absurd (c.in_default.not-Some came.2.0.0 (c.packet.ensures ∙ came.2.0.1))
 
 pub returns-in-Err-take : goal.returns-in-Err-take
 returns-in-Err-take g c =
     let i = c.packets.invariant in
     let came = rw c.in-Ok-true.field-0-test at (c.in-Ok-true.ensures c.args.rules.now.unfit i.read
-    i.given c.args.visitor.now (shown c.args.rules.now.filter i.told) i.has i.goes) in
+    i.given c.args.visitor.now (shown c.args.rules.now.filter i.reported) i.has i.goes) in
     let stays = c.in-Err-take.ensures
     (course_after c.args.rules.now.forget no_course i.given) c.args.visitor.now
-    (shown c.args.rules.now.filter i.told) i.course came.2.1 in (
+    (shown c.args.rules.now.filter i.reported) i.course came.2.1 in (
       i.read ++ came.0,
       i.given,
-      i.told,
+      i.reported,
       Consumes-trans _ _ _ i.read came.0 i.consumed came.1,
       first_but_last c.args.rules.now.unfit c.go_on.new.packets (i.read ++ came.0) i.given
           came.2.0.0 came.2.0.2,
@@ -91,25 +91,25 @@ packets-preserved g c =
     let rules = c.args.rules.now in
     let given = i.given ++ c.in-Some.packet ∷ [] in
     let came = rw c.in-Ok-true.field-0-test at (c.in-Ok-true.ensures rules.unfit i.read i.given
-    c.args.visitor.now (shown rules.filter i.told) i.has i.goes) in
+    c.args.visitor.now (shown rules.filter i.reported) i.has i.goes) in
     let same = same_packet came.2.0.0 c.in-Some.packet
     (sym came.2.0.1 ∙ sym c.packet.ensures ∙ c.in-Some.is) in
     let taken = c.in-Ok.ensures
-    (course_after rules.forget no_course i.given) c.args.visitor.now (shown rules.filter i.told)
+    (course_after rules.forget no_course i.given) c.args.visitor.now (shown rules.filter i.reported)
     i.course came.2.1 in
     record {
       read = i.read ++ came.0;
       given = given;
-      told = i.told ++ taken.0 ∷ [];
+      reported = i.reported ++ taken.0 ∷ [];
       has = subst (λ (p : Packet). HasRead rules.unfit c.go_on.new.packets (i.read ++ came.0)
           (i.given ++ p ∷ [])) same came.2.0.2;
       consumed = Consumes-trans _ _ _ i.read came.0 i.consumed came.1;
-      dissected = dissected_more rules.forget no_course i.given i.told c.in-Some.packet taken.0
+      dissected = dissected_more rules.forget no_course i.given i.reported c.in-Some.packet taken.0
           i.dissected taken.1;
       course = subst (λ (course : Course). HasCourse course c.take.new.dissector c.take.new.spans) (sym (course_more rules.forget no_course i.given c.in-Some.packet))
           taken.3;
       goes = subst (λ (l : List Dissection). g.V.Visitor.goes c.args.visitor.now
-          c.take.new.visitor l) (sym (shown_more rules.filter i.told taken.0)) taken.2;
+          c.take.new.visitor l) (sym (shown_more rules.filter i.reported taken.0)) taken.2;
       counted = omega (arith, i.counted, length-append i.given (c.in-Some.packet ∷ []));
     }
 
@@ -118,7 +118,7 @@ returns g c =
     let i = c.packets.invariant in (
       i.read,
       i.given,
-      i.told,
+      i.reported,
       i.consumed,
       inr (
         first_given c.args.rules.now.unfit c.packets.packets i.read i.given i.has,

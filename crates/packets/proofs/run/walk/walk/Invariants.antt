@@ -6,18 +6,18 @@ use Rattle.packets.specs.Courses.{AreDissected, HasCourse, course_after, no_cour
 use Rattle.packets.specs.declared.dissection.Dissection.{Dissection}
 use Rattle.packets.proofs.run.walk.walk.Given as goal
 
--- what was read, and the packets that were given and told so far
+-- what was read, and the packets that were given and dissected so far
 abbrev pub invariant-packets : goal.invariant-packets
 invariant-packets g l = record {
   read : List ℕ;
   given : List Packet;
-  told : List Dissection;
+  reported : List Dissection;
   has : HasRead l.fn.rules.unfit l.packets read given;
   consumed : Consumes (g.R.Read.remaining (source_of l.fn.packets))
       (g.R.Read.remaining (source_of l.packets)) read;
-  dissected : AreDissected l.fn.rules.forget no_course given told;
+  dissected : AreDissected l.fn.rules.forget no_course given reported;
   course : HasCourse (course_after l.fn.rules.forget no_course given) l.dissector l.spans;
-  goes : g.V.Visitor.goes l.fn.visitor l.visitor (shown l.fn.rules.filter told);
+  goes : g.V.Visitor.goes l.fn.visitor l.visitor (shown l.fn.rules.filter reported);
   counted : l.count ≡ length given;
 }
 

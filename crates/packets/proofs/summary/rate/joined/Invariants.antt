@@ -5,8 +5,8 @@ use Rattle.packets.proofs.summary.rate.joined.Given as goal
 
 abbrev pub invariant-pairs : goal.invariant-pairs
 invariant-pairs l = record {
-  pairs : (k : ℕ) → k < l.place → slice_index l.joined k
+  pairs : (k : ℕ) → k < l.position → slice_index l.joined k
       ≡ capped (slice_index l.counts (2 * k) + slice_index l.counts (2 * k + 1));
   size : length l.joined ≡ 64;
-  rest : (k : ℕ) → l.place ≤ k → slice_index l.joined k ≡ 0;
+  rest : (k : ℕ) → l.position ≤ k → slice_index l.joined k ≡ 0;
 }

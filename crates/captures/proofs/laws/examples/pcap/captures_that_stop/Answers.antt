@@ -11,7 +11,7 @@ returns-clause-link c = record {
   rest = 7 ∷ [];
   parts = refl;
   is_header = record { size = refl; magic = refl; major = refl; minor = refl };
-  told = refl;
+  reported = refl;
   other = refl;
 }
 
@@ -31,7 +31,7 @@ returns-clause-too_long c = record {
   rest = [];
   parts = refl;
   size = refl;
-  told = refl;
+  reported = refl;
   long = omega arith;
 }
 

@@ -13,7 +13,7 @@ returns-clause-link c = record {
   parts = refl;
   fits = inl (omega arith);
   has_order = inl (λ e. let same : 0x01000000 ≡ 0x0a0d0d0a = e in absurd (omega arith), refl);
-  is_block = record { size = omega arith; words = refl; front = refl; back = refl };
+  is_block = record { size = omega arith; words = refl; prefix = refl; back = refl };
   refused = (262144, usual_clock, (refl, omega arith, refl, refl, refl, omega arith), refl);
 }
 
@@ -28,6 +28,6 @@ returns-clause-bad c = record {
   parts = refl;
   fits = inl (omega arith);
   has_order = inl (λ e. let same : 0x01000000 ≡ 0x0a0d0d0a = e in absurd (omega arith), refl);
-  is_block = record { size = omega arith; words = refl; front = refl; back = refl };
+  is_block = record { size = omega arith; words = refl; prefix = refl; back = refl };
   refused = (description_is_short described_section Little short_block refl (omega arith)).0;
 }

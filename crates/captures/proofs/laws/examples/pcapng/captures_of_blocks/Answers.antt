@@ -35,7 +35,7 @@ opens : IsBlockUnit (no_section Refuse) section_block (Pcapng opened) nowhere []
 opens = record {
   order = Little;
   has_order = inr (refl, refl);
-  block = record { size = omega arith; words = refl; front = refl; back = refl };
+  block = record { size = omega arith; words = refl; prefix = refl; back = refl };
   fits = inl (omega arith);
   next = opened;
   reads = record {
@@ -50,7 +50,7 @@ describes : IsBlockUnit opened interface_block (Pcapng described_section) nowher
 describes = record {
   order = Little;
   has_order = inl (λ e. let same : 0x01000000 ≡ 0x0a0d0d0a = e in absurd (omega arith), refl);
-  block = record { size = omega arith; words = refl; front = refl; back = refl };
+  block = record { size = omega arith; words = refl; prefix = refl; back = refl };
   fits = inl (omega arith);
   next = described_section;
   reads = record {
@@ -61,15 +61,15 @@ describes = record {
   becomes = refl;
 }
 
-module _ (told : Packet) where
-  abbrev Tells : List ℕ → Type 0
-  Tells block = IsBlockUnit described_section block (Pcapng described_section) told.origin told.frame
+module _ (reported : Packet) where
+  abbrev Reports : List ℕ → Type 0
+  Reports block = IsBlockUnit described_section block (Pcapng described_section) reported.origin reported.frame
 
-holds_simple : Tells (packet_at 0) simple_block
+holds_simple : Reports (packet_at 0) simple_block
 holds_simple = record {
   order = Little;
   has_order = inl (λ e. let same : 0x03000000 ≡ 0x0a0d0d0a = e in absurd (omega arith), refl);
-  block = record { size = omega arith; words = refl; front = refl; back = refl };
+  block = record { size = omega arith; words = refl; prefix = refl; back = refl };
   fits = inl (omega arith);
   next = described_section;
   reads = record {
@@ -80,11 +80,11 @@ holds_simple = record {
   becomes = refl;
 }
 
-holds_cut : Tells longer_packet cut_simple_block
+holds_cut : Reports longer_packet cut_simple_block
 holds_cut = record {
   order = Little;
   has_order = inl (λ e. let same : 0x03000000 ≡ 0x0a0d0d0a = e in absurd (omega arith), refl);
-  block = record { size = omega arith; words = refl; front = refl; back = refl };
+  block = record { size = omega arith; words = refl; prefix = refl; back = refl };
   fits = inl (omega arith);
   next = described_section;
   reads = record {
@@ -95,11 +95,11 @@ holds_cut = record {
   becomes = refl;
 }
 
-holds_enhanced : Tells (packet_at 1700000000250000000) enhanced_block
+holds_enhanced : Reports (packet_at 1700000000250000000) enhanced_block
 holds_enhanced = record {
   order = Little;
   has_order = inl (λ e. let same : 0x06000000 ≡ 0x0a0d0d0a = e in absurd (omega arith), refl);
-  block = record { size = omega arith; words = refl; front = refl; back = refl };
+  block = record { size = omega arith; words = refl; prefix = refl; back = refl };
   fits = inl (omega arith);
   next = described_section;
   reads = record {

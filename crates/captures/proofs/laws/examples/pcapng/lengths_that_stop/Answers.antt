@@ -51,7 +51,7 @@ pub returns-clause-too_long : goal.returns-clause-too_long
 returns-clause-too_long c = record {
   order = Little;
   has_order = inl (λ e. let same : 0x06000000 ≡ 0x0a0d0d0a = e in absurd (omega arith), refl);
-  told = refl;
+  reported = refl;
   words = refl;
   long = λ taken. elim taken [
     | inl few ↦ absurd (omega arith)

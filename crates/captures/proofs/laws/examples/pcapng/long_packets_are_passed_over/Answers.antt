@@ -1,6 +1,6 @@
 use Rattle.std.proofs.Common.{◌≡◌, ◌≤◌, ◌∙◌, sym, ap, subst, refl, arith, inl, inr, ℕ, List, [], length, Some}
 use Rattle.std.specs.Prelude.{Result, Err}
-use Rattle.captures.specs.Framed.{frame_by, taken_limit, told_frame, told_of}
+use Rattle.captures.specs.Framed.{frame_by, taken_limit, reported_frame, reported_of}
 use Rattle.captures.specs.Pcapng.{Becomes}
 use Rattle.captures.specs.Pcapng.Content.{Holds}
 use Rattle.captures.specs.Skipping.{counted, counted_by, passing_from}
@@ -21,17 +21,17 @@ one = record {
 }
 
 passed_over : (section : Section) (order : ByteOrder) (origin : Origin) (packet : List ℕ)
-    → section.passing ≡ passing_from Skip → told_of Ethernet packet ≡ Err TooLong
+    → section.passing ≡ passing_from Skip → reported_of Ethernet packet ≡ Err TooLong
     → length packet ≤ 262128
     → Becomes section order (Holds origin Ethernet packet) (record section { passing = one }) origin []
-passed_over section order origin packet is told few =
+passed_over section order origin packet is reported few =
     let counts : counted section.passing Ethernet packet ≡ one =
     ap (λ (p : Passing). counted p Ethernet packet) is
-    ∙ ap (λ (r : Result (List ℕ) Reason). counted_by (passing_from Skip) r) told in (
+    ∙ ap (λ (r : Result (List ℕ) Reason). counted_by (passing_from Skip) r) reported in (
       ap (λ (p : Passing). record section { passing = p }) (sym counts),
       refl,
-      ap (λ (p : Passing). told_frame p.unfit Ethernet packet) is
-          ∙ ap (λ (r : Result (List ℕ) Reason). frame_by Skip r) told,
+      ap (λ (p : Passing). reported_frame p.unfit Ethernet packet) is
+          ∙ ap (λ (r : Result (List ℕ) Reason). frame_by Skip r) reported,
       subst (λ (p : Passing). length packet ≤ taken_limit p.unfit Ethernet) (sym is)
           (omega arith),
     )

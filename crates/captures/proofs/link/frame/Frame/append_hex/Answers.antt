@@ -12,7 +12,7 @@ returns-in-Some-clause-text c =
     let header = ethernet_header made.source made.ether_type in
     let before = take c.args.used c.args.out.now in
     c.append_hex.ensures.text
-    ∙ ap (λ (l : List ℕ). l ++ encode_lower rest) c.append_hex-behind.ensures.text
+    ∙ ap (λ (l : List ℕ). l ++ encode_lower rest) c.append_hex-following.ensures.text
     ∙ append_assoc before (encode_lower header) (encode_lower rest)
     ∙ ap (λ (l : List ℕ). before ++ l) (sym (encode_lower-append header rest)
     ∙ ap encode_lower (ap (λ (h : Option Header). made_header h ++ rest) (sym c.in-Some.is)

@@ -1,8 +1,8 @@
 use Rattle.std.proofs.Common.{subst, length, List, ℕ}
 use Rattle.std.proofs.lemmas.Result.{err_from_is_err_and}
-use Rattle.runs.specs.Writes.{Written, Stops}
-use Rattle.runs.proofs.WriteLemmas.{Stops-more, Stops-after, Written-append}
-use Rattle.captures.specs.Spelling.{record_head}
+use Rattle.device_runs.specs.Writes.{Written, Stops}
+use Rattle.device_runs.proofs.WriteLemmas.{Stops-more, Stops-after, Written-append}
+use Rattle.captures.specs.Encoding.{record_head}
 use Rattle.captures.proofs.pcap.writer.Writer.write_packet.Goals as goal
 
 pub returns-in_err-write_whole : goal.returns-in_err-write_whole

@@ -1,12 +1,12 @@
 use Rattle.std.proofs.Common.{◌≡◌, ◌-◌, ◌++◌, List, ℕ, None}
 use Rattle.std.specs.Io.KnownBytes.{Consumes}
 use Rattle.captures.specs.Readers.{HasRead}
-use Rattle.runs.specs.declared.limits.TheConstants.{READ_COUNT_LIMIT}
+use Rattle.device_runs.specs.declared.limits.TheConstants.{READ_COUNT_LIMIT}
 use Rattle.captures.specs.declared.packet.Packet.{Packet}
 use Rattle.captures.specs.declared.unfit.Unfit.{Unfit}
 use Rattle.captures.proofs.reading.packet_reader.PacketReader.advance.Given as goal
 
--- What was read so far is put behind, and no packet was given yet.
+-- The reader has read more bytes, no packet among them, and has not ended.
 abbrev pub invariant-reads : goal.invariant-reads
 invariant-reads g l = record {
   goes : (unfit : Unfit) (read : List ℕ) (given : List Packet) → HasRead unfit l.fn.self read given

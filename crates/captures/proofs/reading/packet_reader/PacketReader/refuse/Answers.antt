@@ -2,10 +2,10 @@ use Rattle.captures.proofs.reading.packet_reader.PacketReader.refuse.Goals as go
 
 pub returns : goal.returns
 returns g c = (
-  c.place.result,
+  c.position.result,
   c.stop.ensures.result,
   c.stop.ensures.stopped,
-  c.place.ensures.packet,
-  c.place.ensures.offset,
-  c.place.ensures.block,
+  c.position.ensures.packet,
+  c.position.ensures.offset,
+  c.position.ensures.block,
 )

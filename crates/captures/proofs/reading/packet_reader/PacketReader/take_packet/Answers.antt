@@ -2,9 +2,9 @@ use Rattle.std.proofs.Common.{◌∙◌, sym, ap, refl, subst, ℕ, ◌+◌, ◌
 use Rattle.std.proofs.Common.{length, append-nil, Option, Some}
 use Rattle.std.specs.Prelude.{min}
 use Rattle.captures.specs.Dropped.{IsDropped, last_of}
-use Rattle.captures.specs.Fronts.{IsFirst}
+use Rattle.captures.specs.PacketSteps.{IsFirst}
 use Rattle.captures.specs.Readers.{IsAhead, packet_with}
-use Rattle.captures.specs.Units.{IsBegun, Refuses}
+use Rattle.captures.specs.Units.{IsIncomplete, Refuses}
 use Rattle.captures.specs.declared.pcapng.long_block.LongBlock.{LongBlock}
 use Rattle.captures.proofs.GivenLemmas.{last_none}
 use Rattle.captures.proofs.ReadLemmas.{finds_none, finds_packet}
@@ -71,7 +71,7 @@ returns-in-Some-long_block-clause-finds g c unfit read given h =
     let whole = ap (λ (l : List ℕ). rest ++ l) empty ∙ append-nil rest in (
       finds_none unfit old read given h c.requires after ahead.left _ is.0 passed _ rest refl
           dropped refl whole refl refl refl _ none,
-      subst (λ (l : List ℕ). IsBegun after l) (sym whole) begins,
+      subst (λ (l : List ℕ). IsIncomplete after l) (sym whole) begins,
     )
 
 pub returns-in-None-clause-finds : goal.returns-in-None-clause-finds
@@ -89,5 +89,5 @@ returns-in-None-clause-finds g c unfit read given h =
       finds_none unfit old read given h c.requires after ahead.left _ is.0 passed _ [] refl
           (subst (λ (b : Option LongBlock). IsDropped after b []) (sym c.requires) refl) refl
           c.keep-2.ensures.held refl refl refl _ none,
-      subst (λ (l : List ℕ). IsBegun after l) (sym c.keep-2.ensures.held) begins,
+      subst (λ (l : List ℕ). IsIncomplete after l) (sym c.keep-2.ensures.held) begins,
     )

@@ -15,6 +15,6 @@ returns-in-Ok-clause-only c =
     read_only c.args.first.0 c.args.slice.now c.in-Ok.rest.now c.in-Ok.header
     is c.in-Ok.ensures.found
 
-pub returns-in-Err-clause-place : goal.returns-in-Err-clause-place
-returns-in-Err-clause-place c =
+pub returns-in-Err-clause-offset : goal.returns-in-Err-clause-offset
+returns-in-Err-clause-offset c =
     λ n fits. auth_moves c.args.slice.now c.in-Err.error n c.in-Err.ensures.err fits

@@ -18,8 +18,8 @@ pub pieces-smaller : goal.pieces-smaller
 pieces-smaller g c =
     rw c.with-passed.ensures
     (given_fewer (Kept (g.R.Read.remaining c.args.reader.now) (g.R.Read.remaining c.pieces.reader))
-    c.args.first.0 c.pieces.self c.pieces.passed c.pieces.number.0 c.in-Some.place
-    c.pieces.invariant (sym c.place_of.ensures ∙ c.in-Some.is))
+    c.args.first.0 c.pieces.self c.pieces.passed c.pieces.number.0 c.in-Some.slot
+    c.pieces.invariant (sym c.slot_of.ensures ∙ c.in-Some.is))
 
 pub pieces-preserved : goal.pieces-preserved
 pieces-preserved g c =
@@ -29,6 +29,6 @@ pieces-preserved g c =
     let found = c.in-Ok.ensures.found in
     rw c.with-passed.ensures
     (given_more (Kept old between) (Kept old new) c.args.first.0 c.pieces.self c.pieces.passed
-    c.pieces.number.0 c.in-Some.place found.0 c.in-Ok.next.0 c.read_at.new.self
-    c.pieces.invariant (sym c.place_of.ensures ∙ c.in-Some.is) found.1 found.3 found.4
-    (consumes_more old between new c.in-Some.place found.0 found.2))
+    c.pieces.number.0 c.in-Some.slot found.0 c.in-Ok.next.0 c.read_at.new.self
+    c.pieces.invariant (sym c.slot_of.ensures ∙ c.in-Some.is) found.1 found.3 found.4
+    (consumes_more old between new c.in-Some.slot found.0 found.2))

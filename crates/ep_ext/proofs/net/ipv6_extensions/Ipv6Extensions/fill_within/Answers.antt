@@ -18,8 +18,8 @@ pub pieces-smaller : goal.pieces-smaller
 pieces-smaller g c =
     rw c.with-passed.ensures
     (given_fewer (λ pieces. TakesRow g.R.Read.remaining c.args.reader.now pieces c.pieces.reader)
-    c.args.first.0 c.pieces.self c.pieces.passed c.pieces.number.0 c.in-Some.place
-    c.pieces.invariant (sym c.place_of.ensures ∙ c.in-Some.is))
+    c.args.first.0 c.pieces.self c.pieces.passed c.pieces.number.0 c.in-Some.slot
+    c.pieces.invariant (sym c.slot_of.ensures ∙ c.in-Some.is))
 
 pub pieces-preserved : goal.pieces-preserved
 pieces-preserved g c =
@@ -27,18 +27,18 @@ pieces-preserved g c =
     rw c.with-passed.ensures
     (given_more (λ pieces. TakesRow g.R.Read.remaining c.args.reader.now pieces c.pieces.reader)
     (λ pieces. TakesRow g.R.Read.remaining c.args.reader.now pieces c.read_within.new.reader)
-    c.args.first.0 c.pieces.self c.pieces.passed c.pieces.number.0 c.in-Some.place found.0
+    c.args.first.0 c.pieces.self c.pieces.passed c.pieces.number.0 c.in-Some.slot found.0
     c.in-Ok.next.0 c.read_within.new.self
-    c.pieces.invariant (sym c.place_of.ensures ∙ c.in-Some.is) found.1 found.3 found.4
+    c.pieces.invariant (sym c.slot_of.ensures ∙ c.in-Some.is) found.1 found.3 found.4
     (λ (pieces : List Piece) kept. takes_row_more g.R.Read.remaining c.args.reader.now
-    c.pieces.reader c.read_within.new.reader pieces c.in-Some.place found.0 kept found.2))
+    c.pieces.reader c.read_within.new.reader pieces c.in-Some.slot found.0 kept found.2))
 
 pub returns-in-Err-clause-err : goal.returns-in-Err-clause-err
 returns-in-Err-clause-err g c =
     row_refused g.R.Read.remaining c.args.reader.now c.pieces.reader c.read_within.new.reader
     c.args.first.0 c.pieces.self c.pieces.passed c.pieces.number.0
-    (Some c.in-Some.place) c.in-Err.error
-    c.pieces.invariant (sym c.place_of.ensures ∙ c.in-Some.is)
+    (Some c.in-Some.slot) c.in-Err.error
+    c.pieces.invariant (sym c.slot_of.ensures ∙ c.in-Some.is)
     (c.in-Err.ensures.err c.pieces.number.0)
 
 pub returns-then-eq-clause-err : goal.returns-then-eq-clause-err
@@ -47,4 +47,4 @@ returns-then-eq-clause-err g c =
     eqb-true c.pieces.number.0 0 (sym c.eq.ensures ∙ c.if-eq.true) in
     row_refused g.R.Read.remaining c.args.reader.now c.pieces.reader c.pieces.reader c.args.first.0
     c.pieces.self c.pieces.passed c.pieces.number.0 None (Content HopByHopNotAtStart)
-    c.pieces.invariant (sym c.place_of.ensures ∙ c.in_default.is) (refl, is, refl)
+    c.pieces.invariant (sym c.slot_of.ensures ∙ c.in_default.is) (refl, is, refl)

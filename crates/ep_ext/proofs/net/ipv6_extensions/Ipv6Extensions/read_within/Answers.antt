@@ -13,9 +13,9 @@ returns-in-Err-read_limited-2 g c = record {
   found = tt;
   err = λ number.
       bytes_refused g.R.Read.remaining c.args.reader.now c.read_limited-in_default.new.reader number
-      c.args.place c.in-Err-read_limited-2.error c.of_bytes-in-Err-read_limited-2.result
+      c.args.slot c.in-Err-read_limited-2.error c.of_bytes-in-Err-read_limited-2.result
       c.of_bytes-in-Err-read_limited-2.ensures
-      (raw_bytes_refused g.R.Read.remaining c.args.place c.args.reader.now
+      (raw_bytes_refused g.R.Read.remaining c.args.slot c.args.reader.now
       c.read_limited-in_default.new.reader c.in-Err-read_limited-2.error
       c.in_default.not-Fragment c.in_default.not-Authentication
       c.in-Err-read_limited-2.ensures.err);

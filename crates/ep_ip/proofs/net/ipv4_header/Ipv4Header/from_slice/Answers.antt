@@ -1,15 +1,15 @@
 use Rattle.std.proofs.Common.{Ok, ap, arith, length, sym}
-use Rattle.ep_base.proofs.Fronts.{is_read, only_read}
-use Rattle.ep_ip.specs.Ipv4.{IsIpv4Header, ipv4_header_of, spelling, with_reserved_bit_zero}
-use Rattle.ep_ip.proofs.Ipv4Front.{takes_header}
-use Rattle.ep_ip.proofs.Ipv4Spelling.{spelling-ipv4_header_of}
+use Rattle.ep_base.proofs.Prefixes.{is_read, only_read}
+use Rattle.ep_ip.specs.Ipv4.{IsIpv4Header, ipv4_header_of, encoding, with_reserved_bit_zero}
+use Rattle.ep_ip.proofs.Ipv4Prefix.{takes_header}
+use Rattle.ep_ip.proofs.Ipv4Encoding.{encoding-ipv4_header_of}
 use Rattle.ep_ip.proofs.net.ipv4_header.Ipv4Header.from_slice.Goals as goal
 
 pub returns-clause-found : goal.returns-clause-found
 returns-clause-found c =
     let header = c.in_ok-header.header in
     let takes = takes_header c.args.slice.now (Ok header) c.in_ok-header.ensures.exact in
-    is_read IsIpv4Header ipv4_header_of spelling with_reserved_bit_zero spelling-ipv4_header_of
+    is_read IsIpv4Header ipv4_header_of encoding with_reserved_bit_zero encoding-ipv4_header_of
     c.args.slice.now header _ c.to_header.result takes (λ i. omega (arith, c.type_inv.slice i))
     (ap length (sym c.slice.ensures.bytes)) c.to_header.ensures.fields
 

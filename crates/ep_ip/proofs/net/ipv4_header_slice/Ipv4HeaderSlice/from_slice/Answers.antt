@@ -1,4 +1,4 @@
-use Rattle.ep_ip.proofs.Ipv4Front.{takes_header}
+use Rattle.ep_ip.proofs.Ipv4Prefix.{takes_header}
 use Rattle.ep_ip.proofs.net.ipv4_header_slice.Ipv4HeaderSlice.from_slice.Goals as goal
 
 pub returns-clause-found : goal.returns-clause-found

@@ -1,6 +1,6 @@
 use Rattle.std.proofs.Common.{subst, ◌∙◌}
 use Rattle.ep_ip.specs.Ipv4.{IsIpv4Header}
-use Rattle.ep_ip.proofs.Ipv4Front.{options_words, options_len}
+use Rattle.ep_ip.proofs.Ipv4Prefix.{options_words, options_len}
 use Rattle.ep_ip.proofs.net.ipv4_header_slice.Ipv4HeaderSlice.to_header.Goals as goal
 
 pub returns-clause-ihl : goal.returns-clause-ihl

@@ -1,5 +1,5 @@
 use Rattle.std.proofs.Common.{arith, rules}
-use Rattle.ep_ip.proofs.Ipv6Spelling.{put_addresses}
+use Rattle.ep_ip.proofs.Ipv6Encoding.{put_addresses}
 use Rattle.ep_ip.proofs.net.ipv6_header.Ipv6Header.field_bytes.Goals as goal
 
 pub returns-clause-bytes : goal.returns-clause-bytes

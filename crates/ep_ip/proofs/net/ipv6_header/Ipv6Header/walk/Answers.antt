@@ -22,6 +22,6 @@ headers-preserved c =
     (sym c.skipped_len.ensures ∙ c.in-Some.is) in
     let more =
     walk_on c.args.next_header.0 c.args.slice.now kept.0 c.headers.number.0 c.headers.rest.now
-    c.headers.turns found.0 c.in-Ok.behind.now c.in-Ok.next.0
+    c.headers.turns found.0 c.in-Ok.following.now c.in-Ok.next.0
     kept.1 kept.2 kept.3 skipped.0 found.1 found.2 found.3 in
     (kept.0 ++ found.0 ∷ [], more.0, more.1, more.2)

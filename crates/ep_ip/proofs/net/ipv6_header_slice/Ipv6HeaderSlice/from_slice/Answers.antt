@@ -1,4 +1,4 @@
-use Rattle.ep_ip.proofs.Ipv6Front.{takes_header}
+use Rattle.ep_ip.proofs.Ipv6Prefix.{takes_header}
 use Rattle.ep_ip.proofs.net.ipv6_header_slice.Ipv6HeaderSlice.from_slice.Goals as goal
 
 pub returns-clause-found : goal.returns-clause-found

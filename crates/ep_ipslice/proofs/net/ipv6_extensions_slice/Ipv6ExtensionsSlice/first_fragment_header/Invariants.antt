@@ -1,7 +1,7 @@
 use Rattle.std.proofs.Common.{◌≡◌, ℕ, List, []}
 use Rattle.ep_ext.specs.Chain.{Row}
 use Rattle.ep_ext.specs.Value.{Piece, piece_at}
-use Rattle.ep_ext.specs.declared.net.ipv6_ext_place.Ipv6ExtPlace.TheVariants.{Fragment}
+use Rattle.ep_ext.specs.declared.net.ipv6_ext_slot.Ipv6ExtSlot.TheVariants.{Fragment}
 use Rattle.ep_ipslice.specs.Ipv6Exts.{exts_of, view_order}
 use Rattle.ep_ipslice.specs.Ipv6Walk.{headers_left}
 use Rattle.ep_ipslice.proofs.net.ipv6_extensions_slice.Ipv6ExtensionsSlice.first_fragment_header.Given as goal

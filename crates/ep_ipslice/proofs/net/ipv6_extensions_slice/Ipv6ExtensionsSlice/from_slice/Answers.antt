@@ -20,8 +20,8 @@ returns-in_default-default-default-Some-clause-only c = λ pieces last rest chai
           ∙ c.in_default-default-default-Some.is-3,
     )
 
-pub returns-in_default-default-default-Some-clause-place : goal.returns-in_default-default-default-Some-clause-place
-returns-in_default-default-default-Some-clause-place c = λ n fits.
+pub returns-in_default-default-default-Some-clause-offset : goal.returns-in_default-default-default-Some-clause-offset
+returns-in_default-default-default-Some-clause-offset c = λ n fits.
     let found = c.walk.ensures in
     c.faults_can_be_moved.ensures.row view_order c.args.first.0 c.args.slice.now found.0 found.1
     found.2 (

@@ -5,15 +5,15 @@ use Rattle.ep_ipslice.proofs.net.ipv6_slice.Ipv6Slice.header_and_body.Goals as g
 
 pub returns-in-Ok-clause-only : goal.returns-in-Ok-clause-only
 returns-in-Ok-clause-only c = λ header body source is.
-    body_only c.args.slice.now c.in-Ok.header c.body_behind.result c.body_behind.ensures.found
-    c.body_behind.ensures.refused header source body
+    body_only c.args.slice.now c.in-Ok.header c.body_after.result c.body_after.ensures.found
+    c.body_after.ensures.refused header source body
     (header_same c.in-Ok.header header
     (c.in-Ok.ensures.only header _ is.whole
     (body_parts c.args.slice.now header source body is))) is
 
 pub returns-in-Ok-clause-refused : goal.returns-in-Ok-clause-refused
-returns-in-Ok-clause-refused c = length_fault c.args.slice.now c.in-Ok.header c.body_behind.result
-    (sym c.in-Ok.ensures.exact) c.body_behind.ensures.refused
+returns-in-Ok-clause-refused c = length_fault c.args.slice.now c.in-Ok.header c.body_after.result
+    (sym c.in-Ok.ensures.exact) c.body_after.ensures.refused
 
 pub returns-in-Err-clause-refused : goal.returns-in-Err-clause-refused
 returns-in-Err-clause-refused c = InHeader c.in-Err.error

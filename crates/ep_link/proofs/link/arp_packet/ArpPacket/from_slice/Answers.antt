@@ -1,20 +1,20 @@
 use Rattle.std.proofs.Common.{arith, ap, ◌∙◌}
-use Rattle.ep_link.specs.Arp.{spelling}
-use Rattle.ep_link.proofs.ArpSpelling.{spelling-fields_of}
-use Rattle.ep_base.proofs.Fronts.{front_fits}
+use Rattle.ep_link.specs.Arp.{encoding}
+use Rattle.ep_link.proofs.ArpEncoding.{encoding-fields_of}
+use Rattle.ep_base.proofs.Prefixes.{prefix_fits}
 use Rattle.ep_link.proofs.link.arp_packet.ArpPacket.from_slice.Goals as goal
 
 pub returns-clause-found : goal.returns-clause-found
 returns-clause-found c =
     let packet = c.in_ok-packet.packet in
     let found = c.in_ok-packet.ensures.takes.found in
-    let fits = front_fits c.args.slice.now packet found.1.0 found.1.1
+    let fits = prefix_fits c.args.slice.now packet found.1.0 found.1.1
     (λ i. omega (arith, c.type_inv.slice i)) in
     record {
-      front = packet;
+      prefix = packet;
       rest = found.1.0;
       packet = found.0;
-      place = found.1.1;
+      offset = found.1.1;
       fields = c.to_packet.ensures;
-      again = ap spelling c.to_packet.ensures ∙ spelling-fields_of packet found.0 fits;
+      again = ap encoding c.to_packet.ensures ∙ encoding-fields_of packet found.0 fits;
     }

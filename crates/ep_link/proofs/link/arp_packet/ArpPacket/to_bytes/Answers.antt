@@ -1,10 +1,10 @@
-use Rattle.ep_link.proofs.ArpSpelling.{IsArpPacket-spelling, fields_of-spelling}
+use Rattle.ep_link.proofs.ArpEncoding.{IsArpPacket-encoding, fields_of-encoding}
 use Rattle.ep_link.proofs.link.arp_packet.ArpPacket.to_bytes.Goals as goal
 
 pub returns-clause-packet : goal.returns-clause-packet
-returns-clause-packet c = rw c.spelled.ensures.bytes
-    (IsArpPacket-spelling c.args.self.now c.spelled.ensures.arp)
+returns-clause-packet c = rw c.encoded.ensures.bytes
+    (IsArpPacket-encoding c.args.self.now c.encoded.ensures.arp)
 
 pub returns-clause-fields : goal.returns-clause-fields
-returns-clause-fields c = rw c.spelled.ensures.bytes
-    (fields_of-spelling c.args.self.now c.spelled.ensures.fits c.spelled.ensures.arp)
+returns-clause-fields c = rw c.encoded.ensures.bytes
+    (fields_of-encoding c.args.self.now c.encoded.ensures.fits c.encoded.ensures.arp)

@@ -1,4 +1,4 @@
-use Rattle.ep_link.proofs.ArpFront.{takes_packet}
+use Rattle.ep_link.proofs.ArpPrefix.{takes_packet}
 use Rattle.ep_link.proofs.link.arp_packet_slice.ArpPacketSlice.from_slice.Goals as goal
 
 pub returns-clause-takes : goal.returns-clause-takes

@@ -1,12 +1,12 @@
 use Rattle.std.proofs.Common.{arith}
-use Rattle.ep_link.specs.Sll.{IsSllHeader, sll_header_of, sll_len, spelling}
-use Rattle.ep_link.proofs.SllSpelling.{spelling-sll_header_of}
-use Rattle.ep_base.proofs.Fronts.{is_read, only_read}
+use Rattle.ep_link.specs.Sll.{IsSllHeader, sll_header_of, sll_len, encoding}
+use Rattle.ep_link.proofs.SllEncoding.{encoding-sll_header_of}
+use Rattle.ep_base.proofs.Prefixes.{is_read, only_read}
 use Rattle.ep_link.proofs.link.linux_sll_header.LinuxSllHeader.from_slice.Goals as goal
 
 pub returns-clause-found : goal.returns-clause-found
 returns-clause-found c =
-    is_read IsSllHeader sll_header_of spelling (λ front. front) spelling-sll_header_of
+    is_read IsSllHeader sll_header_of encoding (λ prefix. prefix) encoding-sll_header_of
     c.args.slice.now
     c.in_ok-header.header sll_len c.to_header.result
     c.in_ok-header.ensures.takes (λ i. omega (arith, c.type_inv.slice i))

@@ -1,4 +1,4 @@
-use Rattle.ep_link.proofs.SllFront.{takes_header}
+use Rattle.ep_link.proofs.SllPrefix.{takes_header}
 use Rattle.ep_link.proofs.link.linux_sll_header_slice.LinuxSllBytes+16.from_slice.Goals as goal
 
 pub returns-clause-takes : goal.returns-clause-takes

@@ -1,6 +1,6 @@
 use Rattle.std.proofs.Common.{ap, sym, subst}
 use Rattle.ep_ext.specs.Follow.{Follows}
-use Rattle.ep_ext.specs.Link.{all_places, pieces_in}
+use Rattle.ep_ext.specs.Link.{all_slots, pieces_in}
 use Rattle.ep_ext.specs.declared.net.ipv6_extensions.Ipv6Extensions.{Ipv6Extensions}
 use Rattle.ep_packet.specs.IpHeaders.{IsLinked}
 use Rattle.ep_packet.specs.declared.net.ip_headers.IpHeaders.{IpHeaders}
@@ -17,6 +17,6 @@ returns-in-Ipv6-clause-linked c =
     (sym c.in-Ipv6.is) (
       first,
       ap (λ (e : Ipv6Extensions). headers.Ipv6 header e) call.ensures.linked,
-      subst (λ (e : Ipv6Extensions). Follows e first (pieces_in e all_places) last)
+      subst (λ (e : Ipv6Extensions). Follows e first (pieces_in e all_slots) last)
           call.ensures.linked call.ensures.chained,
     )

@@ -1,6 +1,6 @@
 use Rattle.std.proofs.Common.{ap, sym, subst, refl, Ok}
 use Rattle.ep_ext.specs.Follow.{Follows}
-use Rattle.ep_ext.specs.Link.{all_places, pieces_in}
+use Rattle.ep_ext.specs.Link.{all_slots, pieces_in}
 use Rattle.ep_ext.specs.declared.net.ipv6_extensions.Ipv6Extensions.{Ipv6Extensions}
 use Rattle.ep_packet.specs.NetHeaders.{IsNetLinked}
 use Rattle.ep_packet.specs.declared.net.ip_headers.IpHeaders.TheVariants as ip
@@ -19,7 +19,7 @@ returns-in-Ipv6 c =
       (
         call.result.0,
         ap (λ (e : Ipv6Extensions). ip.Ipv6 header e) call.ensures.linked,
-        subst (λ (e : Ipv6Extensions). Follows e call.result.0 (pieces_in e all_places) last)
+        subst (λ (e : Ipv6Extensions). Follows e call.result.0 (pieces_in e all_slots) last)
             call.ensures.linked call.ensures.chained,
       ),
       refl,

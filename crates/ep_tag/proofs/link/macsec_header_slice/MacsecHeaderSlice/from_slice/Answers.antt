@@ -1,4 +1,4 @@
-use Rattle.ep_tag.proofs.MacsecFront.{takes_header}
+use Rattle.ep_tag.proofs.MacsecPrefix.{takes_header}
 use Rattle.ep_tag.proofs.link.macsec_header_slice.MacsecHeaderSlice.from_slice.Goals as goal
 
 pub returns-clause-takes : goal.returns-clause-takes

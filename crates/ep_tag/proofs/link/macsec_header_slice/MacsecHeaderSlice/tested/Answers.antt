@@ -1,5 +1,5 @@
 use Rattle.std.proofs.Common.{arith, sym, ◌∙◌}
-use Rattle.ep_tag.proofs.MacsecFront.{taken, front_at}
+use Rattle.ep_tag.proofs.MacsecPrefix.{taken, prefix_at}
 use Rattle.ep_tag.proofs.link.macsec_header_slice.MacsecHeaderSlice.tested.Goals as goal
 
 pub returns-clause-exact : goal.returns-clause-exact
@@ -11,7 +11,7 @@ returns-clause-exact c =
 
 pub invariant_of-result : goal.invariant_of-result
 invariant_of-result c =
-    front_at c.args.slice.now c.header_len_of-header_len.result (omega arith)
+    prefix_at c.args.slice.now c.header_len_of-header_len.result (omega arith)
     (sym c.has_version.ensures ∙ c.if-has_version.false)
     (sym c.has_no_room.ensures ∙ c.if-has_no_room.false)
     c.header_len_of-header_len.ensures.len (omega arith)

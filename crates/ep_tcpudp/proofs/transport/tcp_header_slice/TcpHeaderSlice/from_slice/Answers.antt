@@ -1,4 +1,4 @@
-use Rattle.ep_tcpudp.proofs.TcpFront.{takes_header}
+use Rattle.ep_tcpudp.proofs.TcpPrefix.{takes_header}
 use Rattle.ep_tcpudp.proofs.transport.tcp_header_slice.TcpHeaderSlice.from_slice.Goals as goal
 
 pub returns-clause-found : goal.returns-clause-found

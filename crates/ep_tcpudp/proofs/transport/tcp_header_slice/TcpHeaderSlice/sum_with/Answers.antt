@@ -4,9 +4,9 @@ use Rattle.ep_tcpudp.proofs.TcpSums.{header_added}
 use Rattle.ep_tcpudp.proofs.transport.tcp_header_slice.TcpHeaderSlice.sum_with.Goals as goal
 
 pub returns : goal.returns
-returns c = λ front sums.
+returns c = λ prefix sums.
     let header = subst IsTcpHeader c.self.view_is c.self.invariant.1 in
-    header_added _ _ front c.args.self.now c.args.payload.now sums.whole
+    header_added _ _ prefix c.args.self.now c.args.payload.now sums.whole
     (omega (arith, header.minimum, header.whole)) (omega (arith, header.whole))
-    (c.sum_behind.ensures front sums)
+    (c.sum_after.ensures prefix sums)
     c.add_slice.ensures.text

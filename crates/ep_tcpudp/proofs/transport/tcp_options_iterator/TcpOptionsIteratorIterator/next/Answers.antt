@@ -1,6 +1,6 @@
 use Rattle.std.proofs.Common.{ap, sym, ◌∙◌}
 use Rattle.ep_tcpudp.specs.Options.{items_of}
-use Rattle.ep_tcpudp.proofs.OptionsItems.{items-end, none_behind, step_ok, step_err, rest_ok}
+use Rattle.ep_tcpudp.proofs.OptionsItems.{items-end, none_after, step_ok, step_err, rest_ok}
 use Rattle.ep_tcpudp.proofs.OptionsItems.{progress}
 use Rattle.ep_tcpudp.proofs.transport.tcp_options_iterator.TcpOptionsIteratorIterator.next.Goals as goal
 
@@ -8,7 +8,7 @@ pub returns-then-is_end-clause-steps : goal.returns-then-is_end-clause-steps
 returns-then-is_end-clause-steps c = (
   ap items_of (sym c.self.view_is) ∙ items-end c.self.inside.options.now
       (sym c.is_end.ensures ∙ c.if-is_end.true),
-  none_behind c.self.inside.options.now,
+  none_after c.self.inside.options.now,
 )
 
 pub returns-in-Ok-clause-steps : goal.returns-in-Ok-clause-steps

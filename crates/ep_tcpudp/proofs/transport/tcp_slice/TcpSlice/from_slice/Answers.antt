@@ -1,4 +1,4 @@
-use Rattle.ep_tcpudp.proofs.TcpFront.{ok_readable, ok_view}
+use Rattle.ep_tcpudp.proofs.TcpPrefix.{ok_readable, ok_view}
 use Rattle.ep_tcpudp.proofs.transport.tcp_slice.TcpSlice.from_slice.Goals as goal
 
 pub returns-clause-readable : goal.returns-clause-readable

@@ -1,4 +1,4 @@
-use Rattle.ep_tcpudp.proofs.UdpFront.{takes_header}
+use Rattle.ep_tcpudp.proofs.UdpPrefix.{takes_header}
 use Rattle.ep_tcpudp.proofs.transport.udp_header_slice.UdpHeaderSlice.from_slice.Goals as goal
 
 pub returns-clause-found : goal.returns-clause-found

@@ -1,4 +1,4 @@
-use Rattle.ep_tcpudp.proofs.UdpFront.{ok_readable, ok_view}
+use Rattle.ep_tcpudp.proofs.UdpPrefix.{ok_readable, ok_view}
 use Rattle.ep_tcpudp.proofs.transport.udp_slice.UdpSlice.from_slice.Goals as goal
 
 pub returns-clause-readable : goal.returns-clause-readable

@@ -9,8 +9,8 @@ returns g c start seen goes =
     weaker_match c.write_out.result _ _ _ _
     (λ waits. (wrote.name ∙ goes.0, wrote.lines ∙ goes.1, waits.0, waits.1, waits.2))
     (λ error. weaker_break true error _ _
-    (λ part. (wrote.name ∙ goes.0, wrote.waiting, part.0, part.1, part.2, part.3)))
-    (written_out (g.L.LineWriter.tells start.lines.now) c.write_out.result
+    (λ fragment. (wrote.name ∙ goes.0, wrote.waiting, fragment.0, fragment.1, fragment.2, fragment.3)))
+    (written_out (g.L.LineWriter.describes start.lines.now) c.write_out.result
     (g.W.Write.contents start.writer.now) (g.W.Write.contents c.args.self.now.writer.now)
     (g.W.Write.contents c.write_out.new.self.writer.now) seen c.args.self.now.texts.waiting.items
     c.write_out.new.self.texts.waiting.items wrote.waiting (goes.2, goes.3, goes.4) wrote.written)

@@ -8,22 +8,22 @@ pub returns : goal.returns
 returns g c start seen goes =
     let waiting = c.args.self.now.texts.waiting.items in
     let packet = c.args.packet.now in
-    let tells = g.L.LineWriter.tells start.lines.now in
+    let describes = g.L.LineWriter.describes start.lines.now in
     weaker_match c.take_line.result _ _ _ _
     (λ line. (
       goes.0,
       goes.1,
       goes.2,
       goes.3,
-      subst (AreLines tells _) (sym (ap (λ (l : List ℕ). goes.2 ++ l) line.2
+      subst (AreLines describes _) (sym (ap (λ (l : List ℕ). goes.2 ++ l) line.2
           ∙ sym (append_assoc goes.2 waiting (one_line line.0))))
-          (lines_more tells seen (goes.2 ++ waiting) packet line.0 goes.4
-          (subst (λ l. g.L.LineWriter.tells l.now packet line.0) goes.1 line.1)),
+          (lines_more describes seen (goes.2 ++ waiting) packet line.0 goes.4
+          (subst (λ l. g.L.LineWriter.describes l.now packet line.0) goes.1 line.1)),
     ))
     (λ error same. (
       goes.0,
       goes.1,
       goes.2,
       goes.3,
-      subst (λ (l : List ℕ). AreLines tells seen (goes.2 ++ l)) (sym same) goes.4,
+      subst (λ (l : List ℕ). AreLines describes seen (goes.2 ++ l)) (sym same) goes.4,
     )) c.take_line.ensures

@@ -17,7 +17,7 @@ returns g c =
     c.deref.ensures.value ∙ pushed ∙ ap (λ (l : List ℕ). l ++ 10 ∷ []) kept in
     appended c.extend_from_slice.result waiting c.extend_from_slice.new.self.items
     c.deref.result.now (λ l. (line : List ℕ)
-    × g.L.LineWriter.tells c.args.lines.now c.args.packet.now line
+    × g.L.LineWriter.describes c.args.lines.now c.args.packet.now line
     × (l ≡ waiting ++ one_line line)) c.extend_from_slice.ensures.items (
       text,
       c.in_default.ensures,

@@ -7,16 +7,16 @@ use Rattle.packets.proofs.summary.numbers.NumberTallies.add.Goals as goal
 
 pub returns-in-Some : goal.returns-in-Some
 returns-in-Some c = λ packets counted n small.
-    let place = c.place_of-place.ensures.place in
-    bucket-tally c.args.self.now.tallies c.place_of-place.result c.add.new.self
+    let position = c.tally_index-position.ensures.position in
+    bucket-tally c.args.self.now.tallies c.tally_index-position.result c.add.new.self
     (λ (d : ℕ) (p : Outline). carries p.headers.net d) packets c.args.packet.now
     (omega arith) (omega arith) counted
-    (ap (is_number c.place_of-place.result) (sym c.in-Some.ensures) ∙ number-here _ _ place)
-    (λ d other. ap (is_number d) (sym c.in-Some.ensures) ∙ number-others _ _ d place other)
-    (λ before. c.add.ensures (λ (p : Outline). carries p.headers.net c.place_of-place.result)
+    (ap (is_number c.tally_index-position.result) (sym c.in-Some.ensures) ∙ number-here _ _ position)
+    (λ d other. ap (is_number d) (sym c.in-Some.ensures) ∙ number-others _ _ d position other)
+    (λ before. c.add.ensures (λ (p : Outline). carries p.headers.net c.tally_index-position.result)
     packets before
-    (ap (is_number c.place_of-place.result) (sym c.in-Some.ensures)
-    ∙ number-here _ _ place)) n small
+    (ap (is_number c.tally_index-position.result) (sym c.in-Some.ensures)
+    ∙ number-here _ _ position)) n small
 
 pub returns-in-None : goal.returns-in-None
 returns-in-None c = λ packets counted n small.

@@ -6,7 +6,7 @@ returns c = record {
   by_span = record {
     begin = refl;
     doubled = (0, refl);
-    counted = λ place small. c.no_counts.ensures.zero place;
+    counted = λ position small. c.no_counts.ensures.zero position;
     within = λ k d lt. grind arith;
   };
   least = inl refl;

@@ -1,0 +1,16 @@
+-- The exit status of the program where a run ends by an error. Words that are no command give 2.
+use Rattle.std.specs.Prelude.{ℕ}
+use Rattle.captures.specs.declared.translation.run_error.RunError.{RunError}
+use Rattle.captures.specs.declared.translation.run_error.RunError.TheVariants.{Read, Write}
+use Rattle.captures.specs.declared.translation.run_error.RunError.TheVariants.{WriteZero, Memory}
+use Rattle.captures.specs.declared.translation.run_error.RunError.TheVariants.{TooManyReads}
+use Rattle.captures.specs.declared.translation.run_error.RunError.TheVariants.{Capture, BadLine}
+
+abbrev pub status_of : RunError → ℕ
+status_of Read = 4
+status_of Write = 4
+status_of WriteZero = 4
+status_of Memory = 5
+status_of TooManyReads = 5
+status_of (Capture error position) = 3
+status_of (BadLine number) = 3

@@ -1,0 +1,167 @@
+-- What is written is read again.
+use Rattle.std.proofs.Common.{◌≡◌, ◌∙◌, sym, ap, ap₂, refl, ℕ, ◌+◌, ◌*◌, ◌/◌, ◌%◌, ◌^◌, ◌<◌, ◌≤◌}
+use Rattle.std.proofs.Common.{arith, ◌==◌, Bool, true, false}
+use Rattle.std.proofs.Common.{List, [], ◌∷◌, ◌++◌, length, inl, append-nil, Some, le-ltb}
+use Rattle.std.proofs.Common.{Result, Ok}
+use Rattle.std.specs.Prelude.{if◌then◌else◌}
+use Rattle.std.specs.List.{AllByRecursion, flat_map}
+use Rattle.std.specs.Option.{option_map}
+use Rattle.captures.specs.Framed.{captured_limit, frame_by, frame_bytes, link_for, own_frame}
+use Rattle.captures.specs.Framed.{taken_limit, reported_by, reported_of}
+use Rattle.captures.specs.Skipping.{counted_by, none_skipped, passing_from}
+use Rattle.captures.specs.declared.translation.skipped.Passing.{Passing}
+use Rattle.captures.specs.declared.translation.skipped.Reason.{Reason}
+use Rattle.captures.specs.declared.translation.skipped.Reason.TheVariants.{NoFrame}
+use Rattle.captures.specs.declared.translation.state.State.{State}
+use Rattle.captures.specs.declared.unfit.Unfit.TheVariants.{Refuse, Skip}
+use Rattle.captures.specs.declared.unfit.Unfit.{Unfit}
+use Rattle.captures.specs.Pcap.{IsPacketRecord}
+use Rattle.captures.specs.Runs.{IsCapture}
+use Rattle.captures.specs.Encoding.{file_header, record_head, record_of, capture_of}
+use Rattle.line_grammar.specs.TimedLines.{TimedFrame}
+use Rattle.captures.specs.Encoding.{packets_in, parts_in, origin_of, IsWritable}
+use Rattle.captures.specs.Numbers.{word}
+use Rattle.captures.specs.Times.{record_time}
+use Rattle.captures.specs.declared.time.time_unit.TimeUnit.TheVariants.{Microseconds, Nanoseconds}
+use Rattle.captures.specs.Units.{Row, in_a_row, IsRecordUnit, OpensFile, record_origin}
+use Rattle.captures.specs.declared.byte_order.ByteOrder.TheVariants.{Little}
+use Rattle.line_grammar.specs.declared.limits.TheConstants.{FRAME_LIMIT}
+use Rattle.captures.specs.declared.link.kind.Link.TheVariants.{Ethernet}
+use Rattle.captures.specs.declared.translation.state.State.TheVariants.{Classic}
+use Rattle.captures.specs.declared.time.time_unit.TimeUnit.{TimeUnit}
+use Rattle.captures.specs.declared.origin.Origin.{Origin}
+
+abbrev origin_at : ℕ → Origin
+origin_at time = record { channel = 0; time = time }
+
+-- the bytes of a number encode it
+encoded : (n : ℕ) → n < 2 ^ 32
+    → n % 256 + 256 * (n / 256 % 256 + 256 * (n / 65536 % 256 + 256 * (n / 16777216 % 256))) ≡ n
+encoded n fits = omega arith
+
+record_is : (time_unit : TimeUnit) (timed : TimedFrame) → length timed.frame ≤ FRAME_LIMIT
+    → IsPacketRecord Little (record_of time_unit timed) timed.frame
+record_is time_unit timed fits = record {
+  head = record_head timed.seconds (parts_in time_unit timed.nanoseconds) (length timed.frame);
+  parts = refl;
+  size = refl;
+  captured = encoded (length timed.frame) (omega arith);
+}
+
+-- an Ethernet packet is its frame, if it has bytes or none
+either_way : (none : Bool) (frame : List ℕ)
+    → reported_by NoFrame (option_map frame_bytes
+    (if none then Some (own_frame frame) else Some (own_frame frame))) ≡ Ok frame
+either_way true frame = refl
+either_way false frame = refl
+
+own_reported : (frame : List ℕ) → length frame ≤ FRAME_LIMIT → reported_of Ethernet frame ≡ Ok frame
+own_reported frame short =
+    rw (le-ltb (captured_limit Ethernet) (length frame) (omega arith))
+    (either_way (length frame == 0) frame)
+
+own_fits : (unfit : Unfit) (frame : List ℕ) → length frame ≤ FRAME_LIMIT
+    → length frame ≤ taken_limit unfit Ethernet
+own_fits Refuse frame short = omega arith
+own_fits Skip frame short = omega arith
+
+abbrev at_frames : TimeUnit → Passing → State
+at_frames time_unit passing = Classic Little time_unit Ethernet passing
+
+is_unit : (time_unit : TimeUnit) (passing : Passing) (timed : TimedFrame) → length timed.frame ≤ FRAME_LIMIT
+    → IsRecordUnit Little time_unit Ethernet passing (record_of time_unit timed)
+    (at_frames time_unit passing) timed.frame
+is_unit time_unit passing timed fits = record {
+  packet = timed.frame;
+  is_record = record_is time_unit timed fits;
+  fits = own_fits passing.unfit timed.frame fits;
+  is_reported = ap (frame_by passing.unfit) (own_reported timed.frame fits);
+  next = ap (λ (reported : Result (List ℕ) Reason). at_frames time_unit (counted_by passing reported))
+      (sym (own_reported timed.frame fits));
+}
+
+units_of : TimeUnit → List TimedFrame → List (List ℕ)
+units_of time_unit [] = []
+units_of time_unit (timed ∷ frames) = record_of time_unit timed ∷ units_of time_unit frames
+
+in_a_row-units_of : (time_unit : TimeUnit) (frames : List TimedFrame)
+    → in_a_row (units_of time_unit frames) ≡ flat_map (record_of time_unit) frames
+unfolding units_of
+in_a_row-units_of time_unit [] = refl
+in_a_row-units_of time_unit (timed ∷ frames) =
+    ap (λ l. record_of time_unit timed ++ l) (in_a_row-units_of time_unit frames)
+
+-- the time in a record
+parts_few : (time_unit : TimeUnit) (n : ℕ) → n < 1000000000 → parts_in time_unit n < 2 ^ 32
+parts_few Microseconds n few = omega arith
+parts_few Nanoseconds n few = omega arith
+
+its_origin : (time_unit : TimeUnit) (timed : TimedFrame) → IsWritable timed
+    → origin_of time_unit timed ≡ record_origin Little time_unit (record_of time_unit timed)
+its_origin time_unit timed fits =
+    let seconds : word Little (record_of time_unit timed) 0 ≡ timed.seconds =
+    encoded timed.seconds fits.seconds in
+    let parts : word Little (record_of time_unit timed) 4 ≡ parts_in time_unit timed.nanoseconds =
+    encoded (parts_in time_unit timed.nanoseconds)
+    (parts_few time_unit timed.nanoseconds fits.nanoseconds) in
+    sym (ap₂ (λ (s p : ℕ). origin_at (record_time time_unit s p)) seconds parts)
+
+row_of : (time_unit : TimeUnit) (passing : Passing) (frames : List TimedFrame)
+    → AllByRecursion IsWritable frames
+    → Row (at_frames time_unit passing) (units_of time_unit frames) (packets_in time_unit frames)
+    (at_frames time_unit passing)
+unfolding units_of
+row_of time_unit passing [] all = (refl, refl)
+row_of time_unit passing (timed ∷ frames) all = (
+  at_frames time_unit passing,
+  origin_of time_unit timed,
+  timed.frame,
+  packets_in time_unit frames,
+  (is_unit time_unit passing timed all.0.short, its_origin time_unit timed all.0),
+  row_of time_unit passing frames all.1,
+  refl,
+)
+
+known_link : (unfit : Unfit) → link_for unfit 1 ≡ Some Ethernet
+known_link Refuse = refl
+known_link Skip = refl
+
+header_is : (unfit : Unfit) (time_unit : TimeUnit)
+    → OpensFile unfit (file_header time_unit) (at_frames time_unit (passing_from unfit))
+header_is unfit Microseconds = record {
+  order = Little;
+  link = Ethernet;
+  header = record { size = refl; magic = refl; major = refl; minor = refl };
+  known = known_link unfit;
+  next = refl;
+}
+header_is unfit Nanoseconds = record {
+  order = Little;
+  link = Ethernet;
+  header = record { size = refl; magic = refl; major = refl; minor = refl };
+  known = known_link unfit;
+  next = refl;
+}
+
+pub capture_is : (unfit : Unfit) (time_unit : TimeUnit) (frames : List TimedFrame)
+    → AllByRecursion IsWritable frames
+    → IsCapture unfit (capture_of time_unit frames) (packets_in time_unit frames) none_skipped
+capture_is unfit time_unit frames all = record {
+  state = at_frames time_unit (passing_from unfit);
+  passes = record {
+    units = file_header time_unit ∷ units_of time_unit frames;
+    row = (
+      at_frames time_unit (passing_from unfit),
+      origin_at 0,
+      [],
+      packets_in time_unit frames,
+      inl (header_is unfit time_unit, refl),
+      row_of time_unit (passing_from unfit) frames all,
+      refl,
+    );
+    parts = ap (λ l. file_header time_unit ++ l) (sym (in_a_row-units_of time_unit frames))
+        ∙ sym (append-nil (file_header time_unit ++ in_a_row (units_of time_unit frames)));
+  };
+  known = λ e. cc e;
+  counts = refl;
+}

@@ -1,0 +1,95 @@
+-- The first packet of some bytes.
+use Rattle.std.proofs.Common.{◌≡◌, ◌∙◌, sym, ap, ap₂, subst, ℕ, ◌+◌, ◌-◌, ◌<◌, ◌==◌, arith}
+use Rattle.std.proofs.Common.{true, false, List, [], ◌∷◌, ◌++◌, length, append_assoc, length-append}
+use Rattle.std.proofs.Common.{append-nil, Option}
+use Rattle.std.proofs.lemmas.Bool.{eqb-false}
+use Rattle.captures.specs.Framed.{FrameParts, frame_bytes}
+use Rattle.captures.specs.PacketSteps.{HasNone, IsFirst, IsFromEnd, origin_of, taken_of}
+use Rattle.captures.specs.Lines.{Packet as TakenPacket, lines_from, noted, noted_all, reported}
+use Rattle.captures.specs.Units.{HasPacket, Passes, StandsAt, Takes, in_a_row}
+use Rattle.captures.specs.declared.capture_error.CaptureError.{CaptureError}
+use Rattle.captures.specs.declared.link.kind.Link.{Link}
+use Rattle.captures.specs.declared.origin.Origin.{Origin}
+use Rattle.captures.specs.declared.packet.Packet.{Packet}
+use Rattle.captures.specs.declared.text.ledger.Ledger.{Ledger}
+use Rattle.captures.specs.declared.translation.state.State.{State}
+use Rattle.captures.proofs.UnitLemmas.{Reported, lines_from-append, no_packets_of, noted_all-append}
+use Rattle.captures.proofs.UnitLemmas.{one_packet, passes_none, passes_unit}
+
+-- one more unit without a packet
+pub passes_empty : (state mid after : State) (bytes rest rest' : List ℕ) (origin : Origin)
+    (link : Link) (frame : FrameParts) → Passes state bytes [] mid rest
+    → HasPacket mid rest after origin link frame rest' → (length (frame_bytes frame) == 0) ≡ true
+    → Passes state bytes [] after rest'
+passes_empty state mid after bytes rest rest' origin link frame p h none =
+    subst (λ (packets : List TakenPacket). Passes state bytes packets after rest')
+    (no_packets_of origin (frame_bytes frame) none)
+    (passes_unit state mid after bytes rest rest' [] origin (frame_bytes frame) p h.has_unit)
+
+pub some_bytes : (frame : FrameParts) → (length (frame_bytes frame) == 0) ≡ false
+    → 0 < length (frame_bytes frame)
+some_bytes frame some =
+    let not_zero = eqb-false (length (frame_bytes frame)) 0 some in omega arith
+
+-- where the frame of a unit is, after other units
+pub from_end : (bytes rest part : List ℕ) (at from : ℕ) (units : List (List ℕ))
+    → bytes ≡ in_a_row units ++ rest → StandsAt rest at part → from ≡ length rest - at
+    → IsFromEnd bytes from part
+from_end bytes rest part at from units parts s is = record {
+  before = in_a_row units ++ s.before;
+  following = s.following;
+  parts =
+      parts ∙ ap (λ (l : List ℕ). in_a_row units ++ l) s.parts
+      ∙ sym (append_assoc (in_a_row units) s.before (part ++ s.following));
+  position =
+      let position = s.position in
+      omega (arith, ap length s.parts, length-append s.before (part ++ s.following));
+}
+
+-- one more packet
+pub passes_first : (state mid after : State) (bytes rest rest' : List ℕ)
+    (packets : List TakenPacket) (packet : Packet) → Passes state bytes packets mid rest
+    → IsFirst mid rest after packet rest'
+    → Passes state bytes (packets ++ taken_of packet ∷ []) after rest'
+passes_first state mid after bytes rest rest' packets packet p f =
+    let frame = frame_bytes packet.frame in
+    let one = one_packet (origin_of packet) frame f.some in
+    subst (λ (l : List TakenPacket). Passes state bytes (packets ++ l) after rest') one
+    (passes_unit state f.mid after bytes f.between rest' packets (origin_of packet) frame
+    (passes_none state mid f.mid bytes rest f.between packets p f.passes) f.has.has_unit)
+
+pub reported_first : (ledger come come' : Ledger) (state mid after : State)
+    (bytes rest rest' text text' : List ℕ) (count : ℕ) (packet : Packet)
+    → Reported ledger state bytes mid rest count text come → IsFirst mid rest after packet rest'
+    → text' ≡ text ++ reported come (taken_of packet) → come' ≡ noted come (taken_of packet)
+    → Reported ledger state bytes after rest' (count + 1) text' come'
+reported_first ledger come come' state mid after bytes rest rest' text text' count packet t f all
+    next =
+    let taken = taken_of packet in
+    record {
+      packets = t.packets ++ taken ∷ [];
+      number = length-append t.packets (taken ∷ []) ∙ ap (λ (n : ℕ). n + 1) t.number;
+      passes = passes_first state mid after bytes rest rest' t.packets packet t.passes f;
+      lines =
+          all
+          ∙ ap₂ (λ (l : List ℕ) (c : Ledger). l ++ reported c taken) t.lines t.come
+          ∙ ap (λ (l : List ℕ). lines_from ledger t.packets ++ l)
+          (sym (append-nil (reported (noted_all ledger t.packets) taken)))
+          ∙ sym (lines_from-append ledger t.packets (taken ∷ []));
+      come = next ∙ ap (λ (c : Ledger). noted c taken) t.come
+          ∙ sym (noted_all-append ledger t.packets (taken ∷ []));
+    }
+
+-- no more
+pub reported_all : (ledger come : Ledger) (state mid after : State) (bytes rest rest' text : List ℕ)
+    (count : ℕ) (refusal : Option CaptureError)
+    → Reported ledger state bytes mid rest count text come → HasNone mid rest after rest' refusal
+    → Takes ledger state bytes after rest' count text refusal come
+reported_all ledger come state mid after bytes rest rest' text count refusal t n = record {
+  packets = t.packets;
+  number = t.number;
+  passes = passes_none state mid after bytes rest rest' t.packets t.passes n.passes;
+  reported = t.lines;
+  left = n.left;
+  come = t.come;
+}

@@ -1,0 +1,16 @@
+//! What `captures_cli` does but for the system that it runs on: what its words request, what it
+//! makes of its input, and how it ends.
+#![tactic(auto)]
+
+mod ending;
+pub mod laws;
+mod making;
+mod modes;
+mod notes;
+mod words;
+
+pub use ending::{PROGRAM, exit_code};
+pub use making::make;
+pub use modes::Mode;
+pub use notes::note;
+pub use words::{Requested, requested_by};

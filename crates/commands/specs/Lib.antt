@@ -1,7 +1,0 @@
-pub mod Commands
-pub mod Fronts
-pub mod Numbers
-pub mod Reads
-pub mod Request
-pub mod TimedLines
-pub mod Written

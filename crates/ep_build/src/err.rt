@@ -1,3 +1,0 @@
-//! Errors.
-
-pub mod packet;

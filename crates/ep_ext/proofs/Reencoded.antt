@@ -1,0 +1,237 @@
+-- A value that is read from headers in a row names them in that row.
+use Rattle.std.proofs.Common.{◌≡◌, ℕ, Bool, true, false, cond, eqb, is_some, ◌||◌, List, [], ◌∷◌}
+use Rattle.std.proofs.Common.{◌++◌, Option, Some, None, Result, Ok, Err, IsOkAnd, get_or, arith}
+use Rattle.std.proofs.Common.{refl, sym, ap, ◌∙◌, subst}
+use Rattle.std.specs.Prelude.{⊤}
+use Rattle.std.proofs.lemmas.Bool.{eq-eqb}
+use Rattle.std.proofs.lemmas.List.{length-drop}
+use Rattle.std.specs.Option.{option_map, option_and_then}
+use Rattle.ep_base.specs.declared.net.ip_number.IpNumber.{IpNumber}
+use Rattle.ep_ext.specs.Raw.{IsRawExt, raw_of, raw_encoding}
+use Rattle.ep_ext.specs.Fragment.{fragment_of, fragment_encoding}
+use Rattle.ep_ext.specs.Auth.{auth_of, auth_encoding}
+use Rattle.ep_ext.specs.Slot.{rank, is_passed, slot_of, is_same}
+use Rattle.ep_ext.specs.Value.{Piece, slots, piece_at, value_of}
+use Rattle.ep_ext.specs.Chain.{IsPiece, Row}
+use Rattle.ep_ext.specs.Follow.{header_in, AreHeld, Follows, Names, walk_fault, is_left}
+use Rattle.ep_ext.specs.declared.err.ipv6_exts.exts_walk_error.ExtsWalkError.{ExtsWalkError}
+use Rattle.ep_ext.specs.declared.net.ipv6_ext_slot.Ipv6ExtSlot.{Ipv6ExtSlot}
+use Rattle.ep_ext.specs.declared.net.ipv6_ext_slot.Ipv6ExtSlot.TheVariants.{HopByHop, Destination}
+use Rattle.ep_ext.specs.declared.net.ipv6_ext_slot.Ipv6ExtSlot.TheVariants.{Routing, Fragment}
+use Rattle.ep_ext.specs.declared.net.ipv6_ext_slot.Ipv6ExtSlot.TheVariants.{Authentication}
+use Rattle.ep_ext.specs.declared.net.ipv6_ext_slot.Ipv6ExtSlot.TheVariants.{FinalDestination}
+use Rattle.ep_ext.specs.declared.net.ipv6_extensions.Ipv6Extensions.{Ipv6Extensions}
+use Rattle.ep_ext.specs.declared.net.ipv6_routing_extensions.Ipv6RoutingExtensions.{Ipv6RoutingExtensions}
+use Rattle.std.proofs.lemmas.Option.{none-some}
+use Rattle.ep_ext.proofs.Values.{open_free, rank_same, slot_open, piece_none, passed_same}
+use Rattle.ep_ext.proofs.Values.{passed_more, final_after_row, IsFinalAfterRouting, routing_from}
+use Rattle.ep_ext.proofs.Linking.{no_left, left_none}
+
+-- the bytes of a header of this slot, encoded again from its fields
+abbrev pub reencoded : Ipv6ExtSlot → List ℕ → List ℕ
+reencoded HopByHop h = raw_encoding (raw_of h)
+reencoded Destination h = raw_encoding (raw_of h)
+reencoded Routing h = raw_encoding (raw_of h)
+reencoded Fragment h = fragment_encoding (fragment_of h)
+reencoded Authentication h = auth_encoding (auth_of h)
+reencoded FinalDestination h = raw_encoding (raw_of h)
+
+raw_again : (h : List ℕ) → IsRawExt h → IsRawExt (raw_encoding (raw_of h))
+raw_again h piece = record {
+  least = omega (arith, length-drop 2 h, piece.least);
+  whole = omega (arith, length-drop 2 h, piece.least, piece.whole);
+}
+
+pub reencoded_piece : (p : Ipv6ExtSlot) (h : List ℕ) → IsPiece p h → IsPiece p (reencoded p h)
+reencoded_piece HopByHop h piece = raw_again h piece
+reencoded_piece Destination h piece = raw_again h piece
+reencoded_piece Routing h piece = raw_again h piece
+reencoded_piece Fragment h piece = record { whole = refl }
+reencoded_piece Authentication h piece = record {
+  least = omega arith;
+  whole = omega (arith, length-drop 12 h, piece.least, piece.whole);
+}
+reencoded_piece FinalDestination h piece = raw_again h piece
+
+first_same : (p : Ipv6ExtSlot) (h : List ℕ) → get_or (reencoded p h) 0 0 ≡ get_or h 0 0
+first_same HopByHop h = refl
+first_same Destination h = refl
+first_same Routing h = refl
+first_same Fragment h = refl
+first_same Authentication h = refl
+first_same FinalDestination h = refl
+
+abbrev pub reencode : List Piece → List Piece
+reencode [] = []
+reencode (x ∷ xs) = (x.0, reencoded x.0 x.1) ∷ reencode xs
+
+pub slots_reencode : (xs : List Piece) → slots (reencode xs) ≡ slots xs
+slots_reencode [] = refl
+slots_reencode (x ∷ xs) = ap (λ (ps : List Ipv6ExtSlot). x.0 ∷ ps) (slots_reencode xs)
+
+pub row_reencode : (passed : List Ipv6ExtSlot) (number : ℕ) (xs : List Piece) (last : ℕ)
+    → Row slot_of passed number xs last → Row slot_of passed number (reencode xs) last
+row_reencode passed number [] last row = row
+row_reencode passed number (x ∷ xs) last row = (
+  row.0,
+  reencoded_piece x.0 x.1 row.1,
+  subst (λ (n : ℕ). Row slot_of (passed ++ x.0 ∷ []) n (reencode xs) last)
+      (sym (first_same x.0 x.1)) (row_reencode (passed ++ x.0 ∷ []) _ xs last row.2),
+)
+
+-- the header in the slot of each list element is that element's
+abbrev AreAt : List Piece → List Piece → Type 0
+AreAt all [] = ⊤
+AreAt all (x ∷ xs) = (piece_at all x.0 ≡ Some x.1) × AreAt all xs
+
+apart : (passed : List Ipv6ExtSlot) (q p : Ipv6ExtSlot) (b : Bool) → eqb (rank q) (rank p) ≡ b
+    → is_passed passed q ≡ true → is_passed passed p ≡ false → b ≡ false
+apart passed q p true e there free =
+    absurd (true_false (sym there ∙ ap (is_passed passed) (rank_same q p e) ∙ free))
+  where
+    true_false : true ≡ false → ⊥
+    true_false e = cc
+apart passed q p false e there free = refl
+
+at_more : (passed : List Ipv6ExtSlot) (number : ℕ) (x : Piece) (all xs : List Piece) (last : ℕ)
+    → Row slot_of passed number xs last → is_passed passed x.0 ≡ true
+    → AreAt all xs → AreAt (x ∷ all) xs
+at_more passed number x all [] last row there at = tt
+at_more passed number x all (y ∷ ys) last row there at =
+    let free = open_free passed y.0 (slot_open passed number y.0 row.0) in
+    let other : eqb (rank x.0) (rank y.0) ≡ false =
+    apart passed x.0 y.0 (eqb (rank x.0) (rank y.0)) refl there free in (
+      ap (λ (b : Bool). cond b (Some x.1) (piece_at all y.0)) other ∙ at.0,
+      at_more (passed ++ y.0 ∷ []) _ x all ys last row.2 (kept_passed passed y.0 x.0 there) at.1,
+    )
+  where
+    kept_passed : (passed : List Ipv6ExtSlot) (p q : Ipv6ExtSlot) → is_passed passed q ≡ true
+        → is_passed (passed ++ p ∷ []) q ≡ true
+    kept_passed passed p q e = passed_more passed p q ∙ ap (λ (b : Bool). is_same p q || b) e
+        ∙ or_true (is_same p q)
+      where
+        or_true : (b : Bool) → (b || true) ≡ true
+        or_true true = refl
+        or_true false = refl
+
+row_at : (passed : List Ipv6ExtSlot) (number : ℕ) (xs : List Piece) (last : ℕ)
+    → Row slot_of passed number xs last → AreAt xs xs
+row_at passed number [] last row = tt
+row_at passed number (x ∷ xs) last row = (
+  ap (λ (b : Bool). cond b (Some x.1) (piece_at xs x.0)) (eq-eqb (rank x.0) (rank x.0) refl),
+  at_more (passed ++ x.0 ∷ []) _ x xs xs last row.2
+      (passed_same passed x.0 x.0 (eq-eqb (rank x.0) (rank x.0) refl))
+      (row_at (passed ++ x.0 ∷ []) _ xs last row.2),
+)
+
+routing_read : (r f : Option (List ℕ))
+    → option_map {T = Ipv6RoutingExtensions} (λ x. raw_encoding x.routing) (routing_from r f)
+    ≡ option_map (λ h. raw_encoding (raw_of h)) r
+routing_read None f = refl
+routing_read (Some h) f = refl
+
+final_read : (r f : Option (List ℕ)) → (is_some f ≡ true → is_some r ≡ true) →
+    option_and_then {T = Ipv6RoutingExtensions}
+    (λ x. option_map raw_encoding x.final_destination_options) (routing_from r f)
+    ≡ option_map (λ h. raw_encoding (raw_of h)) f
+final_read None None following = refl
+final_read None (Some h) following = let e = following refl in cc
+final_read (Some g) None following = refl
+final_read (Some g) (Some h) following = refl
+
+raw_read : (o : Option (List ℕ)) → option_map raw_encoding (option_map raw_of o)
+    ≡ option_map (λ h. raw_encoding (raw_of h)) o
+raw_read None = refl
+raw_read (Some h) = refl
+
+fragment_read : (o : Option (List ℕ))
+    → option_map fragment_encoding (option_map fragment_of o)
+    ≡ option_map (λ h. fragment_encoding (fragment_of h)) o
+fragment_read None = refl
+fragment_read (Some h) = refl
+
+auth_read : (o : Option (List ℕ)) → option_map auth_encoding (option_map auth_of o)
+    ≡ option_map (λ h. auth_encoding (auth_of h)) o
+auth_read None = refl
+auth_read (Some h) = refl
+
+some_passed : (pieces : List Piece) (q : Ipv6ExtSlot)
+    → is_some (piece_at pieces q) ≡ is_passed (slots pieces) q
+some_passed [] q = refl
+some_passed (x ∷ xs) q = by (eqb (rank x.0) (rank q)) x.1 (piece_at xs q)
+    (is_passed (slots xs) q) (some_passed xs q)
+  where
+    by : (b : Bool) (h : List ℕ) (o : Option (List ℕ)) (c : Bool) → is_some o ≡ c
+        → is_some (cond b (Some h) o) ≡ (b || c)
+    by true h o c e = refl
+    by false h o c e = e
+
+-- what the value of some headers holds is these headers, encoded again
+pub held_read : (pieces : List Piece) (p : Ipv6ExtSlot) → IsFinalAfterRouting (slots pieces)
+    → header_in (value_of pieces) p ≡ option_map (reencoded p) (piece_at pieces p)
+held_read pieces HopByHop following = raw_read (piece_at pieces HopByHop)
+held_read pieces Destination following = raw_read (piece_at pieces Destination)
+held_read pieces Routing following = routing_read (piece_at pieces Routing)
+    (piece_at pieces FinalDestination)
+held_read pieces Fragment following = fragment_read (piece_at pieces Fragment)
+held_read pieces Authentication following = auth_read (piece_at pieces Authentication)
+held_read pieces FinalDestination following =
+    final_read (piece_at pieces Routing) (piece_at pieces FinalDestination)
+    (λ e. some_passed pieces Routing ∙ following (sym (some_passed pieces FinalDestination) ∙ e))
+
+held_reencode : (all xs : List Piece) → IsFinalAfterRouting (slots all) → AreAt all xs
+    → AreHeld (value_of all) (reencode xs)
+held_reencode all [] following at = tt
+held_reencode all (x ∷ xs) following at = (
+  held_read all x.0 following ∙ ap (option_map (reencoded x.0))
+      at.0,
+  held_reencode all xs following at.1,
+)
+
+not_there : (pieces : List Piece) (q : Ipv6ExtSlot) → IsFinalAfterRouting (slots pieces)
+    → is_passed (slots pieces) q ≡ false → header_in (value_of pieces) q ≡ None
+not_there pieces q following e = held_read pieces q following
+    ∙ ap (option_map (reencoded q)) (piece_none pieces q e)
+
+pub follows_read : (first : ℕ) (pieces : List Piece) (last : ℕ) → Row slot_of [] first pieces last
+    → Follows (value_of pieces) first (reencode pieces) last
+follows_read first pieces last row =
+    let following : IsFinalAfterRouting (slots pieces) = final_after_row [] first pieces last row (λ e. e) in
+    record {
+      row = row_reencode [] first pieces last row;
+      headers = held_reencode pieces pieces following (row_at [] first pieces last row);
+      ended = λ slot free.
+          not_there pieces slot following
+          (sym (ap (λ (ps : List Ipv6ExtSlot). is_passed ps slot) (slots_reencode pieces))
+          ∙ open_free (slots (reencode pieces)) slot
+          (slot_open (slots (reencode pieces)) last slot free));
+    }
+
+pub whole_read : (first : ℕ) (pieces : List Piece) (last : ℕ) → Row slot_of [] first pieces last
+    → walk_fault (value_of pieces) (reencode pieces) last ≡ None
+whole_read first pieces last row =
+    let following : IsFinalAfterRouting (slots pieces) = final_after_row [] first pieces last row (λ e. e) in
+    no_left (is_left (value_of pieces) (slots (reencode pieces))) last
+    (λ p. left_none (header_in (value_of pieces) p) (is_passed (slots (reencode pieces)) p)
+    (λ e. not_there pieces p following
+    (sym (ap (λ (ps : List Ipv6ExtSlot). is_passed ps p) (slots_reencode pieces)) ∙ e)))
+
+pub named_ok : (value : Ipv6Extensions) (pieces : List Piece) (last : ℕ)
+    (answer : Result IpNumber ExtsWalkError) → Names value pieces last answer
+    → walk_fault value pieces last ≡ None → IsOkAnd answer (λ n. n.0 ≡ last)
+named_ok value pieces last (Ok n) names none = names.0
+named_ok value pieces last (Err e) names none = absurd (none-some e (sym none ∙ names))
+
+pub read_named : (value : Ipv6Extensions) (first : ℕ) (answer : Result IpNumber ExtsWalkError) →
+    ((pieces : List Piece) (last : ℕ) → Follows value first pieces last
+    → Names value pieces last answer) →
+    (pieces : List Piece) (last : ℕ) → Row slot_of [] first pieces last → value ≡ value_of pieces
+    → IsOkAnd answer (λ n. n.0 ≡ last)
+read_named value first answer only pieces last row is =
+    let follows : Follows value first (reencode pieces) last =
+    subst (λ (v : Ipv6Extensions). Follows v first (reencode pieces) last) (sym is)
+    (follows_read first pieces last row) in
+    let whole : walk_fault value (reencode pieces) last ≡ None =
+    subst (λ (v : Ipv6Extensions). walk_fault v (reencode pieces) last ≡ None) (sym is)
+    (whole_read first pieces last row) in
+    named_ok value (reencode pieces) last answer (only (reencode pieces) last follows) whole

@@ -1,8 +1,0 @@
-use Rattle.ep_fragments.proofs.Clash.{clashes_Decides, repeat_Decides}
-use Rattle.ep_fragments.proofs.laws.clashes_are_tested.Goals as goal
-
-pub returns-clause-repeat : goal.returns-clause-repeat
-returns-clause-repeat c = λ fs f. repeat_Decides fs f
-
-pub returns-clause-clash : goal.returns-clause-clash
-returns-clause-clash c = λ fs f. clashes_Decides fs f

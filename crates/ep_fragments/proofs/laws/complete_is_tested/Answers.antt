@@ -1,5 +1,0 @@
-use Rattle.ep_fragments.proofs.Complete.{complete_Decides}
-use Rattle.ep_fragments.proofs.laws.complete_is_tested.Goals as goal
-
-pub returns : goal.returns
-returns c = λ fs. ((complete_Decides fs).0, (complete_Decides fs).1)

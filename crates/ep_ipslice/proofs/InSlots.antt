@@ -1,0 +1,221 @@
+-- Headers in slots of one value, as a view takes them.
+use Rattle.std.proofs.Common.{◌≡◌, ◌∙◌, ℕ, ◌==◌, ◌||◌, Bool, true, false, cond, List, [], ◌∷◌, ◌++◌}
+use Rattle.std.proofs.Common.{Some, None, refl, ap, subst}
+use Rattle.std.specs.Option.{option_map, option_map_or}
+use Rattle.std.proofs.lemmas.List.Folds.{list_any-append}
+use Rattle.ep_base.specs.Bytes.{num}
+use Rattle.ep_ext.specs.Chain.{IsPiece, Row}
+use Rattle.ep_ext.specs.Fragment.{fragment_of, fragments}
+use Rattle.ep_ext.specs.Slot.{at_start, is_passed, is_same, slot_of}
+use Rattle.ep_ext.specs.Value.{Piece, bytes_of, piece_at}
+use Rattle.ep_ext.specs.declared.net.ipv6_ext_slot.Ipv6ExtSlot.{Ipv6ExtSlot}
+use Rattle.ep_ext.specs.declared.net.ipv6_ext_slot.Ipv6ExtSlot.TheVariants.{HopByHop, Destination}
+use Rattle.ep_ext.specs.declared.net.ipv6_ext_slot.Ipv6ExtSlot.TheVariants.{Routing, Fragment}
+use Rattle.ep_ext.specs.declared.net.ipv6_ext_slot.Ipv6ExtSlot.TheVariants.{Authentication}
+use Rattle.ep_ext.specs.declared.net.ipv6_ext_slot.Ipv6ExtSlot.TheVariants.{FinalDestination}
+use Rattle.ep_ipslice.specs.Ipv6Exts.{is_any_fragmenting, view_order}
+
+-- a view has one slot for destination options
+seen_at : Ipv6ExtSlot → Ipv6ExtSlot
+seen_at HopByHop = HopByHop
+seen_at Destination = Destination
+seen_at Routing = Routing
+seen_at Fragment = Fragment
+seen_at Authentication = Authentication
+seen_at FinalDestination = Destination
+
+seen_slots : List Ipv6ExtSlot → List Ipv6ExtSlot
+seen_slots [] = []
+seen_slots (p ∷ ps) = seen_at p ∷ seen_slots ps
+
+seen : List Piece → List Piece
+seen [] = []
+seen (piece ∷ pieces) = (seen_at piece.0, piece.1) ∷ seen pieces
+
+seen_piece : (slot : Ipv6ExtSlot) (header : List ℕ) → IsPiece slot header
+    → IsPiece (seen_at slot) header
+unfolding seen_at
+seen_piece HopByHop header is = is
+seen_piece Destination header is = is
+seen_piece Routing header is = is
+seen_piece Fragment header is = is
+seen_piece Authentication header is = is
+seen_piece FinalDestination header is = is
+
+seen_more : (passed : List Ipv6ExtSlot) (slot : Ipv6ExtSlot)
+    → seen_slots (passed ++ slot ∷ []) ≡ seen_slots passed ++ seen_at slot ∷ []
+unfolding seen_slots
+seen_more [] slot = refl
+seen_more (p ∷ ps) slot = ap (λ (xs : List Ipv6ExtSlot). seen_at p ∷ xs) (seen_more ps slot)
+
+once_is : (taken : Bool) (slot found : Ipv6ExtSlot)
+    → cond taken None (Some slot) ≡ Some found → slot ≡ found
+once_is true slot found is = cc
+once_is false slot found is = cc
+
+prefix_is : (passed : List Ipv6ExtSlot) (found : Ipv6ExtSlot) → at_start passed ≡ Some found
+    → at_start (seen_slots passed) ≡ Some (seen_at found)
+unfolding seen_slots seen_at
+prefix_is [] found is = let same : HopByHop ≡ found = cc in
+    ap (λ (p : Ipv6ExtSlot). Some (seen_at p)) same
+prefix_is (p ∷ ps) found is = cc
+
+-- a slot that a value has for a number is one that a view has
+slot_seen_at : (zero routing fragment auth destination following : Bool) (r f a fd d : Bool)
+    (passed : List Ipv6ExtSlot) (found : Ipv6ExtSlot) →
+    cond zero (at_start passed)
+    (cond routing (cond r None (Some Routing))
+    (cond fragment (cond f None (Some Fragment))
+    (cond auth (cond a None (Some Authentication))
+    (cond destination (cond following (cond fd None (Some FinalDestination))
+    (cond d None (Some Destination))) None)))) ≡ Some found →
+    cond zero (at_start (seen_slots passed))
+    (cond routing (Some Routing)
+    (cond fragment (Some Fragment)
+    (cond auth (Some Authentication) (cond destination (Some Destination) None))))
+    ≡ Some (seen_at found)
+unfolding seen_at
+slot_seen_at true routing fragment auth destination following r f a fd d passed found is =
+    prefix_is passed found is
+slot_seen_at false true fragment auth destination following r f a fd d passed found is =
+    ap (λ (p : Ipv6ExtSlot). Some (seen_at p)) (once_is r Routing found is)
+slot_seen_at false false true auth destination following r f a fd d passed found is =
+    ap (λ (p : Ipv6ExtSlot). Some (seen_at p)) (once_is f Fragment found is)
+slot_seen_at false false false true destination following r f a fd d passed found is =
+    ap (λ (p : Ipv6ExtSlot). Some (seen_at p)) (once_is a Authentication found is)
+slot_seen_at false false false false true true r f a fd d passed found is =
+    ap (λ (p : Ipv6ExtSlot). Some (seen_at p)) (once_is fd FinalDestination found is)
+slot_seen_at false false false false true false r f a fd d passed found is =
+    ap (λ (p : Ipv6ExtSlot). Some (seen_at p)) (once_is d Destination found is)
+slot_seen_at false false false false false following r f a fd d passed found is = cc
+
+slot_seen : (passed : List Ipv6ExtSlot) (number : ℕ) (found : Ipv6ExtSlot)
+    → slot_of passed number ≡ Some found
+    → view_order (seen_slots passed) number ≡ Some (seen_at found)
+slot_seen passed number found is =
+    slot_seen_at (number == 0) (number == 43) (number == 44) (number == 51) (number == 60)
+    (is_passed passed Routing) (is_passed passed Routing) (is_passed passed Fragment)
+    (is_passed passed Authentication)
+    (is_passed passed FinalDestination) (is_passed passed Destination) passed found is
+
+row_seen : (passed : List Ipv6ExtSlot) (number : ℕ) (pieces : List Piece) (last : ℕ)
+    → Row slot_of passed number pieces last
+    → Row view_order (seen_slots passed) number (seen pieces) last
+unfolding seen
+row_seen passed number [] last row = row
+row_seen passed number (piece ∷ pieces) last row = (
+  slot_seen passed number piece.0 row.0,
+  seen_piece piece.0 piece.1 row.1,
+  subst (λ (ps : List Ipv6ExtSlot). Row view_order ps (num piece.1 0 1) (seen pieces) last)
+      (seen_more passed piece.0)
+      (row_seen (passed ++ piece.0 ∷ []) (num piece.1 0 1) pieces last row.2),
+)
+
+bytes_seen : (pieces : List Piece) → bytes_of (seen pieces) ≡ bytes_of pieces
+unfolding seen
+bytes_seen [] = refl
+bytes_seen (piece ∷ pieces) = ap (λ (xs : List ℕ). piece.1 ++ xs) (bytes_seen pieces)
+
+-- a second fragment header has no slot
+no_second : (zero routing fragment auth destination following : Bool) (r f a fd d : Bool)
+    (passed : List Ipv6ExtSlot) → f ≡ true →
+    cond zero (at_start passed)
+    (cond routing (cond r None (Some Routing))
+    (cond fragment (cond f None (Some Fragment))
+    (cond auth (cond a None (Some Authentication))
+    (cond destination (cond following (cond fd None (Some FinalDestination))
+    (cond d None (Some Destination))) None)))) ≡ Some Fragment → ⊥
+no_second true routing fragment auth destination following r f a fd d [] passed is = cc
+no_second true routing fragment auth destination following r f a fd d (p ∷ ps) passed is = cc
+no_second false true fragment auth destination following r f a fd d passed taken is =
+    let no : Routing ≡ Fragment = once_is r Routing Fragment is in cc
+no_second false false true auth destination following r true a fd d passed taken is = cc
+no_second false false true auth destination following r false a fd d passed taken is = cc
+no_second false false false true destination following r f a fd d passed taken is =
+    let no : Authentication ≡ Fragment = once_is a Authentication Fragment is in cc
+no_second false false false false true true r f a fd d passed taken is =
+    let no : FinalDestination ≡ Fragment = once_is fd FinalDestination Fragment is in cc
+no_second false false false false true false r f a fd d passed taken is =
+    let no : Destination ≡ Fragment = once_is d Destination Fragment is in cc
+no_second false false false false false following r f a fd d passed taken is = cc
+
+passed_more : (passed : List Ipv6ExtSlot) (slot : Ipv6ExtSlot) → is_passed passed Fragment ≡ true
+    → is_passed (passed ++ slot ∷ []) Fragment ≡ true
+passed_more passed slot is =
+    list_any-append (λ p. is_same p Fragment) passed (slot ∷ [])
+    ∙ ap (λ (b : Bool). b || (is_same slot Fragment || false)) is
+
+passed_last : (passed : List Ipv6ExtSlot) → is_passed (passed ++ Fragment ∷ []) Fragment ≡ true
+passed_last passed = list_any-append (λ p. is_same p Fragment) passed (Fragment ∷ [])
+    ∙ or_last (is_passed passed Fragment)
+  where
+    or_last : (b : Bool) → (b || true) ≡ true
+    or_last true = refl
+    or_last false = refl
+
+or_none : (b : Bool) → (b || false) ≡ b
+or_none true = refl
+or_none false = refl
+
+none_after : (passed : List Ipv6ExtSlot) (number : ℕ) (pieces : List Piece) (last : ℕ)
+    → is_passed passed Fragment ≡ true → Row slot_of passed number pieces last
+    → is_any_fragmenting (seen pieces) ≡ false
+unfolding seen seen_at
+none_after passed number [] last taken row = refl
+none_after passed number ((HopByHop, header) ∷ pieces) last taken row =
+    none_after (passed ++ HopByHop ∷ []) (num header 0 1) pieces last
+    (passed_more passed HopByHop taken) row.2
+none_after passed number ((Destination, header) ∷ pieces) last taken row =
+    none_after (passed ++ Destination ∷ []) (num header 0 1) pieces last
+    (passed_more passed Destination taken) row.2
+none_after passed number ((Routing, header) ∷ pieces) last taken row =
+    none_after (passed ++ Routing ∷ []) (num header 0 1) pieces last
+    (passed_more passed Routing taken) row.2
+none_after passed number ((Fragment, header) ∷ pieces) last taken row =
+    absurd (no_second (number == 0) (number == 43) (number == 44) (number == 51) (number == 60)
+    (is_passed passed Routing) (is_passed passed Routing) (is_passed passed Fragment)
+    (is_passed passed Authentication)
+    (is_passed passed FinalDestination) (is_passed passed Destination) passed taken row.0)
+none_after passed number ((Authentication, header) ∷ pieces) last taken row =
+    none_after (passed ++ Authentication ∷ []) (num header 0 1) pieces last
+    (passed_more passed Authentication taken) row.2
+none_after passed number ((FinalDestination, header) ∷ pieces) last taken row =
+    none_after (passed ++ FinalDestination ∷ []) (num header 0 1) pieces last
+    (passed_more passed FinalDestination taken) row.2
+
+abbrev IsSaid : List Piece → Type 0
+IsSaid pieces = is_any_fragmenting (seen pieces)
+    ≡ option_map_or fragments (option_map fragment_of (piece_at pieces Fragment)) false
+
+fragments_seen : (passed : List Ipv6ExtSlot) (number : ℕ) (pieces : List Piece) (last : ℕ)
+    → Row slot_of passed number pieces last → IsSaid pieces
+unfolding seen seen_at
+fragments_seen passed number [] last row = refl
+fragments_seen passed number ((HopByHop, header) ∷ pieces) last row =
+    fragments_seen (passed ++ HopByHop ∷ []) (num header 0 1) pieces last row.2
+fragments_seen passed number ((Destination, header) ∷ pieces) last row =
+    fragments_seen (passed ++ Destination ∷ []) (num header 0 1) pieces last row.2
+fragments_seen passed number ((Routing, header) ∷ pieces) last row =
+    fragments_seen (passed ++ Routing ∷ []) (num header 0 1) pieces last row.2
+fragments_seen passed number ((Fragment, header) ∷ pieces) last row =
+    ap (λ (b : Bool). fragments (fragment_of header) || b)
+    (none_after (passed ++ Fragment ∷ []) (num header 0 1) pieces last
+    (passed_last passed) row.2) ∙ or_none (fragments (fragment_of header))
+fragments_seen passed number ((Authentication, header) ∷ pieces) last row =
+    fragments_seen (passed ++ Authentication ∷ []) (num header 0 1) pieces last row.2
+fragments_seen passed number ((FinalDestination, header) ∷ pieces) last row =
+    fragments_seen (passed ++ FinalDestination ∷ []) (num header 0 1) pieces last row.2
+
+-- headers in slots of one value are headers of a view
+pub row_in_slots : (first : ℕ) (pieces : List Piece) (last : ℕ) → Row slot_of [] first pieces last →
+    (q : List Piece) × Row view_order [] first q last × (bytes_of q ≡ bytes_of pieces)
+    × (is_any_fragmenting q ≡ option_map_or fragments
+    (option_map fragment_of (piece_at pieces Fragment)) false)
+unfolding seen_slots
+row_in_slots first pieces last row = (
+  seen pieces,
+  row_seen [] first pieces last row,
+  bytes_seen pieces,
+  fragments_seen
+      [] first pieces last row,
+)

@@ -1,0 +1,104 @@
+-- What is found at the start of some bytes is a whole header.
+use Rattle.std.proofs.Common.{◌≡◌, ℕ, ◌≤◌, ◌+◌, ◌*◌, List, ◌++◌, length, take, drop, get_or, Result}
+use Rattle.std.proofs.Common.{Ok, Err, arith, sym, ap, ◌∙◌, take-append-drop}
+use Rattle.std.proofs.lemmas.Bool.{ltb-false, eqb-false}
+use Rattle.std.proofs.lemmas.List.{get_or-take, length-take-le}
+use Rattle.ep_base.proofs.Prefixes.{guard_ok, ok_same}
+use Rattle.ep_base.specs.declared.err.layer.Layer.{Layer}
+use Rattle.ep_base.specs.declared.err.len_error.LenError.{LenError}
+use Rattle.ep_ext.specs.Prefix.{prefix_at}
+use Rattle.ep_ext.specs.Raw.{IsRawExt, raw_at, raw_len}
+use Rattle.ep_ext.specs.Fragment.{IsFragment, fragment_at}
+use Rattle.ep_ext.specs.Auth.{IsAuth, auth_at, auth_len}
+use Rattle.ep_ext.specs.Chain.{IsPiece, prefix_of, of_len, of_auth}
+use Rattle.ep_base.specs.declared.err.slice_error.SliceError.{SliceError}
+use Rattle.ep_base.specs.declared.err.slice_error.SliceError.TheVariants as slice_error
+use Rattle.ep_ext.specs.declared.err.ip_auth.header_error.HeaderError.{HeaderError as AuthError}
+use Rattle.ep_ext.specs.declared.net.ipv6_ext_slot.Ipv6ExtSlot.{Ipv6ExtSlot}
+use Rattle.ep_ext.specs.declared.net.ipv6_ext_slot.Ipv6ExtSlot.TheVariants.{HopByHop, Destination}
+use Rattle.ep_ext.specs.declared.net.ipv6_ext_slot.Ipv6ExtSlot.TheVariants.{Routing, Fragment}
+use Rattle.ep_ext.specs.declared.net.ipv6_ext_slot.Ipv6ExtSlot.TheVariants.{Authentication}
+use Rattle.ep_ext.specs.declared.net.ipv6_ext_slot.Ipv6ExtSlot.TheVariants.{FinalDestination}
+
+of_len_ok : (r : Result (List ℕ) LenError) (header : List ℕ) → of_len r ≡ Ok header → r ≡ Ok header
+of_len_ok (Ok x) header h = cc
+of_len_ok (Err e) header h = cc
+
+of_auth_ok : (r : Result (List ℕ) (SliceError AuthError)) (header : List ℕ)
+    → of_auth r ≡ Ok header → r ≡ Ok header
+of_auth_ok (Ok x) header h = cc
+of_auth_ok (Err (slice_error.Len e)) header h = cc
+of_auth_ok (Err (slice_error.Content e)) header h = cc
+
+-- the prefix of this size is the header
+abbrev pub IsCut : List ℕ → ℕ → List ℕ → Type 0
+IsCut bytes size header = (size ≤ length bytes) × (take size bytes ≡ header)
+
+cut_found : (layer : Layer) (least size : ℕ) (bytes header : List ℕ)
+    → prefix_at layer least size bytes ≡ Ok header → (least ≤ length bytes) × IsCut bytes size header
+cut_found layer least size bytes header is =
+    let first = guard_ok _ _ _ _ is in
+    let second = guard_ok _ _ _ _ first.1 in (
+      ltb-false (length bytes) least first.0,
+      (ltb-false (length bytes) size second.0, ok_same _ _ second.1),
+    )
+
+-- the bytes are the header and what follows it
+cut_parts : (bytes : List ℕ) (size : ℕ) (header : List ℕ) → IsCut bytes size header
+    → bytes ≡ header ++ drop size bytes
+cut_parts bytes size header cut = sym (take-append-drop size bytes)
+    ∙ ap (λ (xs : List ℕ). xs ++ drop size bytes) cut.1
+
+cut_len : (bytes : List ℕ) (size : ℕ) (header : List ℕ)
+    → IsCut bytes size header → length header ≡ size
+cut_len bytes size header cut = ap length (sym cut.1) ∙ length-take-le size bytes cut.0
+
+cut_second : (bytes : List ℕ) (size : ℕ) (header : List ℕ) → IsCut bytes size header → 2 ≤ size
+    → get_or header 1 0 ≡ get_or bytes 1 0
+cut_second bytes size header cut two = ap (λ (xs : List ℕ). get_or xs 1 0) (sym cut.1)
+    ∙ get_or-take size bytes 1 0 (omega arith)
+
+-- a whole header and what follows it
+abbrev pub Begins : (List ℕ → Type 0) → List ℕ → List ℕ → Type 0
+Begins Is bytes header = Is header × ((following : List ℕ) × (bytes ≡ header ++ following))
+
+raw_begins : (bytes header : List ℕ) → raw_at bytes ≡ Ok header → Begins IsRawExt bytes header
+raw_begins bytes header is =
+    let cut : IsCut bytes (raw_len bytes) header = (cut_found _ _ _ _ _ is).1 in
+    let len = cut_len bytes (raw_len bytes) header cut in
+    let second = cut_second bytes (raw_len bytes) header cut (omega arith) in (
+      record { least = omega (arith, len); whole = len ∙ ap (λ (n : ℕ). (n + 1) * 8) (sym second) },
+      (drop (raw_len bytes) bytes, cut_parts bytes (raw_len bytes) header cut),
+    )
+
+fragment_begins : (bytes header : List ℕ) → fragment_at bytes ≡ Ok header
+    → Begins IsFragment bytes header
+fragment_begins bytes header is =
+    let cut : IsCut bytes 8 header = (cut_found _ _ _ _ _ is).1 in
+    (record { whole = cut_len bytes 8 header cut }, (drop 8 bytes, cut_parts bytes 8 header cut))
+
+auth_begins : (bytes header : List ℕ) → auth_at bytes ≡ Ok header → Begins IsAuth bytes header
+auth_begins bytes header is =
+    let first = guard_ok _ _ _ _ is in
+    let second = guard_ok _ _ _ _ first.1 in
+    let third = guard_ok _ _ _ _ second.1 in
+    let cut : IsCut bytes (auth_len bytes) header =
+    (ltb-false (length bytes) (auth_len bytes) third.0, ok_same _ _ third.1) in
+    let len = cut_len bytes (auth_len bytes) header cut in
+    let some = eqb-false (get_or bytes 1 0) 0 second.0 in
+    let next = cut_second bytes (auth_len bytes) header cut (omega arith) in (
+      record {
+        least = omega (arith, len, some);
+        whole = len ∙ ap (λ (n : ℕ). (n + 2) * 4) (sym next);
+      },
+      (drop (auth_len bytes) bytes, cut_parts bytes (auth_len bytes) header cut),
+    )
+
+pub prefix_begins : (slot : Ipv6ExtSlot) (bytes header : List ℕ) → prefix_of slot bytes ≡ Ok header
+    → Begins (IsPiece slot) bytes header
+prefix_begins HopByHop bytes header is = raw_begins bytes header (of_len_ok _ header is)
+prefix_begins Destination bytes header is = raw_begins bytes header (of_len_ok _ header is)
+prefix_begins Routing bytes header is = raw_begins bytes header (of_len_ok _ header is)
+prefix_begins Fragment bytes header is = fragment_begins bytes header (of_len_ok _ header is)
+prefix_begins Authentication bytes header is = auth_begins bytes header (of_auth_ok _ header is)
+prefix_begins FinalDestination bytes header is = raw_begins bytes header (of_len_ok _ header is)

@@ -1,0 +1,7 @@
+use Rattle.std.proofs.Common.{refl}
+use Rattle.ep_packet.specs.Tags.{tags_in}
+use Rattle.ep_packet.proofs.laws.sliced.ether_type_at_literals.Goals as goal
+
+pub returns-clause-ipv4 : goal.returns-clause-ipv4
+unfolding tags_in
+returns-clause-ipv4 c = refl

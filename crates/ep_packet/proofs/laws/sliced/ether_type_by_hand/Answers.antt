@@ -1,7 +1,0 @@
-use Rattle.std.proofs.Common.{refl}
-use Rattle.ep_packet.specs.Tags.{tags_in}
-use Rattle.ep_packet.proofs.laws.sliced.ether_type_by_hand.Goals as goal
-
-pub returns-clause-ipv4 : goal.returns-clause-ipv4
-unfolding tags_in
-returns-clause-ipv4 c = refl

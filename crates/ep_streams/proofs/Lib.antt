@@ -1,5 +1,0 @@
--- for the crates above, beside what is proved of each function
-pub mod Retaining
-mod Rooms
-mod Places
-mod Waiting

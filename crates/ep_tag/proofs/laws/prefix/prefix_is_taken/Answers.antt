@@ -1,0 +1,5 @@
+use Rattle.ep_tag.proofs.Prefix.{takes_prefix}
+use Rattle.ep_tag.proofs.laws.prefix.prefix_is_taken.Goals as goal
+
+pub returns : goal.returns
+returns c = takes_prefix

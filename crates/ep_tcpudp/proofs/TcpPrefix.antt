@@ -1,0 +1,115 @@
+-- The TCP header at the start of bytes.
+use Rattle.std.proofs.Common.{◌≡◌, ℕ, ◌+◌, ◌-◌, ◌*◌, ◌/◌, ◌≤◌, ◌↔◌, List, ◌++◌, length, take, drop}
+use Rattle.std.proofs.Common.{Result, Ok, Err, IfOk, IsOk, arith, sym, refl, ap, ◌∙◌}
+use Rattle.std.proofs.lemmas.Bool.{le-ltb, ltb-false, true≢false}
+use Rattle.std.proofs.lemmas.List.{get_or-take, length-take-le, take-append-drop, take_at}
+use Rattle.std.proofs.lemmas.List.{take_rest, get_or_append_left, length-append, length-drop}
+use Rattle.ep_base.specs.Bytes.{num}
+use Rattle.ep_base.specs.Prefixes.{TakesPrefix}
+use Rattle.ep_base.proofs.Prefixes.{guard_ok, ok_same, takes}
+use Rattle.ep_tcpudp.specs.Tcp.{IsTcpHeader, ReadableTcp, data_offset_of, options_of}
+use Rattle.ep_tcpudp.specs.TcpFault.{header_at, segment_at, with_header_at}
+use Rattle.ep_tcpudp.specs.TcpOptions.{IsTcpOptions}
+use Rattle.ep_base.specs.declared.err.slice_error.SliceError.{SliceError}
+use Rattle.ep_tcpudp.specs.declared.err.tcp.header_error.HeaderError.{HeaderError}
+
+twenty : (n : ℕ) → 5 ≤ n → 20 ≤ 4 * n
+twenty n h = omega arith
+
+with_header-ok : {A : Type 0} (bytes : List ℕ) (value : A) → ReadableTcp bytes
+    → with_header_at bytes value ≡ Ok value
+with_header-ok bytes value readable =
+    let least : 20 ≤ length bytes = omega (arith, readable.minimum, readable.header) in
+    rw (
+      le-ltb (length bytes) 20 least,
+      le-ltb (data_offset_of bytes) 5 readable.minimum,
+      le-ltb
+          (length bytes) (4 * data_offset_of bytes) readable.header,
+    ) refl
+
+-- what is taken is taken of readable bytes
+taken : {A : Type 0} (bytes : List ℕ) (value x : A) → with_header_at bytes value ≡ Ok x
+    → ReadableTcp bytes × (value ≡ x)
+taken bytes value x e =
+    let least = guard_ok _ _ _ _ e in
+    let minimum = guard_ok _ _ _ _ least.1 in
+    let whole = guard_ok _ _ _ _ minimum.1 in (
+      record {
+        minimum = ltb-false (data_offset_of bytes) 5 minimum.0;
+        header = ltb-false (length bytes) (4 * data_offset_of bytes) whole.0;
+      },
+      ok_same
+          _ _ whole.1,
+    )
+
+pub header_is : (bytes : List ℕ) → ReadableTcp bytes
+    → IsTcpHeader (take (4 * data_offset_of bytes) bytes)
+header_is bytes readable =
+    let first : num (take (4 * data_offset_of bytes) bytes) 12 1 ≡ num bytes 12 1 =
+    get_or-take (4 * data_offset_of bytes) bytes 12 0
+    (omega (arith, twenty (data_offset_of bytes) readable.minimum)) in
+    record {
+      minimum = rw first readable.minimum;
+      whole = rw first (length-take-le (4 * data_offset_of bytes) bytes readable.header);
+    }
+
+prefix_takes : (bytes prefix : List ℕ) → header_at bytes ≡ Ok prefix
+    → IsTcpHeader prefix × ((rest : List ℕ) × (bytes ≡ prefix ++ rest))
+prefix_takes bytes prefix e =
+    let size = 4 * data_offset_of bytes in
+    let is = taken bytes (take size bytes) prefix e in
+    rw (← is.1) (header_is bytes is.0, (drop size bytes, sym (take-append-drop size bytes)))
+
+-- a header is taken, whatever follows it
+prefix_again : (prefix rest : List ℕ) → IsTcpHeader prefix → header_at (prefix ++ rest) ≡ Ok prefix
+prefix_again prefix rest header =
+    let first : num (prefix ++ rest) 12 1 ≡ num prefix 12 1 =
+    get_or_append_left prefix rest 0 12 (omega (arith, header.minimum, header.whole)) in
+    let len = length-append prefix rest in
+    with_header-ok (prefix ++ rest) (take (4 * data_offset_of (prefix ++ rest)) (prefix ++ rest))
+    (record { minimum = rw first header.minimum; header = rw first (omega (arith, header.whole)) })
+    ∙ ap Ok (rw first (take_at prefix rest (4 * data_offset_of prefix) header.whole))
+
+pub takes_header : (bytes : List ℕ) (taken : Result (List ℕ) (SliceError HeaderError))
+    → taken ≡ header_at bytes → TakesPrefix IsTcpHeader bytes taken
+takes_header = takes IsTcpHeader header_at prefix_takes prefix_again
+
+pub ok_readable : (bytes : List ℕ) (r : Result (List ℕ) (SliceError HeaderError))
+    → r ≡ segment_at bytes → IsOk r ↔ ReadableTcp bytes
+ok_readable bytes (Ok segment) e = ((λ _. (taken bytes bytes segment (sym e)).0), (λ _. refl))
+ok_readable bytes (Err fault) e =
+    ((λ h. absurd (true≢false (sym h))), (λ readable. cc (e, with_header-ok bytes bytes readable)))
+
+pub ok_view : (bytes : List ℕ) (r : Result (List ℕ) (SliceError HeaderError)) → r ≡ segment_at bytes
+    → IfOk r (λ segment. segment ≡ bytes)
+ok_view bytes (Ok segment) e = sym (taken bytes bytes segment (sym e)).1
+ok_view bytes (Err fault) e = tt
+
+-- the options of a header are all after its fixed fields
+pub options_rest : (bytes : List ℕ) → IsTcpHeader bytes → options_of bytes ≡ drop 20 bytes
+options_rest bytes header = rw (← header.whole) (take_rest bytes 20)
+
+-- the options fit
+pub options_fit : (bytes options : List ℕ) → ReadableTcp bytes → data_offset_of bytes ≤ 15
+    → options ≡ options_of bytes → IsTcpOptions options
+options_fit bytes options readable small e =
+    let size : length (options_of bytes) ≡ 4 * data_offset_of bytes - 20 =
+    length-take-le (4 * data_offset_of bytes - 20) (drop 20 bytes)
+    (omega (arith, length-drop 20 bytes, readable.header)) in
+    rw e (record { fits = omega (arith, size); words = omega (arith, size, readable.minimum) })
+
+pub options_len : (bytes options : List ℕ) → ReadableTcp bytes → options ≡ options_of bytes
+    → 20 + length options ≡ 4 * data_offset_of bytes
+options_len bytes options readable e =
+    let size : length (options_of bytes) ≡ 4 * data_offset_of bytes - 20 =
+    length-take-le (4 * data_offset_of bytes - 20) (drop 20 bytes)
+    (omega (arith, length-drop 20 bytes, readable.header)) in
+    rw e (omega (arith, size, readable.minimum))
+
+pub options_offset : (bytes options : List ℕ) → ReadableTcp bytes → options ≡ options_of bytes
+    → 5 + length options / 4 ≡ data_offset_of bytes
+options_offset bytes options readable e = omega (arith, options_len bytes options readable e)
+
+pub readable_header : (bytes : List ℕ) → IsTcpHeader bytes → ReadableTcp bytes
+readable_header bytes header =
+    record { minimum = header.minimum; header = omega (arith, header.whole) }

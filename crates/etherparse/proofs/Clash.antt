@@ -1,0 +1,101 @@
+-- Whether a fragment is a repeat, and whether it clashes: the tests decide the propositions.
+use Rattle.std.proofs.Common.{◌≡◌, ℕ, ◌<◌, ◌≤◌, Bool, true, false, not, ◌&&◌, ◌||◌, ltb, ◌⊎◌, inl, inr}
+use Rattle.std.proofs.Common.{List, max, arith, sym, ◌∙◌, refl, subst}
+use Rattle.std.proofs.lemmas.Bool.{false≢true}
+use Rattle.std.proofs.lemmas.Bool.Decides.{nat_tests, Decides-eqb}
+use Rattle.std.proofs.lemmas.List.Folds.{Any-from_list_any, list_any-from_Any}
+use Rattle.std.specs.Bool.{Decides}
+use Rattle.std.specs.Cmp.{booleans_Decides}
+use Rattle.std.specs.Cmp.Lexicographic.{bytes_decides}
+use Rattle.std.specs.List.{Contains, list_any}
+use Rattle.ep_base.proofs.Same.{field, last_field, record_same}
+use Rattle.etherparse.specs.Fragments.{Fragment, start_of, end_of, Covered, IsRepeat, SharesOffset}
+use Rattle.etherparse.specs.Fragments.{EndsBelow, Clashes, same_fragment, is_repeat, holds_within}
+use Rattle.etherparse.specs.Fragments.{clashes}
+
+same_fragment_Decides : (f g : Fragment) → Decides (same_fragment f g) (f ≡ g)
+same_fragment_Decides f g = record_same
+    (field Decides-eqb (λ f. f.offset)
+    (field booleans_Decides (λ f. f.more) (last_field bytes_decides (λ f. f.bytes))))
+    (λ offset more bytes i. record { offset = offset i; more = more i; bytes = bytes i })
+
+pub repeat_Decides : (fs : List Fragment) (f : Fragment) → Decides (is_repeat fs f) (IsRepeat fs f)
+repeat_Decides fs f = (
+  (λ h. let k = Any-from_list_any (λ g. same_fragment g f) fs h in
+      let same : k.1 ≡ f = (same_fragment_Decides k.1 f).0 k.4 in
+      subst (λ g. Contains fs g) same (k.0, k.2, k.3)),
+  (λ h. list_any-from_Any (λ g. same_fragment g f) fs
+      (h.0, f, h.1, h.2, (same_fragment_Decides f f).1 refl)),
+)
+
+-- some fragment covers one of the offsets from a number on, up to another
+abbrev pub SomeHolds : List Fragment → ℕ → ℕ → Type 0
+SomeHolds fs low high = (p : ℕ) × (low ≤ p) × (p < high) × Covered fs p
+
+within_Decides : (fs : List Fragment) (low high : ℕ)
+    → Decides (list_any (λ g. holds_within g low high) fs) (SomeHolds fs low high)
+within_Decides fs low high = (
+  (λ h. let k = Any-from_list_any (λ g. holds_within g low high) fs h in
+      let test = k.4 in
+      let p = max (start_of k.1) low in
+      let here : (start_of k.1 ≤ p) × (p < end_of k.1) × (low ≤ p) × (p < high) =
+      grind (arith, nat_tests) in
+      (p, here.2, here.3, (k.0, k.1, k.2, k.3, (here.0, here.1)))),
+  (λ h. let c = h.3 in
+      list_any-from_Any (λ g. holds_within g low high) fs
+      (c.0, c.1, c.2, c.3, grind (arith, nat_tests))),
+)
+
+after_Decides : (fs : List Fragment) (f : Fragment)
+    → Decides (list_any (λ g. ltb (max (start_of g) (end_of f)) (end_of g)) fs) (EndsBelow fs f)
+after_Decides fs f = (
+  (λ h. let k = Any-from_list_any (λ g. ltb (max (start_of g) (end_of f)) (end_of g)) fs h in
+      let test = k.4 in
+      let p = max (start_of k.1) (end_of f) in
+      let here : (start_of k.1 ≤ p) × (p < end_of k.1) × (end_of f ≤ p) =
+      grind (arith, nat_tests) in
+      (p, here.2, (k.0, k.1, k.2, k.3, (here.0, here.1)))),
+  (λ h. let c = h.2 in
+      list_any-from_Any (λ g. ltb (max (start_of g) (end_of f)) (end_of g)) fs
+      (c.0, c.1, c.2, c.3, grind (arith, nat_tests))),
+)
+
+shares_Decides : (fs : List Fragment) (f : Fragment)
+    → Decides (list_any (λ g. holds_within g (start_of f) (end_of f)) fs) (SharesOffset fs f)
+shares_Decides fs f =
+    let test = within_Decides fs (start_of f) (end_of f) in (
+      (λ h. let k = test.0 h in (k.0, (k.1, k.2), k.3)),
+      (λ h. test.1 (h.0, h.1.0, h.1.1, h.2)),
+    )
+
+-- from two tests to the test of the one without the other
+without : {P Q : Type 0} (s t : Bool) → Decides s P → Decides t Q
+    → Decides (not s && t) ((P → ⊥) × Q)
+without true t p q = ((λ h. cc), (λ h. absurd (h.0 (p.0 refl))))
+without false t p q = ((λ h. ((λ k. false≢true (p.1 k)), q.0 h)), (λ h. q.1 h.1))
+
+unset : {Q : Type 0} (more t : Bool) → Decides t Q → Decides (not more && t) ((more ≡ false) × Q)
+unset true t q = ((λ h. cc), (λ h. cc))
+unset false t q = ((λ h. (refl, q.0 h)), (λ h. q.1 h.1))
+
+one_of : {P Q : Type 0} (s t : Bool) → Decides s P → Decides t Q → Decides (s || t) (P ⊎ Q)
+one_of true t p q = ((λ h. inl (p.0 refl)), (λ h. refl))
+one_of false t p q = (
+  (λ h. inr (q.0 h)),
+  (λ h. elim h [ inl k ↦ absurd (false≢true (p.1 k)) | inr k ↦ q.1 k ]),
+)
+
+pub clashes_Decides : (fs : List Fragment) (f : Fragment) → Decides (clashes fs f) (Clashes fs f)
+clashes_Decides fs f = one_of _ _
+    (without _ _ (repeat_Decides fs f) (shares_Decides fs f))
+    (unset f.more _ (after_Decides fs f))
+
+not_from_false : {P : Type 0} (b : Bool) → Decides b P → (P → ⊥) → b ≡ false
+not_from_false true d h = absurd (h (d.0 refl))
+not_from_false false d h = refl
+
+pub no_clash : (fs : List Fragment) (f : Fragment) → (Clashes fs f → ⊥) → clashes fs f ≡ false
+no_clash fs f h = not_from_false (clashes fs f) (clashes_Decides fs f) h
+
+pub clash_is : (fs : List Fragment) (f : Fragment) → clashes fs f ≡ false → Clashes fs f → ⊥
+clash_is fs f is h = false≢true (sym is ∙ (clashes_Decides fs f).1 h)

@@ -1,0 +1,65 @@
+//! IP headers.
+
+use crate::json::extensions;
+use crate::json::fields::{Hex, begin, flag, numbers, printed};
+use ep_ip::{Ipv4HeaderSlice, Ipv6HeaderSlice};
+use ep_ipslice::{Ipv4Slice, Ipv6Slice};
+use serde::Serializer;
+use std::net::{Ipv4Addr, Ipv6Addr};
+
+/// An IPv4 header (RFC 791), and an authentication header after it. It has no contract: tests
+/// compare the texts.
+pub fn ipv4<S: Serializer>(out: &mut S, packet: &Ipv4Slice<'_>) -> Result<(), S::Error> {
+    begin(out, "Ipv4")?;
+    ipv4_header(out, packet.header())?;
+    if let Some(header) = &packet.extensions().auth {
+        begin(out, "auth")?;
+        extensions::auth(out, header)?;
+        out.end_map()?;
+    }
+    out.end_map()
+}
+
+fn ipv4_header<S: Serializer>(out: &mut S, header: &Ipv4HeaderSlice<'_>) -> Result<(), S::Error> {
+    let leading = [
+        ("dscp", header.dcp().value().into()),
+        ("ecn", header.ecn().value().into()),
+        ("total_len", header.total_len().into()),
+        ("identification", header.identification().into()),
+    ];
+    numbers(out, &leading)?;
+    flag(out, "dont_fragment", header.dont_fragment())?;
+    flag(out, "more_fragments", header.more_fragments())?;
+    let rest = [
+        ("fragment_offset", header.fragments_offset().value().into()),
+        ("time_to_live", header.ttl().into()),
+        ("protocol", header.protocol().0.into()),
+        ("header_checksum", header.header_checksum().into()),
+    ];
+    numbers(out, &rest)?;
+    printed(out, "source", &Ipv4Addr::from(header.source()))?;
+    printed(out, "destination", &Ipv4Addr::from(header.destination()))?;
+    printed(out, "options", &Hex(header.options()))
+}
+
+/// An IPv6 header (RFC 8200), and the extension headers after it. It has no contract: tests compare
+/// the texts.
+pub fn ipv6<S: Serializer>(out: &mut S, packet: &Ipv6Slice<'_>) -> Result<(), S::Error> {
+    begin(out, "Ipv6")?;
+    ipv6_header(out, packet.header())?;
+    extensions::list(out, packet.extensions())?;
+    out.end_map()
+}
+
+fn ipv6_header<S: Serializer>(out: &mut S, header: &Ipv6HeaderSlice<'_>) -> Result<(), S::Error> {
+    let members = [
+        ("traffic_class", header.traffic_class().into()),
+        ("flow_label", header.flow_label().value().into()),
+        ("payload_length", header.payload_length().into()),
+        ("next_header", header.next_header().0.into()),
+        ("hop_limit", header.hop_limit().into()),
+    ];
+    numbers(out, &members)?;
+    printed(out, "source", &Ipv6Addr::from(header.source()))?;
+    printed(out, "destination", &Ipv6Addr::from(header.destination()))
+}

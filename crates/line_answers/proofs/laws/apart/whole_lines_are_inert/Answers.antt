@@ -1,6 +1,0 @@
-use Rattle.line_answers.proofs.InertLemmas.{whole_inert}
-use Rattle.line_answers.proofs.laws.apart.whole_lines_are_inert.Goals as goal
-
-pub returns : goal.returns
-returns c earlier line channel frame addresses number bytes message asked read =
-    whole_inert earlier line channel frame addresses number bytes message asked read

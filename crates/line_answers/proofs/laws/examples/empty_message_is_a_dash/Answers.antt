@@ -1,7 +1,0 @@
-use Rattle.std.proofs.Common.{refl}
-use Rattle.std.specs.Fmt.{digits}
-use Rattle.line_answers.proofs.laws.examples.empty_message_is_a_dash.Goals as goal
-
-pub returns : goal.returns
-unfolding digits
-returns c = refl

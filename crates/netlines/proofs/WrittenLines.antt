@@ -1,0 +1,223 @@
+-- The lines of what a run writes are its answers.
+use Rattle.std.proofs.Common.{◌≡◌, ◌∙◌, ap, refl, subst, sym, ℕ, zero, suc, ◌/◌, ◌%◌, ◌==◌}
+use Rattle.std.proofs.Common.{◌&&◌, Bool, true, false, not, cond, Option, Some, None, Result, Ok, Err, List, [], ◌∷◌}
+use Rattle.std.proofs.Common.{◌++◌, get_or, append_assoc, arith}
+use Rattle.std.specs.Fmt.{decimal, digit_glyph, digits, digits_onto}
+use Rattle.std.specs.Io.KnownBytes.{Appends}
+use Rattle.std.specs.Prelude.{IfSome, OnOk, codes}
+use Rattle.std.proofs.lemmas.Bool.{and_parts}
+use Rattle.std.proofs.lemmas.Bool.Decides.{nat_tests}
+use Rattle.hex.specs.Hex.{encode_with, lower_digits}
+use Rattle.etherparse.specs.Outcome.{Outcome}
+use Rattle.etherparse.specs.Outcome.Outcome.{Clash, Completed, Refusal, Waiting}
+use Rattle.etherparse.specs.Fragments.{fragment}
+use Rattle.etherparse.specs.PoolCalls.{Lists, outcome_at}
+use Rattle.etherparse.specs.declared.defrag.ip_defrag_error.IpDefragError.{IpDefragError}
+use Rattle.etherparse.specs.declared.defrag.ip_defrag_error.IpDefragError.TheVariants.{AllocationFailure}
+use Rattle.etherparse.specs.declared.defrag.ip_defrag_error.IpDefragError.TheVariants.{ConflictingEnd}
+use Rattle.etherparse.specs.declared.defrag.ip_defrag_error.IpDefragError.TheVariants.{OverlappingFragment}
+use Rattle.etherparse.specs.declared.defrag.ip_defrag_error.IpDefragError.TheVariants.{SegmentTooBig}
+use Rattle.etherparse.specs.declared.defrag.ip_defrag_error.IpDefragError.TheVariants.{UnalignedFragmentPayloadLen}
+use Rattle.etherparse.specs.packet.Class.{Class, FragmentName, class_of}
+use Rattle.etherparse.specs.packet.Class.Class.{Whole, Cut, Other, Refused}
+use Rattle.etherparse.specs.packet.Readable.{ReadMessage, message_at}
+use Rattle.etherparse.specs.packet.declared.addresses.Addresses.{Addresses}
+use Rattle.etherparse.specs.packet.declared.err.packet.slice_error.SliceError.{SliceError}
+use Rattle.line_grammar.specs.Commands.{Command, command_of}
+use Rattle.line_grammar.specs.Commands.Command.{Frame, Forget, Bad}
+use Rattle.lines.specs.Lines.{HasNoNewline, Split, last_line, lines_of, split, with_byte}
+use Rattle.lines.specs.LineAnswers.{answers_to_later}
+use Rattle.netlines.specs.Alone.{answers_after, answers_to, lines_that_matter}
+use Rattle.netlines.specs.Alone.{texts_that_matter}
+use Rattle.netlines.specs.TwoRuns.{AreIsolated}
+use Rattle.netlines.specs.Answers.{answer_after, answers_of, class_answer, command_answer}
+use Rattle.netlines.specs.Answers.{completed_answer, frame_meaning, hex_word, message_answer}
+use Rattle.netlines.specs.Answers.{outcome_answer, refusal_answer, answer_line_after, verdict_word}
+use Rattle.netlines.specs.Arrivals.{lists_after_lines}
+use Rattle.checksum_verdicts.specs.Verdict.{verdict_of}
+use Rattle.checksum_verdicts.specs.declared.verdict.Verdict.{Verdict}
+use Rattle.checksum_verdicts.specs.declared.verdict.Verdict.TheVariants as verdict
+use Rattle.netlines.proofs.AloneLemmas.{answer_is, not_true}
+
+-- ---- no answer has a 0a
+
+-- a text by a test, and two texts joined
+abbrev one_line : List ℕ → Bool
+one_line [] = true
+one_line (b ∷ bytes) = not (b == 10) && one_line bytes
+
+by_test : (text : List ℕ) → one_line text ≡ true → HasNoNewline text
+by_test [] t = tt
+by_test (b ∷ bytes) t =
+    let both = and_parts (not (b == 10)) (one_line bytes) t in
+    (not_true (b == 10) both.0, by_test bytes both.1)
+
+joined : (a b : List ℕ) → HasNoNewline a → HasNoNewline b → HasNoNewline (a ++ b)
+joined [] b left right = right
+joined (x ∷ a) b left right = (left.0, joined a b left.1 right)
+
+element : (text : List ℕ) (i : ℕ) → HasNoNewline text → (get_or text i 0 == 10) ≡ false
+element [] zero none = refl
+element [] (suc i) none = refl
+element (b ∷ bytes) zero none = none.0
+element (b ∷ bytes) (suc i) none = element bytes i none.1
+
+-- hex digits
+encoded : (table bytes : List ℕ) → HasNoNewline table → HasNoNewline (encode_with table bytes)
+unfolding encode_with
+encoded table [] none = tt
+encoded table (b ∷ bytes) none =
+    (element table (b / 16) none, (element table (b % 16) none, encoded table bytes none))
+
+-- decimal digits
+glyph : (d : ℕ) → (digit_glyph false d == 10) ≡ false
+glyph d = grind (arith, nat_tests)
+
+digits_end : (count n : ℕ) (text : List ℕ) → HasNoNewline text
+    → HasNoNewline (digits_onto count 10 false n text)
+digits_end zero n text none = none
+digits_end (suc count) n text none =
+    elim (n / 10 == 0) as (λ (b : Bool). HasNoNewline (cond b (digit_glyph false (n % 10) ∷ text)
+    (digits_onto count 10 false (n / 10) (digit_glyph false (n % 10) ∷ text)))) [
+      | true ↦ (glyph (n % 10), none)
+      | false ↦ digits_end count (n / 10) (digit_glyph false (n % 10) ∷ text)
+          (glyph (n % 10), none)
+    ]
+
+number_is_one_line : (n : ℕ) → HasNoNewline (decimal n)
+unfolding digits
+number_is_one_line n = digits_end 64 n [] tt
+
+hex_is_one_line : (bytes : List ℕ) → HasNoNewline (hex_word bytes)
+hex_is_one_line [] = by_test (codes "-") refl
+hex_is_one_line (byte ∷ bytes) = encoded lower_digits (byte ∷ bytes) (by_test lower_digits refl)
+
+verdict_is_one_line : (v : Verdict) → HasNoNewline (verdict_word v)
+verdict_is_one_line verdict.Good = by_test (codes "good") refl
+verdict_is_one_line verdict.Bad = by_test (codes "bad") refl
+verdict_is_one_line verdict.None = by_test (codes "none") refl
+
+message_reported : (number : ℕ) (v : Verdict) (message : List ℕ)
+    → HasNoNewline (message_answer number v message)
+message_reported number v message =
+    let numbered = codes "message " ++ decimal number in
+    let judged = numbered ++ codes " " ++ verdict_word v in
+    joined (judged ++ codes " ") (hex_word message)
+    (joined judged (codes " ")
+    (joined (numbered ++ codes " ") (verdict_word v)
+    (joined numbered (codes " ")
+    (joined (codes "message ") (decimal number) (by_test (codes "message ") refl)
+    (number_is_one_line number)) (by_test (codes " ") refl)) (verdict_is_one_line v))
+    (by_test (codes " ") refl)) (hex_is_one_line message)
+
+completed_is_one_line : (addresses : Addresses) (number : ℕ) (text : List ℕ)
+    (read : Result ReadMessage SliceError)
+    → HasNoNewline (completed_answer addresses number text read)
+completed_is_one_line addresses number text (Ok read) =
+    message_reported number (verdict_of addresses read) text
+completed_is_one_line addresses number text (Err e) = by_test (codes "refused message") refl
+
+refusal_is_one_line : (error : IpDefragError) → HasNoNewline (refusal_answer error)
+refusal_is_one_line (SegmentTooBig offset payload_len max) = by_test (codes "refused long") refl
+refusal_is_one_line (UnalignedFragmentPayloadLen offset payload_len) =
+    by_test (codes "refused unaligned") refl
+refusal_is_one_line (ConflictingEnd previous_end conflicting_end) = by_test (codes "refused end") refl
+refusal_is_one_line (AllocationFailure len) = tt
+refusal_is_one_line (OverlappingFragment offset payload_len) = by_test (codes "refused overlap") refl
+
+outcome_is_one_line : (name : FragmentName) (o : Outcome) → HasNoNewline (outcome_answer name o)
+outcome_is_one_line name (Refusal error) = refusal_is_one_line error
+outcome_is_one_line name (Clash error) = by_test (codes "refused overlap") refl
+outcome_is_one_line name (Waiting fs) = by_test (codes "wait") refl
+outcome_is_one_line name (Completed text) =
+    completed_is_one_line name.addresses name.number text (message_at name.number text)
+
+class_reported : (lists : Lists) (class : Class) (channel : ℕ)
+    → HasNoNewline (class_answer lists class channel)
+class_reported lists (Whole addresses number bytes message) channel =
+    message_reported number (verdict_of addresses message) bytes
+class_reported lists (Cut name offset more bytes) channel =
+    outcome_is_one_line name (outcome_at lists name channel (fragment offset more bytes))
+class_reported lists Other channel = by_test (codes "other") refl
+class_reported lists Refused channel = by_test (codes "refused frame") refl
+
+command_is_one_line : (lists : Lists) (command : Command) → HasNoNewline (command_answer lists command)
+command_is_one_line lists (Frame channel bytes) = class_reported lists (class_of bytes) channel
+command_is_one_line lists (Forget number) = by_test (codes "ok") refl
+command_is_one_line lists Bad = by_test (codes "bad line") refl
+
+answer_is_one_line : (earlier : List (List ℕ)) (line : List ℕ) → HasNoNewline (answer_after earlier line)
+answer_is_one_line earlier line = subst HasNoNewline (sym (answer_is earlier line))
+    (command_is_one_line (lists_after_lines earlier) (command_of line))
+
+-- ---- so the lines of the output are the answers
+
+-- a text that 0a ends is the first line
+abbrev started : List ℕ → Split → Split
+started text later = record { ended = text ∷ later.ended; rest = later.rest }
+
+first_split : (text following : List ℕ) → HasNoNewline text
+    → split (text ++ 10 ∷ following) ≡ started text (split following)
+unfolding split
+first_split [] following none = refl
+first_split (b ∷ text) following none =
+    ap (λ (t : Bool). cond t
+    (record { ended = [] ∷ (split (text ++ 10 ∷ following)).ended; rest = (split (text ++ 10 ∷ following)).rest })
+    (with_byte b (split (text ++ 10 ∷ following)).ended (split (text ++ 10 ∷ following)).rest)) none.0
+    ∙ ap (λ (later : Split). with_byte b later.ended later.rest) (first_split text following none.1)
+
+first_line : (text following : List ℕ) → HasNoNewline text
+    → lines_of (text ++ 10 ∷ following) ≡ text ∷ lines_of following
+first_line text following none =
+    ap (λ (s : Split). s.ended ++ last_line s.rest) (first_split text following none)
+
+answer_line_is : (earlier : List (List ℕ)) (line : List ℕ)
+    → answer_line_after earlier line ≡ answer_after earlier line ++ 10 ∷ []
+unfolding answer_line_after
+answer_line_is earlier line = refl
+
+answer_lines : (earlier lines : List (List ℕ))
+    → lines_of (answers_to_later frame_meaning earlier lines) ≡ answers_after earlier lines
+unfolding split
+answer_lines earlier [] = refl
+answer_lines earlier (line ∷ lines) =
+    let following = answers_to_later frame_meaning (earlier ++ line ∷ []) lines in
+    ap (λ (t : List ℕ). lines_of (t ++ following)) (answer_line_is earlier line)
+    ∙ ap lines_of (append_assoc (answer_after earlier line) (10 ∷ []) following)
+    ∙ first_line (answer_after earlier line) following (answer_is_one_line earlier line)
+    ∙ ap (λ (rest : List (List ℕ)). answer_after earlier line ∷ rest)
+    (answer_lines (earlier ++ line ∷ []) lines)
+
+pub written_lines : (bytes : List ℕ) → lines_of (answers_of bytes) ≡ answers_to (lines_of bytes)
+written_lines bytes = answer_lines [] (lines_of bytes)
+
+-- ---- two runs
+
+-- where both runs end well and know their inputs
+pub on_both : {E A : Type 0} (P Q : A → Type 0) (R : A → A → Type 0)
+    (first second : Result Unit E) (input other : Option A)
+    → ((a b : A) → P a → Q b → R a b) → OnOk first (IfSome input P) → OnOk second (IfSome other Q)
+    → OnOk first (OnOk second (IfSome input (λ a. IfSome other (λ b. R a b))))
+on_both P Q R (Ok u) (Ok v) (Some a) (Some b) both p q = both a b p q
+on_both P Q R (Ok u) (Ok v) (Some a) None both p q = tt
+on_both P Q R (Ok u) (Ok v) None other both p q = tt
+on_both P Q R (Ok u) (Err e) input other both p q = tt
+on_both P Q R (Err e) second input other both p q = tt
+
+pub runs_isolated : (inputs : (name : FragmentName) (channel : ℕ) (lines others : List (List ℕ))
+    → lines_that_matter name channel lines ≡ lines_that_matter name channel others
+    → texts_that_matter name channel lines (answers_to lines)
+    ≡ texts_that_matter name channel others (answers_to others))
+    (old new other_old other_new : Option (List ℕ)) (input other : List ℕ)
+    → Appends old new (answers_of input) → Appends other_old other_new (answers_of other)
+    → AreIsolated input other old new other_old other_new
+runs_isolated inputs old new other_old other_new input other appends other_appends = record {
+  written = answers_of input;
+  other_written = answers_of other;
+  appended = appends;
+  other_appended = other_appends;
+  answered = λ name channel is.
+      ap (texts_that_matter name channel (lines_of input)) (written_lines input)
+      ∙ inputs name channel (lines_of input) (lines_of other) is
+      ∙ sym (ap (texts_that_matter name channel (lines_of other)) (written_lines other));
+}

@@ -1,0 +1,12 @@
+use Rattle.std.proofs.Common.{ap, map}
+use Rattle.etherparse.specs.Timestamps.{pool_by, reassembly_by}
+use Rattle.packets.specs.declared.datagrams.Received.{Received}
+use Rattle.packets.proofs.datagrams.Datagrams.new.Goals as goal
+
+pub returns-clause-lists : goal.returns-clause-lists
+returns-clause-lists c =
+    c.a_new_pool_shows_no_lists.ensures (pool_by (λ (r : Received). r.last) c.new.result)
+    (ap (map (λ e. (e.0, reassembly_by (λ (r : Received). r.last) e.1))) c.new.ensures.reassemblies)
+
+pub returns-clause-started : goal.returns-clause-started
+returns-clause-started c name channel = rw c.new.ensures.reassemblies tt

@@ -1,0 +1,60 @@
+//! Fragments.
+
+use crate::Fragment;
+use crate::show::{fragment_headers, message, refusal};
+use checksum_verdicts::Verdict;
+use ep_packet::IpFragment;
+use etherparse::defrag::IpDefragPayloadVec;
+use header_descriptions::show::Line;
+use std::alloc::AllocError;
+
+/// A fragment, and what became of it. It has no contract: tests compare the texts.
+pub(crate) fn fragment(
+    line: &mut Line<'_>,
+    number: u64,
+    cut: &IpFragment<'_>,
+    fragment: Option<&Fragment>,
+    checked: Option<Verdict>,
+) -> Result<(), AllocError> {
+    fragment_headers::fragment(line, cut)?;
+    match fragment {
+        Some(Fragment::Waits { started }) => {
+            started_before(line, number, *started)?;
+            line.text(")")
+        }
+        Some(Fragment::Completes { started, message }) => {
+            line.text("), ")?;
+            completed(line, *started, message, checked)
+        }
+        Some(Fragment::Refused { started, error }) => {
+            if let Some(started) = started {
+                started_before(line, number, *started)?;
+            }
+            line.text(") ")?;
+            refusal::fragment(line, error)
+        }
+        None => line.text(")"),
+    }
+}
+
+fn started_before(line: &mut Line<'_>, number: u64, started: u64) -> Result<(), AllocError> {
+    if started < number {
+        line.counted(", begun in packet ", started)
+    } else {
+        Ok(())
+    }
+}
+
+// The message that a fragment completes.
+fn completed(
+    line: &mut Line<'_>,
+    started: u64,
+    payload: &IpDefragPayloadVec,
+    checked: Option<Verdict>,
+) -> Result<(), AllocError> {
+    let bytes = payload.payload.as_slice();
+    line.counted("completes a message of ", bytes.len() as u64)?;
+    line.counted(" bytes begun in packet ", started)?;
+    line.text(": ")?;
+    message::completed(line, payload.ip_number, bytes, checked)
+}
