@@ -1,12 +1,12 @@
 //! The benchmarks of reassembly of the program `benchmarks` in plain Rust, with the same arguments and the same lines.
 
-// The answers to lines need more of a packet.
+// Lines are read with the rest of it.
 #[allow(dead_code)]
 mod frames;
 mod pool;
 mod reassembly;
 
-use crate::frames::read_frame;
+use crate::frames::{Addresses, Packet, Part, VlanIds};
 use crate::pool::{Pool, add_part};
 use crate::reassembly::Reassembly;
 use std::collections::HashMap;
@@ -53,9 +53,42 @@ fn shuffled(place: u16) -> u16 {
     (product ^ (product >> 6)) % FRAGMENTS
 }
 
-/// The sum with the message that a frame completes.
-fn sum_with<S: BuildHasher>(sum: u64, pool: &mut Pool<(), (), S>, frame: &[u8]) -> u64 {
-    let Some(bytes) = process(pool, frame) else {
+/// Offset, in units of 8 bytes, and flag of the two fragments of a message, of 64 bytes each.
+const TWO_FRAGMENTS: [(u16, bool); 2] = [(0, true), (8, false)];
+
+const UDP: u8 = 17;
+
+/// A fragment of UDP without VLAN tags.
+fn udp_fragment(
+    addresses: Addresses,
+    identification: u32,
+    units: u16,
+    more: bool,
+    payload: &[u8],
+) -> (Packet<'_>, Part) {
+    let part = Part {
+        identification,
+        units,
+        more,
+    };
+    let packet = Packet {
+        vlan_ids: VlanIds::default(),
+        addresses,
+        part: Some(part),
+        is_fragment: true,
+        protocol: UDP,
+        payload,
+    };
+    (packet, part)
+}
+
+/// The sum with the message that a fragment completes.
+fn sum_with<S: BuildHasher>(
+    sum: u64,
+    pool: &mut Pool<(), (), S>,
+    (packet, part): (Packet, Part),
+) -> u64 {
+    let Ok(Some(bytes)) = add_part(pool, &packet, part, (), ()) else {
         return sum;
     };
     let ends = bytes.first().zip(bytes.last());
@@ -66,29 +99,19 @@ fn sum_with<S: BuildHasher>(sum: u64, pool: &mut Pool<(), (), S>, frame: &[u8]) 
         .wrapping_add(u64::from(last))
 }
 
-fn process<S: BuildHasher>(pool: &mut Pool<(), (), S>, frame: &[u8]) -> Option<Vec<u8>> {
-    let packet = read_frame(frame).ok()?;
-    add_part(pool, &packet, packet.part?, (), ()).ok()?
-}
-
 /// 100,000 messages of two fragments, all of whose first fragments come before the second ones.
 fn put_interleaved<S: BuildHasher>(pool: &mut Pool<(), (), S>) -> u64 {
-    let mut frame = [0; 98];
-    frame[..34].copy_from_slice(&[
-        2, 0, 0, 0, 0, 2, 2, 0, 0, 0, 0, 1, 8, 0, 0x45, 0, 0, 84, 0, 0, 0, 0, 64, 17, 0, 0, 10, 0, 0, 0, 10, 0, 0, 2,
-    ]);
+    let mut bytes = [0; 64];
     let mut sum = 0u64;
-    for (flags, offset) in [(0x20, 0), (0, 8)] {
-        frame[20] = flags;
-        frame[21] = offset;
+    for (units, more) in TWO_FRAGMENTS {
         for source in 0..2 {
-            frame[29] = source;
             for identification in 0..50_000u16 {
-                let [high, low] = identification.to_be_bytes();
-                frame[18] = high;
-                frame[19] = low;
-                frame[34] = low;
-                sum = sum_with(sum, pool, &frame);
+                let [_, low] = identification.to_be_bytes();
+                bytes[0] = low;
+                let addresses = Addresses::V4([10, 0, 0, source, 10, 0, 0, 2]);
+                let fragment =
+                    udp_fragment(addresses, u32::from(identification), units, more, &bytes);
+                sum = sum_with(sum, pool, fragment);
             }
         }
     }
@@ -97,22 +120,19 @@ fn put_interleaved<S: BuildHasher>(pool: &mut Pool<(), (), S>) -> u64 {
 
 /// 8000 messages of two fragments, so many at once, under names that collide by the hasher of the proved program, and by none here.
 fn put_colliding<S: BuildHasher>(pool: &mut Pool<(), (), S>, names: u32) -> u64 {
-    let mut frame = [0; 126];
-    frame[..14].copy_from_slice(&[2, 0, 0, 0, 0, 2, 2, 0, 0, 0, 0, 1, 0x86, 0xdd]);
-    frame[14..22].copy_from_slice(&[0x60, 0, 0, 0, 0, 72, 44, 64]);
-    frame[30..38].copy_from_slice(&0x9e37_79b9_7f4a_7c15_u64.to_le_bytes());
-    frame[38] = 0xfd;
-    frame[53] = 2;
-    frame[54] = 17;
-    frame[61] = 7;
+    let mut addresses = [0; 32];
+    addresses[8..16].copy_from_slice(&0x9e37_79b9_7f4a_7c15_u64.to_le_bytes());
+    addresses[16] = 0xfd;
+    addresses[31] = 2;
+    let mut bytes = [0; 64];
     let mut sum = 0u64;
     for _ in 0..8000 / names {
-        for flags in [1, 8 * 8] {
-            frame[57] = flags;
+        for (units, more) in TWO_FRAGMENTS {
             for name in 0..names {
-                frame[22..26].copy_from_slice(&name.to_be_bytes());
-                frame[62] = (name % 251) as u8;
-                sum = sum_with(sum, pool, &frame);
+                addresses[..4].copy_from_slice(&name.to_be_bytes());
+                bytes[0] = (name % 251) as u8;
+                let fragment = udp_fragment(Addresses::V6(addresses), 7, units, more, &bytes);
+                sum = sum_with(sum, pool, fragment);
             }
         }
     }
@@ -120,7 +140,11 @@ fn put_colliding<S: BuildHasher>(pool: &mut Pool<(), (), S>, names: u32) -> u64 
 }
 
 /// The benchmark of this name, in one pool: none where no benchmark has it.
-fn measure_pool<S: BuildHasher>(mut pool: Pool<(), (), S>, name: &str, turns: u32) -> Option<(u64, Duration)> {
+fn measure_pool<S: BuildHasher>(
+    mut pool: Pool<(), (), S>,
+    name: &str,
+    turns: u32,
+) -> Option<(u64, Duration)> {
     let names = match name.strip_prefix("colliding_") {
         Some(names) => Some(names.parse().ok()?),
         None if name == "interleaved" => None,
@@ -205,7 +229,7 @@ fn add_all(buf: &mut Reassembly, order: Order, message: &[u8]) -> u64 {
 
 fn sum_of(buf: &Reassembly, accepted: u64) -> u64 {
     let start = accepted + u64::from(buf.is_complete());
-    buf.data
-        .iter()
-        .fold(start, |sum, byte| sum.wrapping_mul(31).wrapping_add(u64::from(*byte)))
+    buf.data.iter().fold(start, |sum, byte| {
+        sum.wrapping_mul(31).wrapping_add(u64::from(*byte))
+    })
 }

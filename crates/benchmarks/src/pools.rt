@@ -1,15 +1,21 @@
-//! Datagrams that are reassembled from frames.
+//! Datagrams that are reassembled by a pool. It is given fragments, and no frames: a second call of
+//! `SlicedPacket::from_ethernet` in the program would slow the benchmarks of sliced packets.
+ghost use Rattle.ep_packet.specs.Class.{IdentificationFits};
 
 use crate::measured::Measured;
+use arrayvec::ArrayVec;
+use ep_base::{IpFragOffset, IpNumber};
+use ep_packet::{Addresses, IpFragment, SlicedFragment};
 use std::io;
 use std::time::{Duration, Instant};
 
 /// Something that reassembles datagrams.
 pub trait Reassembly {
-    /// The payload of the datagram that is complete with this frame, if one is: a frame that is
+    /// The payload of the datagram that is complete with this fragment, if it is: one that is
     /// refused completes none. It has no contract: sums of payloads are compared with those of a
     /// plain program.
-    fn completed_by(&mut self, frame: &[u8]) -> Option<Vec<u8>>;
+    fn completed_by(&mut self, fragment: IpFragment<'_>) -> Option<Vec<u8>>
+        requires { IdentificationFits fragment.addresses fragment.identification };
 }
 
 /// Datagrams that a benchmark reassembles.
@@ -37,9 +43,42 @@ pub fn measure<M: Datagrams, R: Reassembly + Drop>(
     Ok(Measured { sum, fastest })
 }
 
-/// The sum with what the pool returns for a frame; it has no contract, as `measure`.
-pub fn sum_with<R: Reassembly>(sum: u64, pool: &mut R, frame: &[u8]) -> u64 {
-    let Some(payload) = pool.completed_by(frame) else {
+/// Offset and flag of the two fragments of a datagram, of 64 bytes each; it has no contract, as
+/// `measure`.
+pub fn two_fragments() -> [(IpFragOffset, bool); 2] {
+    let second = IpFragOffset::try_new(8).unwrap();
+    [(IpFragOffset::ZERO, true), (second, false)]
+}
+
+/// A fragment of UDP without VLAN tags.
+pub fn udp_fragment(
+    addresses: Addresses,
+    identification: u32,
+    offset: IpFragOffset,
+    more_fragments: bool,
+    bytes: &[u8],
+) -> IpFragment<'_>
+    requires { IdentificationFits addresses identification }
+    ensures { IdentificationFits result.addresses result.identification }
+{
+    IpFragment {
+        vlan_ids: ArrayVec::new(),
+        addresses,
+        identification,
+        ip_number: IpNumber::UDP,
+        fragment: SlicedFragment {
+            offset,
+            more_fragments,
+            bytes,
+        },
+    }
+}
+
+/// The sum with what the pool returns for a fragment; it has no contract, as `measure`.
+pub fn sum_with<R: Reassembly>(sum: u64, pool: &mut R, fragment: IpFragment<'_>) -> u64
+    requires { IdentificationFits fragment.addresses fragment.identification }
+{
+    let Some(payload) = pool.completed_by(fragment) else {
         return sum;
     };
     let bytes = payload.as_slice();

@@ -1,5 +1,6 @@
 //! The benchmarks of reassembly, by their names: one datagram by a buffer, and many at once by a pool,
 //! whose hasher has a fixed seed, for which names are chosen to collide, or random keys.
+ghost use Rattle.ep_packet.specs.Class.{IdentificationFits};
 
 use crate::colliding::Colliding;
 use crate::interleaved::Interleaved;
@@ -7,7 +8,7 @@ use crate::measured::{Measured, Repeats};
 use crate::order::Order;
 use crate::pools::{self, Datagrams, Reassembly};
 use crate::reassembly;
-use etherparse::SlicedPacket;
+use ep_packet::IpFragment;
 use etherparse::defrag::IpDefragPool;
 use std::hash::{BuildHasher, RandomState};
 use std::io;
@@ -18,9 +19,10 @@ struct Pool<S: BuildHasher>(IpDefragPool<(), (), S>);
 
 impl<S: BuildHasher> Reassembly for Pool<S> {
     /// It has no contract, as the trait's.
-    fn completed_by(&mut self, frame: &[u8]) -> Option<Vec<u8>> {
-        let packet = SlicedPacket::from_ethernet(frame).ok()?;
-        let whole = self.0.process_sliced_packet(&packet, (), ()).ok()?;
+    fn completed_by(&mut self, fragment: IpFragment<'_>) -> Option<Vec<u8>>
+        requires { IdentificationFits fragment.addresses fragment.identification }
+    {
+        let whole = self.0.process_fragment(fragment, (), ()).ok()?;
         Some(whole?.payload)
     }
 }

@@ -1,9 +1,9 @@
 -- The answers to the lines of a capture's packets, where lines drop datagrams when a span has
 -- passed. By the lines a list has the number of its last fragment's line, by the packets that of its
 -- packet: both are before the running span, or neither is.
-use Rattle.std.proofs.Common.{◌≡◌, ◌∙◌, ap, ap₂, refl, subst, sym, ℕ, ◌+◌, ◌*◌, ◌^◌, ◌-◌, ◌<◌, ◌≤◌, ◌==◌}
-use Rattle.std.proofs.Common.{◌&&◌, Bool, true, false, Option, Some, None, List, [], ◌∷◌, ◌++◌, length}
-use Rattle.std.proofs.Common.{append_assoc, length-append, arith}
+use Rattle.std.proofs.Common.{◌≡◌, ◌∙◌, ap, ap₂, refl, subst, sym, ℕ, ◌+◌, ◌*◌, ◌^◌, ◌-◌, ◌<◌, ◌≤◌, ◌==◌, ◌&&◌, Bool}
+use Rattle.std.proofs.Common.{true, false, Option, Some, None, List, [], ◌∷◌, ◌++◌, length, append_assoc, length-append}
+use Rattle.std.proofs.Common.{arith}
 use Rattle.std.specs.Prelude.{codes, if◌then◌else◌, nat_lt}
 use Rattle.std.specs.List.{AllByRecursion}
 use Rattle.std.proofs.lemmas.Bool.{le-ltb, lt-ltb, ne_eqb}
@@ -28,8 +28,8 @@ use Rattle.netlines.specs.Arrivals.{lists_after_lines}
 use Rattle.netlines.proofs.AnswerLemmas.{lists_after_lines-nil}
 use Rattle.lines.specs.Lines.{lines_of}
 use Rattle.lines.specs.LineAnswers.{answers_to_later}
-use Rattle.capture_answers.specs.PacketAnswers.{Ledger, lists_since, lists_with_packet, packet_answer}
-use Rattle.capture_answers.specs.PacketAnswers.{spanned_answers, spanned_from, kept}
+use Rattle.capture_answers.specs.PacketAnswers.{Ledger, lists_since, lists_with_packet, packet_answer, spanned_answers}
+use Rattle.capture_answers.specs.PacketAnswers.{spanned_from, kept}
 use Rattle.capture_answers.proofs.LineLemmas.{line_listed, line_answered}
 use Rattle.capture_answers.proofs.PlainLemmas.{no_lines, packet_listed, packet_answered, text_of}
 

@@ -2,7 +2,7 @@
 ghost use Rattle.std.specs.Prelude.{◌≡◌, ◌<◌, ◌^◌, ℕ, List, length};
 ghost use Rattle.hex.specs.Hex.{IsBytes};
 ghost use Rattle.captures.specs.Lines.{Packet, lines_of};
-ghost use Rattle.captures.specs.Runs.{IsCapture};
+ghost use Rattle.captures.specs.CaptureRuns.{IsCapture};
 ghost use Rattle.captures.specs.Texts.{with_line_ends};
 ghost use Rattle.captures.specs.declared.extra.Extra.TheVariants.{Forget, Nothing};
 ghost use Rattle.captures.specs.declared.translation.skipped.Skipped.{Skipped};

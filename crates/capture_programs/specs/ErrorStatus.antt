@@ -1,10 +1,8 @@
 -- The exit status of the program where a run ends by an error. Words that are no command give 2.
 use Rattle.std.specs.Prelude.{ℕ}
 use Rattle.captures.specs.declared.translation.run_error.RunError.{RunError}
-use Rattle.captures.specs.declared.translation.run_error.RunError.TheVariants.{Read, Write}
-use Rattle.captures.specs.declared.translation.run_error.RunError.TheVariants.{WriteZero, Memory}
-use Rattle.captures.specs.declared.translation.run_error.RunError.TheVariants.{TooManyReads}
-use Rattle.captures.specs.declared.translation.run_error.RunError.TheVariants.{Capture, BadLine}
+use Rattle.captures.specs.declared.translation.run_error.RunError.TheVariants.{Read, Write, WriteZero, Memory}
+use Rattle.captures.specs.declared.translation.run_error.RunError.TheVariants.{TooManyReads, Capture, BadLine}
 
 abbrev pub status_of : RunError → ℕ
 status_of Read = 4

@@ -3,8 +3,7 @@ use Rattle.std.specs.Prelude.{ℕ, List, [], Option, Some}
 use Rattle.std.specs.Io.Buffered.{reader_buffer, reader_remaining}
 use Rattle.capture_programs.specs.Looks.{look_of}
 use Rattle.capture_programs.specs.declared.input.FirstRead.{FirstRead}
-use Rattle.capture_programs.specs.declared.input.FirstRead.TheVariants.{Open, AtEnd, OfDirectory}
-use Rattle.capture_programs.specs.declared.input.FirstRead.TheVariants.{Failed}
+use Rattle.capture_programs.specs.declared.input.FirstRead.TheVariants.{Open, AtEnd, OfDirectory, Failed}
 use Rattle.capture_programs.specs.declared.input.Input.{Input}
 use Rattle.capture_programs.specs.declared.looks.Look.{Look}
 use Rattle.capture_programs.specs.declared.looks.Look.TheVariants.{Directory, Empty, Other}

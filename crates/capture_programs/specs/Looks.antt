@@ -1,11 +1,10 @@
 -- What an input looks like by its first bytes: the magic numbers of compressed files (RFC 1952, RFC
 -- 8878, the formats of xz and bzip2) and of captures.
-use Rattle.std.specs.Prelude.{ℕ, ◌==◌, ◌&&◌, ◌||◌, nat_eq, nat_le, Bool, not, if◌then◌else◌, List}
-use Rattle.std.specs.Prelude.{[], ◌∷◌, length, codes}
+use Rattle.std.specs.Prelude.{ℕ, ◌==◌, ◌&&◌, ◌||◌, nat_eq, nat_le, Bool, not, if◌then◌else◌, List, [], ◌∷◌, length}
+use Rattle.std.specs.Prelude.{codes}
 use Rattle.std.specs.List.{starts_with, list_all}
 use Rattle.capture_programs.specs.declared.looks.Look.{Look}
-use Rattle.capture_programs.specs.declared.looks.Look.TheVariants.{Empty, Gzip, Zstd, Xz, Bzip2}
-use Rattle.capture_programs.specs.declared.looks.Look.TheVariants.{Capture, Text, Other}
+use Rattle.capture_programs.specs.declared.looks.Look.TheVariants.{Empty, Gzip, Zstd, Xz, Bzip2, Capture, Text, Other}
 
 abbrev pub begins : List ℕ → List ℕ → Bool
 begins prefix magic = starts_with nat_eq prefix magic

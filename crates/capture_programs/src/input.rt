@@ -1,7 +1,6 @@
 //! An input whose first bytes are looked at.
 ghost use Rattle.std.specs.Prelude.{◌≡◌, IfOk, []};
-ghost use Rattle.std.specs.Io.Buffered.{reader_buffer, reader_capacity, reader_inner};
-ghost use Rattle.std.specs.Io.Buffered.{reader_remaining};
+ghost use Rattle.std.specs.Io.Buffered.{reader_buffer, reader_capacity, reader_inner, reader_remaining};
 ghost use Rattle.std.specs.Io.KnownBytes.{Keeps};
 ghost use Rattle.capture_programs.specs.Inputs.{left_after, looks_like, remaining_of};
 ghost use Rattle.capture_programs.specs.declared.input.FirstRead.TheVariants.{Open};

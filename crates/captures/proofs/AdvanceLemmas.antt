@@ -1,22 +1,18 @@
 -- The result of a call that advances to the next packet.
-use Rattle.std.proofs.Common.{◌≡◌, ◌∙◌, sym, ap, refl, subst, ℕ, ◌+◌, ◌≤◌, arith, false}
-use Rattle.std.proofs.Common.{List, ◌++◌, length, Option, Some, Result, Ok, Err}
+use Rattle.std.proofs.Common.{◌≡◌, sym, ap, refl, subst, ℕ, ◌≤◌, arith, false, List, ◌++◌, length, Option, Some, Result}
+use Rattle.std.proofs.Common.{Ok, Err}
 use Rattle.std.specs.Io.KnownBytes.{IsAtEnd}
 use Rattle.std.specs.Prelude.{Bool, true, None}
 use Rattle.captures.specs.Dropped.{IsDropped}
-use Rattle.captures.specs.Numbers.{capped}
-use Rattle.captures.specs.Readers.{AreGiven, ComesTo, EndsBy, FindsPacket, HasRead, HeldTo}
-use Rattle.captures.specs.Readers.{IsRefusedWith, skipped_by}
-use Rattle.captures.specs.Runs.{fault_at_end}
-use Rattle.captures.specs.Units.{skipped_in}
+use Rattle.captures.specs.Readers.{ComesTo, EndsBy, FindsPacket, HasRead, HeldTo, IsRefusedWith}
+use Rattle.captures.specs.CaptureRuns.{fault_at_end}
 use Rattle.captures.specs.declared.capture_error.CaptureError.{CaptureError}
 use Rattle.device_runs.specs.declared.limits.TheConstants.{READ_COUNT_LIMIT}
 use Rattle.captures.specs.declared.packet.Packet.{Packet}
 use Rattle.captures.specs.declared.pcapng.long_block.LongBlock.{LongBlock}
 use Rattle.captures.specs.declared.reading.packet_reader.PacketReader.{PacketReader}
 use Rattle.captures.specs.declared.reading.read_error.ReadError.{ReadError}
-use Rattle.captures.specs.declared.reading.read_error.ReadError.TheVariants.{Read, Capture}
-use Rattle.captures.specs.declared.reading.read_error.ReadError.TheVariants.{TooManyReads}
+use Rattle.captures.specs.declared.reading.read_error.ReadError.TheVariants.{Read, Capture, TooManyReads}
 use Rattle.captures.specs.declared.translation.state.State.{State}
 use Rattle.captures.specs.declared.unfit.Unfit.{Unfit}
 use Rattle.captures.proofs.ReadLemmas.{ends_whole, refused_end, refused_next}
@@ -75,33 +71,18 @@ module _ {R : Type 0} (unfit : Unfit) (prefix new : PacketReader R) (read : List
       (subst (λ (n : PacketReader R). ComesTo unfit n left read given (Err (Capture error w.0)))
       (sym w.2) (refl, refused_next unfit prefix read given f.0 w.0 w.3 w.4 w.5 error left f.1))
 
-  given_all : FindsPacket unfit prefix read given (Ok false) → new.state ≡ prefix.state
-      → AreGiven unfit (skipped_by new) read given
-  given_all f state = record {
-    state = prefix.state;
-    rest = f.0.dropped ++ prefix.window.held;
-    gives = f.0.gives;
-    started = f.1;
-    counts = ap skipped_in (sym state);
-  }
-
   -- too many reads were made
   pub comes_too_many : FindsPacket unfit prefix read given (Ok false)
       → READ_COUNT_LIMIT ≤ prefix.reads → result ≡ Err TooManyReads
       → new.ended ≡ Some (Err TooManyReads) → new.state ≡ prefix.state
       → ComesTo unfit new left read given result
-  comes_too_many f many is ended state =
-      let few = f.0.reads in
-      subst (λ (r : Result Bool ReadError). ComesTo unfit new left read given r) (sym is)
-      (ended, given_all f state, omega arith)
+  comes_too_many f many is ended state = grind arith
 
   -- a read failed
   pub comes_failed : FindsPacket unfit prefix read given (Ok false) → result ≡ Err Read
       → new.ended ≡ Some (Err Read) → new.state ≡ prefix.state
       → ComesTo unfit new left read given result
-  comes_failed f is ended state =
-      subst (λ (r : Result Bool ReadError). ComesTo unfit new left read given r) (sym is)
-      (ended, given_all f state)
+  comes_failed f is ended state = grind arith
 
   module _ (f : FindsPacket unfit prefix read given (Ok false)) (ends : IsAtEnd left)
       (mid : PacketReader R) (state : mid.state ≡ prefix.state) (started : mid.started ≡ prefix.started)
@@ -110,23 +91,7 @@ module _ {R : Type 0} (unfit : Unfit) (prefix new : PacketReader R) (read : List
     ends_as : (fault : Result Unit CaptureError)
         → fault_at_end prefix.state (length (f.0.dropped ++ prefix.window.held)) ≡ fault
         → EndsBy mid new fault result → ComesTo unfit new left read given result
-    ends_as (Ok done) fault e =
-        let rest = f.0.dropped ++ prefix.window.held in
-        let whole = ends_whole unfit prefix.state read rest given f.0.gives fault in
-        subst (λ (r : Result Bool ReadError). ComesTo unfit new left read given r) (sym e.0)
-        (subst (λ (n : PacketReader R). ComesTo unfit n left read given (Ok false)) (sym e.1)
-        (refl, rw state whole, ends))
-    ends_as (Err error) fault w =
-        subst (λ (r : Result Bool ReadError). ComesTo unfit new left read given r) (sym w.1)
-        (subst (λ (n : PacketReader R). ComesTo unfit n left read given (Err (Capture error w.0)))
-        (sym w.2) (
-          refl,
-          rw state (refused_end unfit prefix read given f.0 w.0
-              (w.3 ∙ ap (λ (n : ℕ). capped (n + 1)) count) (w.4 ∙ passed)
-              (λ dropped d. w.5 dropped (rw (state, started) d)
-              ∙ rw (state, held) refl)
-              error left ends f.1 fault),
-        ))
+    ends_as fault fault' e = grind (arith, ends_whole, refused_end)
 
     -- the end of the input
     pub comes_end : ((dropped : List ℕ) → IsDropped mid.state mid.started dropped

@@ -1,28 +1,23 @@
 -- The packets of a capture are determined by its bytes.
-use Rattle.std.proofs.Common.{◌≡◌, ◌∙◌, sym, ap, ap₂, refl, subst, ℕ, ◌+◌, ◌-◌, ◌*◌, ◌/◌, ◌%◌, ◌<◌}
-use Rattle.std.proofs.Common.{◌≤◌}
-use Rattle.std.proofs.Common.{◌==◌, arith, List, [], ◌++◌, length, take, drop, append_assoc}
-use Rattle.std.proofs.Common.{inl, inr, eqb-true, Some, Bool}
-use Rattle.std.specs.Prelude.{◌⊎◌, IsTrue, slice_index, if◌then◌else◌}
+use Rattle.std.proofs.lemmas.Bool.Decides.{nat_tests}
+use Rattle.std.proofs.Common.{◌≡◌, ◌∙◌, sym, ap, ap₂, refl, subst, ℕ, ◌+◌, ◌-◌, ◌*◌, ◌/◌, ◌%◌, ◌<◌, ◌≤◌, ◌==◌, arith}
+use Rattle.std.proofs.Common.{List, [], ◌++◌, length, take, drop, append_assoc, inl, inr, Some, Bool}
+use Rattle.std.specs.Prelude.{IsTrue, if◌then◌else◌}
 use Rattle.std.proofs.Math.Seq.{take-append_seam, drop-append_seam}
-use Rattle.std.proofs.lemmas.Bool.{ne_eqb, or_cases}
 use Rattle.std.proofs.lemmas.List.{get_or-append-add}
 use Rattle.hex.specs.Hex.{IsBytes}
 use Rattle.captures.specs.Framed.{link_for, reported_frame}
 use Rattle.captures.specs.Lines.{packets_of}
 use Rattle.captures.specs.Numbers.{half, word}
 use Rattle.captures.specs.Pcap.{is_magic, link_type}
-use Rattle.captures.specs.Pcapng.{Content, HasOrder, Says, Becomes, captured_len, section_header}
-use Rattle.captures.specs.Pcapng.{is_read_version}
-use Rattle.captures.specs.Pcapng.{byte_order_magic, enhanced_packet, interface_description}
-use Rattle.captures.specs.Pcapng.{obsolete_packet, simple_packet, link_at, clock_at, clocks_with}
-use Rattle.captures.specs.Times.{clock_of, clock_time, unit_of}
-use Rattle.captures.specs.Units.{record_origin}
+use Rattle.captures.specs.Pcapng.{Content, HasOrder, Says, Becomes, captured_len, section_header, is_read_version}
+use Rattle.captures.specs.Pcapng.{enhanced_packet, interface_description, obsolete_packet, simple_packet, link_at}
+use Rattle.captures.specs.Pcapng.{clock_at, clocks_with}
+use Rattle.captures.specs.Times.{clock_of, clock_time}
+use Rattle.captures.specs.Units.{record_origin, IsUnit, IsBlockUnit, IsRecordUnit, OpensFile, no_section}
 use Rattle.captures.specs.Pcapng.Content.{Opens, OpensOther, Describes, Holds, Nothing}
-use Rattle.captures.specs.Skipping.{counted, passing_from}
-use Rattle.captures.specs.Units.{IsUnit, IsBlockUnit, IsRecordUnit, OpensFile, no_section}
 use Rattle.captures.specs.declared.byte_order.ByteOrder.{ByteOrder}
-use Rattle.captures.specs.declared.byte_order.ByteOrder.TheVariants.{Big, Little}
+use Rattle.captures.specs.declared.byte_order.ByteOrder.TheVariants.{Big}
 use Rattle.captures.specs.declared.link.kind.Link.{Link}
 use Rattle.captures.specs.declared.pcapng.section.Section.{Section}
 use Rattle.captures.specs.declared.translation.skipped.Passing.{Passing}
@@ -60,34 +55,9 @@ first_byte : (a b c d n m : ℕ) → a < 256 → b < 256 → c < 256 → d < 256
     → n / 16777216 ≡ m % 256
 first_byte a b c d n m la lb lc ld big little = omega arith
 
--- the byte at the offset is the highest of the one and the lowest of the other
-encoded_twice : (bytes : List ℕ) (p n m : ℕ) → IsBytes bytes → word Big bytes p ≡ n
-    → word Little bytes p ≡ m → n / 16777216 ≡ m % 256
-encoded_twice bytes p n m all big little =
-    first_byte (slice_index bytes p) (slice_index bytes (p + 1)) (slice_index bytes (p + 2))
-    (slice_index bytes (p + 3)) n m
-    (all p) (all (p + 1)) (all (p + 2)) (all (p + 3)) big little
-
-magic_once : (bytes : List ℕ) → IsBytes bytes → word Big bytes 8 ≡ byte_order_magic
-    → word Little bytes 8 ≡ byte_order_magic → ⊥
-magic_once bytes all big little = let first =
-    encoded_twice bytes 8 byte_order_magic byte_order_magic all big little in absurd (omega arith)
-
-one_order : (P : ByteOrder → Type 0) → (P Big → P Little → ⊥) → (o o' : ByteOrder) → P o → P o'
-    → o ≡ o'
-one_order P once Big Big p p' = refl
-one_order P once Big Little p p' = absurd (once p p')
-one_order P once Little Big p p' = absurd (once p' p)
-one_order P once Little Little p p' = refl
-
 pub order_alone : (order o o' : ByteOrder) (bytes : List ℕ) → IsBytes bytes → HasOrder order bytes o
     → HasOrder order bytes o' → o ≡ o'
-order_alone order o o' bytes all (inl h) (inl h') = h.1 ∙ sym h'.1
-order_alone order o o' bytes all (inl h) (inr h') = absurd (h.0 h'.0)
-order_alone order o o' bytes all (inr h) (inl h') = absurd (h'.0 h.0)
-order_alone order o o' bytes all (inr h) (inr h') =
-    one_order (λ (p : ByteOrder). word p bytes 8 ≡ byte_order_magic) (magic_once bytes all) o o'
-    h.1 h'.1
+order_alone order o o' bytes all h p = grind arith
 
 -- the byte order of a prefix is that of the bytes
 pub order_more : (order o : ByteOrder) (bytes prefix rest : List ℕ) → bytes ≡ prefix ++ rest
@@ -101,49 +71,15 @@ order_more order o bytes prefix rest parts size (inr h) =
       word_of o bytes prefix rest 8 parts (omega arith) ∙ h.1,
     )
 
--- the two magic numbers of a classic capture
-is_one : (n : ℕ) → IsTrue (is_magic n) → (n ≡ 0xa1b2c3d4) ⊎ (n ≡ 0xa1b23c4d)
-is_one n is = elim (or_cases (n == 0xa1b2c3d4) (n == 0xa1b23c4d) is) [
-  | inl e ↦ inl (eqb-true n 0xa1b2c3d4 e)
-  | inr e ↦ inr (eqb-true n 0xa1b23c4d e)
-]
-
-file_once : (bytes : List ℕ) → IsBytes bytes → (word Big bytes 0 ≡ 0xa1b2c3d4)
-    ⊎ (word Big bytes 0 ≡ 0xa1b23c4d) → (word Little bytes 0 ≡ 0xa1b2c3d4)
-    ⊎ (word Little bytes 0 ≡ 0xa1b23c4d) → ⊥
-file_once bytes all (inl big) (inl little) = let first =
-    encoded_twice bytes 0 0xa1b2c3d4 0xa1b2c3d4 all big little in absurd (omega arith)
-file_once bytes all (inl big) (inr little) = let first =
-    encoded_twice bytes 0 0xa1b2c3d4 0xa1b23c4d all big little in absurd (omega arith)
-file_once bytes all (inr big) (inl little) = let first =
-    encoded_twice bytes 0 0xa1b23c4d 0xa1b2c3d4 all big little in absurd (omega arith)
-file_once bytes all (inr big) (inr little) = let first =
-    encoded_twice bytes 0 0xa1b23c4d 0xa1b23c4d all big little in absurd (omega arith)
-
 pub file_order : (o o' : ByteOrder) (bytes : List ℕ) → IsBytes bytes
     → IsTrue (is_magic (word o bytes 0)) → IsTrue (is_magic (word o' bytes 0)) → o ≡ o'
-file_order o o' bytes all =
-    one_order (λ (p : ByteOrder). IsTrue (is_magic (word p bytes 0)))
-    (λ m m'. file_once bytes all (is_one (word Big bytes 0) m) (is_one (word Little bytes 0) m'))
-    o o'
+file_order o o' bytes all = grind arith
 
 pub no_section_in : (o : ByteOrder) (bytes : List ℕ) → IsBytes bytes
     → IsTrue (is_magic (word o bytes 0)) → word Big bytes 0 ≡ section_header → ⊥
-no_section_in Big bytes all m big = absurd (elim (is_one (word Big bytes 0) m) [
-  | inl e ↦ omega arith
-  | inr e ↦ omega arith
-])
-no_section_in Little bytes all m big = absurd (elim (is_one (word Little bytes 0) m) [
-  | inl e ↦ (let first = encoded_twice bytes 0 section_header 0xa1b2c3d4 all big e in omega arith)
-  | inr e ↦ (let first = encoded_twice bytes 0 section_header 0xa1b23c4d all big e in omega arith)
-])
+no_section_in o bytes all m big = grind arith
 
 -- ---- what a block says
-
-no_packets : (origin origin' : Origin) (frame frame' : List ℕ) → frame ≡ [] → frame' ≡ []
-    → packets_of origin frame ≡ packets_of origin' frame'
-no_packets origin origin' frame frame' none none' =
-    ap (packets_of origin) none ∙ ap (packets_of origin') (sym none')
 
 -- where and when a packet was captured, in a block that has the time, and in one that hasn't
 abbrev pub timed_origin : Section → ByteOrder → List ℕ → ℕ → Origin
@@ -154,10 +90,6 @@ timed_origin section order block interface = record {
 
 abbrev pub untimed_origin : Section → Origin
 untimed_origin section = record { channel = section.first; time = 0 }
-
-origin_is : (n t : ℕ) (origin : Origin) → n ≡ origin.channel → t ≡ origin.time
-    → record { channel = n; time = t } ≡ origin
-origin_is n t origin number time = λ i. record { channel = number i; time = time i }
 
 -- what a section header says, by whether its version is read
 abbrev pub header_content : Section → ByteOrder → List ℕ → Bool → Content
@@ -179,48 +111,10 @@ content_at section order block kind =
     else (if kind == simple_packet then Holds (untimed_origin section) (link_at section 0)
     (take (captured_len section.snap_len (word order block 8)) (drop 12 block)) else Nothing))))
 
-holds_same : {n n' : Origin} {link link' : Link} {packet packet' : List ℕ} → n ≡ n' → link ≡ link'
-    → packet ≡ packet' → Holds n link packet ≡ Holds n' link' packet'
-holds_same number over bytes = λ i. Holds (number i) (over i) (bytes i)
-
-describes_same : {l l' s s' : ℕ} {c c' : Clock} → l ≡ l' → s ≡ s' → c ≡ c'
-    → Describes l s c ≡ Describes l' s' c'
-describes_same link snap clock = λ i. Describes (link i) (snap i) (clock i)
-
-opens_other_same : {m m' n n' : ℕ} → m ≡ m' → n ≡ n' → OpensOther m n ≡ OpensOther m' n'
-opens_other_same major minor = λ i. OpensOther (major i) (minor i)
-
 pub content_is : (section : Section) (order : ByteOrder) (block : List ℕ) (content : Content)
     → Says section order block content
     → content_at section order block (word order block 0) ≡ content
-content_is section order block (Opens first) says =
-    ap (content_at section order block) says.0
-    ∙ ap (header_content section order block) says.2 ∙ ap Opens says.3
-content_is section order block (OpensOther major minor) says =
-    ap (content_at section order block) says.0
-    ∙ ap (header_content section order block) says.2 ∙ opens_other_same says.3 says.4
-content_is section order block (Describes link snap clock) says =
-    ap (content_at section order block) says.0 ∙ describes_same says.2 says.3 says.4
-content_is section order block (Holds number link bytes) (inl says) =
-    ap (content_at section order block) says.0
-    ∙ holds_same (origin_is _ _ number says.1.number says.1.time) says.1.over
-    (ap (λ n. take n (drop 28 block)) says.1.captured ∙ sym says.1.bytes)
-content_is section order block (Holds number link bytes) (inr (inl says)) =
-    ap (content_at section order block) says.0
-    ∙ holds_same (origin_is _ _ number says.1.number says.1.time) says.1.over
-    (ap (λ n. take n (drop 28 block)) says.1.captured ∙ sym says.1.bytes)
-content_is section order block (Holds number link bytes) (inr (inr says)) =
-    ap (content_at section order block) says.kind
-    ∙ holds_same (origin_is _ _ number says.number says.time) says.over
-    (ap (λ n. take n (drop 12 block)) says.captured ∙ sym says.bytes)
-content_is section order block Nothing says =
-    rw (
-      ne_eqb (word order block 0) section_header says.0,
-      ne_eqb (word order block 0) interface_description says.1,
-      ne_eqb (word order block 0) enhanced_packet says.2,
-      ne_eqb (word order block 0) obsolete_packet says.3,
-      ne_eqb (word order block 0) simple_packet says.4,
-    ) refl
+content_is section order block content says = grind (arith, nat_tests)
 
 pub becomes_as : (section : Section) (order : ByteOrder) (block : List ℕ)
     (content content' : Content) → Says section order block content
@@ -249,29 +143,9 @@ becomes_once : (section : Section) (order : ByteOrder) (content : Content)
     → Becomes section order content after origin frame
     → Becomes section order content after' origin' frame'
     → (after ≡ after') × (packets_of origin frame ≡ packets_of origin' frame')
-becomes_once section order (Opens first) after after' origin origin' frame frame' b b' =
-    (b.0 ∙ sym b'.0, no_packets origin origin' frame frame' b.1 b'.1)
-becomes_once section order (OpensOther major minor) after after' origin origin' frame frame' b b' =
-    absurd b
-becomes_once section order (Describes link snap clock) after after' origin origin' frame frame' b b' =
-    let links : b.0 ≡ b'.0 = some_same (sym b.1 ∙ b'.1) in (
-      b.2
-          ∙ ap (λ (l : List Link). with_interface section snap clock l) links
-          ∙ sym b'.2,
-      no_packets origin origin' frame frame' b.3 b'.3,
-    )
-becomes_once section order (Holds number link bytes) after after' origin origin' frame frame'
-    b b' =
-    (b.0 ∙ sym b'.0, ap₂ packets_of (b.1 ∙ sym b'.1) (some_same (sym b.2 ∙ b'.2)))
-becomes_once section order Nothing after after' origin origin' frame frame' b b' =
-    (b.0 ∙ sym b'.0, no_packets origin origin' frame frame' b.1 b'.1)
+becomes_once section order content after after' origin origin' frame frame' b b' = grind arith
 
 -- ---- units
-
-classic_same : (passing : Passing) {order order' : ByteOrder} {unit unit' : TimeUnit}
-    {link link' : Link} → order ≡ order' → unit ≡ unit' → link ≡ link'
-    → Classic order unit link passing ≡ Classic order' unit' link' passing
-classic_same passing order unit link = λ i. Classic (order i) (unit i) (link i) passing
 
 -- bytes are a unit and what follows it in one way only
 module _ (bytes u r u' r' : List ℕ) (all : IsBytes bytes) (parts : bytes ≡ u ++ r)
@@ -290,8 +164,7 @@ module _ (bytes u r u' r' : List ℕ) (all : IsBytes bytes) (parts : bytes ≡ u
       (order_more section.order b'.order bytes u' r' parts' long' b'.has_order) in
       let reported = word_of b.order bytes u r 4 parts (omega arith) ∙ b.block.prefix in
       let reported' = word_of b'.order bytes u' r' 4 parts' (omega arith) ∙ b'.block.prefix in
-      let size : length u ≡ length u' = sym reported
-      ∙ ap (λ (o : ByteOrder). word o bytes 4) order ∙ reported' in
+      let size : length u ≡ length u' = grind arith in
       let same = prefix_same bytes u r u' r' parts parts' size in
       let says' = subst (λ (o : ByteOrder). Says section o u b'.reads.content) (sym order)
       (subst (λ (l : List ℕ). Says section b'.order l b'.reads.content)
@@ -302,7 +175,7 @@ module _ (bytes u r u' r' : List ℕ) (all : IsBytes bytes) (parts : bytes ≡ u
       let once = becomes_once section b.order b.reads.content b.next b'.next origin origin' frame
       frame' b.reads.becomes (becomes_as section b.order u b'.reads.content b.reads.content
       says' b.reads.says b'.next origin' frame' becomes') in
-      (same, b.becomes ∙ ap Pcapng once.0 ∙ sym b'.becomes, once.1)
+      grind arith
 
   file_alone : (unfit : Unfit) → OpensFile unfit u after → frame ≡ [] → OpensFile unfit u' after'
       → frame' ≡ [] → One
@@ -317,14 +190,7 @@ module _ (bytes u r u' r' : List ℕ) (all : IsBytes bytes) (parts : bytes ≡ u
       let order = file_order o.order o'.order bytes all magic magic' in
       let link = some_same (sym o.known
       ∙ ap₂ (λ (p : ByteOrder) (l : List ℕ). link_for unfit (link_type p l)) order unit
-      ∙ o'.known) in (
-        unit,
-        o.next
-            ∙ classic_same (passing_from unfit) order
-            (ap₂ (λ (p : ByteOrder) (l : List ℕ). unit_of (word p l 0)) order unit) link
-            ∙ sym o'.next,
-        no_packets origin origin' frame frame' none none',
-      )
+      ∙ o'.known) in grind arith
 
   record_alone : (order : ByteOrder) (time_unit : TimeUnit) (link : Link) (passing : Passing)
       → IsRecordUnit order time_unit link passing u after frame
@@ -344,17 +210,11 @@ module _ (bytes u r u' r' : List ℕ) (all : IsBytes bytes) (parts : bytes ≡ u
       let following = rest_same bytes p.head (packet ++ r) p'.head
       (packet' ++ r') prefix prefix' (size ∙ sym size') in
       let count : length packet ≡ length packet' =
-      sym p.captured ∙ ap (λ (l : List ℕ). word order l 8) head ∙ p'.captured in
+      grind arith in
       let packets = prefix_same (packet ++ r) packet r packet' r' refl following count in
       let frames = some_same (sym i.is_reported ∙ ap (reported_frame passing.unfit link) packets
       ∙ i'.is_reported) in
-      let unit = p.parts ∙ ap₂ (λ (a b : List ℕ). a ++ b) head packets ∙ sym p'.parts in (
-        unit,
-        i.next
-            ∙ ap (λ (held : List ℕ). Classic order time_unit link (counted passing link held)) packets
-            ∙ sym i'.next,
-        ap₂ packets_of (from ∙ ap (record_origin order time_unit) unit ∙ sym from') frames,
-      )
+      let unit = p.parts ∙ ap₂ (λ (a b : List ℕ). a ++ b) head packets ∙ sym p'.parts in grind arith
 
   -- a file header doesn't begin a section
   file_no_section : (unfit : Unfit) → OpensFile unfit u after → 12 ≤ length u'

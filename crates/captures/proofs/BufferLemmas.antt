@@ -1,8 +1,8 @@
 -- The input buffer of a run: what a read puts after the bytes that are left, and these bytes, moved
 -- to the start.
-use Rattle.std.proofs.Common.{◌≡◌, ◌∙◌, sym, ap, ℕ, ◌+◌, ◌-◌, ◌<◌, ◌≤◌, arith, List, ◌++◌, length}
-use Rattle.std.proofs.Common.{take, drop, length-append, append-nil, zero-add, add-zero}
-use Rattle.std.proofs.Math.Seq.{take-append-add, drop-append_seam, paste}
+use Rattle.std.proofs.Common.{◌≡◌, ◌∙◌, sym, ap, ℕ, ◌+◌, ◌-◌, ◌<◌, ◌≤◌, arith, List, ◌++◌, length, take, drop}
+use Rattle.std.proofs.Common.{length-append, append-nil, zero-add, add-zero}
+use Rattle.std.proofs.Math.Seq.{take-append-add, drop-append_seam}
 use Rattle.std.proofs.lemmas.List.{take-append-le, length-take-le, length-drop, drop-take}
 use Rattle.std.proofs.lemmas.List.Edits.{take-paste}
 use Rattle.std.specs.List.{copy_within}
@@ -13,11 +13,7 @@ use Rattle.captures.specs.declared.limits.TheConstants.{INPUT_CAPACITY}
 pub read_prefix : (input buf : List ℕ) (left k n : ℕ) → left ≤ length input → n ≤ length buf
     → take (left + n) (put_mid left k input buf) ≡ take left input ++ take n buf
 read_prefix input buf left k n fits few =
-    ap (λ m. take (m + n) (put_mid left k input buf))
-    (sym (length-take-le left input fits))
-    ∙ take-append-add (take left input) (buf ++ drop k (drop left input)) n
-    ∙ ap (λ l. take left input ++ l)
-    (take-append-le n buf (drop k (drop left input)) few)
+    grind (arith, length-take-le, take-append-add, take-append-le)
 
 -- after a read of some bytes
 pub record SomeRead (input buf : List ℕ) (left k n : ℕ) : Type 0 where
@@ -27,9 +23,7 @@ pub record SomeRead (input buf : List ℕ) (left k n : ℕ) : Type 0 where
 
 pub some_read : (input buf : List ℕ) (left k n : ℕ) → left ≤ length input → length buf ≡ k
     → k ≤ INPUT_CAPACITY → n ≤ length buf → 0 < n → SomeRead input buf left k n
-some_read input buf left k n fits held room few some =
-    let count = length-take-le n buf few in
-    record { size = omega arith; some = omega arith; prefix = read_prefix input buf left k n fits few }
+some_read input buf left k n fits held room few some = grind (arith, length-take-le, read_prefix)
 
 -- after a read of none
 pub read_nothing : (input buf : List ℕ) (left k : ℕ) → left ≤ length input
@@ -53,8 +47,5 @@ moved_to_start input moved prefix rest n fits parts is =
     let count : n - i ≡ k = omega arith in
     let long : k ≤ length (drop i input) = omega (arith, length-drop i input) in
     let rest_is : take k (drop i input) ≡ rest =
-    sym (drop-take i k input) ∙ ap (λ m. drop i (take m input)) all ∙ ap (drop i) parts
-    ∙ ap (λ m. drop m (prefix ++ rest)) seam ∙ drop-append_seam prefix rest in
-    ap (take k) is ∙ ap (λ m. take k (paste input 0 (drop i input) m)) count
-    ∙ ap (λ m. take m (paste input 0 (drop i input) k)) (sym (zero-add k))
-    ∙ take-paste input 0 (drop i input) k (omega arith) long ∙ rest_is
+    cc (drop-take i k input, all, parts, seam, drop-append_seam prefix rest) in
+    cc (is, count, zero-add k, take-paste input 0 (drop i input) k (omega arith) long, rest_is)

@@ -1,10 +1,9 @@
 -- Each packet of a capture has a line.
-use Rattle.std.proofs.Common.{◌≡◌, sym, ap, subst, ℕ, ◌+◌, ◌*◌, ◌^◌, ◌<◌, ◌≤◌, arith, List, []}
-use Rattle.std.proofs.Common.{◌∷◌, length, drop, inl, inr}
+use Rattle.std.proofs.Common.{◌≡◌, sym, ap, subst, ℕ, ◌+◌, ◌*◌, ◌^◌, ◌<◌, ◌≤◌, arith, List, [], ◌∷◌, length, drop, inl}
+use Rattle.std.proofs.Common.{inr}
 use Rattle.std.specs.Prelude.{min}
 use Rattle.std.specs.List.{AllByRecursion}
-use Rattle.captures.proofs.ByteLemmas.{Bytes, bytes_by, bytes_at, bytes_drop, bytes_take, bytes_prefix}
-use Rattle.captures.proofs.ByteLemmas.{bytes_back}
+use Rattle.captures.proofs.ByteLemmas.{Bytes, bytes_by, bytes_at, bytes_drop, bytes_take, bytes_prefix, bytes_back}
 use Rattle.captures.proofs.FramedLemmas.{reported_bytes, reported_fits}
 use Rattle.captures.specs.ComeBack.{HasLine, CapturedPacketsHaveLines}
 use Rattle.captures.specs.Lines.{Packet, packets_of}
@@ -20,7 +19,6 @@ use Rattle.captures.specs.declared.link.kind.Link.{Link}
 use Rattle.captures.specs.declared.pcapng.section.Section.{Section}
 use Rattle.captures.specs.declared.translation.state.State.{State}
 use Rattle.captures.specs.declared.translation.state.State.TheVariants.{Start, Classic, Pcapng}
-use Rattle.device_runs.proofs.CallLemmas.{AllByRecursion-append}
 use Rattle.captures.specs.declared.origin.Origin.{Origin}
 
 most_time : (n : ℕ) → min n TIME_LIMIT ≤ TIME_LIMIT
@@ -33,17 +31,7 @@ Fit origin frame = AllByRecursion HasLine (packets_of origin frame)
 
 fits_line : (origin : Origin) (frame : List ℕ) → length frame ≤ FRAME_LIMIT → Bytes frame
     → origin.channel < 2 ^ 32 → origin.time ≤ TIME_LIMIT → Fit origin frame
-fits_line origin [] short bytes number time = tt
-fits_line origin (b ∷ frame) short bytes number time = (
-  record {
-    some = omega arith;
-    short = short;
-    bytes = bytes_at (b ∷ frame) bytes;
-    number = number;
-    time = time;
-  },
-  tt,
-)
+fits_line origin frame short bytes number time = grind (arith, bytes_at)
 
 none_fits : (origin : Origin) (frame : List ℕ) → frame ≡ [] → Fit origin frame
 none_fits origin frame none = subst (λ (f : List ℕ). Fit origin f) (sym none) tt
@@ -70,27 +58,20 @@ timed_fits interface section order block after origin frame range bytes number l
     (nanoseconds_of (clock_at section interface).resolution
     (2 ^ 32 * word order block 12 + word order block 16))) in
     let held' : Bytes held = subst Bytes (sym says.bytes)
-    (bytes_take (length held) (drop 28 block) (bytes_drop 28 block bytes)) in (
-      subst (λ (s : Section). s.first < 2 ^ 32) (sym becomes.0) range,
-      fits_line origin frame (reported_fits section.passing.unfit link held frame becomes.2)
-          (reported_bytes section.passing.unfit link held frame held' becomes.2) (omega arith) (omega arith),
-    )
+    (bytes_take (length held) (drop 28 block) (bytes_drop 28 block bytes)) in
+    grind (arith, fits_line, reported_fits, reported_bytes)
 
 block_fits : (section : Section) (order : ByteOrder) (block : List ℕ) (after : Section)
     (origin : Origin) (frame : List ℕ) → section.first < 2 ^ 32 → Bytes block
     → (content : Content) → Says section order block content
     → Becomes section order content after origin frame → (after.first < 2 ^ 32) × Fit origin frame
-block_fits section order block after origin frame range bytes (Opens first) says becomes = (
-  subst (λ (s : Section). s.first < 2 ^ 32)
-      (sym becomes.0) says.4,
-  none_fits origin frame becomes.1,
-)
+block_fits section order block after origin frame range bytes (Opens first) says becomes =
+    grind arith
 block_fits section order block after origin frame range bytes (OpensOther major minor) says
     becomes = absurd becomes
 block_fits section order block after origin frame range bytes
     (Describes link_type snap_len clock) says becomes = (
-      subst (λ (s : Section). s.first < 2 ^ 32)
-          (sym becomes.2) range,
+      grind arith,
       none_fits origin frame becomes.3,
     )
 block_fits section order block after origin frame range bytes
@@ -107,26 +88,14 @@ block_fits section order block after origin frame range bytes
     let first = says.number in
     let time = ap (λ (o : Origin). o.time) becomes.1 in
     let reported_time = says.time in
-    let held' : Bytes held = subst Bytes (sym says.bytes)
-    (bytes_take (length held) (drop 12 block) (bytes_drop 12 block bytes)) in (
-      subst (λ (s : Section). s.first < 2 ^ 32) (sym becomes.0) range,
-      fits_line origin frame (reported_fits section.passing.unfit link held frame becomes.2)
-          (reported_bytes section.passing.unfit link held frame held' becomes.2) (omega arith)
-          (omega arith),
-    )
-block_fits section order block after origin frame range bytes Nothing says becomes = (
-  subst (λ (s : Section). s.first < 2 ^ 32)
-      (sym becomes.0) range,
-  none_fits origin frame becomes.1,
-)
+    let held' : Bytes held = grind (arith, bytes_take, bytes_drop) in
+    grind (arith, fits_line, reported_fits, reported_bytes)
+block_fits section order block after origin frame range bytes Nothing says becomes = grind arith
 
 block_unit_fits : (section : Section) (unit : List ℕ) (after : State) (origin : Origin) (frame : List ℕ)
     → section.first < 2 ^ 32 → Bytes unit
     → IsBlockUnit section unit after origin frame → InRange after × Fit origin frame
-block_unit_fits section unit after origin frame range bytes b =
-    let both = block_fits section b.order unit b.next origin frame range bytes b.reads.content
-    b.reads.says b.reads.becomes in
-    (subst InRange (sym b.becomes) both.0, both.1)
+block_unit_fits section unit after origin frame range bytes b = grind (arith, block_fits)
 
 unit_fits : (state : State) (unit : List ℕ) (after : State) (origin : Origin) (frame : List ℕ)
     → InRange state → Bytes unit → IsUnit state unit after origin frame
@@ -141,13 +110,7 @@ unit_fits (Classic order time_unit link passing) unit after origin frame range b
     let time = ap (λ (o : Origin). o.time) is.1 in
     let most = most_time (1000000000 * word order unit 0
     + nanoseconds_in time_unit * word order unit 4) in
-    let p = i.is_record in (
-      subst InRange (sym i.next) tt,
-      fits_line origin frame (reported_fits passing.unfit link i.packet frame i.is_reported)
-          (reported_bytes passing.unfit link i.packet frame
-          (bytes_back p.head i.packet (subst Bytes p.parts bytes)) i.is_reported) (omega arith)
-          (omega arith),
-    )
+    let p = i.is_record in grind (arith, fits_line, reported_fits, reported_bytes, bytes_back)
 unit_fits (Pcapng section) unit after origin frame range bytes is =
     block_unit_fits section unit after origin frame range bytes is
 
@@ -160,11 +123,9 @@ row_fits state (unit ∷ units) packets after range bytes row =
     (bytes_prefix unit (in_a_row units) bytes) row.4 in
     let later = row_fits row.0 units row.3 after first.0
     (bytes_back unit (in_a_row units) bytes) row.5 in
-    subst (AllByRecursion HasLine) (sym row.6)
-    (AllByRecursion-append HasLine (packets_of row.1 row.2) row.3 first.1 later)
+    grind arith
 
 pub captured_packets_have_lines : CapturedPacketsHaveLines
 captured_packets_have_lines unfit bytes packets skipped all capture =
     let p = capture.passes in
-    row_fits (Start unfit) p.units packets capture.state tt
-    (bytes_prefix (in_a_row p.units) [] (subst Bytes p.parts (bytes_by bytes all))) p.row
+    grind (arith, row_fits, bytes_prefix, bytes_by)

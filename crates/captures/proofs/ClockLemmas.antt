@@ -1,8 +1,7 @@
 -- The clocks of interfaces.
-use Rattle.std.proofs.Common.{◌≡◌, ◌∙◌, ap, subst, refl, ℕ, zero, suc, ◌+◌, ◌-◌, ◌*◌, ◌/◌, ◌^◌}
-use Rattle.std.proofs.Common.{◌<◌, ◌≤◌, arith, ltb-false, Bool, true, false, List, length, drop}
-use Rattle.std.specs.Prelude.{min, nat_lt, ◌==◌, ◌||◌}
-use Rattle.captures.specs.Numbers.{half}
+use Rattle.std.proofs.Common.{◌≡◌, ◌∙◌, ap, ℕ, zero, suc, ◌+◌, ◌-◌, ◌*◌, ◌/◌, ◌^◌, ◌<◌, ◌≤◌, arith, true, false, List}
+use Rattle.std.proofs.Common.{length, drop}
+use Rattle.std.specs.Prelude.{min}
 use Rattle.std.proofs.Math.Nat.{pow-suc}
 use Rattle.std.proofs.lemmas.List.{drop_min}
 use Rattle.std.proofs.lemmas.Nat.{div_below}
@@ -24,7 +23,7 @@ ten_up n (suc k) =
 pub ten_most : (n m : ℕ) → n ≤ m → 10 ^ n ≤ 10 ^ m
 ten_most n m le =
     let same : n + (m - n) ≡ m = omega arith in
-    subst (λ (k : ℕ). 10 ^ n ≤ 10 ^ k) same (ten_up n (m - n))
+    grind (arith, ten_up)
 
 pub ten_some : (n : ℕ) → 0 < 10 ^ n
 ten_some n = let most = ten_most 0 n (omega arith) in omega arith
@@ -42,34 +41,21 @@ no_parts count n few long =
 -- where 10^29 units or more make a second, no count of 64 bits has one nanosecond
 pub few_parts : (resolution count : ℕ) → count < 2 ^ 64 → 29 ≤ resolution → resolution < 128
     → nanoseconds_of resolution count ≡ 0
-few_parts resolution count fits small ten =
-    rw (le-ltb resolution 10 (omega arith), lt-ltb resolution 128 ten)
-    (no_parts count (resolution - 9) fits (omega arith))
+few_parts resolution count fits small ten = grind (arith, le-ltb, lt-ltb, no_parts)
 
 -- ---- options
 
 pub options_end : (n : ℕ) (order : ByteOrder) (rest : List ℕ) (clock reported : Clock)
     → clock_by n order rest clock ≡ reported → ends_options order rest ≡ true → clock ≡ reported
-options_end zero order rest clock reported is ends = is
-options_end (suc n) order rest clock reported is ends = rw ends at is
-
-by_size : (few : Bool) (n : ℕ) (b c : Bool) → nat_lt n 4 ≡ few → (few || b || c) ≡ false → 4 ≤ n
-by_size true n b c is more = absurd (cc)
-by_size false n b c is more = ltb-false n 4 is
+options_end n order rest clock reported is ends = grind arith
 
 pub long_enough : (order : ByteOrder) (rest : List ℕ) → ends_options order rest ≡ false
     → 4 ≤ length rest
-long_enough order rest more = by_size (nat_lt (length rest) 4) (length rest)
-    (half order rest 0 == 0) (nat_lt (length rest) (4 + half order rest 2)) refl more
+long_enough order rest more = grind arith
 
 pub options_more : (n : ℕ) (order : ByteOrder) (rest later : List ℕ) (clock reported : Clock)
     → length rest ≤ n → clock_by n order rest clock ≡ reported → ends_options order rest ≡ false
     → 4 ≤ length rest → later ≡ drop (min (option_len order rest) (length rest)) rest → length later + 4 ≤ length rest
     → (m : ℕ) × (length later ≤ m) × (clock_by m order later (with_option order rest clock) ≡ reported)
-options_more zero order rest later clock reported few is more long here shorter = absurd (omega arith)
-options_more (suc n) order rest later clock reported few is more long here shorter = (
-  n,
-  omega arith,
-  ap (λ (l : List ℕ). clock_by n order l (with_option order rest clock))
-      (here ∙ drop_min (option_len order rest) rest) ∙ (rw more at is),
-)
+options_more n order rest later clock reported few is more long here shorter =
+    grind (arith, drop_min)

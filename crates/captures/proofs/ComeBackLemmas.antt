@@ -1,19 +1,17 @@
 -- What is written of the lines of packets.
-use Rattle.std.proofs.Common.{◌≡◌, ◌∙◌, sym, ap, refl, subst, ℕ, ◌*◌, ◌/◌, ◌≤◌, List, [], ◌∷◌}
-use Rattle.std.proofs.Common.{◌++◌, length, map, Some, append_assoc, append-nil, arith}
-use Rattle.std.specs.Prelude.{if◌then◌else◌}
+use Rattle.std.proofs.Common.{◌≡◌, sym, ap, refl, subst, ℕ, ◌≤◌, List, [], ◌∷◌, ◌++◌, length, map, Some, append_assoc}
+use Rattle.std.proofs.Common.{append-nil, arith}
 use Rattle.std.specs.List.{AllByRecursion, flat_map}
-use Rattle.captures.specs.ComeBack.{HasLine, at_no_time, on_one_channel, LinesComeBack}
-use Rattle.captures.specs.ComeBack.{at_its_time, with_time, without_time, TimedLinesComeBack}
+use Rattle.captures.specs.ComeBack.{HasLine, at_no_time, on_one_channel, LinesComeBack, at_its_time, with_time}
+use Rattle.captures.specs.ComeBack.{without_time, TimedLinesComeBack}
 use Rattle.captures.specs.Lines.{Packet, packets_of, line_of, lines_of, timed_line_of}
-use Rattle.captures.specs.Runs.{IsCapture}
+use Rattle.captures.specs.CaptureRuns.{IsCapture}
 use Rattle.captures.specs.Skipping.{none_skipped}
-use Rattle.captures.specs.Encoding.{IsWritable, capture_of, origin_of, packet_of, packets_in}
+use Rattle.captures.specs.Encoding.{IsWritable, capture_of, packet_of, packets_in}
 use Rattle.captures.specs.Texts.{with_line_ends, GiveFrames, IsText, with_last_line_end}
 use Rattle.captures.specs.declared.extra.Extra.TheVariants.{Nothing, Times}
 use Rattle.captures.specs.declared.origin.Origin.{Origin}
 use Rattle.captures.specs.declared.time.time_unit.TimeUnit.{TimeUnit}
-use Rattle.captures.specs.declared.time.time_unit.TimeUnit.TheVariants.{Microseconds, Nanoseconds}
 use Rattle.captures.specs.declared.unfit.Unfit.{Unfit}
 use Rattle.captures.proofs.EncodingLemmas.{capture_is}
 use Rattle.captures.proofs.TextLemmas.{ends_ended}
@@ -31,14 +29,12 @@ text_of packet = written_frame packet.origin.channel packet.frame
 
 line_is : (packet : Packet) (rest : List ℕ) → line_of packet ++ rest ≡ text_of packet ++ 10 ∷ rest
 unfolding text_of
-line_is packet rest =
-    append_assoc (written_frame packet.origin.channel packet.frame) (10 ∷ []) rest
+line_is packet rest = grind (arith, append_assoc)
 
 line_gives_frame : (packet : Packet) → HasLine packet
     → timed_frame_of (text_of packet) ≡ Some (at_no_time packet)
 unfolding text_of
-line_gives_frame packet fits =
-    written_frame-timed packet.origin.channel packet.frame fits.number fits.bytes fits.some fits.short
+line_gives_frame packet fits = grind (arith, written_frame-timed)
 
 one_line : (packet : Packet) → HasLine packet → HasNoNewline (text_of packet)
 unfolding text_of
@@ -54,16 +50,12 @@ timed_text_of packet =
 timed_line_is : (packet : Packet) (rest : List ℕ)
     → timed_line_of packet ++ rest ≡ timed_text_of packet ++ 10 ∷ rest
 unfolding timed_text_of
-timed_line_is packet rest =
-    append_assoc (written_timed_frame packet.origin.channel packet.frame packet.origin.time)
-    (10 ∷ []) rest
+timed_line_is packet rest = grind (arith, append_assoc)
 
 timed_line_gives_frame : (packet : Packet) → HasLine packet
     → timed_frame_of (timed_text_of packet) ≡ Some (at_its_time packet)
 unfolding timed_text_of
-timed_line_gives_frame packet fits =
-    written_timed_frame-timed packet.origin.channel packet.frame packet.origin.time fits.number
-    fits.bytes fits.some fits.short (omega (arith, fits.time))
+timed_line_gives_frame packet fits = grind (arith, written_timed_frame-timed)
 
 timed_one_line : (packet : Packet) → HasLine packet → HasNoNewline (timed_text_of packet)
 unfolding timed_text_of
@@ -79,8 +71,7 @@ module _ (line text : Packet → List ℕ) (timed : Packet → TimedFrame)
     (one : (packet : Packet) → HasLine packet → HasNoNewline (text packet)) where
   all_ended : (packets : List Packet) → flat_map line packets ≡ with_line_ends (map text packets)
   all_ended [] = refl
-  all_ended (packet ∷ packets) = ended packet (flat_map line packets)
-      ∙ ap (λ l. text packet ++ 10 ∷ l) (all_ended packets)
+  all_ended (packet ∷ packets) = grind (arith, all_ended packets)
 
   all_give_frames : (packets : List Packet) → AllByRecursion HasLine packets
       → GiveFrames (map text packets) (map timed packets)
@@ -96,21 +87,13 @@ module _ (line text : Packet → List ℕ) (timed : Packet → TimedFrame)
 
   last_ended : (packets : List Packet) → with_last_line_end (flat_map line packets)
       ≡ with_line_ends (map text packets)
-  last_ended packets =
-      ap with_last_line_end (all_ended packets)
-      ∙ ap (λ b. if b then with_line_ends (map text packets)
-      else (with_line_ends (map text packets) ++ 10 ∷ [])) (ends_ended (map text packets))
+  last_ended packets = grind (arith, all_ended, ends_ended)
 
   is_text : (packets : List Packet) → AllByRecursion HasLine packets
       → IsText (flat_map line packets) (map timed packets)
   is_text packets all = (
     length (map text packets),
-    record {
-      lines = map text packets;
-      each = all_give_frames packets all;
-      number = refl;
-      parts = last_ended packets ∙ sym (append-nil (with_line_ends (map text packets)));
-    },
+    grind (arith, all_give_frames, last_ended, append-nil),
   )
 
 -- the frames' capture
@@ -126,9 +109,7 @@ module _ (time_unit : TimeUnit) (timed : Packet → TimedFrame) (reported : Pack
   same_packets : (packets : List Packet) → AllByRecursion HasLine packets
       → packets_in time_unit (map timed packets) ≡ map reported packets
   same_packets [] all = refl
-  same_packets (packet ∷ packets) all =
-      ap (λ l. l ++ packets_in time_unit (map timed packets)) (same packet all.0)
-      ∙ ap (λ l. reported packet ∷ l) (same_packets packets all.1)
+  same_packets (packet ∷ packets) all = grind (arith, same_packets packets all.1)
 
   is_capture : (unfit : Unfit) (packets : List Packet) → AllByRecursion HasLine packets
       → IsCapture unfit (capture_of time_unit (map timed packets)) (map reported packets) none_skipped
@@ -140,15 +121,12 @@ module _ (time_unit : TimeUnit) (timed : Packet → TimedFrame) (reported : Pack
 -- a packet that has bytes
 one_packet : (origin : Origin) (frame : List ℕ) → 1 ≤ length frame
     → packets_of origin frame ≡ record { origin = origin; frame = frame } ∷ []
-one_packet origin [] some = absurd (omega arith)
-one_packet origin (b ∷ frame) some = refl
+one_packet origin frame some = grind arith
 
 packet_at : (time : ℕ) (packet : Packet) (origin : Origin) → HasLine packet
     → origin.channel ≡ 0 → origin.time ≡ time
     → packets_of origin packet.frame ≡ on_one_channel time packet ∷ []
-packet_at time packet origin fits none is =
-    one_packet origin packet.frame fits.some
-    ∙ (λ i. record { origin = record { channel = none i; time = is i }; frame = packet.frame } ∷ [])
+packet_at time packet origin fits none is = grind arith
 
 without_writable : (packet : Packet) → HasLine packet → IsWritable (at_no_time packet)
 without_writable packet fits =
@@ -156,10 +134,7 @@ without_writable packet fits =
 
 without_same : (time_unit : TimeUnit) (packet : Packet) → HasLine packet
     → packet_of time_unit (at_no_time packet) ≡ without_time packet ∷ []
-without_same Microseconds packet fits =
-    packet_at 0 packet (origin_of Microseconds (at_no_time packet)) fits refl refl
-without_same Nanoseconds packet fits =
-    packet_at 0 packet (origin_of Nanoseconds (at_no_time packet)) fits refl refl
+without_same time_unit packet fits = grind arith
 
 timed_writable : (packet : Packet) → HasLine packet → IsWritable (at_its_time packet)
 timed_writable packet fits = let few = fits.time in
@@ -167,14 +142,7 @@ timed_writable packet fits = let few = fits.time in
 
 timed_same : (time_unit : TimeUnit) (packet : Packet) → HasLine packet
     → packet_of time_unit (at_its_time packet) ≡ with_time time_unit packet ∷ []
-timed_same Microseconds packet fits =
-    let few = fits.time in
-    packet_at (1000 * (packet.origin.time / 1000)) packet
-    (origin_of Microseconds (at_its_time packet)) fits refl (omega arith)
-timed_same Nanoseconds packet fits =
-    let few = fits.time in
-    packet_at (1 * (packet.origin.time / 1)) packet
-    (origin_of Nanoseconds (at_its_time packet)) fits refl (omega arith)
+timed_same time_unit packet fits = grind arith
 
 plain_lines : (packets : List Packet) → lines_of Nothing packets ≡ flat_map line_of packets
 plain_lines [] = refl
@@ -188,8 +156,7 @@ pub lines_come_back : LinesComeBack
 lines_come_back packets all = (
   subst (λ (l : List ℕ). IsText l (map at_no_time packets)) (sym (plain_lines packets))
       (is_text line_of text_of at_no_time line_is line_gives_frame one_line packets all),
-  λ unfit time_unit. is_capture time_unit at_no_time without_time without_writable
-      (without_same time_unit) unfit packets all,
+  grind (arith, is_capture, without_writable, without_same),
 )
 
 pub timed_lines_come_back : TimedLinesComeBack
@@ -197,6 +164,5 @@ timed_lines_come_back packets all = (
   subst (λ (l : List ℕ). IsText l (map at_its_time packets)) (sym (timed_lines packets))
       (is_text timed_line_of timed_text_of at_its_time timed_line_is timed_line_gives_frame timed_one_line
       packets all),
-  λ unfit time_unit. is_capture time_unit at_its_time (with_time time_unit) timed_writable
-      (timed_same time_unit) unfit packets all,
+  grind (arith, is_capture, timed_writable, timed_same),
 )

@@ -1,27 +1,20 @@
 -- What is written is read again.
-use Rattle.std.proofs.Common.{◌≡◌, ◌∙◌, sym, ap, ap₂, refl, ℕ, ◌+◌, ◌*◌, ◌/◌, ◌%◌, ◌^◌, ◌<◌, ◌≤◌}
-use Rattle.std.proofs.Common.{arith, ◌==◌, Bool, true, false}
-use Rattle.std.proofs.Common.{List, [], ◌∷◌, ◌++◌, length, inl, append-nil, Some, le-ltb}
-use Rattle.std.proofs.Common.{Result, Ok}
+use Rattle.std.proofs.Common.{◌≡◌, refl, ℕ, ◌+◌, ◌*◌, ◌/◌, ◌%◌, ◌^◌, ◌<◌, ◌≤◌, arith, Bool, List, [], ◌∷◌, length, inl}
+use Rattle.std.proofs.Common.{append-nil, Some, Ok}
 use Rattle.std.specs.Prelude.{if◌then◌else◌}
 use Rattle.std.specs.List.{AllByRecursion, flat_map}
 use Rattle.std.specs.Option.{option_map}
-use Rattle.captures.specs.Framed.{captured_limit, frame_by, frame_bytes, link_for, own_frame}
-use Rattle.captures.specs.Framed.{taken_limit, reported_by, reported_of}
-use Rattle.captures.specs.Skipping.{counted_by, none_skipped, passing_from}
+use Rattle.captures.specs.Framed.{frame_bytes, link_for, own_frame, taken_limit, reported_by, reported_of}
+use Rattle.captures.specs.Skipping.{none_skipped, passing_from}
 use Rattle.captures.specs.declared.translation.skipped.Passing.{Passing}
-use Rattle.captures.specs.declared.translation.skipped.Reason.{Reason}
 use Rattle.captures.specs.declared.translation.skipped.Reason.TheVariants.{NoFrame}
 use Rattle.captures.specs.declared.translation.state.State.{State}
-use Rattle.captures.specs.declared.unfit.Unfit.TheVariants.{Refuse, Skip}
 use Rattle.captures.specs.declared.unfit.Unfit.{Unfit}
 use Rattle.captures.specs.Pcap.{IsPacketRecord}
-use Rattle.captures.specs.Runs.{IsCapture}
-use Rattle.captures.specs.Encoding.{file_header, record_head, record_of, capture_of}
+use Rattle.captures.specs.CaptureRuns.{IsCapture}
+use Rattle.captures.specs.Encoding.{file_header, record_head, record_of, capture_of, packets_in, parts_in, origin_of}
+use Rattle.captures.specs.Encoding.{IsWritable}
 use Rattle.line_grammar.specs.TimedLines.{TimedFrame}
-use Rattle.captures.specs.Encoding.{packets_in, parts_in, origin_of, IsWritable}
-use Rattle.captures.specs.Numbers.{word}
-use Rattle.captures.specs.Times.{record_time}
 use Rattle.captures.specs.declared.time.time_unit.TimeUnit.TheVariants.{Microseconds, Nanoseconds}
 use Rattle.captures.specs.Units.{Row, in_a_row, IsRecordUnit, OpensFile, record_origin}
 use Rattle.captures.specs.declared.byte_order.ByteOrder.TheVariants.{Little}
@@ -52,18 +45,14 @@ record_is time_unit timed fits = record {
 either_way : (none : Bool) (frame : List ℕ)
     → reported_by NoFrame (option_map frame_bytes
     (if none then Some (own_frame frame) else Some (own_frame frame))) ≡ Ok frame
-either_way true frame = refl
-either_way false frame = refl
+either_way none frame = grind arith
 
 own_reported : (frame : List ℕ) → length frame ≤ FRAME_LIMIT → reported_of Ethernet frame ≡ Ok frame
-own_reported frame short =
-    rw (le-ltb (captured_limit Ethernet) (length frame) (omega arith))
-    (either_way (length frame == 0) frame)
+own_reported frame short = grind arith
 
 own_fits : (unfit : Unfit) (frame : List ℕ) → length frame ≤ FRAME_LIMIT
     → length frame ≤ taken_limit unfit Ethernet
-own_fits Refuse frame short = omega arith
-own_fits Skip frame short = omega arith
+own_fits unfit frame short = grind arith
 
 abbrev at_frames : TimeUnit → Passing → State
 at_frames time_unit passing = Classic Little time_unit Ethernet passing
@@ -71,14 +60,7 @@ at_frames time_unit passing = Classic Little time_unit Ethernet passing
 is_unit : (time_unit : TimeUnit) (passing : Passing) (timed : TimedFrame) → length timed.frame ≤ FRAME_LIMIT
     → IsRecordUnit Little time_unit Ethernet passing (record_of time_unit timed)
     (at_frames time_unit passing) timed.frame
-is_unit time_unit passing timed fits = record {
-  packet = timed.frame;
-  is_record = record_is time_unit timed fits;
-  fits = own_fits passing.unfit timed.frame fits;
-  is_reported = ap (frame_by passing.unfit) (own_reported timed.frame fits);
-  next = ap (λ (reported : Result (List ℕ) Reason). at_frames time_unit (counted_by passing reported))
-      (sym (own_reported timed.frame fits));
-}
+is_unit time_unit passing timed fits = grind (arith, record_is, own_fits, own_reported)
 
 units_of : TimeUnit → List TimedFrame → List (List ℕ)
 units_of time_unit [] = []
@@ -88,23 +70,11 @@ in_a_row-units_of : (time_unit : TimeUnit) (frames : List TimedFrame)
     → in_a_row (units_of time_unit frames) ≡ flat_map (record_of time_unit) frames
 unfolding units_of
 in_a_row-units_of time_unit [] = refl
-in_a_row-units_of time_unit (timed ∷ frames) =
-    ap (λ l. record_of time_unit timed ++ l) (in_a_row-units_of time_unit frames)
-
--- the time in a record
-parts_few : (time_unit : TimeUnit) (n : ℕ) → n < 1000000000 → parts_in time_unit n < 2 ^ 32
-parts_few Microseconds n few = omega arith
-parts_few Nanoseconds n few = omega arith
+in_a_row-units_of time_unit (timed ∷ frames) = grind (arith, in_a_row-units_of time_unit frames)
 
 its_origin : (time_unit : TimeUnit) (timed : TimedFrame) → IsWritable timed
     → origin_of time_unit timed ≡ record_origin Little time_unit (record_of time_unit timed)
-its_origin time_unit timed fits =
-    let seconds : word Little (record_of time_unit timed) 0 ≡ timed.seconds =
-    encoded timed.seconds fits.seconds in
-    let parts : word Little (record_of time_unit timed) 4 ≡ parts_in time_unit timed.nanoseconds =
-    encoded (parts_in time_unit timed.nanoseconds)
-    (parts_few time_unit timed.nanoseconds fits.nanoseconds) in
-    sym (ap₂ (λ (s p : ℕ). origin_at (record_time time_unit s p)) seconds parts)
+its_origin time_unit timed fits = grind arith
 
 row_of : (time_unit : TimeUnit) (passing : Passing) (frames : List TimedFrame)
     → AllByRecursion IsWritable frames
@@ -123,8 +93,7 @@ row_of time_unit passing (timed ∷ frames) all = (
 )
 
 known_link : (unfit : Unfit) → link_for unfit 1 ≡ Some Ethernet
-known_link Refuse = refl
-known_link Skip = refl
+known_link unfit = grind arith
 
 header_is : (unfit : Unfit) (time_unit : TimeUnit)
     → OpensFile unfit (file_header time_unit) (at_frames time_unit (passing_from unfit))
@@ -159,8 +128,7 @@ capture_is unfit time_unit frames all = record {
       row_of time_unit (passing_from unfit) frames all,
       refl,
     );
-    parts = ap (λ l. file_header time_unit ++ l) (sym (in_a_row-units_of time_unit frames))
-        ∙ sym (append-nil (file_header time_unit ++ in_a_row (units_of time_unit frames)));
+    parts = grind (arith, in_a_row-units_of, append-nil, units_of);
   };
   known = λ e. cc e;
   counts = refl;

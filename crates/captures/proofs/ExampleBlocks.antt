@@ -1,7 +1,7 @@
 -- The packets in the blocks of the example capture.
 use Rattle.std.proofs.Common.{arith, drop, refl, take, List, ℕ}
-use Rattle.captures.specs.Examples.{cooked_packet, cut_simple_block, described_section}
-use Rattle.captures.specs.Examples.{enhanced_block, obsolete_block, origin_at, simple_block}
+use Rattle.captures.specs.Examples.{cooked_packet, cut_simple_block, described_section, enhanced_block, obsolete_block}
+use Rattle.captures.specs.Examples.{origin_at, simple_block}
 use Rattle.captures.specs.Pcapng.{IsSimplePacket, IsTimedPacket}
 use Rattle.captures.specs.declared.byte_order.ByteOrder.TheVariants.{Little}
 use Rattle.captures.specs.declared.link.kind.Link.TheVariants.{Sll2}

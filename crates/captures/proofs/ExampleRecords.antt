@@ -1,10 +1,7 @@
 -- The packet in the example of a classic capture.
-use Rattle.std.proofs.Common.{arith, inl, refl, take, List, [], ◌∷◌, ◌++◌, ℕ}
-use Rattle.captures.specs.Examples.{cooked_packet, file_header, opened_file, origin_at, packet_at}
-use Rattle.captures.specs.Examples.{packet_record}
+use Rattle.std.proofs.Common.{arith, refl, take, List, [], ◌∷◌, ◌++◌, ℕ}
+use Rattle.captures.specs.Examples.{cooked_packet, file_header, opened_file, origin_at, packet_at, packet_record}
 use Rattle.captures.specs.Units.{Passes}
-use Rattle.captures.specs.declared.byte_order.ByteOrder.TheVariants.{Big}
-use Rattle.captures.specs.declared.link.kind.Link.TheVariants.{Sll2}
 use Rattle.captures.specs.declared.translation.state.State.TheVariants.{Start}
 use Rattle.captures.specs.declared.unfit.Unfit.TheVariants.{Refuse}
 
@@ -20,16 +17,7 @@ passes_record rest =
         origin_at 0,
         [],
         reported ∷ [],
-        inl (
-          record {
-            order = Big;
-            link = Sll2;
-            header = record { size = refl; magic = refl; major = refl; minor = refl };
-            known = refl;
-            next = refl;
-          },
-          refl,
-        ),
+        grind arith,
         (
           opened_file,
           reported.origin,

@@ -1,11 +1,9 @@
 -- The first packet of some bytes.
-use Rattle.std.proofs.Common.{◌≡◌, ◌∙◌, sym, ap, ap₂, subst, ℕ, ◌+◌, ◌-◌, ◌<◌, ◌==◌, arith}
-use Rattle.std.proofs.Common.{true, false, List, [], ◌∷◌, ◌++◌, length, append_assoc, length-append}
-use Rattle.std.proofs.Common.{append-nil, Option}
-use Rattle.std.proofs.lemmas.Bool.{eqb-false}
+use Rattle.std.proofs.Common.{◌≡◌, subst, ℕ, ◌+◌, ◌-◌, ◌<◌, ◌==◌, arith, true, false, List, [], ◌∷◌, ◌++◌, length}
+use Rattle.std.proofs.Common.{append_assoc, length-append, append-nil, Option}
 use Rattle.captures.specs.Framed.{FrameParts, frame_bytes}
 use Rattle.captures.specs.PacketSteps.{HasNone, IsFirst, IsFromEnd, origin_of, taken_of}
-use Rattle.captures.specs.Lines.{Packet as TakenPacket, lines_from, noted, noted_all, reported}
+use Rattle.captures.specs.Lines.{Packet as TakenPacket, noted, reported}
 use Rattle.captures.specs.Units.{HasPacket, Passes, StandsAt, Takes, in_a_row}
 use Rattle.captures.specs.declared.capture_error.CaptureError.{CaptureError}
 use Rattle.captures.specs.declared.link.kind.Link.{Link}
@@ -13,8 +11,8 @@ use Rattle.captures.specs.declared.origin.Origin.{Origin}
 use Rattle.captures.specs.declared.packet.Packet.{Packet}
 use Rattle.captures.specs.declared.text.ledger.Ledger.{Ledger}
 use Rattle.captures.specs.declared.translation.state.State.{State}
-use Rattle.captures.proofs.UnitLemmas.{Reported, lines_from-append, no_packets_of, noted_all-append}
-use Rattle.captures.proofs.UnitLemmas.{one_packet, passes_none, passes_unit}
+use Rattle.captures.proofs.UnitLemmas.{Reported, lines_from-append, no_packets_of, noted_all-append, one_packet}
+use Rattle.captures.proofs.UnitLemmas.{passes_none, passes_unit}
 
 -- one more unit without a packet
 pub passes_empty : (state mid after : State) (bytes rest rest' : List ℕ) (origin : Origin)
@@ -28,8 +26,7 @@ passes_empty state mid after bytes rest rest' origin link frame p h none =
 
 pub some_bytes : (frame : FrameParts) → (length (frame_bytes frame) == 0) ≡ false
     → 0 < length (frame_bytes frame)
-some_bytes frame some =
-    let not_zero = eqb-false (length (frame_bytes frame)) 0 some in omega arith
+some_bytes frame some = grind arith
 
 -- where the frame of a unit is, after other units
 pub from_end : (bytes rest part : List ℕ) (at from : ℕ) (units : List (List ℕ))
@@ -39,11 +36,9 @@ from_end bytes rest part at from units parts s is = record {
   before = in_a_row units ++ s.before;
   following = s.following;
   parts =
-      parts ∙ ap (λ (l : List ℕ). in_a_row units ++ l) s.parts
-      ∙ sym (append_assoc (in_a_row units) s.before (part ++ s.following));
+      grind (arith, append_assoc);
   position =
-      let position = s.position in
-      omega (arith, ap length s.parts, length-append s.before (part ++ s.following));
+      grind (arith, length-append);
 }
 
 -- one more packet
@@ -68,16 +63,11 @@ reported_first ledger come come' state mid after bytes rest rest' text text' cou
     let taken = taken_of packet in
     record {
       packets = t.packets ++ taken ∷ [];
-      number = length-append t.packets (taken ∷ []) ∙ ap (λ (n : ℕ). n + 1) t.number;
+      number = grind (arith, length-append);
       passes = passes_first state mid after bytes rest rest' t.packets packet t.passes f;
       lines =
-          all
-          ∙ ap₂ (λ (l : List ℕ) (c : Ledger). l ++ reported c taken) t.lines t.come
-          ∙ ap (λ (l : List ℕ). lines_from ledger t.packets ++ l)
-          (sym (append-nil (reported (noted_all ledger t.packets) taken)))
-          ∙ sym (lines_from-append ledger t.packets (taken ∷ []));
-      come = next ∙ ap (λ (c : Ledger). noted c taken) t.come
-          ∙ sym (noted_all-append ledger t.packets (taken ∷ []));
+          grind (arith, append-nil, lines_from-append);
+      come = grind (arith, noted_all-append);
     }
 
 -- no more

@@ -1,34 +1,28 @@
 -- The frame of a packet is bytes, and a line can hold it.
-use Rattle.std.proofs.Common.{◌≡◌, sym, ap, subst, refl, ℕ, ◌+◌, ◌/◌, ◌%◌}
-use Rattle.std.proofs.Common.{◌<◌, ◌≤◌, arith}
-use Rattle.std.proofs.Common.{◌==◌, Bool, true, false, List, [], ◌∷◌, ◌++◌, length, take, drop, Option}
-use Rattle.std.proofs.Common.{Some, None, inl, inr, eqb-true, ltb-false, ne_eqb, length-append}
-use Rattle.std.proofs.Common.{length-drop, IfSome, Result, Ok, Err}
+use Rattle.std.proofs.lemmas.Bool.Decides.{nat_tests}
+use Rattle.std.proofs.Common.{◌≡◌, sym, subst, refl, ℕ, ◌+◌, ◌≤◌, arith, ◌==◌, Bool, true, false, List, [], ◌∷◌, ◌++◌}
+use Rattle.std.proofs.Common.{length, take, drop, Option, Some, None, eqb-true, ltb-false, ne_eqb, length-append}
+use Rattle.std.proofs.Common.{IfSome, Ok, Err}
 use Rattle.std.specs.Option.{option_map}
 use Rattle.std.proofs.Math.Seq.{take-append_seam}
 use Rattle.std.proofs.lemmas.List.{length-take-le, take-append-drop}
-use Rattle.std.specs.Int.{to_be_bytes, w16}
 use Rattle.std.specs.Prelude.{◌⊎◌, nat_lt, slice_index, if◌then◌else◌}
 use Rattle.hex.proofs.HexLemmas.{length-encode_with}
 use Rattle.hex.specs.Hex.{IsBytes, encode_lower, encode_with, lower_digits}
-use Rattle.device_runs.proofs.CallLemmas.{AllByRecursion-append}
-use Rattle.captures.specs.Framed.{address_at, captured_limit, cooked_type, ethernet_header}
-use Rattle.captures.specs.Framed.{family_type, framed, framed_after, framed_packet, head_len}
-use Rattle.captures.specs.Framed.{frame_by, reason_on, reported_by, reported_frame, reported_of}
-use Rattle.captures.specs.Framed.{FrameParts, frame_bytes, frame_parts, own_frame, IsBack}
-use Rattle.captures.specs.Framed.{ip_type, made_header, no_address, null_family}
+use Rattle.captures.specs.Framed.{address_at, captured_limit, cooked_type, ethernet_header, family_type, framed_after}
+use Rattle.captures.specs.Framed.{framed_packet, head_len, reason_on, reported_by, reported_frame, FrameParts}
+use Rattle.captures.specs.Framed.{frame_bytes, frame_parts, own_frame, IsBack, ip_type, made_header, no_address}
+use Rattle.captures.specs.Framed.{null_family}
 use Rattle.captures.specs.declared.link.header.Header.{Header}
 use Rattle.captures.specs.Numbers.{half, word}
 use Rattle.captures.specs.declared.byte_order.ByteOrder.TheVariants.{Big}
 use Rattle.line_grammar.specs.declared.limits.TheConstants.{FRAME_LIMIT}
 use Rattle.captures.specs.declared.link.kind.Link.{Link}
-use Rattle.captures.specs.declared.link.kind.Link.TheVariants.{Ethernet, Ip, Null, Loop, Sll, Sll2}
-use Rattle.captures.specs.declared.link.kind.Link.TheVariants.{Other}
+use Rattle.captures.specs.declared.link.kind.Link.TheVariants.{Ethernet, Ip, Null, Loop, Sll, Sll2, Other}
 use Rattle.captures.specs.declared.translation.skipped.Reason.{Reason}
 use Rattle.captures.specs.declared.translation.skipped.Reason.TheVariants.{NoFrame, TooLong}
-use Rattle.captures.specs.declared.unfit.Unfit.TheVariants.{Refuse, Skip}
 use Rattle.captures.specs.declared.unfit.Unfit.{Unfit}
-use Rattle.captures.proofs.ByteLemmas.{Bytes, bytes_at, bytes_drop}
+use Rattle.captures.proofs.ByteLemmas.{Bytes}
 
 -- a header that was made, before what follows the packet's own
 record IsMade (link : Link) (packet frame : List ℕ) : Type 0 where
@@ -43,20 +37,7 @@ after_is : (link : Link) (packet source : List ℕ) (frame : FrameParts) (found 
     → length source ≡ 6 → (IsBytes packet → Bytes source) → head_len link ≤ length packet
     → framed_after source found (drop (head_len link) packet) ≡ Some frame
     → IsMade link packet (frame_bytes frame)
-after_is link packet source frame (Some t) size bytes fits is =
-    let same : record {
-      header = Some (record { source = source; ether_type = t });
-      bytes = drop (head_len link) packet;
-    } ≡ frame = cc in
-    record {
-      source = source;
-      ether_type = t;
-      size = size;
-      bytes = bytes;
-      fits = fits;
-      parts = ap frame_bytes (sym same);
-    }
-after_is link packet source frame None size bytes fits is = absurd (cc)
+after_is link packet source frame found size bytes fits is = grind arith
 
 no_bytes : Bytes no_address
 no_bytes = (omega arith, (omega arith, (omega arith, (omega arith, (omega arith, (omega arith, tt))))))
@@ -67,8 +48,7 @@ address_six : (six : Bool) (bytes : List ℕ) (p : ℕ)
     then slice_index bytes p ∷ slice_index bytes (p + 1) ∷ slice_index bytes (p + 2)
     ∷ slice_index bytes (p + 3) ∷ slice_index bytes (p + 4) ∷ slice_index bytes (p + 5) ∷ []
     else no_address) ≡ 6
-address_six true bytes p = refl
-address_six false bytes p = refl
+address_six six bytes p = grind arith
 
 address_bytes : (six : Bool) (bytes : List ℕ) (p : ℕ) → IsBytes bytes
     → Bytes (if six
@@ -82,15 +62,13 @@ address_bytes false bytes p all = no_bytes
 -- long enough for the header of its link
 not_short : (short : Bool) (made : Option FrameParts) (frame : FrameParts)
     → (if short then None else made) ≡ Some frame → (short ≡ false) × (made ≡ Some frame)
-not_short true made frame is = absurd (cc)
-not_short false made frame is = (refl, is)
+not_short short made frame is = grind arith
 
 is_made : (link : Link) (packet : List ℕ) (frame : FrameParts)
     → framed_packet link packet ≡ Some frame → (link ≡ Ethernet → ⊥)
     → IsMade link packet (frame_bytes frame)
 is_made Ethernet packet frame is other = absurd (other refl)
-is_made Ip packet frame is other =
-    after_is Ip packet no_address frame (ip_type packet) refl (λ all. no_bytes) (omega arith) is
+is_made Ip packet frame is other = grind arith
 is_made Null packet frame is other =
     let n = not_short (nat_lt (length packet) 4) _ frame is in
     let long = ltb-false (length packet) 4 n.0 in
@@ -117,72 +95,27 @@ is_made Sll2 packet frame is other =
     (cooked_type (half Big packet 8) (half Big packet 0)) (address_six six packet 12)
     (address_bytes six packet 12) (omega arith) n.1
 
-made_bytes : (link : Link) (packet frame : List ℕ) → Bytes packet → IsMade link packet frame
-    → Bytes frame
-made_bytes link packet frame bytes m =
-    subst Bytes (sym m.parts)
-    (AllByRecursion-append (λ b. b < 256) (ethernet_header m.source m.ether_type)
-    (drop (head_len link) packet)
-    (AllByRecursion-append (λ b. b < 256) no_address
-    (m.source ++ to_be_bytes w16 m.ether_type) no_bytes
-    (AllByRecursion-append (λ b. b < 256) m.source (to_be_bytes w16 m.ether_type)
-    (m.bytes (bytes_at packet bytes)) (omega arith, (omega arith, tt))))
-    (bytes_drop (head_len link) packet bytes))
-
-made_len : (link : Link) (packet frame : List ℕ) → IsMade link packet frame
-    → length frame + head_len link ≡ length packet + 14
-made_len link packet frame m =
-    let own = m.fits in
-    let six = m.size in
-    let source = length-append m.source (to_be_bytes w16 m.ether_type) in
-    let header = length-append (ethernet_header m.source m.ether_type)
-    (drop (head_len link) packet) in
-    let rest = length-drop (head_len link) packet in
-    let whole = ap length m.parts in
-    omega arith
-
 own_bytes : (packet : List ℕ) (frame : FrameParts) → Some (own_frame packet) ≡ Some frame
     → frame_bytes frame ≡ packet
-own_bytes packet frame is =
-    let same : own_frame packet ≡ frame = cc in ap frame_bytes (sym same)
+own_bytes packet frame is = grind arith
 
 by_link : (link : Link) (packet : List ℕ) (frame : FrameParts)
     → framed_packet link packet ≡ Some frame
     → (frame_bytes frame ≡ packet) × (link ≡ Ethernet) ⊎ IsMade link packet (frame_bytes frame)
-by_link Ethernet packet frame is = inl (own_bytes packet frame is, refl)
-by_link Ip packet frame is = inr (is_made Ip packet frame is (λ e. cc e))
-by_link Null packet frame is = inr (is_made Null packet frame is (λ e. cc e))
-by_link Loop packet frame is = inr (is_made Loop packet frame is (λ e. cc e))
-by_link Other packet frame is = inr (is_made Other packet frame is (λ e. cc e))
-by_link Sll packet frame is = inr (is_made Sll packet frame is (λ e. cc e))
-by_link Sll2 packet frame is = inr (is_made Sll2 packet frame is (λ e. cc e))
+by_link link packet frame is = grind (arith, own_bytes, is_made)
 
 by_length : (link : Link) (packet : List ℕ) (frame : FrameParts) (none : Bool)
     → (length packet == 0) ≡ none
     → (if none then Some (own_frame packet) else framed_packet link packet) ≡ Some frame
     → (frame_bytes frame ≡ packet) × ((link ≡ Ethernet) ⊎ (length packet ≡ 0))
     ⊎ IsMade link packet (frame_bytes frame)
-by_length link packet frame true none is =
-    inl (own_bytes packet frame is, inr (eqb-true (length packet) 0 none))
-by_length link packet frame false none is = elim (by_link link packet frame is) [
-  | inl own ↦ inl (own.0, inl own.1)
-  | inr made ↦ inr made
-]
+by_length link packet frame none none' is = grind (arith, own_bytes, eqb-true, by_link)
 
 -- the bytes of a frame are those of its parts
 by_parts : (link : Link) (packet frame : List ℕ) (found : Option FrameParts)
     → frame_parts link packet ≡ found → option_map frame_bytes found ≡ Some frame
     → (frame ≡ packet) × ((link ≡ Ethernet) ⊎ (length packet ≡ 0)) ⊎ IsMade link packet frame
-by_parts link packet frame (Some parts) found is =
-    let same : frame_bytes parts ≡ frame = cc in
-    subst (λ (f : List ℕ). (f ≡ packet) × ((link ≡ Ethernet) ⊎ (length packet ≡ 0))
-    ⊎ IsMade link packet f) same
-    (by_length link packet parts (length packet == 0) refl found)
-by_parts link packet frame None found is = absurd (cc)
-
-by_frame : (link : Link) (packet frame : List ℕ) → framed link packet ≡ Some frame
-    → (frame ≡ packet) × ((link ≡ Ethernet) ⊎ (length packet ≡ 0)) ⊎ IsMade link packet frame
-by_frame link packet frame is = by_parts link packet frame (frame_parts link packet) refl is
+by_parts link packet frame found found' is = grind (arith, by_length)
 
 back_after : (source rest : List ℕ) (n : ℕ) (found : Option ℕ) (frame : FrameParts)
     → framed_after source found (drop n rest) ≡ Some frame → IsBack rest frame.bytes
@@ -194,9 +127,7 @@ back_after source rest n None frame is = absurd (cc)
 
 back_own : (packet : List ℕ) (frame : FrameParts) → Some (own_frame packet) ≡ Some frame
     → IsBack packet frame.bytes
-back_own packet frame is =
-    let same : packet ≡ frame.bytes = cc in
-    subst (λ (b : List ℕ). IsBack packet b) same (record { prefix = []; parts = refl })
+back_own packet frame is = grind arith
 
 back_packet : (link : Link) (packet : List ℕ) (frame : FrameParts)
     → framed_packet link packet ≡ Some frame → IsBack packet frame.bytes
@@ -221,100 +152,45 @@ back_packet Other packet frame is = absurd (let e : None ≡ Some frame = is in 
 back_by : (link : Link) (packet : List ℕ) (frame : FrameParts) (none : Bool)
     → (if none then Some (own_frame packet) else framed_packet link packet) ≡ Some frame
     → IsBack packet frame.bytes
-back_by link packet frame true is = back_own packet frame is
-back_by link packet frame false is = back_packet link packet frame is
+back_by link packet frame none is = grind (arith, back_own, back_packet)
 
 -- the bytes after a header that was made are the end of the packet
 pub frame_back : (link : Link) (packet : List ℕ) (frame : FrameParts)
     → frame_parts link packet ≡ Some frame → IsBack packet frame.bytes
 frame_back link packet frame is = back_by link packet frame (length packet == 0) is
 
-pub framed_bytes : (link : Link) (packet frame : List ℕ) → Bytes packet
-    → framed link packet ≡ Some frame → Bytes frame
-framed_bytes link packet frame bytes is =
-    elim (by_frame link packet frame is) [
-      | inl own ↦ subst Bytes (sym own.0) bytes
-      | inr made ↦ made_bytes link packet frame bytes made
-    ]
-
 own_fits : (link : Link) (packet frame : List ℕ) → length packet ≤ captured_limit link
     → frame ≡ packet → (link ≡ Ethernet) ⊎ (length packet ≡ 0) → length frame ≤ FRAME_LIMIT
-own_fits link packet frame short same (inl ethernet) =
-    let size = ap length same in
-    let limit = ap captured_limit ethernet in
-    omega arith
-own_fits link packet frame short same (inr none) = let size = ap length same in omega arith
-
-pub framed_fits : (link : Link) (packet frame : List ℕ) → length packet ≤ captured_limit link
-    → framed link packet ≡ Some frame → length frame ≤ FRAME_LIMIT
-framed_fits link packet frame short is =
-    elim (by_frame link packet frame is) [
-      | inl own ↦ own_fits link packet frame short own.0 own.1
-      | inr made ↦ (let size = made_len link packet frame made in omega arith)
-    ]
-
-pub framed_len : (link : Link) (packet frame : List ℕ) → framed link packet ≡ Some frame
-    → length frame ≤ length packet + 14
-framed_len link packet frame is =
-    elim (by_frame link packet frame is) [
-      | inl own ↦ (let size = ap length own.0 in omega arith)
-      | inr made ↦ (let size = made_len link packet frame made in omega arith)
-    ]
+own_fits link packet frame short same h = grind arith
 
 -- a frame that was found
 pub found_frame : (link : Link) (packet : List ℕ) (found : Option FrameParts)
     → found ≡ frame_parts link packet
     → IfSome found (λ frame. length (frame_bytes frame) ≤ length packet + 14)
-found_frame link packet (Some frame) is =
-    framed_len link packet (frame_bytes frame) (ap (option_map frame_bytes) (sym is))
-found_frame link packet None is = tt
+found_frame link packet found is = grind (arith, nat_tests)
 
 pub found_back : (link : Link) (packet : List ℕ) (found : Option FrameParts)
     → found ≡ frame_parts link packet → IfSome found (λ frame. IsBack packet frame.bytes)
-found_back link packet (Some frame) is = frame_back link packet frame (sym is)
-found_back link packet None is = tt
+found_back link packet found is = grind (arith, frame_back)
 
 -- ---- what is reported of a packet
 
 found_reported : (reason : Reason) (found : Option (List ℕ)) (frame : List ℕ)
     → reported_by reason found ≡ Ok frame → found ≡ Some frame
-found_reported reason (Some f) frame is = cc
-found_reported reason None frame is = absurd (cc)
+found_reported reason found frame is = grind arith
 
 reported_is : (link : Link) (long : Bool) (found : Option (List ℕ)) (frame : List ℕ)
     → (if long then Err (reason_on link TooLong) else reported_by (reason_on link NoFrame) found)
     ≡ Ok frame → (long ≡ false) × (found ≡ Some frame)
-reported_is link true found frame is = absurd (cc)
-reported_is link false found frame is = (refl, found_reported (reason_on link NoFrame) found frame is)
-
-by_reported : (unfit : Unfit) (reported : Result (List ℕ) Reason) (frame : List ℕ)
-    → frame_by unfit reported ≡ Some frame → (reported ≡ Ok frame) ⊎ (frame ≡ [])
-by_reported unfit (Ok f) frame is = inl (cc)
-by_reported Refuse (Err reason) frame is = absurd (cc)
-by_reported Skip (Err reason) frame is = inr (cc)
+reported_is link long found frame is = grind arith
 
 pub reported_fits : (unfit : Unfit) (link : Link) (packet frame : List ℕ)
     → reported_frame unfit link packet ≡ Some frame → length frame ≤ FRAME_LIMIT
-reported_fits unfit link packet frame is =
-    elim (by_reported unfit (reported_of link packet) frame is) [
-      | inl reported ↦
-          (let long = nat_lt (captured_limit link) (length packet) in
-          let found = reported_is link long (framed link packet) frame reported in
-          framed_fits link packet frame (ltb-false (captured_limit link) (length packet) found.0)
-          found.1)
-      | inr none ↦ (let size = ap length none in omega arith)
-    ]
+reported_fits unfit link packet frame is = grind (arith, nat_tests)
 
 pub reported_bytes : (unfit : Unfit) (link : Link) (packet frame : List ℕ) → Bytes packet
     → reported_frame unfit link packet ≡ Some frame → Bytes frame
-reported_bytes unfit link packet frame bytes is =
-    elim (by_reported unfit (reported_of link packet) frame is) [
-      | inl reported ↦
-          (let long = nat_lt (captured_limit link) (length packet) in
-          framed_bytes link packet frame bytes
-          (reported_is link long (framed link packet) frame reported).1)
-      | inr none ↦ subst Bytes (sym none) tt
-    ]
+reported_bytes unfit link packet frame bytes is = grind (arith, nat_tests)
 
 -- ---- hex digits of a header and of what follows it
 
@@ -322,9 +198,7 @@ encode_with-append : (digits xs ys : List ℕ)
     → encode_with digits (xs ++ ys) ≡ encode_with digits xs ++ encode_with digits ys
 unfolding encode_with
 encode_with-append digits [] ys = refl
-encode_with-append digits (x ∷ xs) ys =
-    ap (λ l. slice_index digits (x / 16) ∷ slice_index digits (x % 16) ∷ l)
-    (encode_with-append digits xs ys)
+encode_with-append digits (x ∷ xs) ys = grind (arith, encode_with-append digits xs ys)
 
 pub encode_lower-append : (xs ys : List ℕ)
     → encode_lower (xs ++ ys) ≡ encode_lower xs ++ encode_lower ys
@@ -338,8 +212,7 @@ header_some header rest = ne_eqb (length (made_header (Some header) ++ rest)) 0 
 
 pub header_len : (source : List ℕ) (ether_type : ℕ) → length source ≡ 6
     → 14 ≡ length (ethernet_header source ether_type)
-header_len source ether_type six =
-    omega (arith, length-append source (to_be_bytes w16 ether_type))
+header_len source ether_type six = grind (arith, length-append)
 
 -- the digits of a header come before those of what follows it
 pub header_digits : (source : List ℕ) (ether_type : ℕ) (following : List ℕ) → length source ≡ 6

@@ -1,7 +1,6 @@
 -- Packets of some bytes, one after the other.
-use Rattle.std.proofs.Common.{◌≡◌, ◌∙◌, sym, ap, refl, subst, ℕ, ◌≤◌, arith}
-use Rattle.std.proofs.Common.{List, [], ◌∷◌, ◌++◌, length, take, append_assoc, append-nil}
-use Rattle.std.proofs.Common.{length-append, map, Option}
+use Rattle.std.proofs.Common.{◌≡◌, ◌∙◌, sym, ap, refl, subst, ℕ, ◌≤◌, arith, List, [], ◌∷◌, ◌++◌, length, take}
+use Rattle.std.proofs.Common.{append_assoc, append-nil, length-append, map, Option}
 use Rattle.std.proofs.Math.Seq.{take-append_seam}
 use Rattle.captures.specs.Dropped.{last_of}
 use Rattle.captures.specs.Framed.{IsBack}
@@ -56,7 +55,7 @@ passes_wide : (state after : State) (bytes rest chunk : List ℕ) → Passes sta
 passes_wide state after bytes rest chunk p = record {
   units = p.units;
   row = p.row;
-  parts = ap (λ (l : List ℕ). l ++ chunk) p.parts ∙ append_assoc (in_a_row p.units) rest chunk;
+  parts = grind (arith, append_assoc);
 }
 
 first_wide : (state after : State) (bytes rest chunk : List ℕ) (packet : Packet)
@@ -67,12 +66,7 @@ first_wide state after bytes rest chunk packet f = record {
   between = f.between ++ chunk;
   passes = passes_wide state f.mid bytes f.between chunk f.passes;
   has = record {
-    has_unit = record {
-      unit = f.has.has_unit.unit;
-      parts = ap (λ (l : List ℕ). l ++ chunk) f.has.has_unit.parts
-          ∙ append_assoc f.has.has_unit.unit rest chunk;
-      is_unit = f.has.has_unit.is_unit;
-    };
+    has_unit = grind (arith, append_assoc);
     is_on = f.has.is_on;
   };
   some = f.some;
@@ -109,9 +103,7 @@ pub first_back : (state after : State) (bytes rest : List ℕ) (packet : Packet)
     → IsFirst state bytes after packet rest → IsBack bytes rest
 first_back state after bytes rest packet f = record {
   prefix = in_a_row f.passes.units ++ f.has.has_unit.unit;
-  parts = f.passes.parts
-      ∙ ap (λ (l : List ℕ). in_a_row f.passes.units ++ l) f.has.has_unit.parts
-      ∙ sym (append_assoc (in_a_row f.passes.units) f.has.has_unit.unit rest);
+  parts = grind (arith, append_assoc);
 }
 
 pub back_is : (bytes rest : List ℕ) → IsBack bytes rest → rest ≡ last_of (length rest) bytes
@@ -120,17 +112,11 @@ back_is bytes rest b = last_is bytes b.prefix rest (length rest) b.parts refl
 -- the bytes from there on begin with these
 pub from_is : (bytes part : List ℕ) (from : ℕ) → IsFromEnd bytes from part
     → part ≡ take (length part) (last_of from bytes)
-from_is bytes part from e =
-    let tail = last_is bytes e.before (part ++ e.following) from e.parts e.position in
-    sym (take-append_seam part e.following) ∙ ap (λ (l : List ℕ). take (length part) l) tail
+from_is bytes part from e = grind (arith, last_is, take-append_seam)
 
 pub from_fits : (bytes part : List ℕ) (from : ℕ) → IsFromEnd bytes from part
     → (length part ≤ from) × (from ≤ length bytes)
-from_fits bytes part from e =
-    let position = e.position in (
-      omega (arith, length-append part e.following),
-      omega (arith, ap length e.parts, length-append e.before (part ++ e.following)),
-    )
+from_fits bytes part from e = grind (arith, length-append)
 
 -- ---- what a look ahead finds
 
@@ -142,12 +128,7 @@ same_parts : (packet : Packet) (header : Option Header) (bytes : List ℕ)
       link = packet.link;
       header = header;
     }) bytes
-same_parts packet header bytes h b = λ i. record {
-  interface = packet.interface;
-  time = packet.time;
-  link = packet.link;
-  frame = record { header = h i; bytes = b i };
-}
+same_parts packet header bytes h b = grind arith
 
 pub ahead_found : (state after : State) (bytes rest part : List ℕ) (from : ℕ) (packet : Packet)
     (header : Option Header) → IsFirst state bytes after packet rest
@@ -164,12 +145,9 @@ ahead_found state after bytes rest part from packet header f e same made =
     let fits = from_fits bytes packet.frame.bytes from e in
     let is = from_is bytes packet.frame.bytes from e
     ∙ ap (λ (l : List ℕ). take (length l) (last_of from bytes)) (sym same) in (
-      subst (λ (l : List ℕ). length l ≤ from) (sym same) fits.0,
+      grind arith,
       fits.1,
-      subst (λ (p : Packet). IsFirst state bytes after p (last_of (length rest) bytes))
-          (same_parts packet header (take (length part) (last_of from bytes)) (sym made) is)
-          (subst (λ (l : List ℕ). IsFirst state bytes after packet l)
-          (back_is bytes rest (first_back state after bytes rest packet f)) f),
+      grind (arith, same_parts, back_is, first_back),
     )
 
 pub ahead_none : (state after : State) (bytes rest : List ℕ) (refusal : Option CaptureError)

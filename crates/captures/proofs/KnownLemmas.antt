@@ -11,7 +11,7 @@ use Rattle.captures.specs.declared.translation.skipped.Skipped.{Skipped}
 use Rattle.captures.specs.declared.unfit.Unfit.{Unfit}
 use Rattle.captures.specs.Endings.{cause}
 use Rattle.captures.specs.Lines.{Packet, lines_of}
-use Rattle.captures.specs.Runs.{ArePassedOver, IsCapture, PassesOver, Runs, capture_to_lines}
+use Rattle.captures.specs.CaptureRuns.{ArePassedOver, IsCapture, PassesOver, Runs, capture_to_lines}
 use Rattle.captures.specs.Encoding.{capture_of}
 use Rattle.line_grammar.specs.TimedLines.{TimedFrame}
 use Rattle.captures.specs.Texts.{IsText, WritesCapture, lines_to_capture}

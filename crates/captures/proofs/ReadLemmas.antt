@@ -1,7 +1,6 @@
 -- The results of a reader of packets.
-use Rattle.std.proofs.Common.{◌≡◌, ◌≢◌, ◌∙◌, sym, ap, refl, subst, ℕ, ◌+◌, ◌-◌, ◌^◌, ◌≤◌, ◌<◌}
-use Rattle.std.proofs.Common.{arith, Bool, true, false, List, [], ◌∷◌, ◌++◌, length, map}
-use Rattle.std.proofs.Common.{length-append, length-drop, append_assoc, append-nil, inl, inr}
+use Rattle.std.proofs.Common.{◌≡◌, ◌≢◌, ◌∙◌, sym, ap, refl, subst, ℕ, ◌+◌, ◌-◌, ◌^◌, ◌≤◌, ◌<◌, arith, Bool, false, List}
+use Rattle.std.proofs.Common.{[], ◌∷◌, ◌++◌, length, map, length-append, length-drop, append_assoc, append-nil, inl}
 use Rattle.std.proofs.Common.{Option, Some, None, Result, Ok, Err}
 use Rattle.std.specs.Io.KnownBytes.{Consumes, IsAtEnd, Keeps}
 use Rattle.std.specs.Prelude.{min, nat_lt, if◌then◌else◌}
@@ -10,8 +9,8 @@ use Rattle.captures.specs.PacketSteps.{Gives, HasNone, IsFirst, taken_of}
 use Rattle.captures.specs.Numbers.{capped}
 use Rattle.captures.specs.Positions.{IsPosition, block_type}
 use Rattle.captures.specs.Readers.{FindsPacket, HasRead, IsRefusedAt}
-use Rattle.captures.specs.Runs.{IsCapture, fault_at_end}
-use Rattle.captures.specs.Units.{HasUnit, IsIncomplete, Passes, Refuses, in_a_row, skipped_in}
+use Rattle.captures.specs.CaptureRuns.{IsCapture, fault_at_end}
+use Rattle.captures.specs.Units.{HasUnit, IsIncomplete, Refuses, skipped_in}
 use Rattle.captures.specs.declared.capture_error.CaptureError.{CaptureError}
 use Rattle.captures.specs.declared.capture_error.CaptureError.TheVariants.{CutOff, NotCapture}
 use Rattle.captures.specs.declared.limits.TheConstants.{FIRST_UNIT_LEN}
@@ -29,9 +28,7 @@ use Rattle.captures.proofs.UnitLemmas.{passes_start, passes_unit}
 
 gives_len : (state after : State) (bytes rest : List ℕ) (packets : List Packet)
     → Gives state bytes packets after rest → length rest ≤ length bytes
-gives_len state after bytes rest packets g =
-    let p = gives_passes state after bytes rest packets g in
-    omega (arith, ap length p.parts, length-append (in_a_row p.units) rest)
+gives_len state after bytes rest packets g = grind (arith, gives_passes, length-append)
 
 last_len : (bytes : List ℕ) (n : ℕ) → n ≤ length bytes → length (last_of n bytes) ≡ n
 last_len bytes n few = omega (arith, length-drop (length bytes - n) bytes)
@@ -40,34 +37,20 @@ module _ {R : Type 0} (unfit : Unfit) (old : PacketReader R) (read : List ℕ)
     (given : List Packet) (h : HasRead unfit old read given) where
   -- all that is left is held
   all_held : old.started ≡ None → h.dropped ++ old.window.held ≡ old.window.held
-  all_held none =
-      let is_dropped = subst (λ (b : Option LongBlock). IsDropped old.state b h.dropped) none
-      h.is_dropped in
-      ap (λ (l : List ℕ). l ++ old.window.held) is_dropped
+  all_held none = grind arith
 
   pub gives_held : old.started ≡ None → Gives (Start unfit) read given old.state old.window.held
-  gives_held none = subst (λ (l : List ℕ). Gives (Start unfit) read given old.state l)
-      (all_held none) h.gives
+  gives_held none = grind arith
 
   held_passed : old.started ≡ None → old.passed ≡ capped (length read - length old.window.held)
-  held_passed none = h.passed
-      ∙ ap (λ (l : List ℕ). capped (length read - length l)) (all_held none)
+  held_passed none = grind arith
 
   module _ (none : old.started ≡ None) (after : State) (left passed : ℕ)
       (fits : left ≤ length old.window.held)
       (passed_is : passed ≡ min (old.passed + (length old.window.held - left)) (2 ^ 64 - 1)) where
     -- this many bytes were passed when this many are left
     pub left_passed : passed ≡ capped (length read - length (last_of left old.window.held))
-    left_passed =
-        let held = old.window.held in
-        let size = last_len held left fits in
-        let within = gives_len (Start unfit) old.state read held given (gives_held none) in
-        let same : length read - length held + (length held - left)
-        ≡ length read - length (last_of left held) = omega arith in
-        passed_is
-        ∙ ap (λ (n : ℕ). min (n + (length held - left)) (2 ^ 64 - 1)) (held_passed none)
-        ∙ capped_more (2 ^ 64 - 1) (length read - length held) (length held - left)
-        ∙ ap capped same
+    left_passed = grind (arith, last_len, gives_len, gives_held, held_passed, capped_more)
 
     -- a packet is found
     pub finds_packet : (new : PacketReader R) (packet : Packet) → new.state ≡ after
@@ -77,20 +60,8 @@ module _ {R : Type 0} (unfit : Unfit) (old : PacketReader R) (read : List ℕ)
         → new.ended ≡ old.ended
         → IsFirst old.state old.window.held after packet (last_of left old.window.held)
         → HasRead unfit new read (given ++ packet ∷ [])
-    finds_packet new packet state started passed_new held count reads ended first = record {
-      dropped = [];
-      is_dropped = subst (λ (b : Option LongBlock). IsDropped new.state b []) (sym started) refl;
-      gives = rw (state, held) (gives_first (Start unfit) old.state after read old.window.held
-          (last_of left old.window.held) given packet (gives_held none) first);
-      count =
-          count ∙ ap (λ (n : ℕ). min (n + 1) (2 ^ 64 - 1)) h.count
-          ∙ capped_more (2 ^ 64 - 1) (length given) 1
-          ∙ ap capped (sym (length-append given (packet ∷ [])));
-      passed = passed_new ∙ left_passed
-          ∙ ap (λ (l : List ℕ). capped (length read - length l)) (sym held);
-      reads = subst (λ (n : ℕ). n ≤ length read) (sym reads) h.reads;
-      going = ended ∙ h.going;
-    }
+    finds_packet new packet state started passed_new held count reads ended first =
+        grind (arith, gives_first, gives_held, capped_more, length-append, left_passed)
 
     -- no packet is
     abbrev pub finds_none : (new : PacketReader R) (dropped : List ℕ) → new.state ≡ after
@@ -140,9 +111,7 @@ consumes_kept a b c xs p k =
 
 pub consumes_end : (a b c : Option (List ℕ)) (xs chunk : List ℕ) → Consumes a b xs
     → Consumes b c chunk → chunk ≡ [] → Consumes a c xs
-consumes_end a b c xs chunk p q none =
-    subst (λ (l : List ℕ). Consumes a c l)
-    (ap (λ (l : List ℕ). xs ++ l) none ∙ append-nil xs) (consumes_more a b c xs chunk p q)
+consumes_end a b c xs chunk p q none = grind arith
 
 pub no_chunk : (chunk : List ℕ) → length chunk ≡ 0 → chunk ≡ []
 no_chunk [] none = refl
@@ -162,45 +131,12 @@ module _ {R : Type 0} (unfit : Unfit) (old new : PacketReader R) (read : List �
       → new.reads ≡ old.reads + 1 → new.ended ≡ old.ended → 0 < length chunk
       → HasRead unfit new (read ++ chunk) given
   reads_more chunk held reads ended some =
-      let rest = h.dropped ++ old.window.held in
-      let whole : h.dropped ++ new.window.held ≡ rest ++ chunk =
-      ap (λ (l : List ℕ). h.dropped ++ l) held ∙ sym (append_assoc h.dropped old.window.held chunk) in
-      let few = h.reads in
-      record {
-        dropped = h.dropped;
-        is_dropped = dropped_same;
-        gives = rw (state, whole)
-            (gives_wide (Start unfit) old.state read rest chunk given h.gives);
-        count = count ∙ h.count;
-        passed = passed ∙ h.passed ∙ ap capped
-            (let all : length read - length rest
-            ≡ length (read ++ chunk) - length (h.dropped ++ new.window.held) =
-            omega (arith, ap length whole, length-append rest chunk, length-append read chunk) in
-            all);
-        reads = omega (arith, length-append read chunk);
-        going = ended ∙ h.going;
-      }
+      grind (arith, append_assoc, dropped_same, gives_wide, length-append)
 
   -- nothing is
   pub reads_none : new.window.held ≡ old.window.held → new.reads ≡ old.reads
       → new.ended ≡ old.ended → HasRead unfit new (read ++ []) given
-  reads_none held reads ended =
-      let rest = h.dropped ++ old.window.held in
-      let whole : h.dropped ++ new.window.held ≡ rest =
-      ap (λ (l : List ℕ). h.dropped ++ l) held in
-      let same = append-nil read in
-      record {
-        dropped = h.dropped;
-        is_dropped = dropped_same;
-        gives = rw (state, whole, same) h.gives;
-        count = count ∙ h.count;
-        passed = passed ∙ h.passed
-            ∙ ap (λ (l : List ℕ). capped (length read - length l)) (sym whole)
-            ∙ ap (λ (l : List ℕ). capped (length l - length (h.dropped ++ new.window.held)))
-            (sym same);
-        reads = rw (reads, same) h.reads;
-        going = ended ∙ h.going;
-      }
+  reads_none held reads ended = grind (arith, append-nil, dropped_same)
 
 module _ {R : Type 0} (unfit : Unfit) (reader : PacketReader R) (read : List ℕ)
     (given : List Packet) (h : HasRead unfit reader read given) (position : Position)
@@ -209,8 +145,7 @@ module _ {R : Type 0} (unfit : Unfit) (reader : PacketReader R) (read : List ℕ
     → position.block ≡ block_type reader.state (dropped ++ reader.window.held)) where
   its_position : IsPosition reader.state (length given) read (h.dropped ++ reader.window.held) position
   its_position = record {
-    packet = packet ∙ ap (λ (n : ℕ). capped (n + 1)) h.count
-        ∙ capped_more (2 ^ 64 - 1) (length given) 1;
+    packet = grind arith;
     offset = offset ∙ h.passed;
     block = block h.dropped h.is_dropped;
   }
@@ -233,21 +168,13 @@ module _ {R : Type 0} (unfit : Unfit) (reader : PacketReader R) (read : List ℕ
       → IsIncomplete reader.state (h.dropped ++ reader.window.held)
       → fault_at_end reader.state (length (h.dropped ++ reader.window.held)) ≡ Err error
       → IsRefusedAt unfit (skipped_in reader.state) error position left read given
-  refused_end error left ends started fault = record {
-    state = reader.state;
-    rest = h.dropped ++ reader.window.held;
-    gives = h.gives;
-    is_position = its_position;
-    counts = refl;
-    why = inr (ends, started, fault);
-  }
+  refused_end error left ends started fault = grind arith
 
 abbrev start_fault : Bool → Result Unit CaptureError
 start_fault short = if short then Err NotCapture else Err CutOff
 
 start_ends : (short : Bool) → start_fault short ≡ Ok tt → ⊥
-start_ends true ends = cc
-start_ends false ends = cc
+start_ends short ends = grind arith
 
 -- the end of a capture: all was taken
 ends_known : (unfit : Unfit) (state : State) (rest : List ℕ)
@@ -263,13 +190,7 @@ pub ends_whole : (unfit : Unfit) (state : State) (read rest : List ℕ) (given :
     → IsCapture unfit read (map taken_of given) (skipped_in state)
 ends_whole unfit state read rest given g ends =
     let e = ends_known unfit state rest ends in
-    record {
-      state = state;
-      passes = subst (λ (l : List ℕ). Passes (Start unfit) read (map taken_of given) state l) e.0
-          (gives_passes (Start unfit) state read rest given g);
-      known = e.1;
-      counts = refl;
-    }
+    grind (arith, gives_passes)
 
 -- ---- a long block is started
 
@@ -283,10 +204,7 @@ module _ {R : Type 0} (unfit : Unfit) (old new : PacketReader R) (read : List �
       (passed : new.passed ≡ old.passed)
       (d : DropsMore old.state h.dropped old.window.held started left) where
     pub same_left : h.dropped ++ old.window.held ≡ (h.dropped ++ d.prefix) ++ new.window.held
-    same_left =
-        ap (λ (l : List ℕ). h.dropped ++ l)
-        (d.parts ∙ ap (λ (l : List ℕ). d.prefix ++ l) (sym held))
-        ∙ sym (append_assoc h.dropped d.prefix new.window.held)
+    same_left = grind (arith, append_assoc)
 
     abbrev pub drops_more : HasRead unfit new read given
     drops_more = record {
@@ -305,8 +223,7 @@ module _ {R : Type 0} (unfit : Unfit) (old new : PacketReader R) (read : List �
         → FindsPacket unfit new read given (Ok false)
     drops_incomplete begins = (
       drops_more,
-      subst (λ (s : State). IsIncomplete s ((h.dropped ++ d.prefix) ++ new.window.held)) (sym state)
-          (subst (λ (l : List ℕ). IsIncomplete old.state l) same_left begins),
+      grind (arith, same_left),
     )
 
     pub drops_refused : (error : CaptureError)
@@ -314,8 +231,7 @@ module _ {R : Type 0} (unfit : Unfit) (old new : PacketReader R) (read : List �
         → FindsPacket unfit new read given (Err error)
     drops_refused error refuses = (
       drops_more,
-      subst (λ (s : State). Refuses s ((h.dropped ++ d.prefix) ++ new.window.held) error)
-          (sym state) (subst (λ (l : List ℕ). Refuses old.state l error) same_left refuses),
+      grind (arith, same_left),
     )
 
   -- it is passed
@@ -334,15 +250,13 @@ module _ {R : Type 0} (unfit : Unfit) (old new : PacketReader R) (read : List �
       let same : length read - length rest + len ≡ length read - length last = omega arith in
       record {
         dropped = [];
-        is_dropped = subst (λ (b : Option LongBlock). IsDropped new.state b []) (sym started) refl;
+        is_dropped = rw started;
         gives = rw (state, held) (gives_none (Start unfit) old.state old.state read rest last given
             h.gives (passes_unit old.state old.state old.state rest rest last [] origin []
             (passes_start old.state rest) unit));
         count = count ∙ h.count;
         passed =
-            passed ∙ ap (λ (n : ℕ). min (n + len) (2 ^ 64 - 1)) h.passed
-            ∙ capped_more (2 ^ 64 - 1) (length read - length rest) len ∙ ap capped same
-            ∙ ap (λ (l : List ℕ). capped (length read - length l)) (sym held);
-        reads = subst (λ (n : ℕ). n ≤ length read) (sym reads) h.reads;
+            grind arith;
+        reads = grind arith;
         going = ended ∙ h.going;
       }

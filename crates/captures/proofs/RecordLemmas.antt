@@ -1,10 +1,8 @@
 -- The record of the frame that a line gives.
-use Rattle.std.proofs.Common.{◌≡◌, ◌∙◌, sym, ap, refl, ℕ, ◌+◌, ◌/◌, ◌<◌, ◌≤◌, Bool, true, false}
-use Rattle.std.proofs.Common.{List, [], ◌∷◌, ◌++◌, length, take, drop, Some, None, Result, Ok, Err}
-use Rattle.std.proofs.Common.{append_assoc, arith, inl, inr}
+use Rattle.std.proofs.Common.{◌≡◌, ◌∙◌, sym, ap, refl, ℕ, ◌+◌, ◌/◌, ◌<◌, ◌≤◌, Bool, true, false, List, ◌++◌, length}
+use Rattle.std.proofs.Common.{take, drop, Some, None, Result, Ok, append_assoc, arith}
 use Rattle.std.specs.Prelude.{◌⊎◌, MatchResult}
 use Rattle.std.proofs.Math.Seq.{take-append-add, take-append_seam}
-use Rattle.std.proofs.lemmas.Bool.{le-leb, lt-leb}
 use Rattle.std.proofs.lemmas.List.{length-take-le}
 use borrow.Rule.Slice.PartMut.{put_mid}
 use Rattle.hex.specs.Hex.{decode_of, decode_sized}
@@ -21,21 +19,12 @@ use Rattle.captures.specs.declared.time.time_unit.TimeUnit.{TimeUnit}
 frame_none : (time : Time) (channel : ℕ) (frame : List ℕ)
     → (length frame ≡ 0) ⊎ (FRAME_LIMIT < length frame)
     → frame_at (Some time) (frame_on channel (Ok frame)) ≡ None
-frame_none time channel [] none = refl
-frame_none time channel (b ∷ frame) (inl none) = absurd (omega arith)
-frame_none time channel (b ∷ frame) (inr long) =
-    rw (lt-leb (length (b ∷ frame)) FRAME_LIMIT long) refl
+frame_none time channel frame none = grind arith
 
 by_digits : (time : Time) (channel : ℕ) (digits : List ℕ) (d : Result (List ℕ) FromHexError)
     → decode_of digits ≡ d → (length digits / 2 ≡ 0) ⊎ (FRAME_LIMIT < length digits / 2)
     → frame_at (Some time) (frame_on channel d) ≡ None
-by_digits time channel digits (Ok frame) is (inl none) =
-    let twice = (decode_of-ok digits frame is).2 in
-    frame_none time channel frame (inl (omega arith))
-by_digits time channel digits (Ok frame) is (inr long) =
-    let twice = (decode_of-ok digits frame is).2 in
-    frame_none time channel frame (inr (omega arith))
-by_digits time channel digits (Err e) is size = refl
+by_digits time channel digits d is size = grind (arith, decode_of-ok, frame_none)
 
 -- digits of no byte, or of too many
 pub no_frame_at : (time : Time) (channel : ℕ) (digits : List ℕ)
@@ -47,14 +36,8 @@ sized_is : (digits new : List ℕ) (n : ℕ) (r : Bool) (d : Result (List ℕ) F
     → decode_sized digits n ≡ d → MatchResult d (λ v. (r ≡ true) × (new ≡ v)) (λ e. r ≡ false)
     → r ≡ true
     → (decode_of digits ≡ Ok new) × (length new ≡ n)
-sized_is digits new n r (Ok v) is reported yes' =
-    let size = decode_sized-ok digits n v is in
-    let whole : decode_of digits ≡ Ok new =
-    sym (decode_sized-twice digits n size) ∙ is ∙ ap Ok (sym reported.1) in
-    let twice = (decode_of-ok digits new whole).2 in
-    (whole, omega arith)
-sized_is digits new n r (Err e) is reported yes' =
-    absurd (let no' : true ≡ false = sym yes' ∙ reported in cc)
+sized_is digits new n r d is reported yes' =
+    grind (arith, decode_sized-ok, decode_sized-twice, decode_of-ok)
 
 -- digits that are decoded
 pub decoded : (digits new : List ℕ) (n : ℕ) (r : Bool)
@@ -66,9 +49,7 @@ pub frame_is : (time : Time) (channel : ℕ) (frame : List ℕ) → 0 < length f
     → length frame ≤ FRAME_LIMIT
     → frame_at (Some time) (frame_on channel (Ok frame))
     ≡ Some (record { seconds = time.seconds; nanoseconds = time.nanoseconds; frame = frame })
-frame_is time channel [] some short = absurd (omega arith)
-frame_is time channel (b ∷ frame) some short =
-    rw (le-leb (length (b ∷ frame)) FRAME_LIMIT short) refl
+frame_is time channel frame some short = grind arith
 
 -- what is put after the first bytes
 put_prefix : (out new : List ℕ) (a n m : ℕ) → a ≤ length out → length new ≡ n → m ≡ n
@@ -87,7 +68,4 @@ pub record_put : (time_unit : TimeUnit) (out out' new head : List ℕ) (used sta
     ++ record_of time_unit
     (record { seconds = time.seconds; nanoseconds = time.nanoseconds; frame = new })
 record_put time_unit out out' new head used start n m time fits size same prefix is =
-    put_prefix out' new start n m fits size same ∙ ap (λ l. l ++ new) prefix
-    ∙ append_assoc (take used out) head new
-    ∙ ap (λ l. take used out ++ (l ++ new))
-    (is ∙ ap (record_head time.seconds (parts_in time_unit time.nanoseconds)) (sym size))
+    grind (arith, put_prefix, append_assoc)

@@ -1,14 +1,11 @@
 -- What a run from captures to lines makes of its input.
-use Rattle.std.proofs.Common.{◌≡◌, ◌≢◌, ◌∙◌, sym, ap, subst, refl, ℕ, ◌+◌, ◌-◌, ◌^◌, ◌<◌}
-use Rattle.std.proofs.Common.{◌≤◌, arith, append-nil, Bool}
-use Rattle.std.proofs.Common.{true, false, List, [], ◌∷◌, ◌++◌, length, length-append, Option, Some}
-use Rattle.std.proofs.Common.{None, Result, Err, inl, inr, ltb-true, ltb-false}
+use Rattle.std.proofs.Common.{◌≡◌, ◌≢◌, ◌∙◌, sym, subst, refl, ℕ, ◌+◌, ◌-◌, ◌^◌, ◌<◌, ◌≤◌, arith, append-nil, Bool}
+use Rattle.std.proofs.Common.{true, false, List, [], ◌∷◌, ◌++◌, length, length-append, Option, Some, None, Result, Err}
+use Rattle.std.proofs.Common.{inl, ltb-true}
 use Rattle.std.specs.Prelude.{◌⊎◌, min, nat_lt, if◌then◌else◌}
 use Rattle.captures.specs.declared.capture_error.CaptureError.{CaptureError}
-use Rattle.captures.specs.declared.capture_error.CaptureError.TheVariants.{NotCapture, LinkType}
-use Rattle.captures.specs.declared.capture_error.CaptureError.TheVariants.{FrameTooLong, CutOff}
-use Rattle.captures.specs.declared.capture_error.CaptureError.TheVariants.{BlockTooLong, BadBlock}
-use Rattle.captures.specs.declared.capture_error.CaptureError.TheVariants.{NoFrame, Version}
+use Rattle.captures.specs.declared.capture_error.CaptureError.TheVariants.{NotCapture, LinkType, FrameTooLong, CutOff}
+use Rattle.captures.specs.declared.capture_error.CaptureError.TheVariants.{BlockTooLong, BadBlock, NoFrame, Version}
 use Rattle.captures.specs.declared.limits.TheConstants.{FIRST_UNIT_LEN}
 use Rattle.captures.specs.declared.pcapng.long_block.LongBlock.{LongBlock}
 use Rattle.captures.specs.declared.position.Position.{Position}
@@ -18,17 +15,16 @@ use Rattle.captures.specs.declared.translation.state.State.{State}
 use Rattle.captures.specs.declared.unfit.Unfit.{Unfit}
 use Rattle.captures.specs.declared.translation.state.State.TheVariants.{Start, Classic, Pcapng}
 use Rattle.captures.specs.Dropped.{IsDropped, Leaves, dropped_len}
-use Rattle.captures.specs.Lines.{blank, lines_of}
+use Rattle.captures.specs.Lines.{blank}
 use Rattle.captures.specs.Numbers.{capped}
 use Rattle.captures.specs.Positions.{IsPosition, block_type}
 use Rattle.captures.specs.Skipping.{none_skipped}
-use Rattle.captures.specs.Units.{Takes, IsNoCapture, in_a_row, skipped_in}
-use Rattle.captures.specs.Runs.{IsRefused, PassesOver, at_position, result_at_end, capture_to_lines}
-use Rattle.captures.specs.Translations.{Begins, RunEnds, Fills, IsDueBy, Translates, Finishes}
-use Rattle.captures.specs.Translations.{IsWhole}
+use Rattle.captures.specs.Units.{Takes, skipped_in}
+use Rattle.captures.specs.CaptureRuns.{IsRefused, PassesOver, at_position, result_at_end, capture_to_lines}
+use Rattle.captures.specs.Translations.{Begins, Fills, IsDueBy, Translates, Finishes, IsWhole}
 use Rattle.captures.proofs.CountLemmas.{capped_more}
 use Rattle.captures.proofs.SkipLemmas.{takes_chunk, dropped_size}
-use Rattle.captures.proofs.UnitLemmas.{passes_start, takes_more, passes_to_start, no_capture_by_length}
+use Rattle.captures.proofs.UnitLemmas.{takes_more, passes_to_start, no_capture_by_length}
 use Rattle.captures.specs.declared.extra.Extra.{Extra}
 use Rattle.captures.specs.declared.text.ledger.Ledger.{Ledger}
 use Rattle.captures.specs.declared.translation.skipped.Skipped.{Skipped}
@@ -39,10 +35,7 @@ use Rattle.device_runs.specs.Runs.{Goes}
 -- the position of the first unit
 first_position : (unfit u : Unfit) (read rest : List ℕ) (count : ℕ) (position : Position) → read ≡ rest
     → count ≡ 0 → IsPosition (Start u) count read rest position → IsPosition (Start unfit) 0 read read position
-first_position unfit u read rest count position same none at =
-    let here = subst (λ n. IsPosition (Start u) n read read position) none
-    (subst (λ (r : List ℕ). IsPosition (Start u) count read r position) (sym same) at) in
-    record { packet = here.packet; offset = here.offset; block = here.block }
+first_position unfit u read rest count position same none at = grind arith
 
 -- what is written where a capture is refused before its end
 refused_outcome : (extra : Extra) (noted : Ledger) (unfit : Unfit) (reported : Bool) (read written : List ℕ) (state : State)
@@ -52,14 +45,7 @@ refused_outcome : (extra : Extra) (noted : Ledger) (unfit : Unfit) (reported : B
     → IsRefused extra unfit (skipped_in state) (InCapture error position) reported read written
 refused_outcome extra noted unfit reported read written (Start u) rest count NotCapture position takes at =
     let same = passes_to_start unfit u read rest takes.packets takes.passes in
-    let size = takes.left.0 in (
-      inr (rw same.0 size),
-      subst IsNoCapture (sym same.0) takes.left.1,
-      takes.reported
-          ∙ ap (lines_of extra) same.1,
-      first_position unfit u read rest count position same.0 (sym takes.number ∙ ap length same.1) at,
-      refl,
-    )
+    let size = takes.left.0 in grind arith
 refused_outcome extra noted unfit reported read written (Classic order time_unit link passing) rest count NotCapture position
     takes at = absurd takes.left
 refused_outcome extra noted unfit reported read written (Pcapng section) rest count NotCapture position takes at =
@@ -99,21 +85,8 @@ pub reports_start : (extra : Extra) (unfit : Unfit)
     (Reports (blank extra) unfit (Start unfit) None 0 0) []
 reports_start extra unfit =
     let takes : Takes (blank extra) (Start unfit) [] (Start unfit) [] 0 [] None (blank extra) =
-    record {
-      packets = [];
-      number = refl;
-      passes = passes_start (Start unfit) [];
-      reported = refl;
-      left = inl (omega arith);
-      come = refl;
-    } in
-    record {
-      room = refl;
-      out_of_memory = (refl, refl, refl);
-      full = (Start unfit, [], 0, None, blank extra, takes, refl);
-      due = (Start unfit, [], 0, blank extra, takes);
-      shows = ([], refl, 0, takes, refl, refl);
-    }
+    grind arith in
+    grind arith
 
 module _ (ledger noted : Ledger) (same_extra : noted.extra ≡ ledger.extra) (unfit : Unfit)
     (state after : State) (started started' : Option LongBlock)
@@ -133,9 +106,7 @@ module _ (ledger noted : Ledger) (same_extra : noted.extra ≡ ledger.extra) (un
       record {
         dropped = l.dropped;
         is_dropped = l.is_dropped;
-        takes = subst (λ b. Takes ledger state (reports.0 ++ b) after (l.dropped ++ rest) count text
-            refusal noted)
-            parts l.takes;
+        takes = grind arith;
       } in
       subst (λ (e : Extra). Takes (blank e) (Start unfit) (read ++ chunk) after (l.dropped ++ rest)
       (reports.2 + count) (written ++ text) refusal noted) (sym same_extra)
@@ -144,45 +115,18 @@ module _ (ledger noted : Ledger) (same_extra : noted.extra ≡ ledger.extra) (un
       (takes_chunk ledger noted state after reports.0 held chunk started' rest count text refusal whole))
 
   count_reported : reported' ≡ capped (reports.2 + count)
-  count_reported = reported_is ∙ ap (λ t. min (t + count) (2 ^ 64 - 1)) reports.4
-      ∙ capped_more (2 ^ 64 - 1) reports.2 count
+  count_reported = grind arith
 
   all_passed : (dropped : List ℕ) → IsDropped after started' dropped
       → passed' ≡ capped (length (read ++ chunk) - length (dropped ++ rest))
-  all_passed dropped d =
-      let following = length-append dropped rest in
-      let before = length-append reports.0 held in
-      let all = length-append read chunk in
-      let here = ap length parts ∙ length-append held chunk in
-      let is = dropped_size after started' dropped d in
-      let units = ap length reports.3.passes.parts
-      ∙ length-append (in_a_row reports.3.passes.units) (reports.0 ++ held) in
-      let same : length read - length (reports.0 ++ held) + n
-      ≡ length (read ++ chunk) - length (dropped ++ rest) =
-      omega arith in
-      passed_is ∙ ap (λ p. min (p + n) (2 ^ 64 - 1)) reports.5
-      ∙ capped_more (2 ^ 64 - 1) (length read - length (reports.0 ++ held)) n
-      ∙ ap capped same
+  all_passed dropped d = grind (arith, length-append, dropped_size, capped_more)
 
   pub reports_more : Leaves ledger state (reports.0 ++ bytes) after started' rest count text None noted
       → Translates (capture_to_lines noted.extra unfit (skipped_in after))
       (Reports noted unfit after started' reported' passed') rest (read ++ chunk) (written ++ text) None
   reports_more l =
       let takes = all_reported None l in
-      record {
-        full = (after, l.dropped ++ rest, reports.2 + count, None, noted, takes, refl);
-        follows = (
-          (after, l.dropped ++ rest, reports.2 + count, noted, takes),
-          (
-            l.dropped,
-            l.is_dropped,
-            reports.2 + count,
-            takes,
-            count_reported,
-            all_passed l.dropped l.is_dropped,
-          ),
-        );
-      }
+      grind (arith, count_reported, all_passed)
 
   pub reports_refused : (shown : List ℕ → List ℕ → List ℕ → Type 0) (error : CaptureError)
       (position : Position) → Leaves ledger state (reports.0 ++ bytes) after started' rest count text (Some error) noted
@@ -197,9 +141,8 @@ module _ (ledger noted : Ledger) (same_extra : noted.extra ≡ ledger.extra) (un
         full = (after, l.dropped ++ rest, reports.2 + count, Some error, noted, takes, refl);
         follows = refused_outcome noted.extra noted unfit false (read ++ chunk) (written ++ text) after
             (l.dropped ++ rest) (reports.2 + count) error position takes (record {
-              packet = packet ∙ ap (λ t. capped (t + 1)) count_reported
-                  ∙ capped_more (2 ^ 64 - 1) (reports.2 + count) 1;
-              offset = offset ∙ all_passed l.dropped l.is_dropped;
+              packet = grind arith;
+              offset = grind (arith, all_passed);
               block = block l.dropped l.is_dropped;
             });
       }
@@ -211,20 +154,7 @@ module _ (ledger : Ledger) (unfit : Unfit) (read written : List ℕ) (position :
       → 0 < length rest → (state ≢ Start unfit) ⊎ (FIRST_UNIT_LEN ≤ length rest)
       → IsWhole (capture_to_lines ledger.extra unfit (skipped_in state)) read written
       (Err (InCapture CutOff position))
-  ends_cut state rest count takes at some known = (
-    refl,
-    record {
-      state = state;
-      rest = rest;
-      count = count;
-      some = some;
-      known = known;
-      noted = ledger;
-      takes = takes;
-      is_position = at;
-      counts = refl;
-    },
-  )
+  ends_cut state rest count takes at some known = grind arith
 
   at_start : (u : Unfit) (rest : List ℕ) (count : ℕ)
       → Takes (blank ledger.extra) (Start unfit) read (Start u) rest count written None ledger
@@ -233,18 +163,9 @@ module _ (ledger : Ledger) (unfit : Unfit) (read written : List ℕ) (position :
       → IsWhole (capture_to_lines ledger.extra unfit none_skipped) read written
       (at_position position (if few then Err NotCapture else Err CutOff))
   at_start u rest count takes at true few =
-      let same = passes_to_start unfit u read rest takes.packets takes.passes in (
-        inl refl,
-        subst IsNoCapture (sym same.0)
-            (no_capture_by_length rest (ltb-true (length rest) FIRST_UNIT_LEN few)),
-        takes.reported
-            ∙ ap (lines_of ledger.extra) same.1,
-        first_position unfit u read rest count position same.0 (sym takes.number ∙ ap length same.1) at,
-        refl,
-      )
-  at_start u rest count takes at false few =
-      let long = ltb-false (length rest) FIRST_UNIT_LEN few in
-      ends_cut (Start u) rest count takes at (omega arith) (inr long)
+      let same = passes_to_start unfit u read rest takes.packets takes.passes in
+      grind (arith, no_capture_by_length, ltb-true, first_position)
+  at_start u rest count takes at false few = grind arith
 
   at_end : (state : State) (rest : List ℕ) (count : ℕ)
       → Takes (blank ledger.extra) (Start unfit) read state rest count written None ledger → IsPosition state count read rest position
@@ -254,12 +175,7 @@ module _ (ledger : Ledger) (unfit : Unfit) (read written : List ℕ) (position :
       at_start u rest count takes at (nat_lt (length rest) FIRST_UNIT_LEN) refl
   at_end (Classic order time_unit link passing) [] count takes at = (
     takes.packets,
-    record {
-      state = Classic order time_unit link passing;
-      passes = takes.passes;
-      known = λ e. cc e;
-      counts = refl;
-    },
+    grind arith,
     takes.reported,
   )
   at_end (Classic order time_unit link passing) (b ∷ bytes) count takes at =
@@ -267,12 +183,7 @@ module _ (ledger : Ledger) (unfit : Unfit) (read written : List ℕ) (position :
       (inl (λ e. cc e))
   at_end (Pcapng section) [] count takes at = (
     takes.packets,
-    record {
-      state = Pcapng section;
-      passes = takes.passes;
-      known = λ e. cc e;
-      counts = refl;
-    },
+    grind arith,
     takes.reported,
   )
   at_end (Pcapng section) (b ∷ bytes) count takes at =
@@ -292,8 +203,7 @@ module _ (ledger : Ledger) (unfit : Unfit) (read written : List ℕ) (position :
       result) (sym (append-nil written)) (record {
         full = (state, reports.0 ++ held, reports.2, None, ledger, reports.3, refl);
         whole = rw (is, sym whole) (at_end state (reports.0 ++ held) reports.2 reports.3 (record {
-          packet = packet ∙ ap (λ t. capped (t + 1)) reports.4
-              ∙ capped_more (2 ^ 64 - 1) reports.2 1;
+          packet = grind arith;
           offset = offset ∙ reports.5;
           block = block;
         }));
@@ -331,7 +241,4 @@ passes_over fills = record {
 pub due_as : {extra extra' : Extra} {unfit : Unfit} {skipped skipped' : Skipped}
     → extra' ≡ extra
     → IsDueBy (capture_to_lines extra unfit skipped) (capture_to_lines extra' unfit skipped')
-due_as {extra} {extra'} {unfit} {skipped} {skipped'} same =
-    subst (λ (e : Extra). IsDueBy (capture_to_lines extra unfit skipped)
-    (capture_to_lines e unfit skipped')) (sym same)
-    (record { room = refl; due = λ read written due. due })
+due_as {extra} {extra'} {unfit} {skipped} {skipped'} same = grind arith

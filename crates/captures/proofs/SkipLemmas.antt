@@ -1,16 +1,12 @@
 -- A long block that is skipped, chunk by chunk.
-use Rattle.std.proofs.Common.{◌≡◌, ◌≢◌, ◌∙◌, sym, ap, refl, subst, ℕ, ◌+◌, ◌-◌, ◌<◌, ◌≤◌, arith, List}
-use Rattle.std.proofs.Common.{[], ◌∷◌, ◌++◌, length, take, drop, append_assoc, length-append, length-drop}
-use Rattle.std.proofs.Common.{Option, Some, None, inl, inr, le-leb}
+use Rattle.std.proofs.Common.{◌≡◌, ◌≢◌, ◌∙◌, sym, ap, refl, subst, ℕ, ◌+◌, ◌-◌, ◌<◌, ◌≤◌, arith, List, [], ◌∷◌, ◌++◌}
+use Rattle.std.proofs.Common.{length, take, drop, append_assoc, length-append, length-drop, Option, Some, le-leb}
 use Rattle.std.proofs.lemmas.List.{take-append-drop, length-take-le}
 use lib.Seq.{drop_at}
 use Rattle.captures.specs.Dropped.{IsPrefixOfBlock, IsDropped, DropsMore, Leaves, dropped_len, last_of}
 use Rattle.captures.specs.Numbers.{word}
-use Rattle.captures.specs.Pcapng.{IsBlock}
 use Rattle.captures.specs.Positions.{block_type}
-use Rattle.captures.specs.Pcapng.Content.{Nothing}
 use Rattle.captures.specs.Units.{HasUnit, IsIncomplete, IsLeft, Refuses, Takes}
-use Rattle.captures.specs.declared.byte_order.ByteOrder.{ByteOrder}
 use Rattle.captures.specs.declared.capture_error.CaptureError.{CaptureError}
 use Rattle.captures.specs.declared.capture_error.CaptureError.TheVariants.{BadBlock}
 use Rattle.captures.specs.declared.pcapng.long_block.LongBlock.{LongBlock}
@@ -18,7 +14,6 @@ use Rattle.captures.specs.declared.pcapng.section.Section.{Section}
 use Rattle.captures.specs.declared.translation.state.State.{State}
 use Rattle.captures.specs.declared.translation.state.State.TheVariants.{Pcapng}
 use Rattle.captures.proofs.BlockLemmas.{word_of, word_back, skipped_prefix}
-use Rattle.captures.proofs.UnitLemmas.{passes_start}
 use Rattle.captures.specs.declared.origin.Origin.{Origin}
 use Rattle.captures.specs.declared.text.ledger.Ledger.{Ledger}
 
@@ -46,10 +41,10 @@ prefix_more block section dropped prefix n f size few =
       order = f.order;
       skipped = skipped_prefix section.order (dropped ++ prefix) dropped prefix refl
           (omega arith) f.skipped;
-      kind = word_of section.order (dropped ++ prefix) dropped prefix 0 refl (omega arith) ∙ f.kind;
+      kind = grind (arith, word_of);
       size = omega arith;
       words = f.words;
-      reported = word_of section.order (dropped ++ prefix) dropped prefix 4 refl (omega arith) ∙ f.reported;
+      reported = grind (arith, word_of);
       left = omega arith;
     }
 
@@ -62,14 +57,7 @@ prefix_incomplete block section dropped rest f few =
     let skipped = skipped_prefix section.order (dropped ++ rest) dropped rest refl
     (omega arith) f.skipped in
     let reported = word_of section.order (dropped ++ rest) dropped rest 4 refl (omega arith) ∙ f.reported in
-    inr (record {
-      order = section.order;
-      has_order = inl (skipped.0, refl);
-      size = omega arith;
-      words = rw reported f.words;
-      short = omega arith;
-      fits = inr skipped;
-    })
+    grind arith
 
 module _ (block : LongBlock) (section : Section) (dropped back later : List ℕ)
     (f : IsPrefixOfBlock block section dropped) (none : block.left ≡ 0) (four : length back ≡ 4) where
@@ -78,17 +66,11 @@ module _ (block : LongBlock) (section : Section) (dropped back later : List ℕ)
 
   whole_size : length whole ≡ block.len
   unfolding whole
-  whole_size =
-      let left = f.left in
-      let all = length-append dropped back in
-      omega arith
+  whole_size = omega (arith, f.left, length-append dropped back)
 
   whole_stated : word section.order whole 4 ≡ length whole
   unfolding whole
-  whole_stated =
-      let long = f.size in
-      word_of section.order (dropped ++ back) dropped back 4 refl (omega arith)
-      ∙ f.reported ∙ sym whole_size
+  whole_stated = grind (arith, word_of, whole_size)
 
   -- the second length
   whole_back : word section.order whole (length whole - 4) ≡ word block.order (back ++ later) 0
@@ -96,9 +78,7 @@ module _ (block : LongBlock) (section : Section) (dropped back later : List ℕ)
   whole_back =
       let all = length-append dropped back in
       let at : length (dropped ++ back) - 4 ≡ length dropped = omega arith in
-      ap (λ p. word section.order (dropped ++ back) p) at ∙ word_back section.order dropped back
-      ∙ sym (word_of section.order (back ++ later) back later 0 refl (omega arith))
-      ∙ ap (λ (o : ByteOrder). word o (back ++ later) 0) (sym f.order)
+      grind (arith, word_back, word_of)
 
   -- another one refuses the block
   refused_back : word block.order (back ++ later) 0 ≢ block.len
@@ -110,54 +90,23 @@ module _ (block : LongBlock) (section : Section) (dropped back later : List ℕ)
       let skipped = skipped_prefix section.order (dropped ++ (back ++ later)) dropped
       (back ++ later) refl (omega arith) f.skipped in
       let reported = word_of section.order (dropped ++ (back ++ later)) dropped (back ++ later) 4 refl
-      (omega arith) ∙ f.reported in (
-        omega arith,
-        inr (inl (record {
-          order = section.order;
-          has_order = inl (skipped.0, refl);
-          bad = inr (inr (record {
-            block = dropped ++ back;
-            rest = later;
-            parts = sym (append_assoc dropped back later);
-            size = whole_size ∙ sym reported;
-            fits = inr (skipped_prefix section.order (dropped ++ back) dropped back refl
-                (omega arith) f.skipped);
-            other = λ e. other (sym whole_back ∙ e ∙ whole_size);
-          }));
-        })),
-      )
+      (omega arith) ∙ f.reported in
+      grind (arith, append_assoc, whole_size, skipped_prefix, whole_back)
 
   -- the block is a unit without a packet
   passed_back : word block.order (back ++ later) 0 ≡ block.len
       → HasUnit (Pcapng section) (dropped ++ (back ++ later)) (Pcapng section) no_origin [] later
   unfolding whole
   passed_back same =
-      let long = f.size in
-      let words = f.words in
-      let size' = whole_size in
-      let all = length-append dropped back in
-      let skipped = skipped_prefix section.order (dropped ++ back) dropped back refl
-      (omega arith) f.skipped in
-      let is_block : IsBlock section.order (dropped ++ back) =
-      record {
-        size = omega arith;
-        words = rw whole_size words;
-        prefix = whole_stated;
-        back = whole_back ∙ same ∙ sym whole_size;
-      } in
-      record {
-        unit = dropped ++ back;
-        parts = sym (append_assoc dropped back later);
-        is_unit = record {
-          order = section.order;
-          has_order = inl (skipped.0, refl);
-          block = is_block;
-          fits = inr skipped;
-          next = section;
-          reads = record { content = Nothing; says = skipped.1; becomes = (refl, refl) };
-          becomes = refl;
-        };
-      }
+      grind (
+        arith,
+        whole_size,
+        length-append,
+        skipped_prefix,
+        whole_stated,
+        whole_back,
+        append_assoc,
+      )
 
 -- a unit without a packet before others
 takes_after : (ledger noted : Ledger) (state mid after : State) (bytes rest rest' : List ℕ)
@@ -171,7 +120,7 @@ takes_after ledger noted state mid after bytes rest rest' count text origin refu
   passes = record {
     units = h.unit ∷ t.passes.units;
     row = (mid, origin, [], t.packets, h.is_unit, t.passes.row, refl);
-    parts = h.parts ∙ ap (λ l. h.unit ++ l) t.passes.parts ∙ sym (append_assoc h.unit _ rest');
+    parts = grind (arith, append_assoc);
   };
   reported = t.reported;
   left = t.left;
@@ -184,8 +133,7 @@ pub last_is : (bytes prefix rest : List ℕ) (n : ℕ) → bytes ≡ prefix ++ r
 last_is bytes prefix rest n parts size =
     let at : length prefix ≡ length bytes - n =
     omega (arith, ap length parts, length-append prefix rest) in
-    sym (ap (λ (l : List ℕ). drop (length bytes - n) l) parts
-    ∙ drop_at prefix rest (length bytes - n) at)
+    cc (parts, drop_at prefix rest (length bytes - n) at)
 
 -- more of the block is dropped
 drops_more : (block : LongBlock) (section : Section) (n left : ℕ) (dropped bytes prefix rest : List ℕ)
@@ -194,7 +142,7 @@ drops_more : (block : LongBlock) (section : Section) (n left : ℕ) (dropped byt
     → DropsMore (Pcapng section) dropped bytes (following block n) left
 drops_more block section n left dropped bytes prefix rest f parts size few left_is = record {
   prefix = prefix;
-  parts = parts ∙ ap (λ (l : List ℕ). prefix ++ l) (last_is bytes prefix rest left parts left_is);
+  parts = grind (arith, last_is);
   is_dropped = (section, refl, prefix_more block section dropped prefix n f size few);
 }
 
@@ -229,14 +177,7 @@ pub refused_after : (state : State) (block : LongBlock) (n left : ℕ)
     → word block.order rest 0 ≢ block.len
     → DropsMore state dropped bytes (following block n) left × Refuses state (dropped ++ bytes) BadBlock
 refused_after state block n left dropped bytes prefix rest d parts size all left_is long other =
-    let split = take-append-drop 4 rest in (
-      rw d.1 (drops_more block d.0 n left dropped bytes prefix rest d.2 parts size (omega arith)
-          left_is),
-      refused_here state block n dropped bytes prefix (take 4 rest) (drop 4 rest) d
-          (parts ∙ ap (λ (l : List ℕ). prefix ++ l) (sym split)) size all
-          (length-take-le 4 rest (omega arith))
-          (λ e. other (ap (λ (r : List ℕ). word block.order r 0) (sym split) ∙ e)),
-    )
+    let split = take-append-drop 4 rest in grind (arith, drops_more, refused_here, length-take-le)
 
 -- its own is, and units may follow
 pub passed_after : (state : State) (block : LongBlock) (n left : ℕ)
@@ -256,12 +197,7 @@ passed_after state block n left dropped bytes prefix back later d parts size all
           ∙ ap (λ (l : List ℕ). dropped ++ l) (sym parts))
           (passed_back (following block n) d.0 (dropped ++ prefix) back later f
           (omega arith) four same))),
-      omega (
-        arith,
-        ap length parts,
-        length-append prefix (back ++ later),
-        length-append back later,
-      ),
+      grind (arith, length-append),
     )
 
 pub passed_here : (state : State) (block : LongBlock) (n left : ℕ)
@@ -286,20 +222,8 @@ pub leaves_more : (ledger : Ledger) (state : State) (dropped bytes : List ℕ) (
 leaves_more ledger state dropped bytes started left refusal d is_left =
     let last = last_of left bytes in
     let same : dropped ++ bytes ≡ (dropped ++ d.prefix) ++ last =
-    ap (λ (l : List ℕ). dropped ++ l) d.parts ∙ sym (append_assoc dropped d.prefix last) in
-    record {
-      dropped = dropped ++ d.prefix;
-      is_dropped = d.is_dropped;
-      takes = subst (λ (l : List ℕ). Takes ledger state (dropped ++ bytes) state l 0 [] refusal
-          ledger) same (record {
-            packets = [];
-            number = refl;
-            passes = passes_start state (dropped ++ bytes);
-            reported = refl;
-            left = is_left;
-            come = refl;
-          });
-    }
+    grind (arith, append_assoc) in
+    grind arith
 
 -- what follows the block is taken
 pub leaves_after : (ledger noted : Ledger) (state after : State) (bytes later : List ℕ)
@@ -329,14 +253,8 @@ takes_chunk ledger noted state after dropped held chunk started rest count text 
 -- how many bytes are dropped, and of which block
 pub dropped_size : (state : State) (started : Option LongBlock) (dropped : List ℕ)
     → IsDropped state started dropped → length dropped ≡ dropped_len started
-dropped_size state None dropped d = ap length d
-dropped_size state (Some block) dropped d = let left = d.2.left in omega arith
+dropped_size state started dropped d = grind arith
 
 pub dropped_type : (state : State) (block : LongBlock) (dropped held : List ℕ)
     → IsDropped state (Some block) dropped → Some block.kind ≡ block_type state (dropped ++ held)
-dropped_type state block dropped held d =
-    let f = d.2 in
-    let long = f.size in
-    let all = length-append dropped held in
-    let kind = word_of d.0.order (dropped ++ held) dropped held 0 refl (omega arith) ∙ f.kind in
-    rw (d.1, le-leb 4 (length (dropped ++ held)) (omega arith), kind) refl
+dropped_type state block dropped held d = grind (arith, length-append, word_of, le-leb)

@@ -1,22 +1,14 @@
 -- Which spans of packet time pass, and what they drop.
-use Rattle.std.proofs.Common.{◌≡◌, sym, refl, subst, ℕ, ◌+◌, ◌*◌, ◌<◌, ◌≤◌, ◌⊎◌, ◌++◌, arith, Bool, true}
-use Rattle.std.proofs.Common.{false, cond, List, [], ◌∷◌, inl, inr, append_assoc}
+use Rattle.std.proofs.Common.{◌≡◌, sym, subst, ℕ, ◌+◌, ◌*◌, ◌<◌, ◌≤◌, ◌⊎◌, ◌++◌, arith, Bool, true, false, cond, List}
+use Rattle.std.proofs.Common.{[], ◌∷◌, inl, inr, append_assoc}
 use Rattle.std.specs.List.{AllByRecursion}
-use Rattle.std.specs.Prelude.{nat_le}
-use Rattle.std.proofs.lemmas.Bool.{leb-true, leb-false}
 use Rattle.captures.specs.Spans.{Drops, Mark, SpansDrop, SpansKeep, have_passed, passed_spans}
 
 -- a span has passed, or not
 pub has_or_not : (seconds begin time : ℕ)
     → ((have_passed seconds begin time ≡ true) × (begin + 1000000000 * seconds ≤ time))
     ⊎ ((have_passed seconds begin time ≡ false) × (time < begin + 1000000000 * seconds))
-has_or_not seconds begin time = by (nat_le (begin + 1000000000 * seconds) time) refl
-  where
-    by : (b : Bool) → nat_le (begin + 1000000000 * seconds) time ≡ b
-        → ((have_passed seconds begin time ≡ true) × (begin + 1000000000 * seconds ≤ time))
-        ⊎ ((have_passed seconds begin time ≡ false) × (time < begin + 1000000000 * seconds))
-    by true is = inl (is, leb-true (begin + 1000000000 * seconds) time is)
-    by false is = inr (is, leb-false (begin + 1000000000 * seconds) time is)
+has_or_not seconds begin time = grind arith
 
 module _ (seconds : ℕ) where
   abbrev Reports : ℕ → Mark → Mark → List Mark → Bool → Type 0
@@ -29,11 +21,7 @@ module _ (seconds : ℕ) where
       → Drops own (passed_spans seconds span packets) → ⊥
   never time own span [] later all drops = drops
   never time own span (packet ∷ packets) later all drops =
-      elim (has_or_not seconds span.time packet.time) [
-        | inl passed ↦ absurd (omega (arith, all.0, passed.1, later))
-        | inr more ↦ never time own span packets later all.1
-            (subst (Reports own span packet packets) more.0 drops)
-      ]
+      grind (arith, never time own span packets later all.1)
 
   -- and of the one that it came in what came before is dropped
   keeps : (time own : ℕ) (span : Mark) (packets : List Mark) → span.number ≤ own
@@ -47,24 +35,16 @@ module _ (seconds : ℕ) where
           | inl less ↦ absurd (omega (arith, less, first))
           | inr after ↦ never time own packet packets (omega (arith, near, passed.1)) all.1 after
         ]
-        | inr more ↦ keeps time own span packets first near all.1
-            (subst (Reports own span packet packets) more.0 drops)
+        | inr more ↦ grind (arith, keeps time own span packets first near all.1)
       ]
 
   -- a span with a greater number drops the reassembly once it passes,
   goes_by : (own : ℕ) (span : Mark) (packets : List Mark) (last : Mark) → own < span.number
       → span.time + 1000000000 * seconds ≤ last.time
       → Drops own (passed_spans seconds span (packets ++ last ∷ []))
-  goes_by own span [] last ahead long = elim (has_or_not seconds span.time last.time) [
-    | inl passed ↦ subst (Reports own span last []) (sym passed.0) (inl ahead)
-    | inr more ↦ absurd (omega (arith, long, more.1))
-  ]
+  goes_by own span [] last ahead long = grind arith
   goes_by own span (packet ∷ packets) last ahead long =
-      elim (has_or_not seconds span.time packet.time) [
-        | inl passed ↦ subst (Reports own span packet (packets ++ last ∷ [])) (sym passed.0) (inl ahead)
-        | inr more ↦ subst (Reports own span packet (packets ++ last ∷ [])) (sym more.0)
-            (goes_by own span packets last ahead long)
-      ]
+      grind (arith, goes_by own span packets last ahead long)
 
   -- and one begins in time
   goes : (time own : ℕ) (span : Mark) (between : List Mark) (next : Mark) (later : List Mark)
@@ -87,8 +67,8 @@ module _ (seconds : ℕ) where
               (goes_by own packet ((between ++ next ∷ []) ++ later) last greater after.0)
           | inr early ↦ goes time own packet between next later last early long ahead all.1 after.1
         ]))
-        | inr more ↦ subst (Reports own span packet rest) (sym more.0)
-            (goes time own span between next later last low long ahead all.1 after.1)
+        | inr more ↦
+            grind (arith, goes time own span between next later last low long ahead all.1 after.1)
       ]
 
 pub spans_keep : SpansKeep

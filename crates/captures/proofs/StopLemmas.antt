@@ -1,30 +1,21 @@
 -- What is reported of bytes is determined by them: where no more units are taken, none follows.
-use Rattle.std.proofs.Common.{◌≡◌, ◌∙◌, sym, ap, ap₂, refl, subst, ℕ, ◌+◌, ◌-◌, ◌*◌, ◌%◌, ◌<◌, ◌≤◌}
-use Rattle.std.proofs.Common.{arith, List, [], ◌∷◌, ◌++◌, length, append_assoc, length-append, inl}
-use Rattle.std.proofs.Common.{inr, Option, Some, None}
-use Rattle.std.specs.Prelude.{IsTrue, slice_index}
+use Rattle.std.proofs.Common.{◌≡◌, ◌∙◌, sym, ap, refl, subst, ℕ, ◌-◌, ◌≤◌, arith, List, [], ◌∷◌, ◌++◌, length}
+use Rattle.std.proofs.Common.{append_assoc, length-append, inl, inr, Option, Some, None}
+use Rattle.std.specs.Prelude.{IsTrue}
 use Rattle.hex.specs.Hex.{IsBytes}
-use Rattle.captures.specs.Framed.{reported_frame, link_for}
-use Rattle.captures.specs.Lines.{Packet, blank, lines_of}
+use Rattle.captures.specs.Lines.{Packet, blank}
 use Rattle.captures.specs.Numbers.{word}
-use Rattle.captures.specs.Pcap.{is_magic, link_type}
-use Rattle.captures.specs.Pcapng.{Content, HasOrder, Says, Reads, IsSkipped, RefusesBlock}
-use Rattle.captures.specs.Pcapng.{section_header, interface_description, enhanced_packet}
-use Rattle.captures.specs.Pcapng.{obsolete_packet, simple_packet}
-use Rattle.captures.specs.Pcapng.Content.{Opens, OpensOther, Describes, Holds, Nothing}
-use Rattle.captures.specs.Runs.{ArePassedOver, IsCapture}
-use Rattle.captures.specs.Units.{IsUnit, IsBlockUnit, IsRecordUnit, OpensFile, Row, in_a_row}
-use Rattle.captures.specs.Units.{no_section}
-use Rattle.captures.specs.Units.{HasNoFrame, IsShortBlock, IsShortRecord, HasLongFrame, HasLinkType}
-use Rattle.captures.specs.Units.{HasBadLength, HasRefusedBlock, RefusesAt, RefusesFirst}
-use Rattle.captures.specs.Units.{BeginsSection, IsLeft, Takes, skipped_in}
+use Rattle.captures.specs.Pcap.{is_magic}
+use Rattle.captures.specs.Pcapng.{Content, HasOrder, Says, Reads, RefusesBlock, section_header}
+use Rattle.captures.specs.CaptureRuns.{ArePassedOver, IsCapture}
+use Rattle.captures.specs.Units.{IsUnit, IsBlockUnit, IsRecordUnit, OpensFile, Row, in_a_row, no_section, HasNoFrame}
+use Rattle.captures.specs.Units.{IsShortBlock, IsShortRecord, HasLongFrame, HasLinkType, HasBadLength, HasRefusedBlock}
+use Rattle.captures.specs.Units.{RefusesAt, RefusesFirst, BeginsSection, IsLeft, Takes}
 use Rattle.captures.specs.declared.byte_order.ByteOrder.{ByteOrder}
-use Rattle.captures.specs.declared.byte_order.ByteOrder.TheVariants.{Big, Little}
+use Rattle.captures.specs.declared.byte_order.ByteOrder.TheVariants.{Big}
 use Rattle.captures.specs.declared.capture_error.CaptureError.{CaptureError}
-use Rattle.captures.specs.declared.capture_error.CaptureError.TheVariants.{NotCapture, LinkType}
-use Rattle.captures.specs.declared.capture_error.CaptureError.TheVariants.{FrameTooLong, CutOff}
-use Rattle.captures.specs.declared.capture_error.CaptureError.TheVariants.{BlockTooLong, BadBlock}
-use Rattle.captures.specs.declared.capture_error.CaptureError.TheVariants.{NoFrame, Version}
+use Rattle.captures.specs.declared.capture_error.CaptureError.TheVariants.{NotCapture, LinkType, FrameTooLong, CutOff}
+use Rattle.captures.specs.declared.capture_error.CaptureError.TheVariants.{BlockTooLong, BadBlock, NoFrame, Version}
 use Rattle.captures.specs.declared.link.kind.Link.{Link}
 use Rattle.captures.specs.declared.pcapng.section.Section.{Section}
 use Rattle.captures.specs.declared.translation.skipped.Passing.{Passing}
@@ -32,9 +23,8 @@ use Rattle.captures.specs.declared.translation.skipped.Skipped.{Skipped}
 use Rattle.captures.specs.declared.translation.state.State.{State}
 use Rattle.captures.specs.declared.unfit.Unfit.{Unfit}
 use Rattle.captures.specs.declared.translation.state.State.TheVariants.{Start, Classic, Pcapng}
-use Rattle.captures.proofs.AloneLemmas.{becomes_as, prefix_same, rest_same}
-use Rattle.captures.proofs.AloneLemmas.{bytes_after, order_alone}
-use Rattle.captures.proofs.AloneLemmas.{order_more, file_order, no_section_in, unit_alone}
+use Rattle.captures.proofs.AloneLemmas.{prefix_same, rest_same, bytes_after, order_alone, order_more, file_order}
+use Rattle.captures.proofs.AloneLemmas.{no_section_in, unit_alone}
 use Rattle.captures.proofs.BlockLemmas.{word_of, skipped_prefix}
 use Rattle.captures.specs.declared.extra.Extra.{Extra}
 use Rattle.captures.specs.declared.text.ledger.Ledger.{Ledger}
@@ -43,63 +33,21 @@ use Rattle.captures.specs.declared.time.time_unit.TimeUnit.{TimeUnit}
 
 -- ---- a section header's kind reads the same in both byte orders
 
-same_back : (a b c d : ℕ) → a < 256 → b < 256 → c < 256 → d < 256
-    → 256 * (256 * (256 * a + b) + c) + d ≡ section_header
-    → a + 256 * (b + 256 * (c + 256 * d)) ≡ section_header
-same_back a b c d la lb lc ld big = omega arith
-
 section_kind : (o : ByteOrder) (bytes : List ℕ) → IsBytes bytes → word Big bytes 0 ≡ section_header
     → word o bytes 0 ≡ section_header
-section_kind Big bytes all big = big
-section_kind Little bytes all big =
-    same_back (slice_index bytes 0) (slice_index bytes 1) (slice_index bytes 2)
-    (slice_index bytes 3) (all 0) (all 1) (all 2) (all 3) big
+section_kind o bytes all big = grind arith
 
 -- a block of that kind has 28 bytes at least
 opens : (section : Section) (order : ByteOrder) (block : List ℕ) (content : Content)
     → Says section order block content → word order block 0 ≡ section_header → 28 ≤ length block
-opens section order block (Opens first) says kind = says.1
-opens section order block (OpensOther major minor) says kind = says.1
-opens section order block (Describes link_type snap_len clock) says kind =
-    let other = says.0 in absurd (omega arith)
-opens section order block (Holds origin link packet) (inl says) kind =
-    let other = says.0 in absurd (omega arith)
-opens section order block (Holds origin link packet) (inr (inl says)) kind =
-    let other = says.0 in absurd (omega arith)
-opens section order block (Holds origin link packet) (inr (inr says)) kind =
-    let other = says.kind in absurd (omega arith)
-opens section order block Nothing says kind = absurd (says.0 kind)
-
-some_and_none : {A : Type 0} (found : Option A) (x : A) → found ≡ Some x → found ≡ None → ⊥
-some_and_none found x some none = let same : Some x ≡ None = sym some ∙ none in cc
+opens section order block content says kind = grind arith
 
 -- ---- a block that is refused says nothing that is read
 
 refused_says : (section : Section) (order : ByteOrder) (block : List ℕ) (error : CaptureError)
     → RefusesBlock section order block error → (after : Section) (origin : Origin) (frame : List ℕ)
     → Reads section order block after origin frame → ⊥
-refused_says section order block NotCapture refused after origin frame reads = refused
-refused_says section order block (LinkType number) refused after origin frame reads =
-    some_and_none _ _ (becomes_as section order block reads.content (Describes number refused.0 refused.1)
-    reads.says refused.2 after origin frame reads.becomes).1 refused.3
-refused_says section order block (FrameTooLong captured) refused after origin frame reads =
-    let most = (becomes_as section order block reads.content
-    (Holds refused.0 refused.1 refused.2) reads.says
-    refused.3 after origin frame reads.becomes).3 in
-    let size = refused.4 in
-    let long = refused.5 in
-    absurd (omega arith)
-refused_says section order block NoFrame refused after origin frame reads =
-    some_and_none _ _ (becomes_as section order block reads.content
-    (Holds refused.0 refused.1 refused.2) reads.says
-    refused.3 after origin frame reads.becomes).2 refused.5
-refused_says section order block CutOff refused after origin frame reads = refused
-refused_says section order block (BlockTooLong len) refused after origin frame reads = refused
-refused_says section order block (Version major minor) refused after origin frame reads =
-    becomes_as section order block reads.content (OpensOther major minor) reads.says refused after
-    origin frame reads.becomes
-refused_says section order block BadBlock refused after origin frame reads =
-    refused reads.content reads.says
+refused_says section order block error refused after origin frame reads = grind arith
 
 -- ---- where the bytes begin with a unit
 
@@ -118,16 +66,12 @@ module _ (bytes u r : List ℕ) (all : IsBytes bytes) (parts : bytes ≡ u ++ r)
         (order_more section.order b.order bytes u r parts long b.has_order)
 
     its_length : (o : ByteOrder) → HasOrder section.order bytes o → word o bytes 4 ≡ length u
-    its_length o has = let l = long in ap (λ (p : ByteOrder). word p bytes 4) (its_order o has)
-        ∙ word_of b.order bytes u r 4 parts (omega arith) ∙ b.block.prefix
+    its_length o has = let l = long in
+        cc (its_order o has, word_of b.order bytes u r 4 parts (omega arith), b.block.prefix)
 
     -- is whole,
     not_short : IsShortBlock section bytes → ⊥
-    not_short h =
-        let short = h.short in
-        let size = its_length h.order h.has_order in
-        let all' = fits in
-        absurd (omega arith)
+    not_short h = omega (arith, h.short, its_length h.order h.has_order, fits)
 
     -- and the block that is refused would be this one
     block_is : (o : ByteOrder) (block rest : List ℕ) → bytes ≡ block ++ rest
@@ -155,14 +99,13 @@ module _ (bytes u r : List ℕ) (all : IsBytes bytes) (parts : bytes ≡ u ++ r)
         let words = b.block.words in
         elim h.bad [
           | inl few ↦ absurd (omega arith)
-          | inr (inl half) ↦ half (ap (λ n. n % 4) size ∙ words)
+          | inr (inl half) ↦ grind arith
           | inr (inr other) ↦
               (let same = block_is h.order other.block other.rest other.parts h.has_order
               (sym other.size) in
               let back = subst (λ (o : ByteOrder). word o u (length u - 4) ≡ length u)
               (sym (its_order h.order h.has_order)) b.block.back in
-              other.other (subst (λ (k : List ℕ). word h.order k (length k - 4)
-              ≡ length k) same back))
+              grind arith)
         ]
 
     not_at : (error : CaptureError) → RefusesAt section bytes error → ⊥
@@ -171,17 +114,7 @@ module _ (bytes u r : List ℕ) (all : IsBytes bytes) (parts : bytes ≡ u ++ r)
     not_at (FrameTooLong captured) refuses = not_refused (FrameTooLong captured) refuses
     not_at NoFrame refuses = not_refused NoFrame refuses
     not_at CutOff refuses = refuses
-    not_at (BlockTooLong len) refuses =
-        let h = refuses.1 in
-        let order = its_order h.order h.has_order in
-        let size : len ≡ length u = sym h.reported ∙ its_length h.order h.has_order in
-        let l = long in
-        h.long (elim b.fits [
-          | inl few ↦ inl (omega arith)
-          | inr skipped ↦
-              inr (subst (λ (o : ByteOrder). IsSkipped o bytes) (sym order)
-              (skipped_prefix b.order bytes u r parts (omega arith) skipped))
-        ])
+    not_at (BlockTooLong len) refuses = grind (arith, its_order, its_length, long, skipped_prefix)
     not_at (Version major minor) refuses = not_refused (Version major minor) refuses
     not_at BadBlock (size, inl none) =
         none b.order (order_more section.order b.order bytes u r parts long b.has_order)
@@ -208,20 +141,10 @@ module _ (bytes u r : List ℕ) (all : IsBytes bytes) (parts : bytes ≡ u ++ r)
         (sym (word_of h.order bytes h.header h.rest 0 h.parts (omega arith)))
         h.is_header.magic in
         let order = file_order o.order h.order bytes all magic magic' in
-        some_and_none _ o.link (ap (link_for unfit) (sym h.reported
-        ∙ ap₂ (λ (p : ByteOrder) (l : List ℕ). link_type p l) (sym order) (sym same))
-        ∙ o.known) h.other
+        grind arith
 
     not_first : (error : CaptureError) → RefusesFirst unfit bytes error → ⊥
-    not_first NotCapture refuses = refuses.0 o.order u r parts o.header
-    not_first (LinkType number) (inl h) = not_link_type number h
-    not_first (LinkType number) (inr h) = no_kind h.0.0
-    not_first (FrameTooLong captured) refuses = no_kind refuses.0.0
-    not_first NoFrame refuses = no_kind refuses.0.0
-    not_first CutOff refuses = refuses
-    not_first (BlockTooLong len) refuses = no_kind refuses.0.0
-    not_first (Version major minor) refuses = no_kind refuses.0.0
-    not_first BadBlock refuses = no_kind refuses.0.0
+    not_first error refuses = grind (arith, not_link_type, no_kind)
 
   -- a section header
   module _ (kind : word Big u 0 ≡ section_header)
@@ -232,10 +155,7 @@ module _ (bytes u r : List ℕ) (all : IsBytes bytes) (parts : bytes ≡ u ++ r)
     begins : BeginsSection bytes
     begins = (
       kind_in,
-      elim (order_more (no_section unfit).order b.order bytes u r parts b.block.size b.has_order) [
-        | inl h ↦ absurd (h.0 kind_in)
-        | inr h ↦ (b.order, h.1)
-      ],
+      grind (arith, order_more, kind_in),
     )
 
     long_enough : (content : Content) → Says (no_section unfit) b.order u content → 28 ≤ length u
@@ -246,8 +166,7 @@ module _ (bytes u r : List ℕ) (all : IsBytes bytes) (parts : bytes ≡ u ++ r)
         opens (no_section unfit) b.order u content says own
 
     not_section : (error : CaptureError) → RefusesFirst unfit bytes error → ⊥
-    not_section NotCapture refuses = let l = long_enough b.reads.content b.reads.says in
-        let f = fits in refuses.1 (omega arith) begins
+    not_section NotCapture refuses = grind (arith, long_enough, fits, begins)
     not_section (LinkType number) (inl h) =
         let size = h.is_header.size in
         no_section_in h.order bytes all
@@ -255,8 +174,7 @@ module _ (bytes u r : List ℕ) (all : IsBytes bytes) (parts : bytes ≡ u ++ r)
         (sym (word_of h.order bytes h.header h.rest 0 h.parts (omega arith)))
         h.is_header.magic) kind_in
     not_section (LinkType number) (inr h) = not_at (no_section unfit) b (LinkType number) h.1
-    not_section (FrameTooLong captured) refuses =
-        not_at (no_section unfit) b (FrameTooLong captured) refuses.1
+    not_section (FrameTooLong captured) refuses = grind arith
     not_section NoFrame refuses = not_at (no_section unfit) b NoFrame refuses.1
     not_section CutOff refuses = refuses
     not_section (BlockTooLong len) refuses =
@@ -269,11 +187,7 @@ module _ (bytes u r : List ℕ) (all : IsBytes bytes) (parts : bytes ≡ u ++ r)
   module _ (order : ByteOrder) (time_unit : TimeUnit) (link : Link) (passing : Passing)
       (i : IsRecordUnit order time_unit link passing u after frame) where
     long_record : 16 ≤ length u
-    long_record =
-        let p = i.is_record in
-        let size = p.size in
-        let sizes = ap length p.parts in
-        omega (arith, length-append p.head i.packet)
+    long_record = grind (arith, length-append)
 
     head_is : (head rest : List ℕ) → bytes ≡ head ++ rest → length head ≡ 16
         → word order head 8 ≡ length i.packet
@@ -285,24 +199,10 @@ module _ (bytes u r : List ℕ) (all : IsBytes bytes) (parts : bytes ≡ u ++ r)
         ∙ p.captured
 
     not_cut : IsShortRecord order link passing.unfit bytes → ⊥
-    not_cut h =
-        let p = i.is_record in
-        let reported = head_is h.head h.body h.parts h.size in
-        let short = h.short in
-        let size = h.size in
-        let size' = p.size in
-        let sizes = ap length h.parts in
-        let sizes' = ap length p.parts in
-        let f = fits in
-        absurd (omega (arith, length-append h.head h.body, length-append p.head i.packet))
+    not_cut h = grind (arith, head_is, fits, length-append)
 
     not_long : (captured : ℕ) → HasLongFrame order link passing.unfit bytes captured → ⊥
-    not_long captured h =
-        let reported = head_is h.head h.rest h.parts h.size in
-        let same = h.reported in
-        let above = h.long in
-        let most = i.fits in
-        absurd (omega arith)
+    not_long captured h = grind (arith, head_is)
 
     -- the packet without a frame would be this one
     not_unframed : HasNoFrame order link passing.unfit bytes → ⊥
@@ -319,7 +219,7 @@ module _ (bytes u r : List ℕ) (all : IsBytes bytes) (parts : bytes ≡ u ++ r)
         let same : h.packet ≡ i.packet =
         prefix_same (h.packet ++ h.rest) h.packet h.rest i.packet r refl following
         (sym p'.captured ∙ reported) in
-        some_and_none _ frame (ap (reported_frame passing.unfit link) same ∙ i.is_reported) h.none
+        grind arith
 
 -- ---- so what is left begins with none
 
@@ -327,16 +227,15 @@ left_no_unit : (state : State) (bytes u r : List ℕ) → IsBytes bytes → byte
     → (after : State) (origin : Origin) (frame : List ℕ) → IsUnit state u after origin frame
     → (refusal : Option CaptureError) → IsLeft state bytes refusal → ⊥
 left_no_unit (Start unfit) bytes u r all parts after origin frame (inl i) None (inl few) =
-    let size = i.0.header.size in
-    let f = fits bytes u r all parts after origin frame in
-    absurd (omega arith)
+    omega (arith, i.0.header.size, fits bytes u r all parts after origin frame)
 left_no_unit (Start unfit) bytes u r all parts after origin frame (inl i) None (inr h) =
     no_kind bytes u r all parts after origin frame unfit i.0 h.0
 left_no_unit (Start unfit) bytes u r all parts after origin frame (inr i) None (inl few) =
-    let l = long_enough bytes u r all parts after origin frame i.0 unfit i.1
-    i.1.reads.content i.1.reads.says in
-    let f = fits bytes u r all parts after origin frame in
-    absurd (omega arith)
+    omega (
+      arith,
+      long_enough bytes u r all parts after origin frame i.0 unfit i.1 i.1.reads.content i.1.reads.says,
+      fits bytes u r all parts after origin frame,
+    )
 left_no_unit (Start unfit) bytes u r all parts after origin frame (inr i) None (inr h) =
     not_short bytes u r all parts after origin frame (no_section unfit) i.1 h.1
 left_no_unit (Start unfit) bytes u r all parts after origin frame (inl i) (Some error) refuses =
@@ -397,7 +296,7 @@ rows_alone state (u ∷ us) (v ∷ vs) ps qs after after' rest rest' refusal ref
     let bytes = u ++ (in_a_row us ++ rest) in
     let bytes' : IsBytes bytes = subst IsBytes (append_assoc u (in_a_row us) rest) all in
     let parts : bytes ≡ v ++ (in_a_row vs ++ rest') =
-    sym (append_assoc u (in_a_row us) rest) ∙ same ∙ append_assoc v (in_a_row vs) rest' in
+    grind (arith, append_assoc) in
     let one = unit_alone state bytes u (in_a_row us ++ rest) v
     (in_a_row vs ++ rest') bytes' refl parts row.0 row'.0 row.1 row'.1
     row.2 row'.2 row.4 row'.4 in
@@ -406,7 +305,7 @@ rows_alone state (u ∷ us) (v ∷ vs) ps qs after after' rest rest' refusal ref
     let later' = subst (λ (s : State). Row s vs row'.3 after') (sym one.1) row'.5 in
     let later = rows_alone row.0 us vs row.3 row'.3 after after' rest rest' refusal refusal'
     (bytes_after u (in_a_row us ++ rest) bytes') following row.5 later' left left' in
-    (row.6 ∙ ap₂ (λ (a b : List Packet). a ++ b) one.2 later.0 ∙ sym row'.6, later.1)
+    grind arith
 
 pub reported_alone : (extra : Extra) (unfit : Unfit) (bytes rest rest' text text' : List ℕ) (count count' : ℕ)
     (state state' : State) (refusal refusal' : Option CaptureError) (noted noted' : Ledger)
@@ -421,7 +320,7 @@ reported_alone extra unfit bytes rest rest' text text' count count' state state'
     let same = rows_alone (Start unfit) p.units p'.units t.packets t'.packets state state'
     rest rest' refusal refusal' (subst IsBytes p.parts all)
     (sym p.parts ∙ p'.parts) p.row p'.row t.left t'.left in
-    t.reported ∙ ap (lines_of extra) same.0 ∙ sym t'.reported
+    grind arith
 
 nothing_left : (state : State) → IsLeft state [] None
 nothing_left (Start unfit) = inl (omega arith)
@@ -437,15 +336,9 @@ capture_alone unfit bytes packets packets' skipped skipped' all capture capture'
     let same = rows_alone (Start unfit) p.units p'.units packets packets' capture.state
     capture'.state [] [] None None (subst IsBytes p.parts all) (sym p.parts ∙ p'.parts)
     p.row p'.row (nothing_left capture.state) (nothing_left capture'.state) in
-    (same.0, sym capture.counts ∙ ap skipped_in same.1 ∙ capture'.counts)
+    grind arith
 
 pub passed_over_alone : (unfit : Unfit) (bytes : List ℕ) (skipped skipped' : Skipped)
     → IsBytes bytes → ArePassedOver unfit skipped bytes → ArePassedOver unfit skipped' bytes
     → skipped ≡ skipped'
-passed_over_alone unfit bytes skipped skipped' all a a' =
-    let p = a.passes in
-    let p' = a'.passes in
-    let same = rows_alone (Start unfit) p.units p'.units a.packets a'.packets a.state a'.state
-    a.rest a'.rest a.refusal a'.refusal (subst IsBytes p.parts all) (sym p.parts ∙ p'.parts)
-    p.row p'.row a.left a'.left in
-    sym a.counts ∙ ap skipped_in same.1 ∙ a'.counts
+passed_over_alone unfit bytes skipped skipped' all a a' = grind (arith, rows_alone)

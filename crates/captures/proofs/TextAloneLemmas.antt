@@ -1,8 +1,7 @@
 -- The frames of a text of lines are determined by its bytes.
-use Rattle.std.proofs.Common.{◌≡◌, ◌∙◌, sym, ap, ap₂, refl, ℕ, false, true, arith, List, [], ◌∷◌}
-use Rattle.std.proofs.Common.{◌++◌, length, drop, append-nil, length-append}
-use Rattle.std.specs.Prelude.{slice_index, unwrap_or}
-use Rattle.line_grammar.specs.TimedLines.{timed_frame_of}
+use Rattle.std.proofs.Common.{◌≡◌, ◌∙◌, sym, ap, refl, ℕ, false, true, arith, List, [], ◌∷◌, ◌++◌, length, drop}
+use Rattle.std.proofs.Common.{append-nil, length-append}
+use Rattle.std.specs.Prelude.{slice_index}
 use Rattle.line_grammar.specs.TimedLines.{TimedFrame}
 use Rattle.captures.specs.Texts.{is_newline, with_line_ends, GiveFrames, IsText}
 use Rattle.lines.specs.Lines.{HasNoNewline}
@@ -21,14 +20,9 @@ line_same : (l m xs ys : List ℕ) → HasNoNewline l → HasNoNewline m
     → l ++ 10 ∷ xs ≡ m ++ 10 ∷ ys → (l ≡ m) × (xs ≡ ys)
 line_same [] [] xs ys p q same = (refl, tail_same 10 10 xs ys same)
 line_same [] (b ∷ m) xs ys p q same = absurd (no_end b (head_same 10 b xs (m ++ 10 ∷ ys) same) q.0)
-line_same (a ∷ l) [] xs ys p q same =
-    absurd (no_end a (sym (head_same a 10 (l ++ 10 ∷ xs) ys same)) p.0)
+line_same (a ∷ l) [] xs ys p q same = grind arith
 line_same (a ∷ l) (b ∷ m) xs ys p q same =
-    let later = line_same l m xs ys p.1 q.1 (tail_same a b (l ++ 10 ∷ xs) (m ++ 10 ∷ ys) same) in (
-      ap₂ (λ (h : ℕ) (t : List ℕ). h ∷ t)
-          (head_same a b (l ++ 10 ∷ xs) (m ++ 10 ∷ ys) same) later.0,
-      later.1,
-    )
+    grind (arith, line_same l m xs ys p.1 q.1 (tail_same a b (l ++ 10 ∷ xs) (m ++ 10 ∷ ys) same))
 
 lines_alone : (ls ms : List (List ℕ)) (fs gs : List TimedFrame) → GiveFrames ls fs → GiveFrames ms gs
     → with_line_ends ls ≡ with_line_ends ms → fs ≡ gs
@@ -39,13 +33,10 @@ lines_alone (l ∷ ls) [] fs gs p q same = let sizes = ap length same in
     absurd (omega (arith, length-append l (10 ∷ with_line_ends ls)))
 lines_alone (l ∷ ls) (m ∷ ms) fs gs p q same =
     let split = line_same l m (with_line_ends ls) (with_line_ends ms) p.2 q.2 same in
-    let first : p.0 ≡ q.0 = ap (λ o. unwrap_or o p.0) (sym p.3 ∙ ap timed_frame_of split.0 ∙ q.3) in
+    let first : p.0 ≡ q.0 = grind arith in
     let later = lines_alone ls ms p.1 q.1 p.4 q.4 split.1 in
-    p.5 ∙ ap₂ (λ (t : TimedFrame) (ts : List TimedFrame). t ∷ ts) first later ∙ sym q.5
+    grind arith
 
 pub text_alone : (bytes : List ℕ) (frames frames' : List TimedFrame) → IsText bytes frames
     → IsText bytes frames' → frames ≡ frames'
-text_alone bytes frames frames' p q =
-    let whole = p.1.parts ∙ append-nil (with_line_ends p.1.lines) in
-    let whole' = q.1.parts ∙ append-nil (with_line_ends q.1.lines) in
-    lines_alone p.1.lines q.1.lines frames frames' p.1.each q.1.each (sym whole ∙ whole')
+text_alone bytes frames frames' p q = grind (arith, append-nil, lines_alone)

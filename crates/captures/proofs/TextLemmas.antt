@@ -1,22 +1,19 @@
 -- Lines at the start of a text.
-use Rattle.std.proofs.Common.{◌≡◌, ◌∙◌, sym, ap, refl, subst, ℕ, suc, ◌+◌, ◌-◌, ◌<◌, ◌≤◌, Bool}
-use Rattle.std.proofs.Common.{true, false, List, [], ◌∷◌, ◌++◌, length, take, drop, get_or, Some}
-use Rattle.std.proofs.Common.{None, append_assoc, append-nil, length-append, arith, inl, inr}
-use Rattle.std.proofs.Common.{eqb-true, ltb-true, ltb-false}
+use Rattle.std.proofs.Common.{◌≡◌, ◌∙◌, sym, ap, refl, subst, ℕ, ◌+◌, ◌-◌, ◌<◌, ◌≤◌, Bool, true, false, List, [], ◌∷◌}
+use Rattle.std.proofs.Common.{◌++◌, length, take, drop, get_or, Some, None, append_assoc, append-nil, length-append}
+use Rattle.std.proofs.Common.{arith, eqb-true}
 use Rattle.std.specs.Prelude.{position, nat_lt}
 use Rattle.std.specs.List.{flat_map, position_or_len, before_first, after_first}
-use Rattle.std.proofs.lemmas.Bool.{lt-ltb, le-ltb, cases_lt}
+use Rattle.std.proofs.lemmas.Bool.{lt-ltb}
 use Rattle.std.proofs.lemmas.List.{take_rest, drop-drop}
 use Rattle.std.proofs.lemmas.List.Sums.{split_at_first, passes_at_first}
 use Rattle.std.proofs.lemmas.List.Concat.{flat_map-append}
-use Rattle.line_grammar.specs.TimedLines.{timed_frame_of}
+use Rattle.line_grammar.specs.TimedLines.{timed_frame_of, TimedFrame}
 use Rattle.line_grammar.specs.declared.limits.TheConstants.{TIMED_LINE_LIMIT}
 use Rattle.captures.specs.Encoding.{record_of}
-use Rattle.line_grammar.specs.TimedLines.{TimedFrame}
-use Rattle.captures.specs.Texts.{is_newline, with_line_ends, GiveFrames, GivesFrames, ends_line}
-use Rattle.lines.specs.Lines.{HasNoNewline}
-use Rattle.captures.specs.Texts.{with_last_line_end}
+use Rattle.captures.specs.Texts.{is_newline, with_line_ends, GiveFrames, GivesFrames, ends_line, with_last_line_end}
 use Rattle.captures.specs.Texts.{IsLeftLine}
+use Rattle.lines.specs.Lines.{HasNoNewline}
 use Rattle.captures.specs.declared.time.time_unit.TimeUnit.{TimeUnit}
 
 -- what comes after an incomplete line: what a read gave, or at the end the 0a that the line lacks
@@ -30,29 +27,18 @@ coming true (byte ∷ started) chunk = 10 ∷ []
 step_none : (x : ℕ) (xs : List ℕ) (b : Bool) → is_newline x ≡ b
     → length (x ∷ xs) ≤ position_or_len is_newline (x ∷ xs)
     → (length xs ≤ position_or_len is_newline xs → HasNoNewline xs) → HasNoNewline (x ∷ xs)
-step_none x xs true is none later = absurd (let none' = rw is at none in omega arith)
-step_none x xs false is none later = (is, later (let none' = rw is at none in omega arith))
+step_none x xs b is none later = grind arith
 
 no_newline : (xs : List ℕ) → length xs ≤ position_or_len is_newline xs → HasNoNewline xs
 no_newline [] none = tt
 no_newline (x ∷ xs) none = step_none x xs (is_newline x) refl none (no_newline xs)
 
 pub none_found : (xs : List ℕ) → position is_newline xs ≡ None → HasNoNewline xs
-none_found xs none =
-    elim (cases_lt (position_or_len is_newline xs) (length xs)) [
-      | inl found ↦
-          (let e = rw (lt-ltb (position_or_len is_newline xs) (length xs) found) at none in
-          absurd (cc))
-      | inr past ↦ no_newline xs past
-    ]
+none_found xs none = grind (arith, lt-ltb, no_newline)
 
 step_before : (x : ℕ) (xs : List ℕ) (b : Bool) → is_newline x ≡ b
     → HasNoNewline (before_first is_newline xs) → HasNoNewline (before_first is_newline (x ∷ xs))
-step_before x xs true is later = rw is tt
-step_before x xs false is later =
-    let at : suc (position_or_len is_newline xs) ≡ position_or_len is_newline (x ∷ xs) =
-    rw is (omega arith) in
-    subst (λ n. HasNoNewline (take n (x ∷ xs))) at (is, later)
+step_before x xs b is later = grind arith
 
 none_before : (xs : List ℕ) → HasNoNewline (before_first is_newline xs)
 none_before [] = tt
@@ -60,15 +46,7 @@ none_before (x ∷ xs) = step_before x xs (is_newline x) refl (none_before xs)
 
 found_at : (xs : List ℕ) (end : ℕ) → position is_newline xs ≡ Some end
     → (position_or_len is_newline xs ≡ end) × (position_or_len is_newline xs < length xs)
-found_at xs end some =
-    elim (cases_lt (position_or_len is_newline xs) (length xs)) [
-      | inl found ↦
-          (let e = rw (lt-ltb (position_or_len is_newline xs) (length xs) found) at some in
-          (cc, found))
-      | inr past ↦
-          (let e = rw (le-ltb (position_or_len is_newline xs) (length xs) past) at some in
-          absurd (cc))
-    ]
+found_at xs end some = grind arith
 
 -- bytes up to the first 0a, and those after it
 pub found_line : (xs : List ℕ) (end : ℕ) → position is_newline xs ≡ Some end
@@ -78,10 +56,8 @@ found_line xs end some =
     let newline : get_or xs (position_or_len is_newline xs) 0 ≡ 10 =
     eqb-true _ 10 (passes_at_first is_newline xs 0 at.1) in
     let split = split_at_first is_newline xs 0 at.1
-    ∙ ap (λ n. before_first is_newline xs ++ n ∷ after_first is_newline xs) newline in (
-      subst (λ n. HasNoNewline (take n xs)) at.0 (none_before xs),
-      subst (λ n. xs ≡ take n xs ++ 10 ∷ drop (n + 1) xs) at.0 split,
-    )
+    ∙ ap (λ n. before_first is_newline xs ++ n ∷ after_first is_newline xs) newline in
+    grind (arith, none_before)
 
 -- what follows a line, as the code takes it
 pub after_line : (rest : List ℕ) (n : ℕ) → n < length rest
@@ -93,14 +69,13 @@ after_line rest n lt = take_rest (drop n rest) 1 ∙ drop-drop 1 n rest
 with_line_ends-append : (xs ys : List (List ℕ)) → with_line_ends (xs ++ ys) ≡ with_line_ends xs
     ++ with_line_ends ys
 with_line_ends-append [] ys = refl
-with_line_ends-append (x ∷ xs) ys = ap (λ l. x ++ 10 ∷ l) (with_line_ends-append xs ys)
-    ∙ sym (append_assoc x (10 ∷ with_line_ends xs) (with_line_ends ys))
+with_line_ends-append (x ∷ xs) ys = grind (arith, with_line_ends-append xs ys, append_assoc)
 
 GiveFrames-append : (xs ys : List (List ℕ)) (fs gs : List TimedFrame) → GiveFrames xs fs → GiveFrames ys gs
     → GiveFrames (xs ++ ys) (fs ++ gs)
 GiveFrames-append [] ys fs gs p q = rw p q
 GiveFrames-append (x ∷ xs) ys fs gs p q =
-    (p.0, p.1 ++ gs, p.2, p.3, GiveFrames-append xs ys p.1 gs p.4 q, ap (λ l. l ++ gs) p.5)
+    (p.0, p.1 ++ gs, p.2, p.3, GiveFrames-append xs ys p.1 gs p.4 q, cc p.5)
 
 pub gives_frames_start : (bytes : List ℕ) → GivesFrames bytes 0 [] bytes
 gives_frames_start bytes = record { lines = []; each = refl; number = refl; parts = refl }
@@ -112,12 +87,9 @@ pub gives_frames_more : (bytes chunk rest rest' : List ℕ) (m n : ℕ) (fs gs :
 gives_frames_more bytes chunk rest rest' m n fs gs p q = record {
   lines = p.lines ++ q.lines;
   each = GiveFrames-append p.lines q.lines fs gs p.each q.each;
-  number = let a = p.number in let b = q.number in length-append p.lines q.lines ∙ omega arith;
+  number = grind (arith, length-append);
   parts =
-      ap (λ l. l ++ chunk) p.parts ∙ append_assoc (with_line_ends p.lines) rest chunk
-      ∙ ap (λ l. with_line_ends p.lines ++ l) q.parts
-      ∙ sym (append_assoc (with_line_ends p.lines) (with_line_ends q.lines) rest')
-      ∙ ap (λ l. l ++ rest') (sym (with_line_ends-append p.lines q.lines));
+      grind (arith, append_assoc, with_line_ends-append);
 }
 
 -- one more line
@@ -131,7 +103,7 @@ gives_frames_line bytes rest line rest' n fs timed p parts whole is =
       lines = line ∷ [];
       each = (timed, [], whole, is, refl, refl);
       number = refl;
-      parts = append-nil rest ∙ parts ∙ sym (append_assoc line (10 ∷ []) rest');
+      parts = grind (arith, append-nil, append_assoc);
     }))
 
 -- ---- the end of a text
@@ -147,36 +119,25 @@ ends_none b [] none = none.0
 ends_none b (c ∷ bs) none = ends_none c bs none.1
 
 ends_newline : (xs : List ℕ) → ends_line xs ≡ true → ends_line (10 ∷ xs) ≡ true
-ends_newline [] ends = refl
-ends_newline (x ∷ xs) ends = ends
+ends_newline xs ends = grind arith
 
 pub ends_ended : (lines : List (List ℕ)) → ends_line (with_line_ends lines) ≡ true
 ends_ended [] = refl
-ends_ended (line ∷ lines) = ends_line-prefix line 10 (with_line_ends lines)
-    ∙ ends_newline (with_line_ends lines) (ends_ended lines)
+ends_ended (line ∷ lines) = grind (arith, ends_ended lines, ends_line-prefix, ends_newline)
 
 -- what ends an incomplete line
 pub closed_is : (bytes rest : List ℕ) (n : ℕ) (fs : List TimedFrame) → GivesFrames bytes n fs rest
     → HasNoNewline rest → with_last_line_end bytes ≡ bytes ++ coming true rest []
-closed_is bytes [] n fs p none =
-    let all : bytes ≡ with_line_ends p.lines = p.parts ∙ append-nil (with_line_ends p.lines) in
-    let ends : ends_line bytes ≡ true = ap ends_line all ∙ ends_ended p.lines in
-    rw ends (sym (append-nil bytes))
-closed_is bytes (b ∷ rest) n fs p none =
-    let ends : ends_line bytes ≡ false = ap ends_line p.parts
-    ∙ ends_line-prefix (with_line_ends p.lines) b rest ∙ ends_none b rest none in
-    rw ends refl
+closed_is bytes rest n fs p none =
+    grind (arith, append-nil, ends_ended, ends_line-prefix, ends_none)
 
 not_ended : (xs : List ℕ) (rest : List ℕ) → ends_line (xs ++ rest) ≡ true
     → HasNoNewline rest → rest ≡ []
 not_ended xs [] ends none = refl
-not_ended xs (b ∷ rest) ends none =
-    let e : true ≡ false = sym ends ∙ ends_line-prefix xs b rest ∙ ends_none b rest none in
-    absurd (cc)
+not_ended xs (b ∷ rest) ends none = grind (arith, ends_line-prefix, ends_none)
 
 text_ends : (started chunk : List ℕ) → ends_line (started ++ coming true started chunk) ≡ true
-text_ends [] chunk = refl
-text_ends (b ∷ started) chunk = ends_line-prefix (b ∷ started) 10 []
+text_ends started chunk = grind (arith, ends_line-prefix)
 
 -- nothing is left of a text that is ended
 pub ended_rest : (started chunk text rest : List ℕ) (n : ℕ) (fs : List TimedFrame)
@@ -190,8 +151,7 @@ ended_rest started chunk text rest n fs parts p none =
 -- where no line ends any more
 left_by : (rest : List ℕ) (b : Bool) → nat_lt TIMED_LINE_LIMIT (length rest) ≡ b
     → HasNoNewline rest → IsLeftLine b rest
-left_by rest true is none = inr (none, ltb-true TIMED_LINE_LIMIT (length rest) is)
-left_by rest false is none = (none, ltb-false TIMED_LINE_LIMIT (length rest) is)
+left_by rest b is none = grind arith
 
 pub left_line : (rest : List ℕ) → HasNoNewline rest
     → IsLeftLine (nat_lt TIMED_LINE_LIMIT (length rest)) rest
@@ -199,8 +159,7 @@ left_line rest none = left_by rest (nat_lt TIMED_LINE_LIMIT (length rest)) refl 
 
 pub left_bad : (rest line rest' : List ℕ) → rest ≡ line ++ 10 ∷ rest' → HasNoNewline line
     → timed_frame_of line ≡ None → IsLeftLine true rest
-left_bad rest line rest' parts whole none =
-    inl (record { line = line; rest = rest'; parts = parts; whole = whole; none = none })
+left_bad rest line rest' parts whole none = grind arith
 
 pub records-append : (time_unit : TimeUnit) (fs gs : List TimedFrame)
     → flat_map (record_of time_unit) (fs ++ gs)
@@ -215,8 +174,7 @@ pub record Taking (time_unit : TimeUnit) (bytes : List ℕ) (count : ℕ) (rest 
 
 pub taking_start : (time_unit : TimeUnit) (bytes written : List ℕ) → written ≡ []
     → Taking time_unit bytes 0 bytes written
-taking_start time_unit bytes written none =
-    record { frames = []; gives_frames = gives_frames_start bytes; encoded = none }
+taking_start time_unit bytes written none = grind arith
 
 pub taking_line : (time_unit : TimeUnit) (bytes rest line rest' written written' : List ℕ) (n : ℕ) (timed : TimedFrame)
     → Taking time_unit bytes n rest written → rest ≡ line ++ 10 ∷ rest' → HasNoNewline line
@@ -225,8 +183,5 @@ pub taking_line : (time_unit : TimeUnit) (bytes rest line rest' written written'
 taking_line time_unit bytes rest line rest' written written' n timed t parts whole is more = record {
   frames = t.frames ++ timed ∷ [];
   gives_frames = gives_frames_line bytes rest line rest' n t.frames timed t.gives_frames parts whole is;
-  encoded = more ∙ ap (λ l. l ++ record_of time_unit timed) t.encoded
-      ∙ ap (λ l. flat_map (record_of time_unit) t.frames ++ l)
-      (sym (append-nil (record_of time_unit timed)))
-      ∙ sym (records-append time_unit t.frames (timed ∷ []));
+  encoded = grind (arith, append-nil, records-append);
 }

@@ -1,22 +1,19 @@
 -- A run that translates bytes to bytes, call by call.
-use Rattle.std.proofs.Common.{◌≡◌, sym, subst, ℕ, ◌+◌, ◌*◌, ◌<◌, ◌≤◌, arith, Bool, true, false}
-use Rattle.std.proofs.Common.{List, []}
-use Rattle.std.proofs.Common.{◌∷◌, ◌++◌, length, length-append, Option, Some, None, Result, Ok, Err}
+use Rattle.std.proofs.Common.{◌≡◌, sym, subst, ℕ, ◌+◌, ◌*◌, ◌<◌, ◌≤◌, arith, Bool, true, false, List, [], ◌∷◌, ◌++◌}
+use Rattle.std.proofs.Common.{length, length-append, Option, Some, None, Result, append-nil, refl}
 use Rattle.device_runs.specs.declared.fault.Fault.{Fault}
 use Rattle.device_runs.specs.declared.fault.Fault.TheVariants.{ReadFailed}
-use Rattle.device_runs.specs.Calls.{Call, Reads, Writes, bytes_given, bytes_read, bytes_written}
-use Rattle.device_runs.specs.Endings.{Done, Stopped, OutOfMemory, OutOfReads, Refused, ending_by}
-use Rattle.device_runs.specs.Runs.{Task, EachFollows, Follows, Goes}
+use Rattle.device_runs.specs.Calls.{Call, Reads, Writes, bytes_read}
+use Rattle.device_runs.specs.Endings.{Stopped, OutOfMemory, OutOfReads, Refused, ending_by}
+use Rattle.device_runs.specs.Runs.{Task, EachFollows, Follows}
 use Rattle.device_runs.specs.Writes.{Written, Stops}
-use Rattle.std.proofs.Common.{◌∙◌, append-nil, refl}
 use Rattle.std.proofs.lemmas.List.Concat.{flat_map-append}
 use Rattle.device_runs.proofs.CallLemmas.{Makes-append}
-use Rattle.device_runs.proofs.Going.{Going, going_start, going_chunk, going_end, going_write, going_ends}
-use Rattle.device_runs.proofs.Going.{going_stops, going_unread, going_all, goes_nothing}
+use Rattle.device_runs.proofs.Going.{Going, going_start, going_chunk, going_end, going_write, going_stops, going_unread}
+use Rattle.device_runs.proofs.Going.{goes_nothing}
 use Rattle.captures.specs.declared.limits.TheConstants.{INPUT_CAPACITY}
 use Rattle.captures.specs.declared.translation.refusal.Refusal.{Refusal}
 use Rattle.captures.specs.Translations.{Begins, RunEnds, Fills, IsDueBy, Translates, Finishes}
-use Rattle.captures.specs.Translations.{IsWhole}
 
 module _ (task : Task Refusal) {D : Type 0} (transition : D → Call → D → Type 0) (read written : List ℕ)
     (reported : Bool) (count : ℕ) (old mid : D) (g : Going task transition read written reported count old mid)
@@ -28,7 +25,7 @@ module _ (task : Task Refusal) {D : Type 0} (transition : D → Call → D → T
     made = g.made;
     reported = reported;
     text = text;
-    full = subst (λ (l : List ℕ). task.full reported l text) (sym g.gave) full;
+    full = grind arith;
   }
 
   -- where a read fails then, too,
@@ -36,13 +33,13 @@ module _ (task : Task Refusal) {D : Type 0} (transition : D → Call → D → T
   fills_unread new call =
       let last = Reads None ∷ [] in
       let gave : bytes_read (g.calls ++ last) ≡ read =
-      flat_map-append bytes_given g.calls last ∙ append-nil (bytes_read g.calls) ∙ g.gave in
+      grind (arith, flat_map-append, append-nil) in
       record {
         calls = g.calls ++ last;
         made = Makes-append transition old mid new g.calls last g.made (new, call, refl);
         reported = reported;
         text = text;
-        full = subst (λ (l : List ℕ). task.full reported l text) (sym gave) full;
+        full = grind arith;
       }
 
   -- and where a write stops
@@ -53,30 +50,17 @@ module _ (task : Task Refusal) {D : Type 0} (transition : D → Call → D → T
       s.before in
       let last = Writes s.offered s.taken ∷ [] in
       let gave : bytes_read (before.calls ++ last) ≡ read =
-      flat_map-append bytes_given before.calls last ∙ append-nil (bytes_read before.calls)
-      ∙ before.gave in
+      grind (arith, flat_map-append, append-nil) in
       record {
         calls = before.calls ++ last;
         made = Makes-append transition old s.mid new before.calls last before.made
             (new, s.stop, refl);
         reported = reported;
         text = text;
-        full = subst (λ (l : List ℕ). task.full reported l text) (sym gave) full;
+        full = grind arith;
       }
 
 module _ (task : Task Refusal) {D : Type 0} (transition : D → Call → D → Type 0) where
-  -- a run ends by the result of all the input
-  result_ends : (limit : ℕ) (read written : List ℕ) (count : ℕ) (old new : D)
-      (g : Going task transition read written true count old new) → count ≤ limit
-      → (result : Result Unit Refusal) → IsWhole task read written result
-      → Goes task transition limit old new (ending_by Refused result)
-  result_ends limit read written count old new g few (Ok tt) whole =
-      going_ends task transition limit read written true count old new g Done few
-      (g.faults, g.reports) whole
-  result_ends limit read written count old new g few (Err reason) whole =
-      going_ends task transition limit read written true count old new g (Refused reason) few
-      g.faults whole
-
   -- what this many reads gave is translated, and this is held
   pub record Translating (shown : List ℕ → List ℕ → List ℕ → Type 0) (count : ℕ) (old new : D)
       (held : List ℕ) : Type 0 where
@@ -144,15 +128,7 @@ module _ (task : Task Refusal) {D : Type 0} (transition : D → Call → D → T
       pub translating_more : {new : D} → refusal ≡ None → Written transition later text new
           → Translated shown' (n + 1) old new held'
       translating_more {new} is written = let goes_on = rw is at translates in record {
-        translating = record {
-          came = t.came ++ chunk;
-          text = t.text ++ text;
-          going = going_write task transition (t.came ++ chunk) t.text false
-              (n + 1) old later new requested text written;
-          due = goes_on.follows.0;
-          shows = goes_on.follows.1;
-          few = let few = t.few in omega (arith, length-append t.came chunk);
-        };
+        translating = grind (arith, going_write, requested, length-append);
         full = translates.full;
       }
 
@@ -173,12 +149,7 @@ module _ (task : Task Refusal) {D : Type 0} (transition : D → Call → D → T
           let refused = rw is at translates in
           let done = going_write task transition (t.came ++ chunk) t.text false
           (n + 1) old later new requested text written in
-          record {
-            goes = going_ends task transition limit (t.came ++ chunk) (t.text ++ text) false
-                (n + 1) old new done (Refused reason) (omega arith) done.faults refused.follows;
-            fills = fills_so_far task transition (t.came ++ chunk) (t.text ++ text) false (n + 1)
-                old new done (t.text ++ text) translates.full;
-          }
+          grind arith
 
     -- a read fails
     pub translating_fails : {new : D} → task.full false t.came t.text
@@ -198,8 +169,7 @@ module _ (task : Task Refusal) {D : Type 0} (transition : D → Call → D → T
       ended = going_end task transition t.came t.text n old mid later t.going t.due chunk none call
 
       finishes : Finishes task t.came (t.text ++ text) result
-      finishes = let few = t.few in reported t.came t.text
-          (subst (λ (l : List ℕ). shown l t.came t.text) (sym same) t.shows) (omega arith)
+      finishes = let few = t.few in grind arith
 
       pub finish_stops : {new : D} (fault : Fault) → Stops transition fault later text new
           → RunEnds task transition limit old new (Stopped fault)
@@ -215,12 +185,7 @@ module _ (task : Task Refusal) {D : Type 0} (transition : D → Call → D → T
       finish_ends {new} written =
           let done = going_write task transition t.came t.text true
           (n + 1) old later new ended text written in
-          record {
-            goes = result_ends limit t.came (t.text ++ text) (n + 1) old new done
-                (omega arith) result finishes.whole;
-            fills = fills_so_far task transition t.came (t.text ++ text) true (n + 1) old new done
-                (t.text ++ text) finishes.full;
-          }
+          grind arith
 
   -- as many reads as may be are made
   pub translating_all : (shown : List ℕ → List ℕ → List ℕ → Type 0) (limit : ℕ) (old new : D)
@@ -228,23 +193,15 @@ module _ (task : Task Refusal) {D : Type 0} (transition : D → Call → D → T
       → RunEnds task transition limit old new OutOfReads
   translating_all shown limit old new held done =
       let t = done.translating in
-      record {
-        goes = going_all task transition limit t.came t.text old new t.going t.due;
-        fills = fills_so_far task transition t.came t.text false limit old new t.going t.text
-            done.full;
-      }
+      grind arith
 
 -- where the same is due by another task, calls by the one are calls by the other
 module _ {task task' : Task Refusal} (same : IsDueBy task task') where
   follows_by : (before : List Call) (call : Call) → Follows task before call
       → Follows task' before call
   follows_by before (Reads given) follows = (
-    record {
-      no_fault = follows.0.no_fault;
-      no_end = follows.0.no_end;
-      written = same.due (bytes_read before) (bytes_written before) follows.0.written;
-    },
-    subst (λ n. length (bytes_given (Reads given)) ≤ n) (sym same.room) follows.1,
+    grind arith,
+    grind arith,
   )
   follows_by before (Writes bytes taken) follows = follows
 

@@ -1,15 +1,13 @@
 -- Units in a row.
-use Rattle.std.proofs.Common.{◌≡◌, ◌∙◌, sym, ap, ap₂, refl, subst, ℕ, ◌+◌, ◌==◌, true}
-use Rattle.std.proofs.Common.{◌<◌, arith}
-use Rattle.std.proofs.Common.{List, [], ◌∷◌, ◌++◌, length, take, append_assoc, append-nil, inl, inr}
-use Rattle.std.proofs.Common.{length-append, eqb-true, Option, None}
+use Rattle.std.proofs.Common.{◌≡◌, ◌∙◌, sym, refl, subst, ℕ, ◌+◌, ◌==◌, true, ◌<◌, arith, List, [], ◌∷◌, ◌++◌, length}
+use Rattle.std.proofs.Common.{take, append_assoc, append-nil, length-append, Option, None}
 use Rattle.std.proofs.Math.Seq.{take-append_seam}
 use Rattle.captures.specs.Lines.{Packet, packets_of, reported, noted, lines_from, noted_all}
 use Rattle.captures.specs.Units.{IsUnit, Row, in_a_row, Passes, HasUnit, IsNoCapture, Takes}
 use Rattle.captures.specs.declared.capture_error.CaptureError.{CaptureError}
 use Rattle.captures.specs.declared.translation.state.State.{State}
 use Rattle.captures.specs.declared.unfit.Unfit.{Unfit}
-use Rattle.captures.specs.declared.translation.state.State.TheVariants.{Start, Classic, Pcapng}
+use Rattle.captures.specs.declared.translation.state.State.TheVariants.{Start}
 use Rattle.captures.specs.declared.limits.TheConstants.{FIRST_UNIT_LEN}
 use Rattle.captures.specs.declared.origin.Origin.{Origin}
 use Rattle.captures.specs.declared.text.ledger.Ledger.{Ledger}
@@ -17,17 +15,13 @@ use Rattle.captures.specs.declared.text.ledger.Ledger.{Ledger}
 -- the first n bytes are the header, where it has n bytes
 pub prefix_is : (bytes header rest prefix : List ℕ) (n : ℕ) → bytes ≡ header ++ rest
     → prefix ≡ take n bytes → length header ≡ n → prefix ≡ header
-prefix_is bytes header rest prefix n parts is size =
-    is ∙ ap (λ l. take n l) parts ∙ ap (λ m. take m (header ++ rest)) (sym size)
-    ∙ take-append_seam header rest
+prefix_is bytes header rest prefix n parts is size = grind (arith, take-append_seam)
 
 pub lines_from-append : (ledger : Ledger) (ps qs : List Packet)
     → lines_from ledger (ps ++ qs) ≡ lines_from ledger ps ++ lines_from (noted_all ledger ps) qs
 lines_from-append ledger [] qs = refl
 lines_from-append ledger (p ∷ ps) qs =
-    ap (λ l. reported ledger p ++ l) (lines_from-append (noted ledger p) ps qs)
-    ∙ sym (append_assoc (reported ledger p) (lines_from (noted ledger p) ps)
-    (lines_from (noted_all (noted ledger p) ps) qs))
+    grind (arith, lines_from-append (noted ledger p) ps qs, append_assoc)
 
 pub noted_all-append : (ledger : Ledger) (ps qs : List Packet)
     → noted_all ledger (ps ++ qs) ≡ noted_all (noted_all ledger ps) qs
@@ -36,8 +30,7 @@ noted_all-append ledger (p ∷ ps) qs = noted_all-append (noted ledger p) ps qs
 
 in_a_row-append : (us vs : List (List ℕ)) → in_a_row (us ++ vs) ≡ in_a_row us ++ in_a_row vs
 in_a_row-append [] vs = refl
-in_a_row-append (u ∷ us) vs = ap (λ l. u ++ l) (in_a_row-append us vs)
-    ∙ sym (append_assoc u (in_a_row us) (in_a_row vs))
+in_a_row-append (u ∷ us) vs = grind (arith, in_a_row-append us vs, append_assoc)
 
 Row-append : (state mid after : State) (us vs : List (List ℕ)) (ps qs : List Packet)
     → Row state us ps mid → Row mid vs qs after → Row state (us ++ vs) (ps ++ qs) after
@@ -49,7 +42,7 @@ Row-append state mid after (u ∷ us) vs ps qs p q = (
   p.3 ++ qs,
   p.4,
   Row-append p.0 mid after us vs p.3 qs p.5 q,
-  ap (λ l. l ++ qs) p.6 ∙ append_assoc (packets_of p.1 p.2) p.3 qs,
+  grind arith,
 )
 
 -- no unit yet
@@ -63,21 +56,9 @@ pub passes_unit : (state mid after : State) (bytes rest rest' : List ℕ) (packe
     → Passes state bytes (packets ++ packets_of origin frame) after rest'
 passes_unit state mid after bytes rest rest' packets origin frame p h = record {
   units = p.units ++ h.unit ∷ [];
-  row = Row-append state mid after p.units (h.unit ∷ []) packets (packets_of origin frame) p.row (
-    after,
-    origin,
-    frame,
-    [],
-    h.is_unit,
-    (refl, refl),
-    sym
-        (append-nil (packets_of origin frame)),
-  );
+  row = grind (arith, Row-append, append-nil);
   parts =
-      p.parts ∙ ap (λ l. in_a_row p.units ++ l) h.parts
-      ∙ sym (append_assoc (in_a_row p.units) h.unit rest')
-      ∙ ap (λ l. l ++ rest') (ap (λ l. in_a_row p.units ++ l) (sym (append-nil h.unit))
-      ∙ sym (in_a_row-append p.units (h.unit ∷ [])));
+      grind (arith, append_assoc, append-nil, in_a_row-append);
 }
 
 -- more units, in the rest and what follows it
@@ -88,10 +69,7 @@ passes_more state mid after bytes chunk rest rest' ps qs p q = record {
   units = p.units ++ q.units;
   row = Row-append state mid after p.units q.units ps qs p.row q.row;
   parts =
-      ap (λ l. l ++ chunk) p.parts ∙ append_assoc (in_a_row p.units) rest chunk
-      ∙ ap (λ l. in_a_row p.units ++ l) q.parts
-      ∙ sym (append_assoc (in_a_row p.units) (in_a_row q.units) rest')
-      ∙ ap (λ l. l ++ rest') (sym (in_a_row-append p.units q.units));
+      grind (arith, append_assoc, in_a_row-append);
 }
 
 -- more units, in the rest
@@ -121,41 +99,28 @@ pub record Reported (ledger : Ledger) (state : State) (bytes : List ℕ) (after 
 
 pub reported_start : (ledger : Ledger) (state : State) (bytes text : List ℕ) → text ≡ []
     → Reported ledger state bytes state bytes 0 text ledger
-reported_start ledger state bytes text none = record {
-  packets = [];
-  number = refl;
-  passes = passes_start state bytes;
-  lines = none;
-  come = refl;
-}
+reported_start ledger state bytes text none = grind arith
 
 -- bytes that are none are no packet
 pub no_packets_of : (origin : Origin) (frame : List ℕ) → (length frame == 0) ≡ true
     → packets_of origin frame ≡ []
-no_packets_of origin [] none = refl
-no_packets_of origin (b ∷ bytes) none =
-    absurd (let zero = eqb-true (length (b ∷ bytes)) 0 none in omega arith)
+no_packets_of origin frame none = grind arith
 
 pub one_packet : (origin : Origin) (frame : List ℕ) → 0 < length frame
     → packets_of origin frame ≡ record { origin = origin; frame = frame } ∷ []
-one_packet origin [] some = absurd (omega arith)
-one_packet origin (b ∷ bytes) some = refl
+one_packet origin frame some = grind arith
 
 -- after a unit something is known
 known_after : (state : State) (unit : List ℕ) (after : State) (origin : Origin) (frame : List ℕ)
     → IsUnit state unit after origin frame → (unfit : Unfit) → after ≡ Start unfit → ⊥
-known_after (Start u) unit after origin frame (inl h) unfit is = let next = h.0.next in cc
-known_after (Start u) unit after origin frame (inr h) unfit is = let next = h.1.becomes in cc
-known_after (Classic order time_unit link u) unit after origin frame h unfit is = let next = h.0.next in cc
-known_after (Pcapng section) unit after origin frame h unfit is = let next = h.becomes in cc
+known_after state unit after origin frame h unfit is = grind arith
 
 row_known : (state after : State) (units : List (List ℕ)) (packets : List Packet)
     → Row state units packets after → ((unfit : Unfit) → state ≡ Start unfit → ⊥)
     → (unfit : Unfit) → after ≡ Start unfit → ⊥
 row_known state after [] packets row known unfit is = known unfit (sym row.1 ∙ is)
 row_known state after (unit ∷ units) packets row known unfit is =
-    row_known row.0 after units row.3 row.5
-    (known_after state unit row.0 row.1 row.2 row.4) unfit is
+    grind (arith, row_known row.0 after units row.3 row.5)
 
 row_start : (u unfit : Unfit) (units : List (List ℕ)) (packets : List Packet)
     → Row (Start u) units packets (Start unfit) → (units ≡ []) × (packets ≡ [])
@@ -167,20 +132,11 @@ row_start u unfit (unit ∷ units) packets row =
 -- where nothing is known yet, no unit is passed
 pub passes_to_start : (u unfit : Unfit) (bytes rest : List ℕ) (packets : List Packet)
     → Passes (Start u) bytes packets (Start unfit) rest → (bytes ≡ rest) × (packets ≡ [])
-passes_to_start u unfit bytes rest packets p =
-    let none = row_start u unfit p.units packets p.row in
-    (p.parts ∙ ap (λ (us : List (List ℕ)). in_a_row us ++ rest) none.0, none.1)
+passes_to_start u unfit bytes rest packets p = grind (arith, row_start)
 
 -- fewer bytes than a header has begin with none
 pub no_capture_by_length : (bytes : List ℕ) → length bytes < FIRST_UNIT_LEN → IsNoCapture bytes
-no_capture_by_length bytes started = (
-  λ order header rest parts is_header.
-      let size = ap length parts in
-      let both = length-append header rest in
-      let whole = is_header.size in
-      absurd (omega arith),
-  λ long begins. absurd (omega arith),
-)
+no_capture_by_length bytes started = grind (arith, length-append)
 
 -- the units of what was left and of what came then
 pub takes_more : (ledger come noted : Ledger) (state mid after : State)
@@ -191,13 +147,9 @@ pub takes_more : (ledger come noted : Ledger) (state mid after : State)
 takes_more ledger come noted state mid after bytes chunk rest rest' text text' count count' refusal
     p q = record {
       packets = p.packets ++ q.packets;
-      number = length-append p.packets q.packets ∙ ap₂ (λ (m n : ℕ). m + n) p.number q.number;
-      passes = passes_more state mid after bytes chunk rest rest' p.packets q.packets p.passes
-          q.passes;
-      reported = ap (λ l. l ++ text') p.reported ∙ ap (λ l. lines_from ledger p.packets ++ l)
-          (q.reported ∙ ap (λ l. lines_from l q.packets) p.come)
-          ∙ sym (lines_from-append ledger p.packets q.packets);
+      number = grind (arith, length-append);
+      passes = grind (arith, passes_more);
+      reported = grind (arith, lines_from-append);
       left = q.left;
-      come = q.come ∙ ap (λ l. noted_all l q.packets) p.come
-          ∙ sym (noted_all-append ledger p.packets q.packets);
+      come = grind (arith, noted_all-append);
     }

@@ -1,6 +1,6 @@
 -- What is held of a buffer.
-use Rattle.std.proofs.Common.{◌≡◌, ◌∙◌, sym, ap, ℕ, ◌+◌, ◌-◌, ◌<◌, ◌≤◌, arith, List, ◌++◌, length}
-use Rattle.std.proofs.Common.{take, drop, length-drop, Option, Result, Ok, Err}
+use Rattle.std.proofs.Common.{◌≡◌, ◌∙◌, sym, ap, ℕ, ◌+◌, ◌-◌, ◌<◌, ◌≤◌, arith, List, ◌++◌, length, take, drop}
+use Rattle.std.proofs.Common.{length-drop, Option, Result, Ok, Err}
 use Rattle.std.proofs.lemmas.List.{drop-take, length-take-le}
 use lib.Seq.{drop-drop, take-add, take-take}
 use Rattle.std.proofs.Math.Seq.{take-append_seam}
@@ -14,8 +14,7 @@ use Rattle.captures.proofs.BufferLemmas.{moved_to_start, read_prefix, read_nothi
 
 pub held_len : (input : List ℕ) (start end : ℕ) → start ≤ end → end ≤ length input
     → length (take (end - start) (drop start input)) ≡ end - start
-held_len input start end ordered fits =
-    length-take-le (end - start) (drop start input) (omega (arith, length-drop start input))
+held_len input start end ordered fits = grind (arith, length-take-le, length-drop)
 
 tail_is : (input : List ℕ) (start end left : ℕ) → start ≤ end → end ≤ length input
     → left ≤ end - start
@@ -26,21 +25,14 @@ tail_is input start end left ordered fits few =
     let whole : end - start ≡ n + left = omega arith in
     let at : start + n ≡ end - left = omega arith in
     let skip : length (take (end - start) (drop start input)) - left ≡ n = omega arith in
-    ap (λ (k : ℕ). take left (drop k input)) (sym at)
-    ∙ ap (λ (l : List ℕ). take left l) (sym (drop-drop n start input))
-    ∙ sym (drop-take n left (drop start input))
-    ∙ ap (λ (k : ℕ). drop n (take k (drop start input))) (sym whole)
-    ∙ ap (λ (k : ℕ). drop k (take (end - start) (drop start input))) (sym skip)
+    cc (at, drop-drop n start input, drop-take n left (drop start input), whole, skip)
 
 -- no more than the last bytes are held
 pub held_last : (input : List ℕ) (start end left : ℕ) → start ≤ end → end ≤ length input
     → left ≤ end - start
     → take (end - (end - left)) (drop (end - left) input)
     ≡ last_of left (take (end - start) (drop start input))
-held_last input start end left ordered fits few =
-    let count : end - (end - left) ≡ left = omega arith in
-    ap (λ (k : ℕ). take k (drop (end - left) input)) count
-    ∙ tail_is input start end left ordered fits few
+held_last input start end left ordered fits few = grind (arith, tail_is)
 
 -- some of the last bytes are marked
 pub marked_last : (input : List ℕ) (start end from len : ℕ) → start ≤ end → end ≤ length input
@@ -107,6 +99,4 @@ module _ (input moved buf : List ℕ) (start end : ℕ) (ordered : start ≤ end
 -- all of a vector is written
 pub all_written : (new old : List ℕ) (len : ℕ) → length new ≡ len
     → take len (new ++ drop (length new) old) ≡ new
-all_written new old len size =
-    ap (λ (k : ℕ). take k (new ++ drop (length new) old)) (sym size)
-    ∙ take-append_seam new (drop (length new) old)
+all_written new old len size = grind (arith, take-append_seam)

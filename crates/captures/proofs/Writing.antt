@@ -1,13 +1,11 @@
 -- What a run from lines to a capture makes of its input.
-use Rattle.std.proofs.Common.{◌≡◌, ◌∙◌, sym, ap, refl, subst, ℕ, ◌+◌, ◌*◌, ◌<◌, ◌≤◌, arith, Bool}
-use Rattle.std.proofs.Common.{true, false, List, [], ◌∷◌, ◌++◌, length, length-append, Some, None}
-use Rattle.std.proofs.Common.{Ok, Err, append_assoc, append-nil}
+use Rattle.std.proofs.Common.{◌≡◌, ◌∙◌, sym, ap, refl, subst, ℕ, ◌+◌, ◌*◌, ◌<◌, ◌≤◌, arith, Bool, true, false, List, []}
+use Rattle.std.proofs.Common.{◌∷◌, ◌++◌, length, length-append, Some, None, Ok, Err, append_assoc, append-nil}
 use Rattle.std.specs.Io.Iter.{u64_saturate}
-use Rattle.std.specs.List.{flat_map}
 use Rattle.captures.specs.declared.limits.TheConstants.{INPUT_CAPACITY}
 use Rattle.device_runs.specs.declared.limits.TheConstants.{READ_COUNT_LIMIT}
 use Rattle.captures.specs.declared.translation.refusal.Refusal.TheVariants.{InLine}
-use Rattle.captures.specs.Encoding.{file_header, record_of, capture_of}
+use Rattle.captures.specs.Encoding.{file_header, capture_of}
 use Rattle.line_grammar.specs.TimedLines.{TimedFrame}
 use Rattle.captures.specs.Texts.{GivesFrames, IsIncompleteLine, TakesLines, with_last_line_end, with_line_ends}
 use Rattle.captures.specs.Texts.{lines_to_capture}
@@ -18,20 +16,12 @@ use Rattle.captures.specs.declared.time.time_unit.TimeUnit.{TimeUnit}
 
 ended_count : (lines : List (List ℕ)) → length lines ≤ length (with_line_ends lines)
 ended_count [] = omega arith
-ended_count (line ∷ lines) =
-    let more = ended_count lines in
-    let size = length-append line (10 ∷ with_line_ends lines) in
-    omega arith
+ended_count (line ∷ lines) = grind (arith, ended_count lines, lines, length-append)
 
 -- a line has a byte at least
 gives_frames_count : (bytes rest : List ℕ) (n : ℕ) (fs : List TimedFrame)
     → GivesFrames bytes n fs rest → n ≤ length bytes
-gives_frames_count bytes rest n fs p =
-    let few = ended_count p.lines in
-    let number = p.number in
-    let size = ap length p.parts in
-    let both = length-append (with_line_ends p.lines) rest in
-    omega arith
+gives_frames_count bytes rest n fs p = grind (arith, ended_count, length-append)
 
 -- the frames of this many lines are written, and an incomplete line is held
 abbrev pub Writes : TimeUnit → ℕ → (held read written : List ℕ) → Type 0
@@ -56,11 +46,7 @@ module _ (time_unit : TimeUnit) (count n : ℕ) (held more bytes rest read writt
       (subst (λ l. GivesFrames l n t.frames rest) parts t.gives_frames)
 
   whole : written ++ text ≡ capture_of time_unit (writes.0 ++ t.frames)
-  whole =
-      ap (λ l. l ++ text) writes.3 ∙ ap (λ l. capture_of time_unit writes.0 ++ l) t.encoded
-      ∙ append_assoc (file_header time_unit) (flat_map (record_of time_unit) writes.0)
-      (flat_map (record_of time_unit) t.frames)
-      ∙ ap (λ l. file_header time_unit ++ l) (sym (records-append time_unit writes.0 t.frames))
+  whole = grind (arith, append_assoc, records-append)
 
 -- the lines are counted
 counted : (count n count' : ℕ) (read : List ℕ) → count + n ≤ length read
@@ -81,19 +67,7 @@ module _ (time_unit : TimeUnit) (count n count' : ℕ) (held chunk bytes rest re
       let same = counted count n count' (read ++ chunk)
       (gives_frames_count (read ++ chunk) rest (count + n) frames gives_frames) fits is in
       let all = whole time_unit count n held chunk bytes rest read written text false writes parts t in
-      record {
-        full = (count + n, frames, rest, gives_frames, all);
-        follows = (
-          (count + n, frames, rest, gives_frames, t.left, all),
-          (
-            frames,
-            subst (λ k. GivesFrames (read ++ chunk) k frames rest)
-                (sym same) gives_frames,
-            t.left,
-            all,
-          ),
-        );
-      }
+      grind arith
 
   -- in which a line gives no frame
   pub writes_bad : (shown : List ℕ → List ℕ → List ℕ → Type 0) (number : ℕ)
@@ -106,10 +80,7 @@ module _ (time_unit : TimeUnit) (count n count' : ℕ) (held chunk bytes rest re
       let few = gives_frames_count (read ++ chunk) rest (count + n) frames gives_frames in
       let same = counted count n count' (read ++ chunk) few fits is in
       let all = whole time_unit count n held chunk bytes rest read written text true writes parts t in
-      record {
-        full = (count + n, frames, rest, gives_frames, all);
-        follows = (count + n, frames, rest, gives_frames, t.left, omega arith, all);
-      }
+      grind arith
 
 -- the end is reported, and no line is incomplete,
 pub writes_nothing_more : (time_unit : TimeUnit) (count : ℕ) (read written : List ℕ) → Writes time_unit count [] read written
@@ -118,15 +89,11 @@ writes_nothing_more time_unit count read written writes =
     let same : with_last_line_end read ≡ read = closed_is read [] count writes.0 writes.1 tt
     ∙ append-nil read in
     let gives_frames = subst (λ l. GivesFrames l count writes.0 []) (sym same) writes.1 in
-    record {
-      full = (count, writes.0, [], gives_frames, writes.3);
-      whole = (writes.0, (count, gives_frames), writes.3);
-    }
+    grind arith
 
 -- or one is, which is ended
 ends_some : (held : List ℕ) → 0 < length held → coming true held [] ≡ 10 ∷ []
-ends_some [] some = absurd (omega arith)
-ends_some (b ∷ held) some = refl
+ends_some held some = grind arith
 
 module _ (time_unit : TimeUnit) (count n count' : ℕ) (held bytes rest read written text : List ℕ)
     (writes : Writes time_unit count held read written) (some : 0 < length held)
@@ -144,18 +111,7 @@ module _ (time_unit : TimeUnit) (count n count' : ℕ) (held bytes rest read wri
       let all = whole time_unit count n held (10 ∷ []) bytes rest read written text false writes parts t in
       let none = ended_rest held [] bytes rest n t.frames
       (parts ∙ ap (λ l. held ++ l) (sym (ends_some held some))) t.gives_frames t.left.0 in
-      record {
-        full = (count + n, frames, rest, gives_frames, all);
-        whole = (
-          frames,
-          (
-            count + n,
-            subst (λ r. GivesFrames (with_last_line_end read) (count + n) frames
-                r) none gives_frames,
-          ),
-          all,
-        );
-      }
+      grind arith
 
   pub writes_last_bad : length read ≤ INPUT_CAPACITY * READ_COUNT_LIMIT
       → count' ≡ u64_saturate (count + n) → (number : ℕ) → number ≡ u64_saturate (count' + 1)
@@ -168,7 +124,4 @@ module _ (time_unit : TimeUnit) (count n count' : ℕ) (held bytes rest read wri
       let size = length-append read (10 ∷ []) in
       let gives_frames = subst (λ l. GivesFrames l (count + n) frames rest) (sym all_known) known in
       let all = whole time_unit count n held (10 ∷ []) bytes rest read written text true writes parts t in
-      record {
-        full = (count + n, frames, rest, gives_frames, all);
-        whole = (count + n, frames, rest, gives_frames, t.left, omega arith, all);
-      }
+      grind arith

@@ -4,7 +4,7 @@ use Rattle.std.specs.Prelude.{ℕ, ◌*◌, ◌/◌, ◌%◌, ◌^◌, ◌<◌, 
 use Rattle.std.specs.List.{AllByRecursion}
 use Rattle.hex.specs.Hex.{IsBytes}
 use Rattle.captures.specs.Lines.{Packet, lines_of}
-use Rattle.captures.specs.Runs.{IsCapture}
+use Rattle.captures.specs.CaptureRuns.{IsCapture}
 use Rattle.captures.specs.Skipping.{none_skipped}
 use Rattle.captures.specs.Encoding.{capture_of}
 use Rattle.line_grammar.specs.TimedLines.{TimedFrame}

@@ -1,7 +1,6 @@
 -- What a run no longer holds of the bytes that it has read: a prefix of a long block, which is
 -- skipped.
-use Rattle.std.specs.Prelude.{◌≡◌, ℕ, ◌+◌, ◌-◌, ◌%◌, ◌<◌, ◌≤◌, List, [], ◌++◌, length, drop}
-use Rattle.std.specs.Prelude.{Option, Some, None}
+use Rattle.std.specs.Prelude.{◌≡◌, ℕ, ◌+◌, ◌-◌, ◌%◌, ◌<◌, ◌≤◌, List, [], ◌++◌, length, drop, Option, Some, None}
 use Rattle.captures.specs.Numbers.{word}
 use Rattle.captures.specs.Pcapng.{IsSkipped}
 use Rattle.captures.specs.Units.{HasUnit, IsIncomplete, Refuses, Takes}

@@ -7,10 +7,8 @@ use Rattle.captures.specs.declared.reading.read_error.ReadError.TheVariants as r
 use Rattle.captures.specs.declared.translation.refusal.Refusal.{Refusal}
 use Rattle.captures.specs.declared.translation.refusal.Refusal.TheVariants.{InCapture, InLine}
 use Rattle.captures.specs.declared.translation.run_error.RunError.{RunError}
-use Rattle.captures.specs.declared.translation.run_error.RunError.TheVariants.{Read, Write}
-use Rattle.captures.specs.declared.translation.run_error.RunError.TheVariants.{WriteZero, Memory}
-use Rattle.captures.specs.declared.translation.run_error.RunError.TheVariants.{TooManyReads}
-use Rattle.captures.specs.declared.translation.run_error.RunError.TheVariants.{Capture, BadLine}
+use Rattle.captures.specs.declared.translation.run_error.RunError.TheVariants.{Read, Write, WriteZero, Memory}
+use Rattle.captures.specs.declared.translation.run_error.RunError.TheVariants.{TooManyReads, Capture, BadLine}
 
 abbrev pub cause : RunError → Ending Refusal
 cause Read = Stopped ReadFailed

@@ -1,8 +1,7 @@
 -- Captured packets as Ethernet II frames, by the link that they were captured on (the registry of
 -- link types, tcpdump.org/linktypes.html, and the layouts that it gives).
-use Rattle.std.specs.Prelude.{ℕ, ◌+◌, ◌-◌, ◌/◌, ◌==◌, ◌||◌, nat_lt, unwrap_or, Bool}
-use Rattle.std.specs.Prelude.{if◌then◌else◌, List, [], ◌∷◌, ◌++◌, length, drop, slice_index}
-use Rattle.std.specs.Prelude.{Option, Some, None, Result, Ok, Err, ◌≡◌}
+use Rattle.std.specs.Prelude.{ℕ, ◌+◌, ◌-◌, ◌/◌, ◌==◌, ◌||◌, nat_lt, unwrap_or, Bool, if◌then◌else◌, List, [], ◌∷◌, ◌++◌}
+use Rattle.std.specs.Prelude.{length, drop, slice_index, Option, Some, None, Result, Ok, Err, ◌≡◌}
 use Rattle.std.specs.Option.{option_map}
 use Rattle.std.specs.Int.{to_be_bytes, w16}
 use Rattle.captures.specs.Numbers.{half, word}
@@ -11,11 +10,9 @@ use Rattle.captures.specs.declared.limits.TheConstants.{SKIPPED_LIMIT}
 use Rattle.line_grammar.specs.declared.limits.TheConstants.{FRAME_LIMIT}
 use Rattle.captures.specs.declared.link.header.Header.{Header}
 use Rattle.captures.specs.declared.link.kind.Link.{Link}
-use Rattle.captures.specs.declared.link.kind.Link.TheVariants.{Ethernet, Ip, Null, Loop, Sll, Sll2}
-use Rattle.captures.specs.declared.link.kind.Link.TheVariants.{Other}
+use Rattle.captures.specs.declared.link.kind.Link.TheVariants.{Ethernet, Ip, Null, Loop, Sll, Sll2, Other}
 use Rattle.captures.specs.declared.translation.skipped.Reason.{Reason}
-use Rattle.captures.specs.declared.translation.skipped.Reason.TheVariants.{OtherLink, TooLong}
-use Rattle.captures.specs.declared.translation.skipped.Reason.TheVariants.{NoFrame}
+use Rattle.captures.specs.declared.translation.skipped.Reason.TheVariants.{OtherLink, TooLong, NoFrame}
 use Rattle.captures.specs.declared.unfit.Unfit.{Unfit}
 use Rattle.captures.specs.declared.unfit.Unfit.TheVariants.{Refuse, Skip}
 

@@ -1,3 +1,4 @@
+pub mod CaptureRuns
 pub mod ComeBack
 pub mod Dropped
 pub mod Endings
@@ -12,7 +13,6 @@ pub mod Pcap
 pub mod Pcapng
 pub mod Positions
 pub mod Readers
-pub mod Runs
 pub mod Skipping
 pub mod Spans
 pub mod Encoding

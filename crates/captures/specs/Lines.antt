@@ -1,6 +1,5 @@
 -- The packets of a capture, and the lines that are written of them.
-use Rattle.std.specs.Prelude.{ℕ, ◌+◌, ◌==◌, ◌&&◌, nat_lt, Bool}
-use Rattle.std.specs.Prelude.{if◌then◌else◌, List, [], ◌∷◌, ◌++◌}
+use Rattle.std.specs.Prelude.{ℕ, ◌+◌, ◌==◌, ◌&&◌, nat_lt, Bool, if◌then◌else◌, List, [], ◌∷◌, ◌++◌}
 use Rattle.line_grammar.specs.Written.{written_forget, written_frame, written_timed_frame}
 use Rattle.captures.specs.Numbers.{capped}
 use Rattle.captures.specs.Spans.{have_passed}

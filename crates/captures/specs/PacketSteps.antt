@@ -1,6 +1,5 @@
 -- The packets of some bytes of a capture, one after the other.
-use Rattle.std.specs.Prelude.{◌≡◌, ℕ, ◌<◌, List, [], ◌∷◌, ◌++◌, length, Option, None}
-use Rattle.std.specs.Prelude.{MatchOption}
+use Rattle.std.specs.Prelude.{◌≡◌, ℕ, ◌<◌, List, [], ◌∷◌, ◌++◌, length, Option, None, MatchOption}
 use Rattle.captures.specs.Framed.{frame_bytes}
 use Rattle.captures.specs.Lines.{Packet as TakenPacket}
 use Rattle.captures.specs.Units.{HasPacket, IsLeft, Passes}

@@ -1,10 +1,9 @@
 -- Pcapng files (draft-ietf-opsawg-pcapng): blocks in a row. Each begins with its kind and its
 -- length, ends with its length, and has whole words of 4 bytes. Numbers are in the byte order of
 -- the section, which its header states.
-use Rattle.std.specs.Prelude.{◌≡◌, ◌≢◌, ◌⊎◌, ℕ, ◌+◌, ◌-◌, ◌%◌, ◌^◌, ◌<◌, ◌≤◌, ◌==◌, ◌&&◌, ◌||◌, min}
-use Rattle.std.specs.Prelude.{Bool, true, false}
-use Rattle.std.specs.Prelude.{if◌then◌else◌, nat_lt, List, [], length, take, drop, slice_index_or}
-use Rattle.std.specs.Prelude.{slice_set, Option, Some, None}
+use Rattle.std.specs.Prelude.{◌≡◌, ◌≢◌, ◌⊎◌, ℕ, ◌+◌, ◌-◌, ◌%◌, ◌^◌, ◌<◌, ◌≤◌, ◌==◌, ◌&&◌, ◌||◌, min, Bool, true, false}
+use Rattle.std.specs.Prelude.{if◌then◌else◌, nat_lt, List, [], length, take, drop, slice_index_or, slice_set, Option}
+use Rattle.std.specs.Prelude.{Some, None}
 use Rattle.captures.specs.Framed.{link_for, taken_limit, reported_frame}
 use Rattle.captures.specs.Numbers.{half, word}
 use Rattle.captures.specs.Skipping.{counted}
@@ -14,10 +13,8 @@ use Rattle.captures.specs.declared.time.clock.Clock.{Clock}
 use Rattle.captures.specs.declared.byte_order.ByteOrder.{ByteOrder}
 use Rattle.captures.specs.declared.byte_order.ByteOrder.TheVariants.{Big}
 use Rattle.captures.specs.declared.capture_error.CaptureError.{CaptureError}
-use Rattle.captures.specs.declared.capture_error.CaptureError.TheVariants.{NotCapture, LinkType}
-use Rattle.captures.specs.declared.capture_error.CaptureError.TheVariants.{FrameTooLong, CutOff}
-use Rattle.captures.specs.declared.capture_error.CaptureError.TheVariants.{BlockTooLong, BadBlock}
-use Rattle.captures.specs.declared.capture_error.CaptureError.TheVariants.{NoFrame, Version}
+use Rattle.captures.specs.declared.capture_error.CaptureError.TheVariants.{NotCapture, LinkType, FrameTooLong, CutOff}
+use Rattle.captures.specs.declared.capture_error.CaptureError.TheVariants.{BlockTooLong, BadBlock, NoFrame, Version}
 use Rattle.captures.specs.declared.limits.TheConstants.{BLOCK_LIMIT}
 use Rattle.captures.specs.declared.link.kind.Link.{Link}
 use Rattle.captures.specs.declared.link.kind.Link.TheVariants.{Ethernet}

@@ -1,6 +1,5 @@
 -- Where in a capture it is refused: at a unit that can't be taken, or that its end cuts off.
-use Rattle.std.specs.Prelude.{◌≡◌, ℕ, ◌+◌, ◌-◌, ◌==◌, ◌&&◌, nat_le, if◌then◌else◌, List}
-use Rattle.std.specs.Prelude.{length, Option, Some, None}
+use Rattle.std.specs.Prelude.{◌≡◌, ℕ, ◌+◌, ◌-◌, ◌==◌, ◌&&◌, nat_le, if◌then◌else◌, List, length, Option, Some, None}
 use Rattle.captures.specs.Numbers.{capped, word}
 use Rattle.captures.specs.Pcapng.{section_header}
 use Rattle.captures.specs.declared.byte_order.ByteOrder.TheVariants.{Big}

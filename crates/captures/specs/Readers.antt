@@ -1,13 +1,13 @@
 -- A reader of a capture's packets: what it has read and given, and how it ends.
-use Rattle.std.specs.Prelude.{◌≡◌, ◌⊎◌, ℕ, ◌+◌, ◌-◌, ◌≤◌, Bool, true, false, List, [], ◌∷◌, ◌++◌}
-use Rattle.std.specs.Prelude.{length, map, take, Option, Some, None, Result, Ok, Err, MatchOption}
+use Rattle.std.specs.Prelude.{◌≡◌, ◌⊎◌, ℕ, ◌+◌, ◌-◌, ◌≤◌, Bool, true, false, List, [], ◌∷◌, ◌++◌, length, map, take}
+use Rattle.std.specs.Prelude.{Option, Some, None, Result, Ok, Err, MatchOption}
 use Rattle.std.specs.Io.KnownBytes.{IsAtEnd}
 use Rattle.std.specs.Option.{option_map}
 use Rattle.captures.specs.Dropped.{IsDropped, last_of}
 use Rattle.captures.specs.PacketSteps.{Gives, HasNone, IsFirst, taken_of}
 use Rattle.captures.specs.Numbers.{capped}
 use Rattle.captures.specs.Positions.{IsPosition, block_type}
-use Rattle.captures.specs.Runs.{IsCapture, fault_at_end}
+use Rattle.captures.specs.CaptureRuns.{IsCapture, fault_at_end}
 use Rattle.captures.specs.Units.{IsIncomplete, Refuses, skipped_in}
 use Rattle.captures.specs.declared.capture_error.CaptureError.{CaptureError}
 use Rattle.device_runs.specs.declared.limits.TheConstants.{READ_COUNT_LIMIT}
@@ -17,8 +17,7 @@ use Rattle.captures.specs.declared.reading.ahead.Ahead.{Ahead}
 use Rattle.captures.specs.declared.reading.ahead.Found.{Found}
 use Rattle.captures.specs.declared.reading.packet_reader.PacketReader.{PacketReader}
 use Rattle.captures.specs.declared.reading.read_error.ReadError.{ReadError}
-use Rattle.captures.specs.declared.reading.read_error.ReadError.TheVariants.{Read, Capture}
-use Rattle.captures.specs.declared.reading.read_error.ReadError.TheVariants.{TooManyReads}
+use Rattle.captures.specs.declared.reading.read_error.ReadError.TheVariants.{Read, Capture, TooManyReads}
 use Rattle.captures.specs.declared.translation.skipped.Skipped.{Skipped}
 use Rattle.captures.specs.declared.translation.state.State.{State}
 use Rattle.captures.specs.declared.translation.state.State.TheVariants.{Start}

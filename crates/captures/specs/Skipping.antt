@@ -5,8 +5,7 @@ use Rattle.captures.specs.Numbers.{capped}
 use Rattle.captures.specs.declared.link.kind.Link.{Link}
 use Rattle.captures.specs.declared.translation.skipped.Passing.{Passing}
 use Rattle.captures.specs.declared.translation.skipped.Reason.{Reason}
-use Rattle.captures.specs.declared.translation.skipped.Reason.TheVariants.{OtherLink, TooLong}
-use Rattle.captures.specs.declared.translation.skipped.Reason.TheVariants.{NoFrame}
+use Rattle.captures.specs.declared.translation.skipped.Reason.TheVariants.{OtherLink, TooLong, NoFrame}
 use Rattle.captures.specs.declared.translation.skipped.Skipped.{Skipped}
 use Rattle.captures.specs.declared.unfit.Unfit.{Unfit}
 

@@ -1,6 +1,6 @@
 -- Spans of packet time, each of at least this many seconds.
-use Rattle.std.specs.Prelude.{ℕ, ◌+◌, ◌*◌, ◌<◌, ◌≤◌, ◌⊎◌, nat_le, Bool, if◌then◌else◌, Option, Some}
-use Rattle.std.specs.Prelude.{None, List, [], ◌∷◌, ◌++◌}
+use Rattle.std.specs.Prelude.{ℕ, ◌+◌, ◌*◌, ◌<◌, ◌≤◌, ◌⊎◌, nat_le, Bool, if◌then◌else◌, Option, Some, None, List, []}
+use Rattle.std.specs.Prelude.{◌∷◌, ◌++◌}
 use Rattle.std.specs.List.{AllByRecursion}
 
 -- whether so many seconds have passed since a span began, when a packet of this time comes: none

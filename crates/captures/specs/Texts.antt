@@ -1,6 +1,6 @@
 -- A text of lines that give frames. Byte 0a ends a line, and isn't part of it.
-use Rattle.std.specs.Prelude.{◌≡◌, ◌⊎◌, ℕ, ◌+◌, ◌<◌, ◌≤◌, ◌==◌, Bool, true, false, if◌then◌else◌}
-use Rattle.std.specs.Prelude.{List, [], ◌∷◌, ◌++◌, length, Some, None, Result}
+use Rattle.std.specs.Prelude.{◌≡◌, ◌⊎◌, ℕ, ◌+◌, ◌<◌, ◌≤◌, ◌==◌, Bool, true, false, if◌then◌else◌, List, [], ◌∷◌, ◌++◌}
+use Rattle.std.specs.Prelude.{length, Some, None, Result}
 use Rattle.std.specs.List.{flat_map}
 use Rattle.lines.specs.Lines.{HasNoNewline}
 use Rattle.device_runs.specs.Calls.{Call}
@@ -11,10 +11,9 @@ use Rattle.captures.specs.declared.translation.run_error.RunError.{RunError}
 use Rattle.captures.specs.Endings.{ending_of}
 use Rattle.captures.specs.declared.translation.refusal.Refusal.{Refusal}
 use Rattle.captures.specs.declared.translation.refusal.Refusal.TheVariants.{InCapture, InLine}
-use Rattle.line_grammar.specs.TimedLines.{timed_frame_of}
+use Rattle.line_grammar.specs.TimedLines.{timed_frame_of, TimedFrame}
 use Rattle.captures.specs.declared.time.time_unit.TimeUnit.{TimeUnit}
 use Rattle.captures.specs.Encoding.{record_of, capture_of}
-use Rattle.line_grammar.specs.TimedLines.{TimedFrame}
 
 abbrev pub is_newline : ℕ → Bool
 is_newline byte = byte == 10

@@ -1,7 +1,7 @@
 -- When a packet was captured, in nanoseconds since the year 1970 began. Earlier times are taken as
 -- 1970, and later ones than seconds of 32 bits hold as the last of these.
-use Rattle.std.specs.Prelude.{ℕ, zero, suc, ◌+◌, ◌-◌, ◌*◌, ◌/◌, ◌^◌, ◌==◌, ◌&&◌, ◌||◌, min, nat_lt}
-use Rattle.std.specs.Prelude.{Bool, if◌then◌else◌, List, length, drop, slice_index}
+use Rattle.std.specs.Prelude.{ℕ, zero, suc, ◌+◌, ◌-◌, ◌*◌, ◌/◌, ◌^◌, ◌==◌, ◌&&◌, ◌||◌, min, nat_lt, Bool, if◌then◌else◌}
+use Rattle.std.specs.Prelude.{List, length, drop, slice_index}
 use Rattle.captures.specs.Numbers.{half, word}
 use Rattle.captures.specs.declared.byte_order.ByteOrder.{ByteOrder}
 use Rattle.captures.specs.declared.byte_order.ByteOrder.TheVariants.{Big, Little}

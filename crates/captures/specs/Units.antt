@@ -1,8 +1,7 @@
 -- A capture as units in a row: a file header and packet records, or blocks.
-use Rattle.std.specs.Prelude.{◌≡◌, ◌≢◌, ◌⊎◌, ℕ, ◌-◌, ◌%◌, ◌<◌, ◌≤◌, List, [], ◌∷◌, ◌++◌, length}
-use Rattle.std.specs.Prelude.{Option, Some, None, replicate}
-use Rattle.captures.specs.Framed.{FrameParts, frame_bytes, frame_parts, link_for, taken_limit}
-use Rattle.captures.specs.Framed.{reported_frame}
+use Rattle.std.specs.Prelude.{◌≡◌, ◌≢◌, ◌⊎◌, ℕ, ◌-◌, ◌%◌, ◌<◌, ◌≤◌, List, [], ◌∷◌, ◌++◌, length, Option, Some, None}
+use Rattle.std.specs.Prelude.{replicate}
+use Rattle.captures.specs.Framed.{FrameParts, frame_bytes, frame_parts, link_for, taken_limit, reported_frame}
 use Rattle.captures.specs.declared.unfit.Unfit.{Unfit}
 use Rattle.captures.specs.Numbers.{word}
 use Rattle.captures.specs.Lines.{Packet, packets_of, lines_from, noted_all}
@@ -11,10 +10,8 @@ use Rattle.captures.specs.Skipping.{counted, none_skipped, passing_from}
 use Rattle.captures.specs.declared.byte_order.ByteOrder.{ByteOrder}
 use Rattle.captures.specs.declared.byte_order.ByteOrder.TheVariants.{Big}
 use Rattle.captures.specs.declared.capture_error.CaptureError.{CaptureError}
-use Rattle.captures.specs.declared.capture_error.CaptureError.TheVariants.{NotCapture, LinkType}
-use Rattle.captures.specs.declared.capture_error.CaptureError.TheVariants.{FrameTooLong, CutOff}
-use Rattle.captures.specs.declared.capture_error.CaptureError.TheVariants.{BlockTooLong, BadBlock}
-use Rattle.captures.specs.declared.capture_error.CaptureError.TheVariants.{NoFrame, Version}
+use Rattle.captures.specs.declared.capture_error.CaptureError.TheVariants.{NotCapture, LinkType, FrameTooLong, CutOff}
+use Rattle.captures.specs.declared.capture_error.CaptureError.TheVariants.{BlockTooLong, BadBlock, NoFrame, Version}
 use Rattle.captures.specs.declared.limits.TheConstants.{FIRST_UNIT_LEN}
 use Rattle.captures.specs.declared.link.kind.Link.{Link}
 use Rattle.captures.specs.declared.link.kind.Link.TheVariants.{Ethernet}
@@ -28,8 +25,8 @@ use Rattle.captures.specs.declared.text.ledger.Ledger.{Ledger}
 use Rattle.captures.specs.declared.time.time_unit.TimeUnit.{TimeUnit}
 use Rattle.captures.specs.Times.{record_time, unit_of, usual_clock}
 use Rattle.captures.specs.declared.translation.state.State.TheVariants.{Start, Classic, Pcapng}
-use Rattle.captures.specs.Pcapng.{HasOrder, IsBlock, IsTaken, Reads, RefusesBlock, section_header}
-use Rattle.captures.specs.Pcapng.{Says, byte_order_magic}
+use Rattle.captures.specs.Pcapng.{HasOrder, IsBlock, IsTaken, Reads, RefusesBlock, section_header, Says}
+use Rattle.captures.specs.Pcapng.{byte_order_magic}
 use Rattle.captures.specs.Pcapng.Content.{Holds}
 
 -- a file header of a link that is taken, after which packet records follow

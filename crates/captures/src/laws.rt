@@ -2,8 +2,8 @@
 
 pub mod examples;
 
-ghost use Rattle.std.specs.Prelude.{◌≡◌, ◌≢◌, ◌⊎◌, ◌≤◌, ◌<◌, ◌+◌, ◌*◌, ◌%◌, ◌^◌, ℕ, List, [], ◌∷◌};
-ghost use Rattle.std.specs.Prelude.{codes, length, Option};
+ghost use Rattle.std.specs.Prelude.{◌≡◌, ◌≢◌, ◌⊎◌, ◌≤◌, ◌<◌, ◌+◌, ◌*◌, ◌%◌, ◌^◌, ℕ, List, [], ◌∷◌, codes, length};
+ghost use Rattle.std.specs.Prelude.{Option};
 ghost use Rattle.std.specs.List.{AllByRecursion};
 ghost use Rattle.ep_base.specs.Traits.{IsPlainData};
 ghost use Rattle.hex.specs.Hex.{IsBytes};
@@ -13,14 +13,13 @@ ghost use Rattle.captures.specs.Lines.{Packet, blank, line_of};
 ghost use Rattle.captures.specs.Numbers.{half, word};
 ghost use Rattle.captures.specs.Pcapng.{Content, HasOrder, RefusesBlock, Says};
 ghost use Rattle.captures.specs.Pcapng.Content.{Opens};
-ghost use Rattle.captures.specs.Runs.{ArePassedOver, IsCapture};
+ghost use Rattle.captures.specs.CaptureRuns.{ArePassedOver, IsCapture};
 ghost use Rattle.captures.specs.Skipping.{none_skipped};
 ghost use Rattle.captures.specs.Texts.{IsText};
 ghost use Rattle.captures.specs.Units.{RefusesAt, Takes};
 ghost use Rattle.captures.specs.declared.byte_order.ByteOrder.{ByteOrder};
 ghost use Rattle.captures.specs.declared.capture_error.CaptureError.{CaptureError};
-ghost use Rattle.captures.specs.declared.capture_error.CaptureError.TheVariants.{LinkType, BadBlock};
-ghost use Rattle.captures.specs.declared.capture_error.CaptureError.TheVariants.{FrameTooLong};
+ghost use Rattle.captures.specs.declared.capture_error.CaptureError.TheVariants.{LinkType, BadBlock, FrameTooLong};
 ghost use Rattle.captures.specs.declared.capture_error.CaptureError.TheVariants.{BlockTooLong, Version};
 ghost use Rattle.captures.specs.declared.pcapng.section.Section.{Section};
 ghost use Rattle.captures.specs.declared.translation.state.State.{State};

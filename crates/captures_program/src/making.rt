@@ -5,7 +5,7 @@ ghost use Rattle.device_runs.specs.Endings.{EndsFlushed};
 ghost use Rattle.device_runs.specs.Known.{Transfers};
 ghost use Rattle.captures.specs.Endings.{ending_of};
 ghost use Rattle.captures.specs.Lines.{Packet, lines_of};
-ghost use Rattle.captures.specs.Runs.{ArePassedOver, IsCapture, capture_to_lines};
+ghost use Rattle.captures.specs.CaptureRuns.{ArePassedOver, IsCapture, capture_to_lines};
 ghost use Rattle.captures.specs.Encoding.{capture_of};
 ghost use Rattle.line_grammar.specs.TimedLines.{TimedFrame};
 ghost use Rattle.captures.specs.Texts.{IsText, lines_to_capture};

@@ -5,36 +5,12 @@
 #![tactic(auto)]
 
 #[cfg(test)]
-mod blocks;
-#[cfg(test)]
 mod checks;
 #[cfg(test)]
-mod chunks;
-#[cfg(test)]
-mod classic;
-#[cfg(test)]
-mod forgetting;
-#[cfg(test)]
-mod limits;
-#[cfg(test)]
-mod links;
-#[cfg(test)]
-mod long_blocks;
+mod formats;
 #[cfg(test)]
 mod packet_lines;
 #[cfg(test)]
 mod programs;
 #[cfg(test)]
-mod readers;
-#[cfg(test)]
-mod reads;
-#[cfg(test)]
-mod skipping;
-#[cfg(test)]
-mod text;
-#[cfg(test)]
-mod times;
-#[cfg(test)]
-mod writes;
-#[cfg(test)]
-mod written;
+mod runs;

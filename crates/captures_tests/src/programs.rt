@@ -107,23 +107,15 @@ fn the_word_skip_passes_packets_over(rt: HostRuntime) -> Result<(), Fail> {
 }
 
 // SECONDS is a whole number of 32 bits that isn't 0, and no run has times and `forget` lines.
+#[rattlefmt::skip]
 const OPTIONS: &[(&[&str], Option<Mode>)] = &[
-    (
-        &["captures_cli", "lines", "--times"],
-        Some(Mode::Lines(Extra::Times, Unfit::Refuse)),
-    ),
-    (
-        &["captures_cli", "lines", "--forget", "30", "--skip"],
-        Some(Mode::Lines(Extra::Forget(30), Unfit::Skip)),
-    ),
+    (&["captures_cli", "lines", "--times"], Some(Mode::Lines(Extra::Times, Unfit::Refuse))),
+    (&["captures_cli", "lines", "--forget", "30", "--skip"], Some(Mode::Lines(Extra::Forget(30), Unfit::Skip))),
     (
         &["captures_cli", "lines", "--forget", "4294967295"],
         Some(Mode::Lines(Extra::Forget(4_294_967_295), Unfit::Refuse)),
     ),
-    (
-        &["captures_cli", "capture", "--nanoseconds"],
-        Some(Mode::Capture(TimeUnit::Nanoseconds)),
-    ),
+    (&["captures_cli", "capture", "--nanoseconds"], Some(Mode::Capture(TimeUnit::Nanoseconds))),
     (&["captures_cli", "lines", "--forget", "0"], None),
     (&["captures_cli", "lines", "--forget", "4294967296"], None),
     (&["captures_cli", "lines", "--forget", "1", "--times"], None),
@@ -201,6 +193,7 @@ const SECTION: Position = Position {
 };
 
 // Each error with what is reported of it, and the status.
+#[rattlefmt::skip]
 const ERRORS: &[(RunError, &str, u8)] = &[
     (RunError::Read, "the input cannot be read", 4),
     (RunError::Write, "the output cannot be written", 4),
@@ -208,11 +201,7 @@ const ERRORS: &[(RunError, &str, u8)] = &[
     (RunError::Memory, "out of memory", 5),
     (RunError::TooManyReads, "too many reads", 5),
     (RunError::BadLine(7), "line 7 hands in no frame", 3),
-    (
-        RunError::Capture(CaptureError::NotCapture, THIRD),
-        "no capture file",
-        3,
-    ),
+    (RunError::Capture(CaptureError::NotCapture, THIRD), "no capture file", 3),
     (
         RunError::Capture(CaptureError::LinkType(105), THIRD),
         "packet 3, byte 112: link type 105 is not read: it is IEEE802_11, of wireless networks",
@@ -228,11 +217,7 @@ const ERRORS: &[(RunError, &str, u8)] = &[
         "packet 3, byte 112, block type 0x6 (enhanced packet): a packet of 99992 bytes is too long for a line",
         3,
     ),
-    (
-        RunError::Capture(CaptureError::CutOff, THIRD),
-        "packet 3, byte 112: the capture ends within a packet",
-        3,
-    ),
+    (RunError::Capture(CaptureError::CutOff, THIRD), "packet 3, byte 112: the capture ends within a packet", 3),
     (
         RunError::Capture(CaptureError::BadBlock, SECTION),
         "packet 3, byte 112, block type 0xa0d0d0a (section header): a block is not well made",
@@ -320,6 +305,7 @@ fn names_of_block_types(rt: HostRuntime) -> Result<(), Fail> {
 }
 
 // The first bytes that gzip 1.12, zstd 1.5, xz 5.4 and bzip2 1.0.8 write, and of other inputs.
+#[rattlefmt::skip]
 const FIRST_BYTES: &[(&[u8], Look, &str)] = &[
     (b"", Look::Empty, "no capture file: the input is empty"),
     (
@@ -327,26 +313,10 @@ const FIRST_BYTES: &[(&[u8], Look, &str)] = &[
         Look::Gzip,
         "no capture file: the input is compressed, `gzip -dc` opens it",
     ),
-    (
-        b"\x28\xb5\x2f\xfd\x04\x58",
-        Look::Zstd,
-        "no capture file: the input is compressed, `zstd -dc` opens it",
-    ),
-    (
-        b"\xfd\x37\x7a\x58\x5a\x00\x00\x04",
-        Look::Xz,
-        "no capture file: the input is compressed, `xz -dc` opens it",
-    ),
-    (
-        b"\x42\x5a\x68\x39\x31\x41",
-        Look::Bzip2,
-        "no capture file: the input is compressed, `bzip2 -dc` opens it",
-    ),
-    (
-        b"frame 0 0aff\n",
-        Look::Text,
-        "no capture file: the input is text, `captures_cli capture` reads lines of frames",
-    ),
+    (b"\x28\xb5\x2f\xfd\x04\x58", Look::Zstd, "no capture file: the input is compressed, `zstd -dc` opens it"),
+    (b"\xfd\x37\x7a\x58\x5a\x00\x00\x04", Look::Xz, "no capture file: the input is compressed, `xz -dc` opens it"),
+    (b"\x42\x5a\x68\x39\x31\x41", Look::Bzip2, "no capture file: the input is compressed, `bzip2 -dc` opens it"),
+    (b"frame 0 0aff\n", Look::Text, "no capture file: the input is text, `captures_cli capture` reads lines of frames"),
     (b"\x7fELF", Look::Other, "no capture file"),
     (b"\xd4\xc3\xb2\xa1\x01", Look::Capture, "no capture file"),
 ];
@@ -460,23 +430,16 @@ fn a_look_takes_nothing(rt: HostRuntime) {
 }
 
 // The first line of what is no text of lines.
+#[rattlefmt::skip]
 const NO_LINES: &[(RunError, Look, &str)] = &[
     (
         RunError::BadLine(1),
         Look::Capture,
         "line 1 hands in no frame: the input is a capture, `captures_cli lines` reads it",
     ),
-    (
-        RunError::BadLine(1),
-        Look::Gzip,
-        "line 1 hands in no frame: the input is compressed, `gzip -dc` opens it",
-    ),
+    (RunError::BadLine(1), Look::Gzip, "line 1 hands in no frame: the input is compressed, `gzip -dc` opens it"),
     (RunError::BadLine(1), Look::Text, "line 1 hands in no frame"),
-    (
-        RunError::Read,
-        Look::Directory,
-        "the input cannot be read: it is a directory",
-    ),
+    (RunError::Read, Look::Directory, "the input cannot be read: it is a directory"),
 ];
 
 #[test]

@@ -1,7 +1,6 @@
 -- What a checksum says of a message (RFC 768; RFC 792; RFC 4443, section 2.3; RFC 9293, section
 -- 3.1; RFC 8200, section 8.1; RFC 1071).
-use Rattle.std.specs.Prelude.{ℕ, ◌==◌, not, Bool, true, false, if◌then◌else◌, List, [], ◌++◌}
-use Rattle.std.specs.Prelude.{length}
+use Rattle.std.specs.Prelude.{ℕ, ◌==◌, not, Bool, true, false, if◌then◌else◌, List, [], ◌++◌, length}
 use Rattle.ep_base.specs.Sum.{all_ones}
 use Rattle.ep_ip.specs.Pseudo.{pseudo_v4, pseudo_v6}
 use Rattle.ep_tcpudp.specs.Udp.{checksum_of}

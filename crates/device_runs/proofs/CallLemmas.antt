@@ -1,12 +1,12 @@
 -- Calls one after another, and calls that are writes alone.
-use Rattle.std.proofs.Common.{◌≡◌, ◌∙◌, sym, ap, refl, subst, ℕ, zero, suc, ◌+◌, arith, false, List}
-use Rattle.std.proofs.Common.{[], ◌∷◌, ◌++◌, Some, None, append_assoc, append-nil}
+use Rattle.std.proofs.Common.{◌≡◌, ◌∙◌, sym, ap, refl, subst, ℕ, zero, suc, ◌+◌, arith, false, List, [], ◌∷◌, ◌++◌}
+use Rattle.std.proofs.Common.{Some, None, append_assoc, append-nil}
 use Rattle.std.specs.Prelude.{cond}
 use Rattle.std.specs.List.{AllByRecursion}
 use Rattle.std.proofs.lemmas.List.Elements.{filter_map-append}
 use Rattle.std.proofs.lemmas.List.Sums.{sum_by-append}
-use Rattle.device_runs.specs.Calls.{Call, Reads, Writes, Makes, bytes_read, read_count, is_read}
-use Rattle.device_runs.specs.Calls.{is_end_reported, fault_of, faults_of}
+use Rattle.device_runs.specs.Calls.{Call, Reads, Writes, Makes, bytes_read, read_count, is_read, is_end_reported}
+use Rattle.device_runs.specs.Calls.{fault_of, faults_of}
 use Rattle.device_runs.specs.Runs.{Task, EachFollows}
 use Rattle.device_runs.specs.Writes.{TakesBytes}
 

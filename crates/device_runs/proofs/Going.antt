@@ -1,54 +1,40 @@
 -- A run, call by call.
-use Rattle.std.proofs.Common.{◌≡◌, ◌∙◌, sym, ap, refl, subst, ℕ, zero, suc, ◌+◌, ◌<◌, ◌≤◌, arith}
-use Rattle.std.proofs.Common.{Bool, true, false, List, [], ◌∷◌, ◌++◌, length, Option, Some, None}
-use Rattle.std.proofs.Common.{append_assoc, append-nil}
+use Rattle.std.proofs.Common.{◌≡◌, refl, subst, ℕ, ◌+◌, ◌<◌, ◌≤◌, arith, [], Bool, true, false, List, ◌∷◌, ◌++◌, length}
+use Rattle.std.proofs.Common.{Option, Some, None, append_assoc, append-nil}
 use Rattle.std.specs.Prelude.{◌||◌}
-use Rattle.std.specs.List.{cons_option}
 use Rattle.std.proofs.lemmas.List.Concat.{flat_map-append}
 use Rattle.std.proofs.lemmas.List.Elements.{filter_map-append}
 use Rattle.std.proofs.lemmas.List.Folds.{list_any-append}
 use Rattle.device_runs.specs.declared.fault.Fault.{Fault}
-use Rattle.device_runs.specs.declared.fault.Fault.TheVariants.{ReadFailed, WriteFailed, NothingTaken}
-use Rattle.device_runs.specs.Calls.{Call, Reads, Writes, Makes, bytes_given, bytes_taken, bytes_read}
-use Rattle.device_runs.specs.Calls.{bytes_written, read_count, reports_end, is_end_reported, fault_of, faults_of}
+use Rattle.device_runs.specs.declared.fault.Fault.TheVariants.{ReadFailed}
+use Rattle.device_runs.specs.Calls.{Call, Reads, Writes, Makes, bytes_given, bytes_taken, bytes_read, bytes_written}
+use Rattle.device_runs.specs.Calls.{read_count, reports_end, is_end_reported, fault_of, faults_of}
 use Rattle.device_runs.specs.Endings.{Ending, Stopped, OutOfMemory, OutOfReads, Ends}
 use Rattle.device_runs.specs.Runs.{Task, IsOutcome, MayRead, Follows, EachFollows, Goes}
 use Rattle.device_runs.specs.Writes.{Written, Stops}
-use Rattle.device_runs.proofs.CallLemmas.{Makes-append, read_count-append, EachFollows-append}
-use Rattle.device_runs.proofs.CallLemmas.{writes_faults, writes_report, writes_count, writes_read}
-use Rattle.device_runs.proofs.CallLemmas.{writes_follow}
+use Rattle.device_runs.proofs.CallLemmas.{Makes-append, read_count-append, EachFollows-append, writes_faults}
+use Rattle.device_runs.proofs.CallLemmas.{writes_report, writes_count, writes_read, writes_follow}
 
 or_false : (b : Bool) → (b || false) ≡ b
-or_false true = refl
-or_false false = refl
+or_false b = grind arith
 
 -- a call that is a fault gives no byte,
 fault_gives : (call : Call) (fault : Fault) → fault_of call ≡ Some fault → bytes_given call ≡ []
-fault_gives (Reads None) fault is = refl
-fault_gives (Reads (Some bytes)) fault is = absurd (cc)
-fault_gives (Writes bytes taken) fault is = refl
+fault_gives call fault is = grind arith
 
 -- takes none,
 fault_takes : (call : Call) (fault : Fault) → fault_of call ≡ Some fault → bytes_taken call ≡ []
-fault_takes (Reads given) fault is = refl
-fault_takes (Writes bytes None) fault is = refl
-fault_takes (Writes bytes (Some zero)) fault is = refl
-fault_takes (Writes bytes (Some (suc n))) fault is = absurd (cc)
+fault_takes call fault is = grind arith
 
 -- and reports no end
 fault_reports : (call : Call) (fault : Fault) → fault_of call ≡ Some fault → reports_end call ≡ false
-fault_reports (Reads None) fault is = refl
-fault_reports (Reads (Some bytes)) fault is = absurd (cc)
-fault_reports (Writes bytes taken) fault is = refl
+fault_reports call fault is = grind arith
 
 no_read : (bytes : List ℕ) (taken : Option ℕ) → fault_of (Writes bytes taken) ≡ Some ReadFailed → ⊥
-no_read bytes None is = cc
-no_read bytes (Some zero) is = cc
-no_read bytes (Some (suc n)) is = cc
+no_read bytes taken is = grind arith
 
 pub some_reports : (chunk : List ℕ) → 0 < length chunk → reports_end (Reads (Some chunk)) ≡ false
-some_reports [] some = absurd (omega arith)
-some_reports (b ∷ chunk) some = refl
+some_reports chunk some = grind arith
 
 module _ {R : Type 0} (task : Task R) where
   -- what is written before a write that is a fault
@@ -56,10 +42,7 @@ module _ {R : Type 0} (task : Task R) where
       → fault_of (Writes bytes taken) ≡ Some fault
       → (end_reported : Bool) (read written missing : List ℕ) → task.full end_reported read (written ++ missing)
       → IsOutcome task (Stopped fault) end_reported read written
-  stop_outcome ReadFailed bytes taken is end_reported read written missing full =
-      absurd (no_read bytes taken is)
-  stop_outcome WriteFailed bytes taken is end_reported read written missing full = (missing, full)
-  stop_outcome NothingTaken bytes taken is end_reported read written missing full = (missing, full)
+  stop_outcome fault bytes taken is end_reported read written missing full = grind arith
 
   module _ {D : Type 0} (transition : D → Call → D → Type 0) where
     -- calls without a fault, so many of them reads, that read and wrote these bytes, and whether a
@@ -104,15 +87,11 @@ module _ {R : Type 0} (task : Task R) where
           made = Makes-append transition old mid new g.calls last g.made (new, call, refl);
           each = EachFollows-append task [] g.calls last g.each
               ((may_read read written count old mid g due, size), tt);
-          faults = filter_map-append fault_of g.calls last ∙ ap (λ l. l ++ []) g.faults;
-          reports = list_any-append reports_end g.calls last
-              ∙ ap (λ b. b || (reports_end (Reads (Some chunk)) || false)) g.reports
-              ∙ or_false (reports_end (Reads (Some chunk)));
-          reads = read_count-append g.calls last ∙ ap (λ n. n + 1) g.reads;
-          gave = flat_map-append bytes_given g.calls last ∙ ap (λ l. l ++ (chunk ++ [])) g.gave
-              ∙ ap (λ l. read ++ l) (append-nil chunk);
-          took = flat_map-append bytes_taken g.calls last
-              ∙ append-nil (bytes_written g.calls) ∙ g.took;
+          faults = grind (arith, filter_map-append);
+          reports = grind (arith, list_any-append, or_false);
+          reads = grind (arith, read_count-append);
+          gave = grind (arith, flat_map-append, append-nil);
+          took = grind (arith, flat_map-append, append-nil);
         }
 
     -- of some bytes,
@@ -146,18 +125,11 @@ module _ {R : Type 0} (task : Task R) where
       made = Makes-append transition old mid new g.calls w.calls g.made w.made;
       each = EachFollows-append task [] g.calls w.calls g.each
           (writes_follow task g.calls w.calls g.faults w.each);
-      faults = filter_map-append fault_of g.calls w.calls
-          ∙ ap (λ l. l ++ faults_of w.calls) g.faults ∙ writes_faults w.calls w.each;
-      reports = list_any-append reports_end g.calls w.calls
-          ∙ ap (λ b. is_end_reported g.calls || b) (writes_report w.calls w.each)
-          ∙ or_false (is_end_reported g.calls) ∙ g.reports;
-      reads = read_count-append g.calls w.calls
-          ∙ ap (λ n. read_count g.calls + n) (writes_count w.calls w.each) ∙ omega (arith, g.reads);
-      gave = flat_map-append bytes_given g.calls w.calls
-          ∙ ap (λ l. bytes_read g.calls ++ l) (writes_read w.calls w.each)
-          ∙ append-nil (bytes_read g.calls) ∙ g.gave;
-      took = flat_map-append bytes_taken g.calls w.calls
-          ∙ ap (λ l. l ++ bytes_written w.calls) g.took ∙ ap (λ l. written ++ l) w.whole;
+      faults = grind (arith, filter_map-append, writes_faults);
+      reports = grind (arith, list_any-append, writes_report, or_false);
+      reads = grind (arith, read_count-append, writes_count);
+      gave = grind (arith, flat_map-append, writes_read, append-nil);
+      took = grind (arith, flat_map-append);
     }
 
     -- a run that ends after these calls, with no fault
@@ -165,14 +137,8 @@ module _ {R : Type 0} (task : Task R) where
         (g : Going read written end_reported count old new)
         (ending : Ending R) → count ≤ limit → Ends limit g.calls ending
         → IsOutcome task ending end_reported read written → Goes task transition limit old new ending
-    going_ends limit read written end_reported count old new g ending fits ends outcome = record {
-      calls = g.calls;
-      made = g.made;
-      each = g.each;
-      reads = let n = g.reads in omega arith;
-      ends = ends;
-      output = rw (g.reports, g.gave, g.took) outcome;
-    }
+    going_ends limit read written end_reported count old new g ending fits ends outcome =
+        grind arith
 
     -- a run that ends by one more call, a fault
     going_fails : (limit : ℕ) (read written : List ℕ) (end_reported : Bool) (count : ℕ) (old mid new : D)
@@ -187,24 +153,17 @@ module _ {R : Type 0} (task : Task R) where
         let last = call ∷ [] in
         let calls = g.calls ++ last in
         let gave : bytes_read calls ≡ read =
-        flat_map-append bytes_given g.calls last
-        ∙ ap (λ l. bytes_read g.calls ++ (l ++ [])) (fault_gives call fault is)
-        ∙ append-nil (bytes_read g.calls) ∙ g.gave in
+        grind (arith, flat_map-append, fault_gives, append-nil) in
         let took : bytes_written calls ≡ written =
-        flat_map-append bytes_taken g.calls last
-        ∙ ap (λ l. bytes_written g.calls ++ (l ++ [])) (fault_takes call fault is)
-        ∙ append-nil (bytes_written g.calls) ∙ g.took in
+        grind (arith, flat_map-append, fault_takes, append-nil) in
         let reports : is_end_reported calls ≡ end_reported =
-        list_any-append reports_end g.calls last
-        ∙ ap (λ b. is_end_reported g.calls || (b || false)) (fault_reports call fault is)
-        ∙ or_false (is_end_reported g.calls) ∙ g.reports in
+        grind (arith, list_any-append, fault_reports, or_false) in
         record {
           calls = calls;
           made = Makes-append transition old mid new g.calls last g.made (new, made, refl);
           each = EachFollows-append task [] g.calls last g.each (follows, tt);
           reads = rw (read_count-append g.calls last) fits;
-          ends = filter_map-append fault_of g.calls last ∙ ap (λ l. l ++ faults_of last) g.faults
-              ∙ ap (λ o. cons_option o []) is;
+          ends = grind (arith, filter_map-append);
           output = rw (reports, gave, took) outcome;
         }
 
@@ -217,7 +176,7 @@ module _ {R : Type 0} (task : Task R) where
         let before = going_write read written end_reported count old mid s.mid g s.prefix s.before in
         let n = before.reads in
         let parts : written ++ text ≡ (written ++ s.prefix) ++ s.missing =
-        ap (λ l. written ++ l) s.whole ∙ sym (append_assoc written s.prefix s.missing) in
+        grind (arith, append_assoc) in
         going_fails limit read (written ++ s.prefix) end_reported count old s.mid new before
         (Writes s.offered s.taken) s.stop (before.faults, s.some) fault s.is_fault (omega arith)
         (stop_outcome fault s.offered s.taken s.is_fault end_reported read (written ++ s.prefix) s.missing

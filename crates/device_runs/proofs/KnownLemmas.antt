@@ -1,14 +1,13 @@
 -- What the calls of a run do to known bytes.
-use Rattle.std.proofs.Common.{Option, ◌≡◌, ◌∙◌, sym, ap, refl, subst, ℕ, Bool, true, false, List}
-use Rattle.std.proofs.Common.{[], ◌∷◌, ◌++◌, Some, None, Result, Ok, Err, IfSome, zero, suc, ◌≤◌}
-use Rattle.std.proofs.Common.{arith, length, length-append}
+use Rattle.std.proofs.Common.{Option, ◌≡◌, ◌∙◌, sym, ap, subst, ℕ, Bool, true, false, List, [], ◌∷◌, ◌++◌, Some, None}
+use Rattle.std.proofs.Common.{Result, Ok, Err, IfSome, zero, suc, ◌≤◌, arith, length, length-append}
 use Rattle.std.specs.Prelude.{OnOk, ◌||◌}
 use Rattle.std.specs.Io.KnownBytes.{Appends, Consumes, IsAtEnd}
-use Rattle.std.proofs.KnownBytes.{Consumes-nil, Consumes-trans, Consumes-kept, Consumes-whole}
-use Rattle.std.proofs.KnownBytes.{Appends-nil, Appends-trans, Appends-kept}
+use Rattle.std.proofs.KnownBytes.{Consumes-nil, Consumes-trans, Consumes-kept, Consumes-whole, Appends-nil}
+use Rattle.std.proofs.KnownBytes.{Appends-trans, Appends-kept}
 use Rattle.std.proofs.lemmas.List.Folds.{list_any-append}
-use Rattle.device_runs.specs.Calls.{Call, Reads, Writes, Makes, bytes_given, bytes_taken, bytes_read}
-use Rattle.device_runs.specs.Calls.{bytes_written, reports_end, is_end_reported, read_count, faults_of}
+use Rattle.device_runs.specs.Calls.{Call, Reads, Writes, Makes, bytes_given, bytes_taken, bytes_read, bytes_written}
+use Rattle.device_runs.specs.Calls.{reports_end, is_end_reported, read_count, faults_of}
 use Rattle.device_runs.specs.Endings.{Ending, OutOfMemory, OutOfReads, ending_by}
 use Rattle.device_runs.specs.declared.device.ReaderWriter.{ReaderWriter}
 use Rattle.device_runs.specs.Known.{Known, KnownCall, Transfers, known_of}
@@ -77,13 +76,11 @@ known_written a b (call ∷ calls) made =
     (known_written made.0 b calls made.2)
 
 or_true : (b : Bool) → (b || true) ≡ true
-or_true true = refl
-or_true false = refl
+or_true b = grind arith
 
 reported_more : (before : List Call) (call : Call) → is_end_reported before ≡ true
     → is_end_reported (before ++ call ∷ []) ≡ true
-reported_more before call end_reported = list_any-append reports_end before (call ∷ [])
-    ∙ ap (λ b. b || (reports_end call || false)) end_reported
+reported_more before call end_reported = grind (arith, list_any-append)
 
 -- reads that neither fail nor report the end give a byte each
 read_count_le : (calls : List Call) → faults_of calls ≡ [] → is_end_reported calls ≡ false
@@ -92,20 +89,19 @@ read_count_le [] none untold = omega arith
 read_count_le (Reads None ∷ calls) none untold = absurd (cc)
 read_count_le (Reads (Some []) ∷ calls) none untold = absurd (cc)
 read_count_le (Reads (Some (x ∷ bytes)) ∷ calls) none untold =
-    let later = read_count_le calls none untold in
-    let first = read_count-append (Reads (Some (x ∷ bytes)) ∷ []) calls in
-    let size = length-append (x ∷ bytes) (bytes_read calls) in
-    omega arith
+    omega (
+      arith,
+      read_count_le calls none untold,
+      read_count-append (Reads (Some (x ∷ bytes)) ∷ []) calls,
+      length-append (x ∷ bytes) (bytes_read calls),
+    )
 read_count_le (Writes bytes None ∷ calls) none untold = absurd (cc)
 read_count_le (Writes bytes (Some zero) ∷ calls) none untold = absurd (cc)
 read_count_le (Writes bytes (Some (suc n)) ∷ calls) none untold = read_count_le calls none untold
 
 Consumes-length : (old new : Option (List ℕ)) (bytes : List ℕ) (n : ℕ) → Consumes old new bytes
     → n ≤ length bytes → IfSome old (λ all. n ≤ length all)
-Consumes-length None new bytes n consumed le = tt
-Consumes-length (Some x) None bytes n consumed le = absurd consumed
-Consumes-length (Some x) (Some y) bytes n consumed le = let whole = ap length consumed in
-    omega (arith, length-append bytes y)
+Consumes-length old new bytes n consumed le = grind (arith, length-append)
 
 module _ {R : Type 0} (task : Task R) where
   -- a run over what is seen of a device,
@@ -156,8 +152,7 @@ module _ {R : Type 0} (task : Task R) where
       → EachFollows task before calls
       → Makes KnownCall a calls b → b.input ≡ a.input
   input_kept before end_reported a b [] each made = ap (λ (k : Known). k.input) made
-  input_kept before end_reported a b (Reads given ∷ calls) each made = let untold =
-      each.0.0.no_end in absurd (cc)
+  input_kept before end_reported a b (Reads given ∷ calls) each made = grind arith
   input_kept before end_reported a b (Writes bytes (Some n) ∷ calls) each made =
       let call = Writes bytes (Some n) in
       input_kept (before ++ call ∷ []) (reported_more before call end_reported) made.0 b calls each.1 made.2
@@ -177,8 +172,7 @@ module _ {R : Type 0} (task : Task R) where
   known_end before a b (Reads (Some []) ∷ calls) each made end_reported =
       let end = Reads (Some []) ∷ [] in
       let is_reported = list_any-append reports_end before end ∙ or_true (is_end_reported before) in
-      subst IsAtEnd (sym (input_kept (before ++ end) is_reported made.0 b calls each.1 made.2))
-      (made.1.1 refl)
+      grind (arith, input_kept)
   known_end before a b (Reads (Some (x ∷ bytes)) ∷ calls) each made end_reported =
       known_end (before ++ Reads (Some (x ∷ bytes)) ∷ []) made.0 b calls each.1 made.2 end_reported
   known_end before a b (Writes bytes taken ∷ calls) each made end_reported =
@@ -199,11 +193,7 @@ module _ {R : Type 0} (task : Task R) where
 
   pub goes_too_many : (limit : ℕ) (a b : Known) → Goes task KnownCall limit a b OutOfReads
       → IfSome a.input (λ bytes. limit ≤ length bytes)
-  goes_too_many limit a b runs =
-      let le = read_count_le runs.calls runs.ends.0 runs.ends.1 in
-      let all = runs.ends.2 in
-      Consumes-length a.input b.input (bytes_read runs.calls) limit
-      (known_read a b runs.calls runs.made) (omega arith)
+  goes_too_many limit a b runs = grind (arith, read_count_le, Consumes-length, known_read)
 
   module _ {E : Type 0} (cause : E → Ending R) (limit : ℕ) (a b : Known) where
     pub goes_end : (result : Result Unit E) → Goes task KnownCall limit a b (ending_by cause result)

@@ -1,12 +1,10 @@
 -- Writes one after another.
-use Rattle.std.proofs.Common.{◌≡◌, ◌∙◌, sym, ap, refl, ℕ, ◌-◌, ◌<◌, ◌≤◌, List, [], ◌∷◌, ◌++◌}
-use Rattle.std.proofs.Common.{length, take, drop, Option, Some, append_assoc, append-nil}
-use Rattle.std.proofs.Common.{take-append-drop}
-use Rattle.std.specs.List.{flat_map}
+use Rattle.std.proofs.Common.{arith, ◌≡◌, sym, refl, ℕ, ◌-◌, ◌<◌, ◌≤◌, List, ◌∷◌, ◌++◌, [], length, take, drop, Option}
+use Rattle.std.proofs.Common.{Some, append_assoc, append-nil, take-append-drop}
 use Rattle.std.proofs.lemmas.List.{take_rest}
 use Rattle.std.proofs.lemmas.List.Concat.{flat_map-append}
 use Rattle.device_runs.specs.declared.fault.Fault.{Fault}
-use Rattle.device_runs.specs.Calls.{Call, Writes, bytes_taken, fault_of}
+use Rattle.device_runs.specs.Calls.{Call, Writes, fault_of}
 use Rattle.device_runs.specs.Endings.{Ending, Done, Stopped, OutOfMemory, OutOfReads, Refused}
 use Rattle.device_runs.specs.Writes.{TakesBytes, Written, Stops, Delivers}
 use Rattle.device_runs.proofs.CallLemmas.{AllByRecursion-append, Makes-append}
@@ -21,8 +19,7 @@ module _ {D : Type 0} (transition : D → Call → D → Type 0) where
     calls = p.calls ++ q.calls;
     each = AllByRecursion-append TakesBytes p.calls q.calls p.each q.each;
     made = Makes-append transition a b c p.calls q.calls p.made q.made;
-    whole = flat_map-append bytes_taken p.calls q.calls
-        ∙ ap (λ l. l ++ flat_map bytes_taken q.calls) p.whole ∙ ap (λ l. xs ++ l) q.whole;
+    whole = grind (arith, flat_map-append);
   }
 
   -- one more write
@@ -62,7 +59,7 @@ module _ {D : Type 0} (transition : D → Call → D → Type 0) where
   Stops-after e a b c xs ys p s = record {
     prefix = xs ++ s.prefix;
     missing = s.missing;
-    whole = ap (λ l. xs ++ l) s.whole ∙ sym (append_assoc xs s.prefix s.missing);
+    whole = grind (arith, append_assoc);
     mid = s.mid;
     before = Written-append a b s.mid xs s.prefix p s.before;
     offered = s.offered;
@@ -80,12 +77,12 @@ module _ {D : Type 0} (transition : D → Call → D → Type 0) where
   Stops-more e a b xs ys s = record {
     prefix = s.prefix;
     missing = s.missing ++ ys;
-    whole = ap (λ l. l ++ ys) s.whole ∙ append_assoc s.prefix s.missing ys;
+    whole = grind (arith, append_assoc);
     mid = s.mid;
     before = s.before;
     offered = s.offered;
     later = s.later ++ ys;
-    next = ap (λ l. l ++ ys) s.next ∙ append_assoc s.offered s.later ys;
+    next = grind (arith, append_assoc);
     taken = s.taken;
     some = s.some;
     stop = s.stop;
@@ -104,7 +101,4 @@ module _ {D : Type 0} (transition : D → Call → D → Type 0) where
 -- n more bytes of what is left
 pub split_more : (bytes prefix rest : List ℕ) (n : ℕ) → bytes ≡ prefix ++ rest
     → bytes ≡ (prefix ++ take n rest) ++ take (length rest - n) (drop n rest)
-split_more bytes prefix rest n whole =
-    whole ∙ ap (λ l. prefix ++ l) (sym (take-append-drop n rest))
-    ∙ sym (append_assoc prefix (take n rest) (drop n rest))
-    ∙ ap (λ l. (prefix ++ take n rest) ++ l) (sym (take_rest rest n))
+split_more bytes prefix rest n whole = grind (arith, take-append-drop, append_assoc, take_rest)

@@ -1,6 +1,6 @@
 -- The calls of a device, one after another, and what they read and write.
-use Rattle.std.specs.Prelude.{◌≡◌, ℕ, zero, suc, Bool, true, false, List, [], ◌∷◌, take, count_by}
-use Rattle.std.specs.Prelude.{Option, Some, None, Result, Ok, Err}
+use Rattle.std.specs.Prelude.{◌≡◌, ℕ, zero, suc, Bool, true, false, List, [], ◌∷◌, take, count_by, Option, Some, None}
+use Rattle.std.specs.Prelude.{Result, Ok, Err}
 use Rattle.std.specs.List.{flat_map, filter_map, list_any}
 use Rattle.device_runs.specs.declared.fault.Fault.{Fault}
 use Rattle.device_runs.specs.declared.fault.Fault.TheVariants.{ReadFailed, WriteFailed, NothingTaken}

@@ -3,8 +3,8 @@
 use Rattle.std.specs.Prelude.{◌≡◌, ℕ, ◌<◌, ◌≤◌, Bool, false, List, [], ◌∷◌, ◌++◌, length}
 use Rattle.device_runs.specs.declared.fault.Fault.{Fault}
 use Rattle.device_runs.specs.declared.fault.Fault.TheVariants.{ReadFailed, WriteFailed, NothingTaken}
-use Rattle.device_runs.specs.Calls.{Call, Reads, Writes, Makes, bytes_given, bytes_read, bytes_written}
-use Rattle.device_runs.specs.Calls.{read_count, is_end_reported, faults_of}
+use Rattle.device_runs.specs.Calls.{Call, Reads, Writes, Makes, bytes_given, bytes_read, bytes_written, read_count}
+use Rattle.device_runs.specs.Calls.{is_end_reported, faults_of}
 use Rattle.device_runs.specs.Endings.{Ending, Done, Stopped, OutOfMemory, OutOfReads, Refused, Ends}
 
 -- what a run is to write for the bytes that it reads, and for whether their end is reported

@@ -1,17 +1,14 @@
 -- Blocks of a text, of which the last may overlap the one before it.
-use Rattle.std.proofs.Common.{◌≡◌, ℕ, suc, ◌+◌, ◌-◌, ◌*◌, ◌/◌, ◌%◌, ◌<◌, ◌≤◌, Bool, true, false}
-use Rattle.std.proofs.Common.{ltb, List, [], ◌∷◌, ◌++◌, take, replicate, length, get_or, Result, Ok}
-use Rattle.std.proofs.Common.{Err, is_some, refl, sym, ap, ap₂, ◌∙◌, inl, inr, arith, ltb-true}
-use Rattle.std.proofs.Common.{lt-ltb}
+use Rattle.std.proofs.Common.{◌≡◌, ℕ, suc, ◌+◌, ◌-◌, ◌*◌, ◌/◌, ◌%◌, ◌<◌, ◌≤◌, Bool, true, false, [], List, ◌∷◌, ◌++◌}
+use Rattle.std.proofs.Common.{take, replicate, length, get_or, Result, Ok, Err, refl, ap, ◌∙◌, inl, inr, arith, lt-ltb}
 use Rattle.std.specs.Prelude.{MatchResult}
 use Rattle.std.specs.List.{AllPass}
 use Rattle.std.proofs.lemmas.Bool.{cases_lt}
 use Rattle.std.proofs.lemmas.List.{get_or_append_left, get_or-append_right, get_or-take}
-use Rattle.std.proofs.lemmas.Simd.{get_or-replicate, get_or-chunk, get_or-put_chunk_below}
-use Rattle.std.proofs.lemmas.Simd.{get_or-put_chunk_at}
+use Rattle.std.proofs.lemmas.Simd.{get_or-replicate, get_or-chunk, get_or-put_chunk_below, get_or-put_chunk_at}
 use lib.Lanes.{chunk, put_chunk}
-use Rattle.hex.specs.Hex.{decode_pairs, decode_sized, encode_lower, encode_with, is_hex_digit}
-use Rattle.hex.specs.Hex.{lower_digits, pair_value, value_at}
+use Rattle.hex.specs.Hex.{decode_pairs, decode_sized, encode_lower, encode_with, is_hex_digit, lower_digits, pair_value}
+use Rattle.hex.specs.Hex.{value_at}
 use Rattle.hex.specs.declared.error.FromHexError.{FromHexError}
 use Rattle.hex.proofs.HexLemmas.{IsOk-decode_sized}
 use Rattle.hex.proofs.Pairs.{cons_byte, decode_pairs-ok_pair, decode_sized-pairs}
@@ -25,8 +22,7 @@ in_block xs m n j k e h = get_or-chunk m n xs j 0 h ∙ ap (λ i. get_or xs i 0)
 -- and a block that is put in there has it at k
 put_chunk_in : (xs ys : List ℕ) (m j k : ℕ) → m + j ≡ k → j < length ys → m + length ys ≤ length xs
     → get_or (put_chunk m xs ys) k 0 ≡ get_or ys j 0
-put_chunk_in xs ys m j k e h fits = ap (λ i. get_or (put_chunk m xs ys) i 0) (sym e)
-    ∙ get_or-put_chunk_at m xs ys j 0 h fits
+put_chunk_in xs ys m j k e h fits = grind (arith, get_or-put_chunk_at)
 
 -- ---- decoding
 
@@ -38,11 +34,7 @@ pub pair_read : (a b u v i : ℕ) → Reads a u → Reads b v → u < 16 → v <
 pair_read a b u v i r s p q = rw (value_read a u i r p, value_read b v (i + 1) s q) refl
 
 pub passes : (c v : ℕ) → Reads c v → is_hex_digit c ≡ true → v < 16
-passes c v r h = go (ltb v 16) refl
-  where
-    go : (t : Bool) → ltb v 16 ≡ t → v < 16
-    go true e = ltb-true v 16 e
-    go false e = let none = rw e at r in cc (sym h ∙ ap is_some none)
+passes c v r h = grind arith
 
 pub block_decoded : (ds bs vs ys : List ℕ) (at start : ℕ) → start ≤ at
     → start + 16 ≤ length bs → length ys ≡ 16
@@ -65,7 +57,7 @@ block_decoded ds bs vs ys at start le room long reads small is so k h i =
           (get_or vs (2 * j) 0) (get_or vs (2 * j + 1) 0) i (reads (2 * j) (omega arith))
           (reads (2 * j + 1) (omega arith)) (small (2 * j) (omega arith))
           (small (2 * j + 1) (omega arith)) in
-          sym (ap₂ (λ a b. pair_value a b i) high low) ∙ pair ∙ ap Ok (sym byte)
+          grind arith
     ]
 
 pub block_values : (ds vs : List ℕ) (n start : ℕ) → start + 16 ≤ n → length ds ≡ 2 * n
@@ -82,8 +74,7 @@ filled ds = ds ++ replicate (32 - length ds) 48
 
 filled_at : (ds block : List ℕ) (i : ℕ) → block ≡ filled ds → i < length ds
     → get_or block i 0 ≡ get_or ds i 0
-filled_at ds block i e h = ap (λ l. get_or l i 0) e
-    ∙ get_or_append_left ds (replicate (32 - length ds) 48) 0 i h
+filled_at ds block i e h = grind (arith, get_or_append_left)
 
 pub short_decoded : (ds block vs ys : List ℕ) (n : ℕ) → length ds ≡ 2 * n
     → n < 16 → block ≡ filled ds
@@ -91,25 +82,16 @@ pub short_decoded : (ds block vs ys : List ℕ) (n : ℕ) → length ds ≡ 2 * 
     → ((k : ℕ) → k < 16 → get_or ys k 0 ≡ get_or vs (2 * k) 0 * 16 + get_or vs (2 * k + 1) 0)
     → AreDecoded n ds (take n ys)
 short_decoded ds block vs ys n twice short e reads small is k h i =
-    let high = filled_at ds block (2 * k) e (omega arith) in
-    let low = filled_at ds block (2 * k + 1) e (omega arith) in
-    let byte = get_or-take n ys k 0 h ∙ is k (omega arith) in
-    let pair = pair_read (get_or block (2 * k) 0) (get_or block (2 * k + 1) 0) (get_or vs (2 * k) 0)
-    (get_or vs (2 * k + 1) 0) i (reads (2 * k) (omega arith)) (reads (2 * k + 1) (omega arith))
-    (small (2 * k) (omega arith)) (small (2 * k + 1) (omega arith)) in
-    sym (ap₂ (λ a b. pair_value a b i) high low) ∙ pair ∙ ap Ok (sym byte)
+    grind (arith, filled_at, get_or-take, pair_read)
 
 pub short_values : (ds block vs : List ℕ) → length ds ≤ 32 → block ≡ filled ds
     → ((i : ℕ) → i < 32 → Reads (get_or block i 0) (get_or vs i 0))
     → AllPass is_hex_digit ds → AreDigitValues vs
 short_values ds block vs short e reads all i h =
     passes (get_or block i 0) (get_or vs i 0) (reads i h) (elim (cases_lt i (length ds)) [
-      | inl prefix ↦ ap is_hex_digit (filled_at ds block i e prefix) ∙ all i 0 prefix
+      | inl prefix ↦ cc (filled_at ds block i e prefix, all i 0 prefix)
       | inr back ↦
-          let rest : List ℕ = replicate (32 - length ds) 48 in
-          ap is_hex_digit (ap (λ l. get_or l i 0) e
-          ∙ get_or-append_right ds rest (length ds) i 0 refl back
-          ∙ get_or-replicate {A = ℕ} (32 - length ds) (i - length ds) 48 0 (omega arith))
+          grind (arith, get_or-append_right, get_or-replicate)
     ])
 
 all_decoded : (bs ds : List ℕ) (i : ℕ) → length ds ≡ 2 * length bs → AreDecoded (length bs) ds bs
@@ -123,8 +105,7 @@ all_decoded (b ∷ bs) (d ∷ e ∷ ds) i twice h =
     let rest : AreDecoded (length bs) ds bs = λ k l j.
     let high : suc (suc (2 * k)) ≡ 2 * suc k = omega arith in
     let low : suc (suc (2 * k + 1)) ≡ 2 * suc k + 1 = omega arith in
-    ap₂ (λ m n. pair_value (get_or (d ∷ e ∷ ds) m 0) (get_or (d ∷ e ∷ ds) n 0) j) high low
-    ∙ h (suc k) (omega arith) j in
+    cc (high, low, h (suc k) (omega arith) j) in
     decode_pairs-ok_pair i d e b ds (h 0 (omega arith) i)
     ∙ ap (cons_byte b) (all_decoded bs ds (i + 2) (omega arith) rest)
 
@@ -133,9 +114,7 @@ pub decode_answer : (ds bs : List ℕ) (n : ℕ) (r : Bool) → length ds % 2 �
     → length ds / 2 ≡ n → length bs ≡ n
     → (r ≡ true → AreDecoded n ds bs) → (r ≡ false → AllPass is_hex_digit ds → ⊥)
     → MatchResult (decode_sized ds n) (λ value. (r ≡ true) × (bs ≡ value)) (λ _. r ≡ false)
-decode_answer ds bs n true even half long done bad =
-    let so : AreDecoded (length bs) ds bs = rw long (done refl) in
-    rw (decode_sized-pairs ds n even half ∙ all_decoded bs ds 0 (omega arith) so) (refl, refl)
+decode_answer ds bs n true even half long done bad = grind (arith, decode_sized-pairs, all_decoded)
 decode_answer ds bs n false even half long done bad = go (decode_sized ds n) refl
   where
     go : (d : Result (List ℕ) FromHexError) → decode_sized ds n ≡ d
@@ -161,20 +140,14 @@ pub block_encoded : (bs ds ys : List ℕ) (at start : ℕ) → start ≤ at → 
 block_encoded bs ds ys at start le room twice long high low so k h =
     elim (cases_lt k start) [
       | inl before ↦
-          let a = get_or-put_chunk_below (2 * start) ds ys (2 * k) 0 (omega arith) in
-          let b = get_or-put_chunk_below (2 * start) ds ys (2 * k + 1) 0 (omega arith) in
-          (a ∙ (so k (omega arith)).0, b ∙ (so k (omega arith)).1)
+          grind (arith, get_or-put_chunk_below)
       | inr from ↦
           let j : ℕ = k - start in
           let byte = in_block bs start 16 j k (omega arith) (omega arith) in
           let a = put_chunk_in ds ys (2 * start) (2 * j) (2 * k) (omega arith)
           (omega arith) (omega arith) in
           let b = put_chunk_in ds ys (2 * start) (2 * j + 1) (2 * k + 1) (omega arith)
-          (omega arith) (omega arith) in (
-            a ∙ high j (omega arith) ∙ ap (λ n. get_or lower_digits (n / 16) 0) byte,
-            b
-                ∙ low j (omega arith) ∙ ap (λ n. get_or lower_digits (n % 16) 0) byte,
-          )
+          (omega arith) (omega arith) in grind arith
     ]
 
 pub all_encoded : (bs ds : List ℕ) → length ds ≡ 2 * length bs
@@ -188,11 +161,6 @@ all_encoded (b ∷ bs) (d ∷ e ∷ ds) twice h =
     let rest : AreEncoded (length bs) bs ds = λ k l.
     let high : suc (suc (2 * k)) ≡ 2 * suc k = omega arith in
     let low : suc (suc (2 * k + 1)) ≡ 2 * suc k + 1 = omega arith in
-    let more = h (suc k) (omega arith) in (
-      ap (λ m. get_or (d ∷ e ∷ ds) m 0) high
-          ∙ more.0,
-      ap (λ m. get_or (d ∷ e ∷ ds) m 0) low ∙ more.1,
-    ) in
+    let more = h (suc k) (omega arith) in grind arith in
     let first = h 0 (omega arith) in
-    ap₂ (λ x xs. x ∷ xs) first.0
-    (ap₂ (λ x xs. x ∷ xs) first.1 (all_encoded bs ds (omega arith) rest))
+    grind (arith, all_encoded bs ds (omega arith) rest)

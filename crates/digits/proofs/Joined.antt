@@ -1,11 +1,10 @@
 -- Texts of digits in a row.
-use Rattle.std.proofs.Common.{◌≡◌, ◌∙◌, sym, ap, refl, ℕ, ◌+◌, ◌*◌, List, [], ◌∷◌, ◌++◌, length}
-use Rattle.std.proofs.Common.{Option, Some, None, Result, Ok, Err, arith, length-append}
+use Rattle.std.proofs.Common.{◌≡◌, ◌∙◌, sym, ap, refl, ℕ, ◌+◌, ◌*◌, List, ◌∷◌, ◌++◌, length, [], Option, Result, Ok}
+use Rattle.std.proofs.Common.{arith, length-append}
 use Rattle.std.specs.Prelude.{MatchResult, Bool, true, false}
-use Rattle.hex.specs.Hex.{◌>>=◌, decode_of, decode_pairs, decode_sized, digit_or_error}
-use Rattle.hex.specs.Hex.{hex_digit_value, pair_value}
+use Rattle.hex.specs.Hex.{◌>>=◌, decode_of, decode_pairs, decode_sized, digit_or_error, hex_digit_value, pair_value}
 use Rattle.hex.specs.declared.error.FromHexError.{FromHexError}
-use Rattle.hex.proofs.HexLemmas.{decode_of-even, decode_of-ok, decode_sized-twice}
+use Rattle.hex.proofs.HexLemmas.{decode_of-even, decode_of-ok}
 use Rattle.hex.proofs.Pairs.{cons_byte, decode_pairs-ok_pair}
 
 -- the index of digits matters to errors alone
@@ -14,9 +13,7 @@ pair_moved : (a b i j v : ℕ) (high low : Option ℕ)
     ≡ Ok v
     → (digit_or_error a j high >>= (λ h. digit_or_error b (j + 1) low >>= (λ l. Ok (h * 16 + l))))
     ≡ Ok v
-pair_moved a b i j v (Some h) (Some l) is = is
-pair_moved a b i j v (Some h) None is = cc
-pair_moved a b i j v None low is = cc
+pair_moved a b i j v high low is = grind arith
 
 -- a first byte and the others
 record Decoded (i a b : ℕ) (rest bytes : List ℕ) : Type 0 where
@@ -31,10 +28,7 @@ first_byte : (i a b : ℕ) (rest bytes : List ℕ) (pair : Result ℕ FromHexErr
     → decode_pairs (i + 2) rest ≡ later
     → (pair >>= (λ v. later >>= (λ bytes. Ok (v ∷ bytes)))) ≡ Ok bytes
     → Decoded i a b rest bytes
-first_byte i a b rest bytes (Ok v) (Ok others) first second is =
-    record { byte = v; others = others; pair = first; decoded = second; whole = cc }
-first_byte i a b rest bytes (Ok v) (Err e) first second is = cc
-first_byte i a b rest bytes (Err e) later first second is = cc
+first_byte i a b rest bytes pair later first second is = grind arith
 
 decoded : (i a b : ℕ) (rest bytes : List ℕ) → decode_pairs i (a ∷ b ∷ rest) ≡ Ok bytes
     → Decoded i a b rest bytes
@@ -65,8 +59,7 @@ moved i j (a ∷ b ∷ rest) bytes is =
 
 joined : (i : ℕ) (s t bytes more : List ℕ) → decode_pairs i s ≡ Ok bytes
     → decode_pairs 0 t ≡ Ok more → decode_pairs i (s ++ t) ≡ Ok (bytes ++ more)
-joined i [] t bytes more is next =
-    moved 0 i t more next ∙ sym (ap (λ l. Ok (l ++ more)) (no_bytes i bytes is))
+joined i [] t bytes more is next = grind (arith, moved, no_bytes)
 joined i (a ∷ []) t bytes more is next = absurd (one_digit i a bytes is)
 joined i (a ∷ b ∷ rest) t bytes more is next =
     let d = decoded i a b rest bytes is in
@@ -77,20 +70,9 @@ joined i (a ∷ b ∷ rest) t bytes more is next =
 pub texts_are_joined : (a b x y : List ℕ) → decode_of a ≡ Ok x → decode_of b ≡ Ok y
     → decode_of (a ++ b) ≡ Ok (x ++ y)
 texts_are_joined a b x y first second =
-    let m = (decode_of-ok a x first).0 in
-    let n = (decode_of-ok b y second).0 in
-    decode_of-even (a ++ b) (omega (arith, length-append a b, m, n))
-    ∙ joined 0 a b x y (sym (decode_of-even a m) ∙ first) (sym (decode_of-even b n) ∙ second)
+    grind (arith, decode_of-ok, decode_of-even, length-append, joined)
 
 -- ---- digits that are put after others
-
-after_prefix : (d : Result (List ℕ) FromHexError) (result : Bool) (bytes prefix all : List ℕ)
-    → all ≡ prefix ++ bytes
-    → MatchResult d (λ value. (result ≡ true) × (bytes ≡ value)) (λ e. result ≡ false)
-    → MatchResult d (λ value. (result ≡ true) × (all ≡ prefix ++ value)) (λ e. result ≡ false)
-after_prefix (Ok value) result bytes prefix all is outcome =
-    (outcome.0, is ∙ ap (λ l. prefix ++ l) outcome.1)
-after_prefix (Err e) result bytes prefix all is outcome = outcome
 
 pub decoded_after_prefix : (digits : List ℕ) (n : ℕ) (result : Bool) (bytes prefix all : List ℕ)
     → length digits ≡ 2 * n → all ≡ prefix ++ bytes
@@ -98,6 +80,4 @@ pub decoded_after_prefix : (digits : List ℕ) (n : ℕ) (result : Bool) (bytes 
     (λ e. result ≡ false)
     → MatchResult (decode_of digits) (λ value. (result ≡ true) × (all ≡ prefix ++ value))
     (λ e. result ≡ false)
-decoded_after_prefix digits n result bytes prefix all twice is outcome =
-    after_prefix (decode_of digits) result bytes prefix all is
-    (rw (decode_sized-twice digits n twice) at outcome)
+decoded_after_prefix digits n result bytes prefix all twice is outcome = grind arith

@@ -1,14 +1,14 @@
 -- Decimal numerals, which are text.
-use Rattle.std.proofs.Common.{◌≡◌, ◌∙◌, sym, ap, ℕ, zero, suc, true, List, [], ◌∷◌, Some, None}
-use Rattle.std.proofs.Common.{Result, Ok, Err, arith, rules}
-use Rattle.std.specs.Prelude.{nat_le, MatchResult}
+use Rattle.std.proofs.Common.{◌≡◌, ◌∙◌, sym, ap, ℕ, zero, suc, true, List, ◌∷◌, Some, None, [], Result, Ok, Err, arith}
+use Rattle.std.proofs.Common.{rules}
+use Rattle.std.specs.Prelude.{MatchResult}
 use Rattle.std.specs.Char.{is_ascii_digit}
 use Rattle.std.specs.List.{list_all}
 use Rattle.std.specs.Result.{result_ok}
 use Rattle.std.specs.Str.{IsAscii, IsUtf8}
 use Rattle.std.specs.Borrow.{Bor}
 use Rattle.std.specs.Str.Parse.{digits_value}
-use Rattle.std.proofs.lemmas.Bool.{and_parts, leb-true}
+use Rattle.std.proofs.lemmas.Bool.{and_parts}
 use Rattle.std.proofs.lemmas.Str.Parse.{IsNumeralModel, numerals_by_value}
 use Rattle.std.proofs.lemmas.Str.{IsUtf8-from_ascii}
 
@@ -18,10 +18,7 @@ decimals = numerals_by_value _ (search rules)
 -- digits are text
 IsAscii-digits : (digits : List ℕ) → list_all is_ascii_digit digits ≡ true → IsAscii digits
 IsAscii-digits [] all i = omega arith
-IsAscii-digits (digit ∷ digits) all zero =
-    let parts = and_parts (is_ascii_digit digit) (list_all is_ascii_digit digits) all in
-    let most = leb-true digit 57 (and_parts (nat_le 48 digit) (nat_le digit 57) parts.0).1 in
-    omega arith
+IsAscii-digits (digit ∷ digits) all zero = grind arith
 IsAscii-digits (digit ∷ digits) all (suc i) =
     IsAscii-digits digits (and_parts (is_ascii_digit digit)
     (list_all is_ascii_digit digits) all).1 i

@@ -1,15 +1,13 @@
 -- The vector operations, lane by lane.
-use Rattle.std.proofs.Common.{◌≡◌, ℕ, zero, suc, ◌+◌, ◌-◌, ◌*◌, ◌/◌, ◌%◌, ◌^◌, ◌<◌, ◌↔◌, Bool, true}
-use Rattle.std.proofs.Common.{false, ◌&&◌, cond, eqb, ltb, leb, List, [], ◌∷◌, ◌++◌, map, length}
-use Rattle.std.proofs.Common.{get_or, replicate, bit_and, Option, Some, None, refl, sym, ap, ap₂}
-use Rattle.std.proofs.Common.{◌∙◌, arith, w8, Fits, eqb-true, ltb-true, ltb-false, leb-true, eq-eqb}
+use Rattle.std.proofs.Common.{◌≡◌, ℕ, zero, suc, ◌+◌, ◌-◌, ◌*◌, ◌/◌, ◌%◌, ◌^◌, ◌<◌, ◌↔◌, Bool, true, [], ◌&&◌, cond}
+use Rattle.std.proofs.Common.{eqb, ltb, leb, List, ◌∷◌, ◌++◌, map, length, get_or, replicate, bit_and, Option, Some}
+use Rattle.std.proofs.Common.{None, refl, sym, ap, ap₂, ◌∙◌, arith, w8, Fits, eqb-true, eq-eqb}
 use Rattle.std.proofs.lemmas.Bool.{agree_below_at, and_parts}
 use Rattle.std.proofs.lemmas.List.{length-map, get_or-map, get_or_append_left, get_or-append_right}
 use Rattle.std.proofs.lemmas.Nat.{and_le_r, and_mask}
-use Rattle.std.proofs.lemmas.Simd.{Each1-all, Each1-weaker, Each1-zip2, Each1-get_or, Each2-splat}
-use Rattle.std.proofs.lemmas.Simd.{zip2_splat, get_or-replicate, below_from_Fits, length-zip2}
-use Rattle.std.proofs.lemmas.Simd.{mask_l-mod, swz_l, SwzOk, SwzOk-from_below, length-swz_l}
-use Rattle.std.proofs.lemmas.Simd.{get_or-swz_l_below}
+use Rattle.std.proofs.lemmas.Simd.{Each1-all, Each1-weaker, Each1-zip2, Each1-get_or, Each2-splat, zip2_splat}
+use Rattle.std.proofs.lemmas.Simd.{get_or-replicate, below_from_Fits, length-zip2, mask_l-mod, swz_l, SwzOk}
+use Rattle.std.proofs.lemmas.Simd.{SwzOk-from_below, length-swz_l, get_or-swz_l_below}
 use Rattle.hex.specs.Hex.{hex_digit_value}
 use lib.Lanes.{zip2, sel_l, mask_l, top, pick_l, number_l, digits_l, Each1}
 use Rattle.digits.specs.Digits.{Reads, AreDigitValues}
@@ -74,14 +72,7 @@ is_read (Some u) v = ltb v 16 && eqb u v
 is_read None v = leb 16 v
 
 pub reads : (o : Option ℕ) (v : ℕ) → is_read o v ≡ true → o ≡ cond (ltb v 16) (Some v) None
-reads (Some u) v h =
-    let p = and_parts (ltb v 16) _ h in
-    rw (p.0, eqb-true u v p.1) refl
-reads None v h = go (ltb v 16) refl
-  where
-    go : (t : Bool) → ltb v 16 ≡ t → None ≡ cond t (Some v) None
-    go true e = absurd (omega (arith, ltb-true v 16 e, leb-true 16 v h))
-    go false e = refl
+reads o v h = grind arith
 
 -- computed at each byte
 value_reads : (c : ℕ) → c < 256 → Reads c (value c)
@@ -90,18 +81,12 @@ value_reads c h = reads (hex_digit_value c) (value c)
 
 pub values_read : (xs : List ℕ) (n i : ℕ) → length xs ≡ n → Each1 (Fits w8) xs → i < n
     → Reads (get_or xs i 0) (get_or (values n xs) i 0)
-values_read xs n i e fits h = rw (values_at xs n i e h)
-    (value_reads (get_or xs i 0) (lane_fits xs i fits))
+values_read xs n i e fits h = grind (arith, values_at, value_reads, lane_fits)
 
 -- ---- whether all are below 16
 
 flag : (x : ℕ) → (◌≡◌ {A = ℕ} (cond (top 7 (is_below 15 x)) 1 0) 0) ↔ (x < 16)
-flag x = go (ltb 15 x) refl
-  where
-    go : (t : Bool) → ltb 15 x ≡ t → (◌≡◌ {A = ℕ} (cond (top 7 (cond t (2 ^ 8 - 1) 0)) 1 0) 0)
-        ↔ (x < 16)
-    go true e = (λ q. absurd (omega arith), λ z. absurd (omega (arith, ltb-true 15 x e)))
-    go false e = (λ _. omega (arith, ltb-false 15 x e), λ _. refl)
+flag x = grind arith
 
 mask_zero : (n : ℕ) (xs : List ℕ) → length xs ≡ n
     → (mask_l (map (top 7) (zip2 is_below (replicate n 15) xs)) ≡ 0)
@@ -110,11 +95,7 @@ mask_zero zero xs e = (λ _ i h. absurd (omega arith), λ _. refl)
 mask_zero (suc n) [] e = absurd (omega arith)
 mask_zero (suc n) (x ∷ xs) e =
     let r = mask_zero n xs (omega arith) in (
-      λ z. elim [
-        | zero ↦ λ h. (flag x).0 (omega arith)
-        | suc i ↦
-            λ h. r.0 (omega arith) i (omega arith)
-      ],
+      grind arith,
       λ h. omega (arith, (flag x).1 (h 0 (omega arith)), r.1 (λ i l. h (suc i) (omega arith))),
     )
 
@@ -131,7 +112,7 @@ all_below_16 xs e =
           (replicate 32 15) xs (sym e),
     )) in
     let r = mask_zero 32 xs e in
-    (λ t. r.0 (sym small ∙ eqb-true _ _ t), λ h. eq-eqb _ _ (small ∙ r.1 h))
+    grind (arith, eqb-true, eq-eqb)
 
 -- ---- the larger of two lanes
 
@@ -146,12 +127,7 @@ maximum_at (x ∷ xs) (y ∷ ys) (suc n) (suc i) e f h =
     maximum_at xs ys n i (omega arith) (omega arith) (omega arith)
 
 maximum_small : (x y : ℕ) → (where_below x y y x < 16) ↔ ((x < 16) × (y < 16))
-maximum_small x y = go (ltb x y) refl
-  where
-    go : (t : Bool) → ltb x y ≡ t → (cond (top 7 (cond t (2 ^ 8 - 1) 0)) y x < 16)
-        ↔ ((x < 16) × (y < 16))
-    go true e = (λ h. (omega (arith, ltb-true x y e), h), λ h. h.1)
-    go false e = (λ h. (h, omega (arith, ltb-false x y e)), λ h. h.0)
+maximum_small x y = grind arith
 
 pub maximum_values : (xs ys : List ℕ) → length xs ≡ 32 → length ys ≡ 32
     → AreDigitValues (lanes_below xs ys ys xs) ↔ (AreDigitValues xs × AreDigitValues ys)
@@ -161,8 +137,7 @@ maximum_values xs ys e f = (
     λ i l.
         ((maximum_small _ _).0 (rw (maximum_at xs ys 32 i e f l) at (h i l))).1,
   ),
-  λ h i l. rw (maximum_at xs ys 32 i e f l)
-      ((maximum_small (get_or xs i 0) (get_or ys i 0)).1 (h.0 i l, h.1 i l)),
+  grind (arith, maximum_at, maximum_small),
 )
 
 pub zero_values : AreDigitValues (replicate 32 0)
@@ -174,9 +149,7 @@ abbrev join : ℕ → ℕ
 join w = w * 4097 % 65536 / 256
 
 join_pair : (a b n : ℕ) → a < 16 → b < 16 → join ((a + 256 * (b + 256 * n)) % 65536) ≡ a * 16 + b
-join_pair a b n p q =
-    let e : (a + 256 * (b + 256 * n)) % 65536 ≡ a + 256 * b = omega arith in
-    rw e (omega arith)
+join_pair a b n p q = grind arith
 
 pub byte_at : (n : ℕ) (vs : List ℕ) (k : ℕ) → length vs ≡ 2 * n
     → ((i : ℕ) → i < 2 * n → get_or vs i 0 < 16) → k < n
@@ -276,7 +249,7 @@ pub high_digit : (t v : List ℕ) (k : ℕ) → length v ≡ 16 → Each1 (Fits 
     → get_or (digits_by t v) (2 * k) 0 ≡ get_or t (get_or v k 0 / 16) 0
 high_digit t v k e fits h =
     let js = zip2 down v (replicate 16 4) in
-    let long : length js ≡ 16 = length-zip2 down v (replicate 16 4) e ∙ e in
+    let long : length js ≡ 16 = grind (arith, length-zip2) in
     first_at (swz_l w8 16 t 0 js) _ k (length-swz_l w8 16 t 0 js ∙ long) h
     ∙ table_at t js k long (high_small v e fits) h
     ∙ ap (λ i. get_or t i 0) (zipped_at down v 4 k e h)
@@ -286,7 +259,7 @@ pub low_digit : (t v : List ℕ) (k : ℕ) → length v ≡ 16 → Each1 (Fits w
 low_digit t v k e fits h =
     let hs = zip2 down v (replicate 16 4) in
     let js = zip2 bit_and v (replicate 16 15) in
-    let long : length js ≡ 16 = length-zip2 bit_and v (replicate 16 15) e ∙ e in
+    let long : length js ≡ 16 = grind (arith, length-zip2) in
     second_at (swz_l w8 16 t 0 hs) (swz_l w8 16 t 0 js) k
     (length-swz_l w8 16 t 0 hs ∙ length-zip2 down v (replicate 16 4) e ∙ e) h
     ∙ table_at t js k long (low_small v) h

@@ -1,6 +1,5 @@
 -- What a lane's value says of a digit, and which bytes the digits encode.
-use Rattle.std.specs.Prelude.{◌≡◌, ℕ, ◌+◌, ◌*◌, ◌<◌, nat_lt, if◌then◌else◌, List, slice_index, Some}
-use Rattle.std.specs.Prelude.{None, Ok}
+use Rattle.std.specs.Prelude.{◌≡◌, ℕ, ◌+◌, ◌*◌, ◌<◌, nat_lt, if◌then◌else◌, List, slice_index, Some, None, Ok}
 use Rattle.hex.specs.Hex.{hex_digit_value, pair_value}
 
 -- a value below 16 is that of the digit c, and any other says that c is no digit

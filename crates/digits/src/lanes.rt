@@ -1,6 +1,6 @@
 //! One block: 32 digits, which are 16 bytes, in the lanes of a vector.
-ghost use Rattle.std.specs.Prelude.{◌≡◌, ℕ, ◌+◌, ◌-◌, ◌*◌, ◌/◌, ◌%◌, ◌<◌, ◌≤◌, ◌↔◌, ◌++◌, length};
-ghost use Rattle.std.specs.Prelude.{replicate, slice_index, IsTrue};
+ghost use Rattle.std.specs.Prelude.{◌≡◌, ℕ, ◌+◌, ◌-◌, ◌*◌, ◌/◌, ◌%◌, ◌<◌, ◌≤◌, ◌↔◌, ◌++◌, length, replicate};
+ghost use Rattle.std.specs.Prelude.{slice_index, IsTrue};
 ghost use Rattle.hex.specs.Hex.{lower_digits};
 ghost use Rattle.digits.specs.Digits.{Reads, AreDigitValues};
 

@@ -1,6 +1,6 @@
 -- Sums of chunks of a text, each filled up to whole words.
-use Rattle.std.proofs.Common.{append-nil, ◌≡◌, ℕ, ◌+◌, ◌%◌, ◌<◌, List, [], ◌∷◌, ◌++◌, length, take}
-use Rattle.std.proofs.Common.{get_or, replicate, sym, ap, ◌∙◌, refl, arith, length-append}
+use Rattle.std.proofs.Common.{append-nil, ◌≡◌, ℕ, ◌+◌, ◌<◌, List, ◌∷◌, ◌++◌, length, take, [], get_or, sym, ap, ◌∙◌}
+use Rattle.std.proofs.Common.{refl, arith, length-append}
 use Rattle.std.specs.List.{sum_by, flat_map}
 use Rattle.std.proofs.lemmas.List.Concat.{flat_map-cons, concat_is}
 use Rattle.std.proofs.lemmas.List.Sorted.{sum_by-IsPermutation}
@@ -23,14 +23,7 @@ chunk_more f sum next xs i d h so step =
 total-whole_words_before : (chunk rest : List ℕ)
     → total (whole_words chunk ++ rest) ≡ total chunk + total rest
 total-whole_words_before chunk rest =
-    let even : length (whole_words chunk) % 2 ≡ 0 =
-    omega (
-      arith,
-      length-append chunk (replicate (length chunk % 2) 0),
-      length-replicate {A = ℕ}
-          (length chunk % 2) 0,
-    ) in
-    total-append (whole_words chunk) rest even ∙ ap (λ n. n + total rest) (total-whole_words chunk)
+    grind (arith, length-append, length-replicate, total-append, total-whole_words)
 
 pub total-chunks : {X : Type 0} (f : X → List ℕ) (xs : List X)
     → total (flat_map (λ x. whole_words (f x)) xs) ≡ sum_by (λ x. total (f x)) xs
@@ -46,9 +39,7 @@ total-concat : (chunks : List (List ℕ)) → IsCutAtWords chunks
     → total (flat_map (λ x. x) chunks) ≡ sum_by total chunks
 unfolding total
 total-concat [] h = refl
-total-concat (p ∷ []) h =
-    ap total (flat_map-cons (λ x. x) p []) ∙ ap total (append-nil p)
-    ∙ sym (sum_by-cons total p [] ∙ omega arith)
+total-concat (p ∷ []) h = grind (arith, flat_map-cons, append-nil, sum_by-cons)
 total-concat (p ∷ q ∷ rest) h =
     ap total (flat_map-cons (λ x. x) p (q ∷ rest))
     ∙ total-append p (flat_map (λ x. x) (q ∷ rest)) h.0
@@ -59,5 +50,4 @@ pub fold_of_pieces : FoldOfChunks
 fold_of_pieces text chunks order whole cut moved =
     let parts = total-chunks (λ x. x) order in
     let same = sum_by-IsPermutation total chunks order moved in
-    ap fold (parts ∙ same ∙ sym (total-concat chunks cut)
-    ∙ sym (ap total (concat_is chunks)) ∙ ap total whole)
+    grind (arith, total-concat, concat_is)

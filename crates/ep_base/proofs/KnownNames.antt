@@ -1,28 +1,15 @@
 -- The names of code points, by number.
-use Rattle.std.proofs.Common.{◌≡◌, ◌==◌, if◌then◌else◌, ℕ, Ok, Err, sym, ap, ◌∙◌, refl}
+use Rattle.std.proofs.Common.{arith, ◌≡◌, ◌==◌, if◌then◌else◌, ℕ, Ok, Err, sym, ap, ◌∙◌, refl}
 use Rattle.ep_base.specs.declared.net.ip_dscp_known.IpDscpKnown.{IpDscpKnown}
-use Rattle.ep_base.specs.declared.net.ip_dscp_known.IpDscpKnown.TheVariants.{ClassSelector0}
-use Rattle.ep_base.specs.declared.net.ip_dscp_known.IpDscpKnown.TheVariants.{ClassSelector1}
-use Rattle.ep_base.specs.declared.net.ip_dscp_known.IpDscpKnown.TheVariants.{ClassSelector2}
-use Rattle.ep_base.specs.declared.net.ip_dscp_known.IpDscpKnown.TheVariants.{ClassSelector3}
-use Rattle.ep_base.specs.declared.net.ip_dscp_known.IpDscpKnown.TheVariants.{ClassSelector4}
-use Rattle.ep_base.specs.declared.net.ip_dscp_known.IpDscpKnown.TheVariants.{ClassSelector5}
-use Rattle.ep_base.specs.declared.net.ip_dscp_known.IpDscpKnown.TheVariants.{ClassSelector6}
-use Rattle.ep_base.specs.declared.net.ip_dscp_known.IpDscpKnown.TheVariants.{ClassSelector7}
-use Rattle.ep_base.specs.declared.net.ip_dscp_known.IpDscpKnown.TheVariants.{AfGroup1Low}
-use Rattle.ep_base.specs.declared.net.ip_dscp_known.IpDscpKnown.TheVariants.{AfGroup1Medium}
-use Rattle.ep_base.specs.declared.net.ip_dscp_known.IpDscpKnown.TheVariants.{AfGroup1High}
-use Rattle.ep_base.specs.declared.net.ip_dscp_known.IpDscpKnown.TheVariants.{AfGroup2Low}
-use Rattle.ep_base.specs.declared.net.ip_dscp_known.IpDscpKnown.TheVariants.{AfGroup2Medium}
-use Rattle.ep_base.specs.declared.net.ip_dscp_known.IpDscpKnown.TheVariants.{AfGroup2High}
-use Rattle.ep_base.specs.declared.net.ip_dscp_known.IpDscpKnown.TheVariants.{AfGroup3Low}
-use Rattle.ep_base.specs.declared.net.ip_dscp_known.IpDscpKnown.TheVariants.{AfGroup3Medium}
-use Rattle.ep_base.specs.declared.net.ip_dscp_known.IpDscpKnown.TheVariants.{AfGroup3High}
-use Rattle.ep_base.specs.declared.net.ip_dscp_known.IpDscpKnown.TheVariants.{AfGroup4Low}
-use Rattle.ep_base.specs.declared.net.ip_dscp_known.IpDscpKnown.TheVariants.{AfGroup4Medium}
-use Rattle.ep_base.specs.declared.net.ip_dscp_known.IpDscpKnown.TheVariants.{AfGroup4High}
-use Rattle.ep_base.specs.declared.net.ip_dscp_known.IpDscpKnown.TheVariants.{ExpeditedForwarding}
-use Rattle.ep_base.specs.declared.net.ip_dscp_known.IpDscpKnown.TheVariants.{VoiceAdmit}
+use Rattle.ep_base.specs.declared.net.ip_dscp_known.IpDscpKnown.TheVariants.{ClassSelector0, ClassSelector1}
+use Rattle.ep_base.specs.declared.net.ip_dscp_known.IpDscpKnown.TheVariants.{ClassSelector2, ClassSelector3}
+use Rattle.ep_base.specs.declared.net.ip_dscp_known.IpDscpKnown.TheVariants.{ClassSelector4, ClassSelector5}
+use Rattle.ep_base.specs.declared.net.ip_dscp_known.IpDscpKnown.TheVariants.{ClassSelector6, ClassSelector7}
+use Rattle.ep_base.specs.declared.net.ip_dscp_known.IpDscpKnown.TheVariants.{AfGroup1Low, AfGroup1Medium, AfGroup1High}
+use Rattle.ep_base.specs.declared.net.ip_dscp_known.IpDscpKnown.TheVariants.{AfGroup2Low, AfGroup2Medium, AfGroup2High}
+use Rattle.ep_base.specs.declared.net.ip_dscp_known.IpDscpKnown.TheVariants.{AfGroup3Low, AfGroup3Medium, AfGroup3High}
+use Rattle.ep_base.specs.declared.net.ip_dscp_known.IpDscpKnown.TheVariants.{AfGroup4Low, AfGroup4Medium, AfGroup4High}
+use Rattle.ep_base.specs.declared.net.ip_dscp_known.IpDscpKnown.TheVariants.{ExpeditedForwarding, VoiceAdmit}
 use Rattle.ep_base.specs.declared.net.ip_dscp_known.IpDscpKnown.TheVariants.{LowerEffort}
 use Rattle.ep_base.specs.IpDscpKnown.{code_point, KnownRoundTrip}
 
@@ -52,29 +39,7 @@ name_of n = if n == 0 then ClassSelector0
     else (if n == 44 then VoiceAdmit else (LowerEffort))))))))))))))))))))))
 
 name_of-code_point : (known : IpDscpKnown) → name_of (code_point known) ≡ known
-name_of-code_point ClassSelector0 = refl
-name_of-code_point ClassSelector1 = refl
-name_of-code_point ClassSelector2 = refl
-name_of-code_point ClassSelector3 = refl
-name_of-code_point ClassSelector4 = refl
-name_of-code_point ClassSelector5 = refl
-name_of-code_point ClassSelector6 = refl
-name_of-code_point ClassSelector7 = refl
-name_of-code_point AfGroup1Low = refl
-name_of-code_point AfGroup1Medium = refl
-name_of-code_point AfGroup1High = refl
-name_of-code_point AfGroup2Low = refl
-name_of-code_point AfGroup2Medium = refl
-name_of-code_point AfGroup2High = refl
-name_of-code_point AfGroup3Low = refl
-name_of-code_point AfGroup3Medium = refl
-name_of-code_point AfGroup3High = refl
-name_of-code_point AfGroup4Low = refl
-name_of-code_point AfGroup4Medium = refl
-name_of-code_point AfGroup4High = refl
-name_of-code_point ExpeditedForwarding = refl
-name_of-code_point VoiceAdmit = refl
-name_of-code_point LowerEffort = refl
+name_of-code_point known = grind arith
 
 pub known_round_trip : KnownRoundTrip
 known_round_trip known (Ok other) same =

@@ -1,8 +1,6 @@
 -- The sum of a message with a checksum in it.
-use Rattle.std.proofs.Common.{◌≡◌, ap, refl, ℕ, zero, suc, ◌+◌, ◌-◌, ◌%◌, ◌<◌, ◌≤◌, Bool, true}
-use Rattle.std.proofs.Common.{IsTrue, not, ◌&&◌, eqb, List, ◌++◌, length, arith}
-use Rattle.std.proofs.lemmas.Bool.{eq-eqb, ne_eqb}
-use Rattle.std.specs.Int.{w16, to_be_bytes}
+use Rattle.std.proofs.Common.{◌≡◌, refl, ℕ, ◌+◌, ◌-◌, ◌%◌, ◌<◌, ◌≤◌, Bool, true, IsTrue, not, ◌&&◌, eqb, List, ◌++◌}
+use Rattle.std.proofs.Common.{length, arith}
 use Rattle.ep_base.specs.Sum.{fold, no_zero, total}
 use Rattle.ep_base.specs.MessageSum.{with_word, ChecksumSumsToAllOnes, NoZeroSumsToAllOnes}
 use Rattle.ep_base.proofs.Totals.{total-append}
@@ -12,49 +10,33 @@ both_of : (a b : Bool) → a ≡ true → b ≡ true → IsTrue (a && b)
 both_of a b p q = rw (p, q) refl
 
 divided : (t : ℕ) → 0 < t → t % 65535 ≡ 0 → IsTrue (not (eqb t 0) && eqb (t % 65535) 0)
-divided t positive rest = both_of _ _ (ap not (ne_eqb t 0 (λ e. omega arith)))
-    (eq-eqb (t % 65535) 0 rest)
+divided t positive rest = grind arith
 
 -- a sum and its complement
 with_complement : (rest : ℕ) → (0 < rest + (65535 - fold rest))
     × ((rest + (65535 - fold rest)) % 65535 ≡ 0)
 unfolding fold
-with_complement zero = (omega arith, omega arith)
-with_complement (suc n) = (omega arith, omega arith)
+with_complement rest = grind arith
 
 -- the same with ffff instead of 0
 with_no_zero : (rest c : ℕ) → 0 < rest + c → (rest + c) % 65535 ≡ 0
     → (0 < rest + no_zero c) × ((rest + no_zero c) % 65535 ≡ 0)
-with_no_zero rest zero positive divides = (omega arith, omega arith)
-with_no_zero rest (suc n) positive divides = (positive, divides)
+with_no_zero rest c positive divides = grind arith
 
 no_zero_small : (n : ℕ) → n ≤ 65535 → no_zero n ≤ 65535
-no_zero_small zero small = omega arith
-no_zero_small (suc n) small = small
+no_zero_small n small = grind arith
 
 -- a word in a text is one word of its sum
 total-with_word : (before after : List ℕ) (word : ℕ) → length before % 2 ≡ 0 → word ≤ 65535
     → total (with_word before word after) ≡ total (with_word before 0 after) + word
 unfolding total
-total-with_word before after word even small =
-    omega (
-      arith,
-      total-append before (to_be_bytes w16 word ++ after) even,
-      total-append before
-          (to_be_bytes w16 0 ++ after) even,
-    )
+total-with_word before after word even small = grind (arith, total-append)
 
 -- a word of zeros adds nothing
 pub total-zero_word : (before after : List ℕ) → length before % 2 ≡ 0
     → total (before ++ after) ≡ total (with_word before 0 after)
 unfolding total
-total-zero_word before after even =
-    omega (
-      arith,
-      total-append before after even,
-      total-append before
-          (to_be_bytes w16 0 ++ after) even,
-    )
+total-zero_word before after even = grind (arith, total-append)
 
 pub checksum_sums : ChecksumSumsToAllOnes
 checksum_sums before after even =

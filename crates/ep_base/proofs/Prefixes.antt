@@ -1,7 +1,6 @@
 -- A prefix of some bytes, which is taken after tests that may fail with an error.
-use Rattle.std.proofs.Common.{◌≡◌, ℕ, ◌-◌, Bool, true, false, cond, List, ◌++◌, length, take, drop}
-use Rattle.std.proofs.Common.{get_or, Result, Ok, Err, IfOk, arith, refl, sym, ap, ◌∙◌, ⊎_elim}
-use Rattle.std.proofs.lemmas.Bool.{cases_lt}
+use Rattle.std.proofs.Common.{◌≡◌, ℕ, ◌-◌, Bool, true, false, cond, List, ◌++◌, length, take, drop, Result, Ok, Err}
+use Rattle.std.proofs.Common.{IfOk, arith, refl, sym, ap, ◌∙◌}
 use Rattle.std.proofs.lemmas.List.{get_or_append_left, get_or_past, take_rest, drop_at}
 use Rattle.ep_base.specs.Bytes.{IsBytes}
 use Rattle.ep_base.specs.Prefixes.{IsReadAs, TakesPrefix}
@@ -32,15 +31,7 @@ err_ok e x h = cc
 
 -- a prefix of bytes consists of bytes
 pub prefix_fits : (bytes prefix rest : List ℕ) → bytes ≡ prefix ++ rest → IsBytes bytes → IsBytes prefix
-prefix_fits bytes prefix rest e fits i =
-    ⊎_elim (λ inside. omega (
-      arith,
-      fits i,
-      ap (λ (xs : List ℕ). get_or xs i 0) e
-          ∙ get_or_append_left prefix rest 0 i inside,
-    ))
-    (λ past. omega (arith, get_or_past prefix i 0 past))
-    (cases_lt i (length prefix))
+prefix_fits bytes prefix rest e fits i = grind (arith, get_or_append_left, get_or_past)
 
 -- the bytes after the prefix, as the code takes them
 pub rest_of : (n : ℕ) (bytes prefix rest : List ℕ) → bytes ≡ prefix ++ rest → length prefix ≡ n

@@ -1,14 +1,13 @@
 -- Laws of `total`, and words that are read low byte first.
-use Rattle.std.proofs.Common.{replicate, ◌≡◌, ℕ, zero, suc, ◌+◌, ◌*◌, ◌%◌, ◌≤◌, List, [], ◌∷◌, ◌++◌}
-use Rattle.std.proofs.Common.{length, take, drop, sym, ap, ◌∙◌, refl, arith, inl, inr}
+use Rattle.std.proofs.Common.{replicate, ◌≡◌, ℕ, zero, suc, ◌+◌, ◌*◌, ◌%◌, ◌≤◌, List, ◌∷◌, ◌++◌, [], length, take, drop}
+use Rattle.std.proofs.Common.{ap, refl, arith, inl, inr}
 use Rattle.std.specs.Int.{from_le_bytes, w16, w32, w64}
 use Rattle.std.specs.Simd.{first_chunks}
 use Rattle.std.specs.List.{sum_by}
 use Rattle.std.proofs.lemmas.List.Sums.{sum_by-cons}
 use Rattle.std.proofs.lemmas.List.{take-append-drop, length-take-le, drop-drop, length-drop}
 use Rattle.ep_base.specs.Sum.{fold, total, total_low, accumulator_sum, whole_words}
-use Rattle.ep_base.proofs.Folds.{fold_add, fold_add_right, fold_around_16, fold_around_32}
-use Rattle.ep_base.proofs.Folds.{fold_step, zero_or_pos}
+use Rattle.ep_base.proofs.Folds.{fold_add, fold_add_right, fold_around_16, fold_around_32, fold_step, zero_or_pos}
 
 -- a prefix of even length consists of whole words
 pub total-append : (xs ys : List ℕ) → length xs % 2 ≡ 0 → total (xs ++ ys) ≡ total xs + total ys
@@ -25,7 +24,7 @@ unfolding total
 accumulator_sum_2 (a ∷ b ∷ []) e =
     let bytes : 256 * from_le_bytes w16 (a ∷ b ∷ []) ≡ 256 * a + 65536 * b = omega arith in
     let words : 256 * a + b ≡ total (a ∷ b ∷ []) = omega arith in
-    ap fold bytes ∙ fold_around_16 (256 * a) b ∙ ap fold words
+    grind (arith, fold_around_16)
 accumulator_sum_2 t e = absurd (omega arith)
 
 -- the four bytes of a number, low byte first, as words
@@ -35,8 +34,7 @@ fold_four a b c d =
     let inner : 256 * a + (b + 256 * c + 65536 * d)
     ≡ (256 * a + b + 256 * c) + 65536 * d = omega arith in
     let words : (256 * a + b + 256 * c) + d ≡ 256 * a + b + (256 * c + d) = omega arith in
-    fold_around_16 (256 * a) (b + 256 * c + 65536 * d) ∙ ap fold inner
-    ∙ fold_around_16 (256 * a + b + 256 * c) d ∙ ap fold words
+    grind (arith, fold_around_16)
 
 pub accumulator_sum_4 : (t : List ℕ) → length t ≡ 4
     → accumulator_sum (from_le_bytes w32 t) ≡ fold (total t)
@@ -45,7 +43,7 @@ accumulator_sum_4 (a ∷ b ∷ c ∷ d ∷ []) e =
     let bytes : 256 * from_le_bytes w32 (a ∷ b ∷ c ∷ d ∷ [])
     ≡ 256 * a + 65536 * (b + 256 * c + 65536 * d) = omega arith in
     let words : 256 * a + b + (256 * c + d) ≡ total (a ∷ b ∷ c ∷ d ∷ []) = omega arith in
-    ap fold bytes ∙ fold_four a b c d ∙ ap fold words
+    grind (arith, fold_four)
 accumulator_sum_4 t e = absurd (omega arith)
 
 pub accumulator_sum_8 : (t : List ℕ) → length t ≡ 8
@@ -60,15 +58,13 @@ accumulator_sum_8 (a ∷ b ∷ c ∷ d ∷ e ∷ f ∷ g ∷ h ∷ []) long =
     omega arith in
     let words : 256 * (a + e) + (b + f) + (256 * (c + g) + (d + h))
     ≡ total (a ∷ b ∷ c ∷ d ∷ e ∷ f ∷ g ∷ h ∷ []) = omega arith in
-    ap fold bytes ∙ fold_around_32 low high ∙ ap fold both
-    ∙ fold_four (a + e) (b + f) (c + g) (d + h) ∙ ap fold words
+    grind (arith, fold_around_32, fold_four)
 accumulator_sum_8 t long = absurd (omega arith)
 
 -- a word that encodes a text is added
 pub word_more : (sum word next : ℕ) (text : List ℕ) → next ≡ fold (sum + word)
     → word ≡ fold (total text) → next ≡ fold (sum + total text)
-word_more sum word next text step is = step ∙ ap (λ w. fold (sum + w)) is
-    ∙ fold_add_right sum (total text)
+word_more sum word next text step is = grind (arith, fold_add_right)
 
 -- ---- a text whose words are read low byte first
 
@@ -88,9 +84,8 @@ total_low_zero (a ∷ b ∷ t) none = omega (arith, total_low_zero t (omega arit
 
 pub accumulator_sum_total_low : (t : List ℕ) → accumulator_sum (total_low t) ≡ fold (total t)
 accumulator_sum_total_low t = elim (zero_or_pos (total t)) [
-  | inl none ↦ ap fold (let e : 256 * total_low t ≡ total t =
-      omega (arith, total_low_zero t none) in e)
-  | inr some ↦ let r = total_low_times t in ap fold r.1 ∙ fold_step (total t) r.0 some
+  | inl none ↦ grind (arith, total_low_zero)
+  | inr some ↦ let r = total_low_times t in grind (arith, fold_step)
 ]
 
 -- ---- a text cut into blocks
@@ -98,28 +93,17 @@ accumulator_sum_total_low t = elim (zero_or_pos (total t)) [
 -- k blocks of an even length each, and what is left
 pub total-first_chunks : (n k : ℕ) (xs : List ℕ) → n % 2 ≡ 0 → k * n ≤ length xs
     → total xs ≡ sum_by total (first_chunks n k xs) + total (drop (k * n) xs)
-total-first_chunks n zero xs e le =
-    let none : zero * n ≡ zero = omega arith in
-    let all : drop (zero * n) xs ≡ xs = ap (λ i. drop i xs) none in
-    omega (arith, ap total all)
+total-first_chunks n zero xs e le = grind arith
 total-first_chunks n (suc k) xs e le =
     let cut : total (take n xs ++ drop n xs) ≡ total xs = ap total (take-append-drop n xs) in
     let prefix : length (take n xs) % 2 ≡ 0 =
-    ap (λ k. k % 2) (length-take-le n xs (omega arith)) ∙ e in
+    grind (arith, length-take-le) in
     let here = total-append (take n xs) (drop n xs) prefix in
     let more = total-first_chunks n k (drop n xs) e (omega (arith, length-drop n xs)) in
     let position : n + k * n ≡ suc k * n = omega arith in
     let rest : drop (k * n) (drop n xs) ≡ drop (suc k * n) xs =
-    drop-drop (k * n) n xs ∙ ap (λ i. drop i xs) position in
-    omega (
-      arith,
-      cut,
-      here,
-      more,
-      ap total rest,
-      sum_by-cons total (take n xs)
-          (first_chunks n k (drop n xs)),
-    )
+    grind (arith, drop-drop) in
+    grind (arith, sum_by-cons)
 
 -- ---- a text built up chunk by chunk
 
@@ -144,13 +128,9 @@ total-whole_words chunk = total-zeros_after chunk (length chunk % 2)
 pub text_more : (sum next : ℕ) (text chunk : List ℕ) → next ≡ fold (sum + total chunk)
     → length text % 2 ≡ 0 → sum ≡ fold (total text)
     → next ≡ fold (total (text ++ chunk))
-text_more sum next text chunk step even so =
-    step ∙ ap (λ s. fold (s + total chunk)) so ∙ fold_add (total text) (total chunk)
-    ∙ ap fold (sym (total-append text chunk even))
+text_more sum next text chunk step even so = grind (arith, fold_add, total-append)
 
 pub whole_words_more : (sum next : ℕ) (text chunk : List ℕ) → next ≡ fold (sum + total chunk)
     → length text % 2 ≡ 0 → sum ≡ fold (total text)
     → next ≡ fold (total (text ++ whole_words chunk))
-whole_words_more sum next text chunk step even so =
-    text_more sum next text (whole_words chunk)
-    (step ∙ ap (λ n. fold (sum + n)) (sym (total-whole_words chunk))) even so
+whole_words_more sum next text chunk step even so = grind (arith, text_more, total-whole_words)

@@ -3,8 +3,7 @@ use Rattle.std.specs.Prelude.{◌≡◌, ℕ, zero, suc, ◌<◌, ◌≤◌, Res
 use Rattle.ep_base.specs.declared.err.value_too_big_error.ValueTooBigError.{ValueTooBigError}
 use Rattle.ep_base.specs.declared.err.value_type.ValueType.TheVariants as kind
 use Rattle.ep_base.specs.declared.net.ip_ecn.IpEcn.{IpEcn}
-use Rattle.ep_base.specs.declared.net.ip_ecn.IpEcn.TheVariants.{NotEct, Ect1, Ect0}
-use Rattle.ep_base.specs.declared.net.ip_ecn.IpEcn.TheVariants.{CongestionExperienced}
+use Rattle.ep_base.specs.declared.net.ip_ecn.IpEcn.TheVariants.{NotEct, Ect1, Ect0, CongestionExperienced}
 use Rattle.ep_base.specs.Bounded.{too_big}
 
 -- the number of a notification

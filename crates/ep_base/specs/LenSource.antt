@@ -1,10 +1,8 @@
 -- The sources of lengths in their order.
 use Rattle.std.specs.Prelude.{ℕ}
 use Rattle.ep_base.specs.declared.len_source.LenSource.{LenSource}
-use Rattle.ep_base.specs.declared.len_source.LenSource.TheVariants.{Slice, MacsecShortLength}
-use Rattle.ep_base.specs.declared.len_source.LenSource.TheVariants.{Ipv4HeaderTotalLen}
-use Rattle.ep_base.specs.declared.len_source.LenSource.TheVariants.{Ipv6HeaderPayloadLen}
-use Rattle.ep_base.specs.declared.len_source.LenSource.TheVariants.{UdpHeaderLen, TcpHeaderLen}
+use Rattle.ep_base.specs.declared.len_source.LenSource.TheVariants.{Slice, MacsecShortLength, Ipv4HeaderTotalLen}
+use Rattle.ep_base.specs.declared.len_source.LenSource.TheVariants.{Ipv6HeaderPayloadLen, UdpHeaderLen, TcpHeaderLen}
 use Rattle.ep_base.specs.declared.len_source.LenSource.TheVariants.{ArpAddrLengths}
 
 -- the index of a source among them: the slice, then the fields by layer, as they are declared

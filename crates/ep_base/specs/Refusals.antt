@@ -1,6 +1,5 @@
 -- Refusals in their order: of several that apply, the first is returned.
-use Rattle.std.specs.Prelude.{Bool, List, [], ◌∷◌, Option, None, Some, Result, Ok, Err}
-use Rattle.std.specs.Prelude.{if◌then◌else◌}
+use Rattle.std.specs.Prelude.{Bool, List, [], ◌∷◌, Option, None, Some, Result, Ok, Err, if◌then◌else◌}
 
 -- a value, or the first of these refusals whose condition holds
 abbrev pub unless_refused : {A E : Type 0} → List (Bool × E) → A → Result A E

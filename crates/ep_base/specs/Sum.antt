@@ -1,8 +1,7 @@
 -- The Internet checksum (RFC 1071, sections 1 and 2): a ones-complement sum of 16-bit words, and
 -- its complement.
-use Rattle.std.specs.Prelude.{◌≡◌, ◌≢◌, ◌<◌, IsPermutation, IsTrue, false, ℕ, zero, suc, ◌+◌, ◌-◌}
-use Rattle.std.specs.Prelude.{◌*◌, ◌%◌, ◌==◌, ◌&&◌, not, Bool, List, [], ◌∷◌, ◌++◌, length}
-use Rattle.std.specs.Prelude.{replicate}
+use Rattle.std.specs.Prelude.{◌≡◌, ◌≢◌, ◌<◌, IsPermutation, IsTrue, false, ℕ, zero, suc, ◌+◌, ◌-◌, ◌*◌, ◌%◌, ◌==◌, ◌&&◌}
+use Rattle.std.specs.Prelude.{not, Bool, List, [], ◌∷◌, ◌++◌, length, replicate}
 use Rattle.std.specs.List.{flat_map, concat}
 
 -- the sum of a text's 16-bit words, high byte first; an odd last byte is followed by a zero byte

@@ -5,8 +5,7 @@ ghost use Rattle.std.specs.Int.{swap_bytes, w16};
 ghost use Rattle.std.proofs.Common.{rules};
 ghost use Rattle.std.specs.Cmp.Rules.{comparing};
 ghost use Rattle.std.specs.List.{flat_map};
-ghost use Rattle.ep_base.specs.Sum.{AddsText, accumulator_sum, all_ones, checksum, fold, no_zero};
-ghost use Rattle.ep_base.specs.Sum.{total, whole_words};
+ghost use Rattle.ep_base.specs.Sum.{AddsText, accumulator_sum, all_ones, checksum, fold, no_zero, total, whole_words};
 
 mod lanes;
 mod message;

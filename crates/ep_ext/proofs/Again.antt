@@ -1,8 +1,7 @@
 -- What is read from the bytes of an authentication header is encoded by them, reserved bytes aside.
-use Rattle.std.proofs.Common.{◌≡◌, ℕ, ◌+◌, ◌/◌, List, length, drop, get_or, arith, refl}
+use Rattle.std.proofs.Common.{◌≡◌, ℕ, ◌+◌, ◌/◌, List, length, drop, get_or, arith}
 use Rattle.std.proofs.lemmas.List.{length-drop}
 use Rattle.ep_base.specs.Bytes.{IsBytes}
-use Rattle.ep_base.proofs.Cells.{drop-cells, take-drop-cells}
 use Rattle.ep_base.proofs.Numbers.{digits_of}
 use Rattle.ep_ext.specs.Auth.{IsAuth, auth_of, auth_encoding, auth_cleared}
 
@@ -15,18 +14,4 @@ auth_encoded bytes header fits =
     (fits 4) (fits 5) (fits 6) (fits 7) in
     let sequence = digits_of (get_or bytes 8 0) (get_or bytes 9 0) (get_or bytes 10 0)
     (get_or bytes 11 0) (fits 8) (fits 9) (fits 10) (fits 11) in
-    rw (
-      words,
-      spi.0,
-      spi.1,
-      spi.2,
-      spi.3,
-      sequence.0,
-      sequence.1,
-      sequence.2,
-      sequence.3,
-      take-drop-cells 2 0 bytes (omega (arith, header.least)),
-      drop-cells 8 4 bytes
-          (omega (arith, header.least)),
-    )
-    refl
+    grind arith

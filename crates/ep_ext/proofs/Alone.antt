@@ -1,5 +1,5 @@
 -- Bytes start with at most one header.
-use Rattle.std.proofs.Common.{◌≡◌, ℕ, List, ◌++◌, sym, ap, ◌∙◌}
+use Rattle.std.proofs.Common.{arith, ◌≡◌, ℕ, List, ◌++◌, sym, ap, ◌∙◌}
 use Rattle.ep_ext.specs.Raw.{IsRawExt, raw_of, raw_at}
 use Rattle.ep_ext.specs.Fragment.{IsFragment, fragment_of, fragment_at}
 use Rattle.ep_ext.specs.Auth.{IsAuth, auth_of, auth_at}
@@ -14,7 +14,7 @@ raw_alone bytes a r b s x e y f =
 pub raw_read : (bytes a r b s : List ℕ) → IsRawExt a → bytes ≡ a ++ r → IsRawExt b → bytes ≡ b ++ s
     → (raw_of a ≡ raw_of b) × (r ≡ s)
 raw_read bytes a r b s x e y f = let same = raw_alone bytes a r b s x e y f in
-    (ap raw_of same, same_rest a b r s same (sym e ∙ f))
+    grind (arith, same_rest)
 
 pub fragment_alone : (bytes a r b s : List ℕ) → IsFragment a → bytes ≡ a ++ r → IsFragment b
     → bytes ≡ b ++ s → a ≡ b
@@ -24,7 +24,7 @@ fragment_alone bytes a r b s x e y f =
 pub fragment_read : (bytes a r b s : List ℕ) → IsFragment a → bytes ≡ a ++ r → IsFragment b
     → bytes ≡ b ++ s → (fragment_of a ≡ fragment_of b) × (r ≡ s)
 fragment_read bytes a r b s x e y f = let same = fragment_alone bytes a r b s x e y f in
-    (ap fragment_of same, same_rest a b r s same (sym e ∙ f))
+    grind (arith, same_rest)
 
 pub auth_alone : (bytes a r b s : List ℕ) → IsAuth a → bytes ≡ a ++ r → IsAuth b
     → bytes ≡ b ++ s → a ≡ b
@@ -34,4 +34,4 @@ auth_alone bytes a r b s x e y f =
 pub auth_read : (bytes a r b s : List ℕ) → IsAuth a → bytes ≡ a ++ r → IsAuth b → bytes ≡ b ++ s
     → (auth_of a ≡ auth_of b) × (r ≡ s)
 auth_read bytes a r b s x e y f = let same = auth_alone bytes a r b s x e y f in
-    (ap auth_of same, same_rest a b r s same (sym e ∙ f))
+    grind (arith, same_rest)

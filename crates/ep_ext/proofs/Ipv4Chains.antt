@@ -1,11 +1,10 @@
 -- The extension headers of an IPv4 packet.
-use Rattle.std.proofs.Common.{◌≡◌, ℕ, Bool, true, false, cond, not, eqb, List, ◌++◌, Option, Some}
-use Rattle.std.proofs.Common.{None, Result, Ok, Err, Bor, IsOkAnd, refl, sym, ap, ◌∙◌}
+use Rattle.std.proofs.Common.{arith, ◌≡◌, ℕ, Bool, true, cond, not, List, ◌++◌, Option, Some, None, Result, Ok, Bor}
+use Rattle.std.proofs.Common.{IsOkAnd, refl, sym, ap, ◌∙◌}
 use Rattle.std.proofs.lemmas.Bool.{eqb-true}
 use Rattle.ep_base.specs.declared.net.ip_number.IpNumber.{IpNumber}
 use Rattle.ep_ext.specs.Auth.{IsAuth, auth_of, auth_encoding}
-use Rattle.ep_ext.specs.Ipv4Exts.{Ipv4Chain, NamesAfter, auth_number, ipv4_exts_of}
-use Rattle.ep_ext.specs.Ipv4Exts.{ipv4_exts_encoding, number_after}
+use Rattle.ep_ext.specs.Ipv4Exts.{Ipv4Chain, NamesAfter, auth_number, ipv4_exts_of, ipv4_exts_encoding, number_after}
 use Rattle.ep_ext.specs.ReadsIpv4Exts.{IsOfAuth}
 use Rattle.ep_base.specs.declared.err.slice_error.SliceError.{SliceError}
 use Rattle.ep_ext.specs.declared.err.ip_auth.header_error.HeaderError.{HeaderError}
@@ -14,7 +13,6 @@ use Rattle.ep_ext.specs.declared.net.ip_auth_header.IpAuthHeader.{IpAuthHeader}
 use Rattle.ep_ext.specs.declared.net.ipv4_extensions.Ipv4Extensions.{Ipv4Extensions}
 use Rattle.ep_ext.specs.declared.net.ipv6_ext_slot.Ipv6ExtSlot.TheVariants.{Authentication}
 use Rattle.ep_ext.proofs.Prefixes.{same_prefix, same_rest}
-use Rattle.std.proofs.lemmas.Option.{none-some}
 
 abbrev pub Read : ℕ → List ℕ → IpAuthHeader → List ℕ → Type 0
 Read first bytes value rest = (header : List ℕ) × IsAuth header × (bytes ≡ header ++ rest)
@@ -28,8 +26,8 @@ pub read_found : (first : ℕ) (bytes rest : List ℕ) (value : IpAuthHeader) �
 read_found first bytes rest value is read = (
   Some read.0,
   record { named = (is, read.1); cut = read.2 },
-  ap (λ (h : IpAuthHeader). record { auth = Some h }) read.3,
-  ap (λ (h : IpAuthHeader). h.next_header.0) read.3,
+  cc read.3,
+  rw read.3,
 )
 
 pub read_only : (first : ℕ) (bytes rest : List ℕ) (value : IpAuthHeader) → first ≡ 51
@@ -42,11 +40,7 @@ read_only first bytes rest value is read (Some header) following chain =
     let same : read.0 ≡ header =
     same_prefix Authentication read.0 header rest following read.1 chain.named.1
     (sym read.2 ∙ chain.cut) in
-    let value_is : value ≡ auth_of header = read.3 ∙ ap auth_of same in (
-      ap (λ (h : IpAuthHeader). record { auth = Some h }) value_is,
-      ap (λ (h : IpAuthHeader). h.next_header.0) value_is,
-      same_rest read.0 header rest following same (sym read.2 ∙ chain.cut),
-    )
+    let value_is : value ≡ auth_of header = grind arith in grind (arith, same_rest)
 
 abbrev Answer : Type 0
 Answer = Ipv4Extensions × IpNumber × Bor (List ℕ)
@@ -61,13 +55,11 @@ given : (answer : Result Answer (SliceError HeaderError)) (v w : Ipv4Extensions)
     (rest : List ℕ) → v ≡ w → m ≡ n →
     IsOkAnd answer (λ r. (r.0 ≡ v) × (r.1.0 ≡ m) × (r.2.now ≡ rest))
     → IsOkAnd answer (λ r. (r.0 ≡ w) × (r.1.0 ≡ n) × (r.2.now ≡ rest))
-given (Ok r) v w m n rest e f is = (is.0 ∙ e, is.1 ∙ f, is.2)
-given (Err x) v w m n rest e f is = is
+given answer v w m n rest e f is = grind arith
 
 named_by : (b : Bool) (e : ExtsWalkError)
     → ◌≡◌ {A = Option ExtsWalkError} (cond (not b) (Some e) None) None → b ≡ true
-named_by true e is = refl
-named_by false e is = absurd (none-some e (sym is))
+named_by b e is = grind arith
 
 by_header : (auth : Option IpAuthHeader) (first : ℕ) (bytes : List ℕ)
     (answer : Result Answer (SliceError HeaderError)) → Only first bytes answer →
@@ -82,8 +74,7 @@ by_header None first bytes answer only whole number rest named unnamed cut =
     (only None rest (record { named = unnamed refl; cut = cut }))
 by_header (Some header) first bytes answer only whole number rest named unnamed cut =
     let h = whole header refl in
-    let is : first ≡ auth_number = eqb-true first auth_number
-    (named_by (eqb first auth_number) _ named.1) in
+    let is : first ≡ auth_number = grind (arith, eqb-true, named_by) in
     given answer _ _ _ _ rest (ap (λ (x : IpAuthHeader). record { auth = Some x }) h.1)
     (sym named.0)
     (only (Some (auth_encoding header)) rest (record { named = (is, h.0); cut = cut }))
@@ -105,10 +96,4 @@ pub answer_of : (first : ℕ) (bytes : List ℕ) (header : IpAuthHeader)
     → header ≡ auth_of bytes →
     ◌≡◌ {A = Ipv4Extensions × IpNumber} answer (record { auth = Some header }, header.next_header)
     → IsOfAuth first (Some bytes) answer
-answer_of first bytes header answer is whole read gives = record {
-  named = (is, whole);
-  value = ap (λ (x : Ipv4Extensions × IpNumber). x.0) gives
-      ∙ ap (λ (h : IpAuthHeader). record { auth = Some h }) read;
-  number = ap (λ (x : Ipv4Extensions × IpNumber). x.1.0) gives
-      ∙ ap (λ (h : IpAuthHeader). h.next_header.0) read;
-}
+answer_of first bytes header answer is whole read gives = grind arith

@@ -1,6 +1,5 @@
 -- What is read from a reader of known bytes.
-use Rattle.std.proofs.Common.{◌≡◌, ℕ, zero, suc, List, [], ◌++◌, length, Option, Some, Result, Ok}
-use Rattle.std.proofs.Common.{Err, get_or, arith, refl, sym, ap, ◌∙◌}
+use Rattle.std.proofs.Common.{◌≡◌, ℕ, List, ◌++◌, Option, Some, Result, Ok, Err, get_or, arith, refl, ap, ◌∙◌, []}
 use Rattle.std.proofs.lemmas.Bool.{le-ltb, eq-eqb}
 use Rattle.std.proofs.lemmas.List.{length-append}
 use Rattle.std.specs.Prelude.{IfOk, IfErr, MatchResult}
@@ -14,15 +13,12 @@ use Rattle.ep_ext.specs.ReadsExts.{IsWholeRow, IsExtsIo, ReadsRow, RefusesRow}
 use Rattle.ep_ext.specs.Value.{Piece, slots, bytes_of, value_of}
 use Rattle.ep_ext.specs.declared.err.ip_auth.header_error.HeaderError.{HeaderError as AuthFault}
 use Rattle.ep_base.specs.declared.err.slice_error.SliceError.TheVariants as slice_error
-use Rattle.ep_ext.specs.declared.err.ipv6_exts.header_error.HeaderError.TheVariants.{HopByHopNotAtStart}
-use Rattle.ep_ext.specs.declared.err.ipv6_exts.header_error.HeaderError.TheVariants.{IpAuth}
+use Rattle.ep_ext.specs.declared.err.ipv6_exts.header_error.HeaderError.TheVariants.{HopByHopNotAtStart, IpAuth}
 use Rattle.ep_ext.specs.declared.err.ipv6_exts.header_read_error.HeaderReadError.{HeaderReadError}
-use Rattle.ep_ext.specs.declared.err.ipv6_exts.header_read_error.HeaderReadError.TheVariants.{Io}
-use Rattle.ep_ext.specs.declared.err.ipv6_exts.header_read_error.HeaderReadError.TheVariants.{Content}
+use Rattle.ep_ext.specs.declared.err.ipv6_exts.header_read_error.HeaderReadError.TheVariants.{Io, Content}
 use Rattle.ep_ext.specs.declared.net.ipv6_ext_slot.Ipv6ExtSlot.TheVariants.{Authentication}
 use Rattle.ep_ext.specs.declared.net.ipv6_extensions.Ipv6Extensions.{Ipv6Extensions}
 use Rattle.ep_ext.proofs.Reading.{consumed_some, not_zero, second}
-use Rattle.std.proofs.lemmas.Option.{none-some}
 use Rattle.ep_ext.proofs.Rows.{chain_alone, end_closed, end_fault}
 
 whole_chain : (first : ℕ) (pieces : List Piece) (last : ℕ) (rest : List ℕ)
@@ -42,28 +38,16 @@ pub read_same : (first : ℕ) (old new : Option (List ℕ)) (answer : Ipv6Extens
 read_same first old new answer reads pieces last rest whole known =
     let given = consumed_some old new (bytes_of pieces ++ rest) (bytes_of reads.0) known reads.2 in
     let chain : Chain slot_of first (bytes_of pieces ++ rest) reads.0 answer.1.0 given.0 =
-    record {
-      row = reads.1.row;
-      cut = given.1;
-      ended = end_closed slot_of (slots reads.0) answer.1.0 given.0 reads.1.closed;
-    } in
+    grind arith in
     let same = chain_alone slot_of first (bytes_of pieces ++ rest) reads.0 pieces answer.1.0 last
     given.0 rest chain (whole_chain first pieces last rest whole) in
-    (reads.3 ∙ ap value_of same.0, same.1, given.2 ∙ ap Some same.2)
+    grind arith
 
 -- the fault of 12 bytes is that of all
 fault_by : (prefix following : List ℕ) (e : AuthFault) (b : ℕ) → HasContentFault prefix e
     → get_or prefix 1 0 ≡ b → auth_at (prefix ++ following) ≡ Err (slice_error.Content e)
-fault_by prefix following e zero fault is =
-    let len = length-append prefix following in
-    rw (
-      second prefix following (omega (arith, fault.whole)),
-      le-ltb (length (prefix ++ following)) 12 (omega (arith, fault.whole)),
-      eq-eqb (get_or prefix 1 0) 0 is,
-    )
-    (sym (rw (le-ltb (length prefix) 12 (omega (arith, fault.whole)), eq-eqb (get_or prefix 1 0) 0 is)
-    refl) ∙ fault.fault)
-fault_by prefix following e (suc b) fault is = absurd (not_zero prefix e b fault.fault fault.whole is)
+fault_by prefix following e b fault is =
+    grind (arith, length-append, second, le-ltb, eq-eqb, not_zero)
 
 module _ (first : ℕ) (pieces : List Piece) (last : ℕ) (rest : List ℕ)
     (whole : IsWholeRow first pieces last) where
@@ -98,18 +82,14 @@ module _ (first : ℕ) (pieces : List Piece) (last : ℕ) (rest : List ℕ)
   pub read_refused : (old new : Option (List ℕ)) (e : HeaderReadError) → RefusesRow first old e new
       → old ≡ Some (bytes_of pieces ++ rest) → IsExtsIo e
   read_refused old new (Io e) refused known = tt
-  read_refused old new (Content HopByHopNotAtStart) refused known =
-      let at = refused.6 in
-      let same = alone old refused.2 refused.0 refused.1 known refused.3 refused.5
-      (λ following is. end_closed slot_of (slots refused.0) refused.1 following at.0) in
-      absurd (whole.number (sym same.1 ∙ at.1))
+  read_refused old new (Content HopByHopNotAtStart) refused known = grind (arith, alone, end_closed)
   read_refused old new (Content (IpAuth e)) refused known =
       let at = refused.6 in
       let same = alone old refused.2 refused.0 refused.1 known refused.3 refused.5
       (auth_end old refused.2 new refused.0 refused.1 at.1.0 e at.0 at.1.1 at.1.2) in
       let there : slot_of (slots refused.0) refused.1 ≡ slot_of (slots pieces) last =
       λ i. slot_of (slots (same.0 i)) (same.1 i) in
-      absurd (none-some Authentication (sym whole.closed ∙ sym there ∙ at.0))
+      grind arith
 
   pub read_all : (old new : Option (List ℕ))
       (result : Result (Ipv6Extensions × IpNumber) HeaderReadError)

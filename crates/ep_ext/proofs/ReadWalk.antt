@@ -1,6 +1,7 @@
 -- The walk over headers in a row that a reader gives.
-use Rattle.std.proofs.Common.{◌≡◌, ℕ, ◌+◌, ◌<◌, ◌≤◌, List, [], ◌∷◌, ◌++◌, length, Option, Some}
-use Rattle.std.proofs.Common.{None, get_or, arith, refl, sym, ap, ◌∙◌, subst}
+use Rattle.std.proofs.lemmas.Bool.Decides.{nat_tests}
+use Rattle.std.proofs.Common.{◌≡◌, ℕ, ◌+◌, ◌<◌, ◌≤◌, List, ◌∷◌, ◌++◌, length, Option, Some, [], None, get_or, arith}
+use Rattle.std.proofs.Common.{refl, sym, ◌∙◌, subst}
 use Rattle.std.proofs.KnownBytes.{Consumes-trans}
 use Rattle.std.proofs.lemmas.List.{length-append}
 use Rattle.std.specs.Io.KnownBytes.{Consumes}
@@ -15,7 +16,7 @@ use Rattle.ep_ext.specs.declared.net.ipv6_extensions.Ipv6Extensions.{Ipv6Extensi
 use Rattle.ep_ext.specs.declared.net.passed.Passed.{Passed}
 use Rattle.ep_ext.proofs.Rows.{row_more, slots_more, bytes_more}
 use Rattle.ep_ext.proofs.Values.{open_free, slot_open, final_after_row, value_more}
-use Rattle.ep_ext.proofs.PassedFlags.{shows_more, slot_shown}
+use Rattle.ep_ext.proofs.PassedFlags.{shows_more}
 use Rattle.ep_ext.proofs.Following.{weigh, weigh_added, flag_shown}
 
 -- what the walk keeps: so far headers in a row were read, and P holds of them
@@ -30,15 +31,12 @@ pub record Given (P : List Piece → Type 0) (first : ℕ) (value : Ipv6Extensio
 
 pub given_none : (P : List Piece → Type 0) (first : ℕ) (value : Ipv6Extensions) (passed : Passed) →
     Shows passed [] → value ≡ value_of [] → P [] → Given P first value passed first
-given_none P first value passed is empty kept =
-    rw is (record
-    { pieces = []; row = refl; shown = refl; count = refl; value_is = empty; kept = kept })
+given_none P first value passed is empty kept = grind arith
 
 next_slot : (P : List Piece → Type 0) (first : ℕ) (value : Ipv6Extensions) (passed : Passed)
     (number : ℕ) (given : Given P first value passed number) (slot : Option Ipv6ExtSlot) →
     slot_after passed number ≡ slot → slot_of (slots given.pieces) number ≡ slot
-next_slot P first value passed number given slot is =
-    sym (slot_shown passed (slots given.pieces) number given.shown) ∙ is
+next_slot P first value passed number given slot is = grind arith
 
 weigh_less : (P : List Piece → Type 0) (first : ℕ) (value : Ipv6Extensions) (passed : Passed)
     (number : ℕ) (given : Given P first value passed number) (slot : Ipv6ExtSlot) →
@@ -55,8 +53,7 @@ pub given_fewer : (P : List Piece → Type 0) (first : ℕ) (value : Ipv6Extensi
     (number : ℕ) (slot : Ipv6ExtSlot) →
     Given P first value passed number → slot_after passed number ≡ Some slot
     → weigh (λ _. 1) (with_slot passed slot) < weigh (λ _. 1) passed
-given_fewer P first value passed number slot given free =
-    omega (arith, weigh_less P first value passed number given slot free)
+given_fewer P first value passed number slot given free = grind (arith, nat_tests)
 
 pub given_more : (P Q : List Piece → Type 0) (first : ℕ) (value : Ipv6Extensions)
     (passed : Passed) (number : ℕ) →
@@ -71,10 +68,8 @@ given_more P Q first value passed number slot header next new given free piece n
     let final = final_after_row [] first given.pieces number given.row (λ e. e) in
     record {
       pieces = given.pieces ++ (slot, header) ∷ [];
-      row = subst (Row slot_of [] first (given.pieces ++ (slot, header) ∷ [])) (sym named)
-          (row_more slot_of [] first given.pieces number slot header given.row free_here piece);
-      shown = subst (Shows (with_slot passed slot)) (sym (slots_more given.pieces slot header))
-          (shows_more passed (slots given.pieces) slot given.shown);
+      row = grind (arith, row_more);
+      shown = grind (arith, slots_more, shows_more);
       count = omega (
         arith,
         given.count,
@@ -82,10 +77,7 @@ given_more P Q first value passed number slot header next new given free piece n
             ((slot, header) ∷ []),
         weigh_less P first value passed number given slot free,
       );
-      value_is = put_is ∙ ap (λ (v : Ipv6Extensions). with_header_in_slot v slot header)
-          given.value_is
-          ∙ sym (value_more given.pieces slot header
-          (slot_open (slots given.pieces) number slot free_here) final);
+      value_is = grind (arith, value_more, slot_open);
       kept = more given.pieces given.kept;
     }
 
@@ -96,8 +88,7 @@ given_most P first value passed number given = omega (arith, given.count)
 pub given_slot : (P : List Piece → Type 0) (first : ℕ) (value : Ipv6Extensions) (passed : Passed)
     (number : ℕ) (given : Given P first value passed number) (slot : Option Ipv6ExtSlot) →
     slot_after passed number ≡ slot → slot_of (slots given.pieces) number ≡ slot
-given_slot P first value passed number given slot is =
-    next_slot P first value passed number given slot is
+given_slot P first value passed number given slot is = grind arith
 
 -- one more header that was consumed
 pub consumes_more : (old between new : Option (List ℕ)) (slot : Ipv6ExtSlot) (header : List ℕ)

@@ -1,5 +1,5 @@
 -- Refusals of a reader with a limit.
-use Rattle.std.proofs.Common.{◌≡◌, ℕ, List, Option, Some, refl, sym, subst}
+use Rattle.std.proofs.Common.{arith, ◌≡◌, ℕ, List, Option, Some, refl, sym, subst}
 use Rattle.ep_base.specs.declared.err.layer.Layer.TheVariants.{Ipv6ExtHeader}
 use Rattle.ep_ext.specs.Limited.{Limited, at_next_layer}
 use Rattle.ep_ext.specs.Passed.{slot_after}
@@ -7,18 +7,16 @@ use Rattle.ep_ext.specs.Slot.{slot_of}
 use Rattle.ep_ext.specs.Value.{slots}
 use Rattle.ep_ext.specs.Raw.{raw_len}
 use Rattle.ep_ext.specs.Reads.{RefusesAuthWithin, RefusesHeader}
-use Rattle.ep_ext.specs.ReadsExts.{RefusesBytes, RefusesExtWithin, RefusesRowWithin, TakesRow}
-use Rattle.ep_ext.specs.ReadsExts.{auth_exts_error, bytes_error, read_layer}
+use Rattle.ep_ext.specs.ReadsExts.{RefusesBytes, RefusesExtWithin, RefusesRowWithin, TakesRow, auth_exts_error}
+use Rattle.ep_ext.specs.ReadsExts.{bytes_error, read_layer}
 use Rattle.ep_ext.specs.declared.err.io.limited_read_error.LimitedReadError.{LimitedReadError}
 use Rattle.ep_ext.specs.declared.err.io.limited_read_error.LimitedReadError.TheVariants as bytes_fault
 use Rattle.ep_ext.specs.declared.err.ip_auth.header_limited_read_error.HeaderLimitedReadError.{HeaderLimitedReadError as AuthLimitedReadError}
 use Rattle.ep_ext.specs.declared.err.ip_auth.header_limited_read_error.HeaderLimitedReadError.TheVariants as auth_limited
 use Rattle.ep_ext.specs.declared.err.ipv6_exts.header_limited_read_error.HeaderLimitedReadError.{HeaderLimitedReadError}
 use Rattle.ep_ext.specs.declared.net.ipv6_ext_slot.Ipv6ExtSlot.{Ipv6ExtSlot}
-use Rattle.ep_ext.specs.declared.net.ipv6_ext_slot.Ipv6ExtSlot.TheVariants.{HopByHop, Destination}
-use Rattle.ep_ext.specs.declared.net.ipv6_ext_slot.Ipv6ExtSlot.TheVariants.{Routing, Fragment}
-use Rattle.ep_ext.specs.declared.net.ipv6_ext_slot.Ipv6ExtSlot.TheVariants.{Authentication}
-use Rattle.ep_ext.specs.declared.net.ipv6_ext_slot.Ipv6ExtSlot.TheVariants.{FinalDestination}
+use Rattle.ep_ext.specs.declared.net.ipv6_ext_slot.Ipv6ExtSlot.TheVariants.{HopByHop, Destination, Routing, Fragment}
+use Rattle.ep_ext.specs.declared.net.ipv6_ext_slot.Ipv6ExtSlot.TheVariants.{Authentication, FinalDestination}
 use Rattle.ep_ext.specs.declared.net.ipv6_extensions.Ipv6Extensions.{Ipv6Extensions}
 use Rattle.ep_ext.specs.declared.net.passed.Passed.{Passed}
 use Rattle.ep_ext.proofs.ReadWalk.{Given, given_most, given_slot}
@@ -28,8 +26,7 @@ module _ {T : Type 0} (remaining : T → Option (List ℕ)) (old new : Limited T
       → far ≡ bytes_error e →
       RefusesBytes remaining at (at_next_layer old (read_layer at)) e new
       → RefusesExtWithin remaining (Some at) number old far new
-  bytes_refused at (bytes_fault.Io e) far is refused = rw is (at, refl, refused)
-  bytes_refused at (bytes_fault.Len e) far is refused = rw is (at, refl, refused)
+  bytes_refused at e far is refused = grind arith
 
   pub auth_refused : (e : AuthLimitedReadError) (far : HeaderLimitedReadError)
       → far ≡ auth_exts_error e →

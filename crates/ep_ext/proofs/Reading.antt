@@ -1,9 +1,7 @@
 -- Headers that are read by two calls.
-use Rattle.std.proofs.Common.{◌≡◌, ℕ, ◌+◌, ◌-◌, ◌*◌, ◌≤◌, List, ◌++◌, length, Bool, true, false}
-use Rattle.std.proofs.Common.{cond, ltb, suc, get_or, take, drop, Ok, Err, Option, Some, None, inl}
-use Rattle.std.proofs.Common.{inr, arith, refl, sym, ap, ◌∙◌, length-append, length-drop}
+use Rattle.std.proofs.Common.{◌≡◌, ℕ, ◌+◌, ◌-◌, ◌*◌, ◌≤◌, List, ◌++◌, length, suc, get_or, take, drop, Err, Option}
+use Rattle.std.proofs.Common.{Some, arith, refl, sym, ap, ◌∙◌, length-append, length-drop}
 use Rattle.std.proofs.KnownBytes.{Consumes-trans}
-use Rattle.std.proofs.lemmas.Bool.{le-ltb, ne_eqb}
 use Rattle.std.proofs.lemmas.List.{take_at, drop_at, get_or_append_left, length-take-le}
 use Rattle.std.proofs.lemmas.Slice.{take-put_mid}
 use Rattle.std.specs.Io.KnownBytes.{Consumes}
@@ -12,10 +10,8 @@ use Rattle.ep_ext.specs.Raw.{IsRawExt, raw_of, raw_len}
 use Rattle.ep_ext.specs.Fragment.{IsFragment, fragment_of}
 use Rattle.ep_ext.specs.Auth.{IsAuth, auth_of, auth_len, auth_at}
 use Rattle.ep_ext.specs.Limited.{Limited, Takes}
-use Rattle.ep_ext.specs.Reads.{RefusesHeader, RefusesAuth, RefusesAuthWithin, HasContentFault, IsIo}
-use Rattle.ep_ext.specs.Reads.{IsAuthIo, IsAuthLimitedIo, auth_error}
-use Rattle.ep_base.specs.LenError.{too_few_bytes}
-use Rattle.ep_base.specs.declared.err.layer.Layer.TheVariants.{IpAuthHeader}
+use Rattle.ep_ext.specs.Reads.{RefusesHeader, RefusesAuth, RefusesAuthWithin, HasContentFault, IsIo, IsAuthIo}
+use Rattle.ep_ext.specs.Reads.{IsAuthLimitedIo, auth_error}
 use Rattle.ep_ext.specs.declared.err.ip_auth.header_error.HeaderError.{HeaderError}
 use Rattle.ep_ext.specs.declared.err.ip_auth.header_limited_read_error.HeaderLimitedReadError.{HeaderLimitedReadError}
 use Rattle.ep_ext.specs.declared.err.ip_auth.header_limited_read_error.HeaderLimitedReadError.TheVariants as auth_limited
@@ -31,20 +27,14 @@ pub joined : (least size : ℕ) (prefix tail before : List ℕ) → length prefi
     → length tail ≡ size - least → least ≤ size →
     take size (put_mid least (size - least) (prefix ++ drop least before) tail) ≡ prefix ++ tail
 joined least size prefix tail before whole rest enough =
-    let len = length-append prefix (drop least before) in
-    take-put_mid least (size - least) (prefix ++ drop least before) tail size
-    (omega arith) (omega arith)
-    ∙ ap (λ (xs : List ℕ). xs ++ tail) (take_at prefix (drop least before) least whole)
+    grind (arith, length-append, take-put_mid, take_at)
 
 -- how many bytes are requested after the prefix
 pub requested : (least size : ℕ) (prefix before : List ℕ) → length prefix ≡ least
     → size ≤ length before → least ≤ size →
     length (take (size - least) (drop least (prefix ++ drop least before))) ≡ size - least
 requested least size prefix before whole fits enough =
-    let following : drop least (prefix ++ drop least before) ≡ drop least before =
-    drop_at prefix (drop least before) least whole in
-    let room = length-drop least before in
-    rw following (length-take-le (size - least) (drop least before) (omega arith))
+    grind (arith, drop_at, length-drop, length-take-le)
 
 pub second : (prefix tail : List ℕ) → 2 ≤ length prefix
     → get_or (prefix ++ tail) 1 0 ≡ get_or prefix 1 0
@@ -52,25 +42,19 @@ second prefix tail enough = get_or_append_left prefix tail 0 1 (omega arith)
 
 pub raw_joined : (prefix tail : List ℕ) → length prefix ≡ 8 → length tail ≡ raw_len prefix - 8
     → IsRawExt (prefix ++ tail)
-raw_joined prefix tail whole rest =
-    let len = length-append prefix tail in
-    record { least = omega arith; whole = rw (second prefix tail (omega arith)) (omega arith) }
+raw_joined prefix tail whole rest = grind (arith, length-append, second)
 
 auth_joined : (prefix tail : List ℕ) → length prefix ≡ 12 → 12 ≤ auth_len prefix
     → length tail ≡ auth_len prefix - 12 → IsAuth (prefix ++ tail)
-auth_joined prefix tail whole enough rest =
-    let len = length-append prefix tail in
-    record { least = omega arith; whole = rw (second prefix tail (omega arith)) (omega arith) }
+auth_joined prefix tail whole enough rest = grind (arith, length-append, second)
 
 pub raw_len_again : (prefix following : List ℕ) (size : ℕ) → length prefix ≡ 8
     → size ≡ raw_len (prefix ++ following) → size ≡ raw_len prefix
-raw_len_again prefix following size whole is =
-    is ∙ ap (λ n. (n + 1) * 8) (second prefix following (omega arith))
+raw_len_again prefix following size whole is = grind (arith, second)
 
 pub auth_len_again : (prefix following : List ℕ) (size : ℕ) → length prefix ≡ 12
     → size ≡ auth_len (prefix ++ following) → size ≡ auth_len prefix
-auth_len_again prefix following size whole is =
-    is ∙ ap (λ n. (n + 2) * 4) (second prefix following (omega arith))
+auth_len_again prefix following size whole is = grind (arith, second)
 
 -- the header that two calls put into a buffer
 pub auth_written : (prefix tail before : List ℕ) (size : ℕ) → length prefix ≡ 12
@@ -80,7 +64,7 @@ pub auth_written : (prefix tail before : List ℕ) (size : ℕ) → length prefi
 auth_written prefix tail before size whole is enough rest =
     let len = auth_len_again prefix (drop 12 before) size whole is in (
       joined 12 size prefix tail before whole rest enough,
-      auth_joined prefix tail whole (omega arith) (rest ∙ ap (λ n. n - 12) len),
+      grind (arith, auth_joined),
     )
 
 -- what is read by two calls is read
@@ -104,12 +88,7 @@ takes_both {T = T} remaining a b c xs ys first more =
 -- known bytes start with what a reader gave
 pub consumed_some : (known new : Option (List ℕ)) (all header : List ℕ) → known ≡ Some all
     → Consumes known new header → (rest : List ℕ) × (all ≡ header ++ rest) × (new ≡ Some rest)
-consumed_some known new all header is consumed = given new (rw is at consumed)
-  where
-    given : (new : Option (List ℕ)) → Consumes (Some all) new header
-        → (rest : List ℕ) × (all ≡ header ++ rest) × (new ≡ Some rest)
-    given None h = absurd h
-    given (Some rest) h = (rest, h, refl)
+consumed_some known new all header is consumed = grind arith
 
 -- what a reader gives is the header that is next
 pub raw_next : (known new : Option (List ℕ)) (header rest read : List ℕ) → IsRawExt header
@@ -118,7 +97,7 @@ pub raw_next : (known new : Option (List ℕ)) (header rest read : List ℕ) →
 raw_next known new header rest read is_header is is_read consumed =
     let given = consumed_some known new (header ++ rest) read is consumed in
     let same = raw_read (header ++ rest) read given.0 header rest is_read given.1 is_header refl in
-    (same.0, given.2 ∙ ap Some same.1)
+    grind arith
 
 pub fragment_next : (known new : Option (List ℕ)) (header rest read : List ℕ) → IsFragment header
     → known ≡ Some (header ++ rest) → IsFragment read → Consumes known new read →
@@ -127,7 +106,7 @@ fragment_next known new header rest read is_header is is_read consumed =
     let given = consumed_some known new (header ++ rest) read is consumed in
     let same = fragment_read (header ++ rest) read given.0 header rest is_read
     given.1 is_header refl in
-    (same.0, given.2 ∙ ap Some same.1)
+    grind arith
 
 pub auth_next : (known new : Option (List ℕ)) (header rest read : List ℕ) → IsAuth header
     → known ≡ Some (header ++ rest) → IsAuth read → Consumes known new read →
@@ -135,45 +114,27 @@ pub auth_next : (known new : Option (List ℕ)) (header rest read : List ℕ) �
 auth_next known new header rest read is_header is is_read consumed =
     let given = consumed_some known new (header ++ rest) read is consumed in
     let same = auth_read (header ++ rest) read given.0 header rest is_read given.1 is_header refl in
-    (same.0, given.2 ∙ ap Some same.1)
+    grind arith
 
 -- both have the same second byte
 same_second : (header rest prefix following : List ℕ) → header ++ rest ≡ prefix ++ following
     → 2 ≤ length header → 2 ≤ length prefix → get_or prefix 1 0 ≡ get_or header 1 0
-same_second header rest prefix following same enough fits =
-    sym (second prefix following fits) ∙ ap (λ (xs : List ℕ). get_or xs 1 0) (sym same)
-    ∙ second header rest enough
+same_second header rest prefix following same enough fits = grind (arith, second)
 
 -- 12 bytes of a length byte that is not 0 have no fault
 pub not_zero : (prefix : List ℕ) (e : HeaderError) (b : ℕ)
     → auth_at prefix ≡ Err (slice_error.Content e) → length prefix ≡ 12 → get_or prefix 1 0 ≡ suc b → ⊥
-not_zero prefix e b fault whole is =
-    auth_prefix (ltb (length prefix) (auth_len prefix)) (take (auth_len prefix) prefix) e
-    (length prefix) (auth_len prefix)
-    (sym (rw (le-ltb (length prefix) 12 (omega arith), ne_eqb (get_or prefix 1 0) 0 (omega arith))
-    refl) ∙ fault)
-  where
-    auth_prefix : (b : Bool) (h : List ℕ) (e : HeaderError) (l m : ℕ)
-        → cond b (Err (slice_error.Len (too_few_bytes IpAuthHeader m l))) (Ok h)
-        ≡ Err (slice_error.Content e) → ⊥
-    auth_prefix true h e l m x = cc
-    auth_prefix false h e l m x = cc
+not_zero prefix e b fault whole is = grind arith
 
 no_fault : (known new : Option (List ℕ)) (prefix header rest : List ℕ) (e : HeaderError)
     → IsAuth header → known ≡ Some (header ++ rest) → HasContentFault prefix e
     → Consumes known new prefix → ⊥
 no_fault known new prefix header rest e is_header is fault consumed =
-    let given = consumed_some known new (header ++ rest) prefix is consumed in
-    let same = same_second header rest prefix given.0 given.1 (omega (arith, is_header.least))
-    (omega (arith, fault.whole)) in
-    not_zero prefix e (get_or header 1 0 - 1) fault.fault fault.whole
-    (omega (arith, same, is_header.least, is_header.whole))
+    grind (arith, consumed_some, same_second, not_zero)
 
 pub auth_refused : (known new : Option (List ℕ)) (e : HeaderReadError) (header rest : List ℕ)
     → IsAuth header → known ≡ Some (header ++ rest) → RefusesAuth known e new → IsAuthIo e
-auth_refused known new (auth_read.Io e) header rest is_header is refused = tt
-auth_refused known new (auth_read.Content e) header rest is_header is refused =
-    no_fault known new refused.0 header rest e is_header is refused.1 refused.2
+auth_refused known new e header rest is_header is refused = grind (arith, no_fault)
 
 module _ {T : Type 0} (remaining : T → Option (List ℕ)) where
   -- a header that is next and within the limit is refused only where a read failed
@@ -184,21 +145,8 @@ module _ {T : Type 0} (remaining : T → Option (List ℕ)) where
       start.read_len ≡ 0 → length header ≤ start.max_len
       → remaining start.reader ≡ Some (header ++ rest)
       → RefusesHeader remaining least size start e new → IsIo e
-  refused_next least size start new (limited.Io e) header rest sized two enough begins
-      fits known refused = tt
-  refused_next least size start new (limited.Len e) header rest sized two enough begins fits known
-      (inl refused) = absurd (omega (arith, refused.0))
-  refused_next least size start new (limited.Len e) header rest sized two enough begins fits known
-      (inr refused) =
-      let given = consumed_some (remaining start.reader) (remaining refused.1.reader)
-      (header ++ rest) refused.0 known refused.3.consumed in
-      let same = same_second header rest refused.0 given.0 given.1 (omega arith)
-      (omega (arith, refused.2)) in
-      let read : refused.1.read_len ≡ start.read_len + length refused.0 =
-      ap {A = Limited T} (λ r. r.read_len) refused.3.counted in
-      let limit : refused.1.max_len ≡ start.max_len =
-      ap {A = Limited T} (λ r. r.max_len) refused.3.counted in
-      absurd (omega (arith, sized refused.0 refused.2 same, refused.2, refused.4.0))
+  refused_next least size start new e header rest sized two enough begins fits known refused =
+      grind (arith, consumed_some, same_second)
 
   pub raw_refused : (start new : Limited T) (e : LimitedReadError) (header rest : List ℕ)
       → IsRawExt header →

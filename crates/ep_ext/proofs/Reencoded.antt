@@ -1,7 +1,6 @@
 -- A value that is read from headers in a row names them in that row.
-use Rattle.std.proofs.Common.{◌≡◌, ℕ, Bool, true, false, cond, eqb, is_some, ◌||◌, List, [], ◌∷◌}
-use Rattle.std.proofs.Common.{◌++◌, Option, Some, None, Result, Ok, Err, IsOkAnd, get_or, arith}
-use Rattle.std.proofs.Common.{refl, sym, ap, ◌∙◌, subst}
+use Rattle.std.proofs.Common.{◌≡◌, ℕ, Bool, true, false, cond, eqb, is_some, ◌||◌, List, ◌∷◌, [], ◌++◌, Option, Some}
+use Rattle.std.proofs.Common.{None, Result, IsOkAnd, get_or, arith, refl, sym, ap, ◌∙◌, subst}
 use Rattle.std.specs.Prelude.{⊤}
 use Rattle.std.proofs.lemmas.Bool.{eq-eqb}
 use Rattle.std.proofs.lemmas.List.{length-drop}
@@ -16,15 +15,12 @@ use Rattle.ep_ext.specs.Chain.{IsPiece, Row}
 use Rattle.ep_ext.specs.Follow.{header_in, AreHeld, Follows, Names, walk_fault, is_left}
 use Rattle.ep_ext.specs.declared.err.ipv6_exts.exts_walk_error.ExtsWalkError.{ExtsWalkError}
 use Rattle.ep_ext.specs.declared.net.ipv6_ext_slot.Ipv6ExtSlot.{Ipv6ExtSlot}
-use Rattle.ep_ext.specs.declared.net.ipv6_ext_slot.Ipv6ExtSlot.TheVariants.{HopByHop, Destination}
-use Rattle.ep_ext.specs.declared.net.ipv6_ext_slot.Ipv6ExtSlot.TheVariants.{Routing, Fragment}
-use Rattle.ep_ext.specs.declared.net.ipv6_ext_slot.Ipv6ExtSlot.TheVariants.{Authentication}
-use Rattle.ep_ext.specs.declared.net.ipv6_ext_slot.Ipv6ExtSlot.TheVariants.{FinalDestination}
+use Rattle.ep_ext.specs.declared.net.ipv6_ext_slot.Ipv6ExtSlot.TheVariants.{HopByHop, Destination, Routing, Fragment}
+use Rattle.ep_ext.specs.declared.net.ipv6_ext_slot.Ipv6ExtSlot.TheVariants.{Authentication, FinalDestination}
 use Rattle.ep_ext.specs.declared.net.ipv6_extensions.Ipv6Extensions.{Ipv6Extensions}
 use Rattle.ep_ext.specs.declared.net.ipv6_routing_extensions.Ipv6RoutingExtensions.{Ipv6RoutingExtensions}
-use Rattle.std.proofs.lemmas.Option.{none-some}
-use Rattle.ep_ext.proofs.Values.{open_free, rank_same, slot_open, piece_none, passed_same}
-use Rattle.ep_ext.proofs.Values.{passed_more, final_after_row, IsFinalAfterRouting, routing_from}
+use Rattle.ep_ext.proofs.Values.{open_free, slot_open, piece_none, passed_same, passed_more, final_after_row}
+use Rattle.ep_ext.proofs.Values.{IsFinalAfterRouting, routing_from}
 use Rattle.ep_ext.proofs.Linking.{no_left, left_none}
 
 -- the bytes of a header of this slot, encoded again from its fields
@@ -54,12 +50,7 @@ reencoded_piece Authentication h piece = record {
 reencoded_piece FinalDestination h piece = raw_again h piece
 
 first_same : (p : Ipv6ExtSlot) (h : List ℕ) → get_or (reencoded p h) 0 0 ≡ get_or h 0 0
-first_same HopByHop h = refl
-first_same Destination h = refl
-first_same Routing h = refl
-first_same Fragment h = refl
-first_same Authentication h = refl
-first_same FinalDestination h = refl
+first_same p h = grind arith
 
 abbrev pub reencode : List Piece → List Piece
 reencode [] = []
@@ -86,12 +77,7 @@ AreAt all (x ∷ xs) = (piece_at all x.0 ≡ Some x.1) × AreAt all xs
 
 apart : (passed : List Ipv6ExtSlot) (q p : Ipv6ExtSlot) (b : Bool) → eqb (rank q) (rank p) ≡ b
     → is_passed passed q ≡ true → is_passed passed p ≡ false → b ≡ false
-apart passed q p true e there free =
-    absurd (true_false (sym there ∙ ap (is_passed passed) (rank_same q p e) ∙ free))
-  where
-    true_false : true ≡ false → ⊥
-    true_false e = cc
-apart passed q p false e there free = refl
+apart passed q p b e there free = grind arith
 
 at_more : (passed : List Ipv6ExtSlot) (number : ℕ) (x : Piece) (all xs : List Piece) (last : ℕ)
     → Row slot_of passed number xs last → is_passed passed x.0 ≡ true
@@ -118,61 +104,40 @@ row_at : (passed : List Ipv6ExtSlot) (number : ℕ) (xs : List Piece) (last : �
     → Row slot_of passed number xs last → AreAt xs xs
 row_at passed number [] last row = tt
 row_at passed number (x ∷ xs) last row = (
-  ap (λ (b : Bool). cond b (Some x.1) (piece_at xs x.0)) (eq-eqb (rank x.0) (rank x.0) refl),
-  at_more (passed ++ x.0 ∷ []) _ x xs xs last row.2
-      (passed_same passed x.0 x.0 (eq-eqb (rank x.0) (rank x.0) refl))
-      (row_at (passed ++ x.0 ∷ []) _ xs last row.2),
+  grind arith,
+  grind (arith, row_at (passed ++ x.0 ∷ []) _ xs last row.2, at_more, passed_same, eq-eqb),
 )
-
-routing_read : (r f : Option (List ℕ))
-    → option_map {T = Ipv6RoutingExtensions} (λ x. raw_encoding x.routing) (routing_from r f)
-    ≡ option_map (λ h. raw_encoding (raw_of h)) r
-routing_read None f = refl
-routing_read (Some h) f = refl
 
 final_read : (r f : Option (List ℕ)) → (is_some f ≡ true → is_some r ≡ true) →
     option_and_then {T = Ipv6RoutingExtensions}
     (λ x. option_map raw_encoding x.final_destination_options) (routing_from r f)
     ≡ option_map (λ h. raw_encoding (raw_of h)) f
-final_read None None following = refl
-final_read None (Some h) following = let e = following refl in cc
-final_read (Some g) None following = refl
-final_read (Some g) (Some h) following = refl
+final_read r f following = grind arith
 
 raw_read : (o : Option (List ℕ)) → option_map raw_encoding (option_map raw_of o)
     ≡ option_map (λ h. raw_encoding (raw_of h)) o
-raw_read None = refl
-raw_read (Some h) = refl
+raw_read o = grind arith
 
 fragment_read : (o : Option (List ℕ))
     → option_map fragment_encoding (option_map fragment_of o)
     ≡ option_map (λ h. fragment_encoding (fragment_of h)) o
-fragment_read None = refl
-fragment_read (Some h) = refl
+fragment_read o = grind arith
 
 auth_read : (o : Option (List ℕ)) → option_map auth_encoding (option_map auth_of o)
     ≡ option_map (λ h. auth_encoding (auth_of h)) o
-auth_read None = refl
-auth_read (Some h) = refl
+auth_read o = grind arith
 
 some_passed : (pieces : List Piece) (q : Ipv6ExtSlot)
     → is_some (piece_at pieces q) ≡ is_passed (slots pieces) q
 some_passed [] q = refl
-some_passed (x ∷ xs) q = by (eqb (rank x.0) (rank q)) x.1 (piece_at xs q)
-    (is_passed (slots xs) q) (some_passed xs q)
-  where
-    by : (b : Bool) (h : List ℕ) (o : Option (List ℕ)) (c : Bool) → is_some o ≡ c
-        → is_some (cond b (Some h) o) ≡ (b || c)
-    by true h o c e = refl
-    by false h o c e = e
+some_passed (x ∷ xs) q = grind (arith, some_passed xs q)
 
 -- what the value of some headers holds is these headers, encoded again
 pub held_read : (pieces : List Piece) (p : Ipv6ExtSlot) → IsFinalAfterRouting (slots pieces)
     → header_in (value_of pieces) p ≡ option_map (reencoded p) (piece_at pieces p)
 held_read pieces HopByHop following = raw_read (piece_at pieces HopByHop)
 held_read pieces Destination following = raw_read (piece_at pieces Destination)
-held_read pieces Routing following = routing_read (piece_at pieces Routing)
-    (piece_at pieces FinalDestination)
+held_read pieces Routing following = grind arith
 held_read pieces Fragment following = fragment_read (piece_at pieces Fragment)
 held_read pieces Authentication following = auth_read (piece_at pieces Authentication)
 held_read pieces FinalDestination following =
@@ -183,15 +148,13 @@ held_reencode : (all xs : List Piece) → IsFinalAfterRouting (slots all) → Ar
     → AreHeld (value_of all) (reencode xs)
 held_reencode all [] following at = tt
 held_reencode all (x ∷ xs) following at = (
-  held_read all x.0 following ∙ ap (option_map (reencoded x.0))
-      at.0,
+  grind (arith, held_read),
   held_reencode all xs following at.1,
 )
 
 not_there : (pieces : List Piece) (q : Ipv6ExtSlot) → IsFinalAfterRouting (slots pieces)
     → is_passed (slots pieces) q ≡ false → header_in (value_of pieces) q ≡ None
-not_there pieces q following e = held_read pieces q following
-    ∙ ap (option_map (reencoded q)) (piece_none pieces q e)
+not_there pieces q following e = grind (arith, held_read, piece_none)
 
 pub follows_read : (first : ℕ) (pieces : List Piece) (last : ℕ) → Row slot_of [] first pieces last
     → Follows (value_of pieces) first (reencode pieces) last
@@ -200,11 +163,7 @@ follows_read first pieces last row =
     record {
       row = row_reencode [] first pieces last row;
       headers = held_reencode pieces pieces following (row_at [] first pieces last row);
-      ended = λ slot free.
-          not_there pieces slot following
-          (sym (ap (λ (ps : List Ipv6ExtSlot). is_passed ps slot) (slots_reencode pieces))
-          ∙ open_free (slots (reencode pieces)) slot
-          (slot_open (slots (reencode pieces)) last slot free));
+      ended = grind (arith, not_there, slots_reencode, open_free, slot_open);
     }
 
 pub whole_read : (first : ℕ) (pieces : List Piece) (last : ℕ) → Row slot_of [] first pieces last
@@ -219,8 +178,7 @@ whole_read first pieces last row =
 pub named_ok : (value : Ipv6Extensions) (pieces : List Piece) (last : ℕ)
     (answer : Result IpNumber ExtsWalkError) → Names value pieces last answer
     → walk_fault value pieces last ≡ None → IsOkAnd answer (λ n. n.0 ≡ last)
-named_ok value pieces last (Ok n) names none = names.0
-named_ok value pieces last (Err e) names none = absurd (none-some e (sym none ∙ names))
+named_ok value pieces last answer names none = grind arith
 
 pub read_named : (value : Ipv6Extensions) (first : ℕ) (answer : Result IpNumber ExtsWalkError) →
     ((pieces : List Piece) (last : ℕ) → Follows value first pieces last
@@ -229,9 +187,7 @@ pub read_named : (value : Ipv6Extensions) (first : ℕ) (answer : Result IpNumbe
     → IsOkAnd answer (λ n. n.0 ≡ last)
 read_named value first answer only pieces last row is =
     let follows : Follows value first (reencode pieces) last =
-    subst (λ (v : Ipv6Extensions). Follows v first (reencode pieces) last) (sym is)
-    (follows_read first pieces last row) in
+    grind (arith, is, follows_read first pieces last row) in
     let whole : walk_fault value (reencode pieces) last ≡ None =
-    subst (λ (v : Ipv6Extensions). walk_fault v (reencode pieces) last ≡ None) (sym is)
-    (whole_read first pieces last row) in
+    grind (arith, whole_read) in
     named_ok value (reencode pieces) last answer (only (reencode pieces) last follows) whole

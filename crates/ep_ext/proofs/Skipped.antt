@@ -1,6 +1,6 @@
 -- Headers in a row, as the walk that skips them sees them.
-use Rattle.std.proofs.Common.{◌≡◌, ℕ, true, false, eqb, List, [], ◌∷◌, ◌++◌, Some, Result, Ok, Err}
-use Rattle.std.proofs.Common.{Bor, IsOkAnd, length, arith, refl, sym, ap, ◌∙◌, subst, ⊎_elim}
+use Rattle.std.proofs.Common.{◌≡◌, ℕ, true, false, eqb, List, ◌∷◌, ◌++◌, Some, Result, Ok, [], Bor, IsOkAnd, length}
+use Rattle.std.proofs.Common.{arith, refl, sym, ap, ◌∙◌, ⊎_elim}
 use Rattle.std.specs.Prelude.{IsTrue}
 use Rattle.std.specs.List.{concat}
 use Rattle.std.proofs.lemmas.Bool.{eqb-true}
@@ -11,13 +11,10 @@ use Rattle.ep_ext.specs.Slot.{Order, KeepsNumbers, number_of, is_passed, once, a
 use Rattle.ep_ext.specs.Value.{Piece, bytes_of}
 use Rattle.ep_ext.specs.Chain.{IsPiece, Row, Chain}
 use Rattle.ep_ext.specs.declared.net.ipv6_ext_slot.Ipv6ExtSlot.{Ipv6ExtSlot}
-use Rattle.ep_ext.specs.declared.net.ipv6_ext_slot.Ipv6ExtSlot.TheVariants.{HopByHop, Destination}
-use Rattle.ep_ext.specs.declared.net.ipv6_ext_slot.Ipv6ExtSlot.TheVariants.{Routing, Fragment}
-use Rattle.ep_ext.specs.declared.net.ipv6_ext_slot.Ipv6ExtSlot.TheVariants.{Authentication}
-use Rattle.ep_ext.specs.declared.net.ipv6_ext_slot.Ipv6ExtSlot.TheVariants.{FinalDestination}
-use Rattle.ep_base.proofs.Prefixes.{ok_same, ok_err}
-use Rattle.std.proofs.lemmas.Option.{none-some, same_Some}
-use Rattle.ep_ext.proofs.Values.{one_of, once_open}
+use Rattle.ep_ext.specs.declared.net.ipv6_ext_slot.Ipv6ExtSlot.TheVariants.{HopByHop, Destination, Routing, Fragment}
+use Rattle.ep_ext.specs.declared.net.ipv6_ext_slot.Ipv6ExtSlot.TheVariants.{Authentication, FinalDestination}
+use Rattle.std.proofs.lemmas.Option.{none-some}
+use Rattle.ep_ext.proofs.Values.{one_of}
 
 abbrev headers_of : List Piece → List (List ℕ)
 headers_of [] = []
@@ -28,12 +25,7 @@ concat_headers [] = refl
 concat_headers (piece ∷ pieces) = ap (λ (xs : List ℕ). piece.1 ++ xs) (concat_headers pieces)
 
 skipped : (slot : Ipv6ExtSlot) → IsTrue (is_skipped (number_of slot))
-skipped HopByHop = refl
-skipped Destination = refl
-skipped Routing = refl
-skipped Fragment = refl
-skipped Authentication = refl
-skipped FinalDestination = refl
+skipped slot = grind arith
 
 whole : (slot : Ipv6ExtSlot) (header : List ℕ) → IsPiece slot header
     → IsWhole (number_of slot) header
@@ -51,11 +43,8 @@ row_skips : (order : Order) (passed : List Ipv6ExtSlot) (number : ℕ) (pieces :
     Row order passed number pieces last → Skips number (headers_of pieces) last
 row_skips order passed number [] last keeps row = row
 row_skips order passed number (piece ∷ pieces) last keeps row =
-    let is : number_of piece.0 ≡ number = keeps passed number piece.0 row.0 in (
-      subst (λ (n : ℕ). IsTrue (is_skipped n)) is (skipped piece.0),
-      subst (λ (n : ℕ). IsWhole n piece.1) is (whole piece.0 piece.1 row.1),
-      row_skips order (passed ++ piece.0 ∷ []) _ pieces last keeps row.2,
-    )
+    let is : number_of piece.0 ≡ number = keeps passed number piece.0 row.0 in
+    grind (arith, row_skips order (passed ++ piece.0 ∷ []) _ pieces last keeps row.2)
 
 -- the walk gives the number and the rest of a chain
 pub chain_skips : (order : Order) (first : ℕ) (bytes : List ℕ) (pieces : List Piece) (last : ℕ)
@@ -66,11 +55,8 @@ pub chain_skips : (order : Order) (first : ℕ) (bytes : List ℕ) (pieces : Lis
     → Chain order first bytes pieces last rest → is_skipped last ≡ false →
     skip first bytes ≡ Ok (last, rest)
 chain_skips order first bytes pieces last rest follows keeps chain following =
-    let walk : Walk first bytes (headers_of pieces) last rest = record {
-      named = row_skips order [] first pieces last keeps chain.row;
-      cut = chain.cut ∙ ap (λ (xs : List ℕ). xs ++ rest) (sym (concat_headers pieces));
-      ended = λ is. absurd (true_false (sym is ∙ following));
-    } in
+    let walk : Walk first bytes (headers_of pieces) last rest =
+    grind (arith, row_skips, concat_headers) in
     let ends : outcome (length (concat (headers_of pieces))) last rest ≡ Ok (last, rest) =
     rw following refl in
     follows first bytes (headers_of pieces) last rest walk ∙ ends
@@ -82,21 +68,15 @@ chain_skips order first bytes pieces last rest follows keeps chain following =
 pub skip_answer : (wanted : Result (ℕ × List ℕ) LenError) (last : ℕ) (rest : List ℕ)
     (answer : Result (IpNumber × Bor (List ℕ)) LenError) → Gives wanted answer
     → wanted ≡ Ok (last, rest) → IsOkAnd answer (λ r. (r.0.0 ≡ last) × (r.1.now ≡ rest))
-skip_answer wanted last rest (Ok r) gives is =
-    let same : ◌≡◌ {A = ℕ × List ℕ} (last, rest) (r.0.0, r.1.now) =
-    ok_same (last, rest) (r.0.0, r.1.now) (sym is ∙ gives) in
-    (sym (ap (λ (x : ℕ × List ℕ). x.0) same), sym (ap (λ (x : ℕ × List ℕ). x.1) same))
-skip_answer wanted last rest (Err e) gives is = absurd (ok_err (last, rest) e (sym is ∙ gives))
+skip_answer wanted last rest answer gives is = grind arith
 
 number_from : (passed : List Ipv6ExtSlot) (number : ℕ) (p slot : Ipv6ExtSlot)
     → eqb number (number_of p) ≡ true → once passed p ≡ Some slot → number_of slot ≡ number
-number_from passed number p slot is e = sym (ap number_of (once_open passed p slot e).1)
-    ∙ sym (eqb-true number (number_of p) is)
+number_from passed number p slot is e = grind arith
 
 at_start_number : (passed : List Ipv6ExtSlot) (slot : Ipv6ExtSlot)
     → at_start passed ≡ Some slot → number_of slot ≡ 0
-at_start_number [] slot e = sym (ap number_of (same_Some HopByHop slot e))
-at_start_number (p ∷ passed) slot e = absurd (none-some slot e)
+at_start_number passed slot e = grind arith
 
 pub slot_numbers : KeepsNumbers slot_of
 slot_numbers passed number slot e =

@@ -1,6 +1,6 @@
 -- What is read of known bytes within a limit.
-use Rattle.std.proofs.Common.{◌≡◌, ℕ, ◌+◌, ◌-◌, ◌≤◌, List, [], ◌∷◌, ◌++◌, length, Option, Some}
-use Rattle.std.proofs.Common.{None, Result, Ok, Err, get_or, arith, refl, sym, ap, ◌∙◌, subst}
+use Rattle.std.proofs.Common.{◌≡◌, ℕ, ◌+◌, ◌-◌, ◌≤◌, List, ◌∷◌, ◌++◌, length, Option, Some, [], None, Result, Ok, Err}
+use Rattle.std.proofs.Common.{get_or, arith, refl, sym, ap, ◌∙◌, subst}
 use Rattle.std.proofs.KnownBytes.{Consumes-trans}
 use Rattle.std.proofs.lemmas.List.{append_assoc, append-nil, length-append}
 use Rattle.std.specs.Io.KnownBytes.{Consumes}
@@ -9,23 +9,19 @@ use Rattle.ep_base.specs.declared.net.ip_number.IpNumber.{IpNumber}
 use Rattle.ep_ext.specs.Chain.{IsPiece, Row}
 use Rattle.ep_ext.specs.Limited.{Limited, at_next_layer}
 use Rattle.ep_ext.specs.Slot.{slot_of}
-use Rattle.ep_ext.specs.ReadsExts.{IsWholeRow, IsExtsLimitedIo, ReadsRowWithin, RefusesBytes}
-use Rattle.ep_ext.specs.ReadsExts.{RefusesRowWithin, TakesRow, read_layer}
+use Rattle.ep_ext.specs.ReadsExts.{IsWholeRow, IsExtsLimitedIo, ReadsRowWithin, RefusesBytes, RefusesRowWithin}
+use Rattle.ep_ext.specs.ReadsExts.{TakesRow, read_layer}
 use Rattle.ep_ext.specs.Value.{Piece, slots, bytes_of, value_of}
 use Rattle.ep_ext.specs.declared.err.io.limited_read_error.LimitedReadError.TheVariants as bytes_fault
 use Rattle.ep_ext.specs.declared.err.ip_auth.header_limited_read_error.HeaderLimitedReadError.TheVariants as auth_limited
-use Rattle.ep_ext.specs.declared.err.ipv6_exts.header_error.HeaderError.TheVariants.{HopByHopNotAtStart}
-use Rattle.ep_ext.specs.declared.err.ipv6_exts.header_error.HeaderError.TheVariants.{IpAuth}
+use Rattle.ep_ext.specs.declared.err.ipv6_exts.header_error.HeaderError.TheVariants.{HopByHopNotAtStart, IpAuth}
 use Rattle.ep_ext.specs.declared.err.ipv6_exts.header_limited_read_error.HeaderLimitedReadError.{HeaderLimitedReadError}
-use Rattle.ep_ext.specs.declared.err.ipv6_exts.header_limited_read_error.HeaderLimitedReadError.TheVariants.{Io}
-use Rattle.ep_ext.specs.declared.err.ipv6_exts.header_limited_read_error.HeaderLimitedReadError.TheVariants.{Len}
+use Rattle.ep_ext.specs.declared.err.ipv6_exts.header_limited_read_error.HeaderLimitedReadError.TheVariants.{Io, Len}
 use Rattle.ep_ext.specs.declared.err.ipv6_exts.header_limited_read_error.HeaderLimitedReadError.TheVariants.{Content}
 use Rattle.ep_base.specs.declared.err.len_error.LenError.{LenError}
 use Rattle.ep_ext.specs.declared.net.ipv6_ext_slot.Ipv6ExtSlot.{Ipv6ExtSlot}
-use Rattle.ep_ext.specs.declared.net.ipv6_ext_slot.Ipv6ExtSlot.TheVariants.{HopByHop, Destination}
-use Rattle.ep_ext.specs.declared.net.ipv6_ext_slot.Ipv6ExtSlot.TheVariants.{Routing, Fragment}
-use Rattle.ep_ext.specs.declared.net.ipv6_ext_slot.Ipv6ExtSlot.TheVariants.{Authentication}
-use Rattle.ep_ext.specs.declared.net.ipv6_ext_slot.Ipv6ExtSlot.TheVariants.{FinalDestination}
+use Rattle.ep_ext.specs.declared.net.ipv6_ext_slot.Ipv6ExtSlot.TheVariants.{HopByHop, Destination, Routing, Fragment}
+use Rattle.ep_ext.specs.declared.net.ipv6_ext_slot.Ipv6ExtSlot.TheVariants.{Authentication, FinalDestination}
 use Rattle.ep_ext.specs.declared.net.ipv6_extensions.Ipv6Extensions.{Ipv6Extensions}
 use Rattle.ep_ext.proofs.Prefixes.{same_prefix, same_rest}
 use Rattle.ep_ext.proofs.Reading.{consumed_some, raw_refused, auth_refused_within}
@@ -64,55 +60,27 @@ next_there : (passed : List Ipv6ExtSlot) (number : ℕ) (ps qs : List Piece) (m 
     slot_of (passed ++ slots ps) m ≡ Some p → slot_of (passed ++ slots qs) n ≡ None →
     (header : List ℕ) × (following : List ℕ) × IsPiece p header × (r ≡ header ++ following)
     × (length (bytes_of ps) + length header ≤ length (bytes_of qs))
-next_there passed number [] [] m n r s p row other e free closed =
-    absurd (none-some p (sym closed ∙ ap (slot_of (passed ++ [])) (sym other ∙ row) ∙ free))
+next_there passed number [] [] m n r s p row other e free closed = grind arith
 next_there passed number [] (q ∷ qs) m n r s p row other e free closed =
-    let free_here : slot_of passed number ≡ Some p =
-    ap (slot_of passed) row ∙ ap (λ (xs : List Ipv6ExtSlot). slot_of xs m)
-    (sym (append-nil passed)) ∙ free in
-    let slot : q.0 ≡ p = same_Some q.0 p (sym other.0 ∙ free_here) in (
-      q.1,
-      bytes_of qs ++ s,
-      subst (λ (x : Ipv6ExtSlot). IsPiece x q.1) slot other.1,
-      e ∙ append_assoc q.1 (bytes_of qs) s,
-      omega (arith, length-append q.1 (bytes_of qs)),
-    )
+    grind (arith, append-nil, same_Some, append_assoc, length-append)
 next_there passed number (x ∷ xs) [] m n r s p row other e free closed =
-    absurd (none-some x.0 (sym closed ∙ ap (λ (ys : List Ipv6ExtSlot). slot_of ys n)
-    (append-nil passed) ∙ ap (slot_of passed) (sym other) ∙ row.0))
+    grind (arith, none-some, append-nil)
 next_there passed number (x ∷ xs) (q ∷ qs) m n r s p row other e free closed =
-    let slot : q.0 ≡ x.0 = same_Some q.0 x.0 (sym other.0 ∙ row.0) in
+    let slot : q.0 ≡ x.0 = grind arith in
     let both : x.1 ++ (bytes_of xs ++ r) ≡ q.1 ++ (bytes_of qs ++ s) =
-    sym (append_assoc x.1 (bytes_of xs) r) ∙ e ∙ append_assoc q.1 (bytes_of qs) s in
-    let header : x.1 ≡ q.1 = same_prefix x.0 x.1 q.1 _ _ row.1
-    (subst (λ (y : Ipv6ExtSlot). IsPiece y q.1) slot other.1) both in
+    grind (arith, append_assoc) in
+    let header : x.1 ≡ q.1 = grind (arith, same_prefix) in
     let following : bytes_of xs ++ r ≡ bytes_of qs ++ s = same_rest x.1 q.1 _ _ header both in
     let piece : q ≡ x = λ i. (slot i, sym header i) in
     let others : Row slot_of (passed ++ x.0 ∷ []) (get_or x.1 0 0) qs n =
-    subst (λ (y : Piece). Row slot_of (passed ++ y.0 ∷ []) (get_or y.1 0 0) qs n)
-    piece other.2 in
+    grind arith in
     let free_there : slot_of ((passed ++ x.0 ∷ []) ++ slots xs) m ≡ Some p =
-    ap (λ (ys : List Ipv6ExtSlot). slot_of ys m)
-    (append_assoc passed (x.0 ∷ []) (slots xs)) ∙ free in
+    grind (arith, append_assoc) in
     let closed_there : slot_of ((passed ++ x.0 ∷ []) ++ slots qs) n ≡ None =
-    ap (λ (ys : List Ipv6ExtSlot). slot_of ys n)
-    (append_assoc passed (x.0 ∷ []) (slots qs)
-    ∙ ap (λ (y : Ipv6ExtSlot). passed ++ y ∷ slots qs) (sym slot)) ∙ closed in
+    grind (arith, append_assoc) in
     let there = next_there (passed ++ x.0 ∷ [])
-    (get_or x.1 0 0) xs qs m n r s p row.2 others following free_there closed_there in (
-      there.0,
-      there.1,
-      there.2,
-      there.3,
-      omega (
-        arith,
-        there.4,
-        ap length header,
-        length-append x.1
-            (bytes_of xs),
-        length-append q.1 (bytes_of qs),
-      ),
-    )
+    (get_or x.1 0 0) xs qs m n r s p row.2 others following free_there closed_there in
+    grind (arith, length-append)
 
 module _ {T : Type 0} (remaining : T → Option (List ℕ)) where
   -- a header that is next, and within the limit, isn't refused for its length
@@ -129,8 +97,7 @@ module _ {T : Type 0} (remaining : T → Option (List ℕ)) where
   not_long Routing start new e header following piece begins fits known refused =
       raw_refused remaining start new (bytes_fault.Len e) header following piece
       begins fits known refused
-  not_long Fragment start new e header following piece begins fits known refused =
-      omega (arith, refused.0, piece.whole)
+  not_long Fragment start new e header following piece begins fits known refused = grind arith
   not_long Authentication start new e header following piece begins fits known refused =
       auth_refused_within remaining start new
       (auth_limited.Len e) header following piece begins fits known refused
@@ -160,7 +127,7 @@ module _ {T : Type 0} (remaining : T → Option (List ℕ)) where
         let same = alone first pieces last rest whole (remaining old.reader)
         (remaining refused.2.reader) refused.0 refused.1 known refused.3 facts.0
         (λ following is. end_closed slot_of (slots refused.0) refused.1 following refused.6.0) in
-        absurd (whole.number (sym same.1 ∙ refused.6.1))
+        grind arith
     refused_within old new (Content (IpAuth e)) refused known fits =
         let facts = taken remaining old refused.2 refused.0 refused.5 in
         let same = alone first pieces last rest whole (remaining old.reader)
@@ -170,7 +137,7 @@ module _ {T : Type 0} (remaining : T → Option (List ℕ)) where
         refused.6.1.2.consumed) in
         let there : slot_of (slots refused.0) refused.1 ≡ slot_of (slots pieces) last =
         λ i. slot_of (slots (same.0 i)) (same.1 i) in
-        absurd (none-some Authentication (sym whole.closed ∙ sym there ∙ refused.6.0))
+        grind arith
 
     pub read_within : (old new : Limited T)
         (result : Result (Ipv6Extensions × IpNumber) HeaderLimitedReadError)

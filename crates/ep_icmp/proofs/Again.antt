@@ -1,10 +1,9 @@
 -- Fields that are parsed again from the bytes that encode them.
-use Rattle.std.proofs.Common.{◌≡◌, refl, ℕ, ◌+◌, ◌*◌, ◌/◌, ◌%◌, ◌^◌, ◌<◌, Bool, false, None, List}
-use Rattle.std.proofs.Common.{[], ◌∷◌, ◌++◌, find, length, slice_range, arith}
+use Rattle.std.proofs.Common.{◌≡◌, refl, ℕ, ◌+◌, ◌*◌, ◌/◌, ◌%◌, ◌^◌, ◌<◌, Bool, false, None, List, [], ◌∷◌, ◌++◌, find}
+use Rattle.std.proofs.Common.{length, slice_range, arith}
 use Rattle.std.proofs.lemmas.List.{append-nil, take_at}
 use Rattle.std.specs.List.{list_any}
-use Rattle.ep_icmp.specs.Fields.{EchoFits, TimestampFits, echo_bytes, echo_in, timestamp_bytes}
-use Rattle.ep_icmp.specs.Fields.{timestamp_in}
+use Rattle.ep_icmp.specs.Fields.{EchoFits, TimestampFits, echo_bytes, echo_in, timestamp_bytes, timestamp_in}
 use Rattle.ep_icmp.proofs.Outcomes.{neither}
 use Rattle.ep_icmp.specs.Layout.{used_bytes, bytes_of_fields}
 use Rattle.ep_icmp.specs.declared.transport.icmp_echo_header.IcmpEchoHeader.{IcmpEchoHeader}
@@ -19,26 +18,11 @@ four_again n h = omega arith
 
 pub echo_again : (echo : IcmpEchoHeader) (a b c d : ℕ) (rest : List ℕ) → EchoFits echo
     → echo_in (a ∷ b ∷ c ∷ d ∷ (echo_bytes echo ++ rest)) 4 ≡ echo
-echo_again echo a b c d rest fits =
-    let id = two_again echo.id fits.id in
-    let seq = two_again echo.seq fits.seq in
-    λ i. record { id = id i; seq = seq i }
+echo_again echo a b c d rest fits = grind arith
 
 pub timestamp_again : (m : TimestampMessage) (a b c d : ℕ) (rest : List ℕ) → TimestampFits m
     → timestamp_in (a ∷ b ∷ c ∷ d ∷ (timestamp_bytes m ++ rest)) 4 ≡ m
-timestamp_again m a b c d rest fits =
-    let id = two_again m.id fits.id in
-    let seq = two_again m.seq fits.seq in
-    let originate = four_again m.originate_timestamp fits.originate_timestamp in
-    let receive = four_again m.receive_timestamp fits.receive_timestamp in
-    let transmit = four_again m.transmit_timestamp fits.transmit_timestamp in
-    λ i. record {
-      id = id i;
-      seq = seq i;
-      originate_timestamp = originate i;
-      receive_timestamp = receive i;
-      transmit_timestamp = transmit i;
-    }
+timestamp_again m a b c d rest fits = grind arith
 
 -- four bytes after the checksum
 pub bytes_again : (bytes : List ℕ) (a b c d : ℕ) (rest : List ℕ) → length bytes ≡ 4

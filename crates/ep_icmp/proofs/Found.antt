@@ -1,6 +1,5 @@
 -- What the first value of a list has that passes a test.
-use Rattle.std.proofs.Common.{◌≡◌, Bool, true, false, cond, Option, Some, unwrap_or, List, [], ◌∷◌}
-use Rattle.std.proofs.Common.{find, refl}
+use Rattle.std.proofs.Common.{◌≡◌, Bool, true, false, cond, Option, Some, unwrap_or, List, [], ◌∷◌, find, refl}
 
 pick : {A : Type 0} (P : A → Type 0) (b : Bool) (x d : A) (rest : Option A) → (b ≡ true → P x)
     → P (unwrap_or rest d) → P (unwrap_or (cond b (Some x) rest) d)

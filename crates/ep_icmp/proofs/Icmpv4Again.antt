@@ -1,12 +1,10 @@
 -- A kind of ICMPv4 message is parsed again from the bytes that encode it.
-use Rattle.std.proofs.Common.{◌≡◌, ◌∙◌, ap, sym, refl, ℕ, ◌+◌, ◌/◌, ◌%◌, ◌≤◌, List, ◌∷◌, ◌++◌}
-use Rattle.std.proofs.Common.{length, arith, Some}
+use Rattle.std.proofs.Common.{◌≡◌, sym, refl, ℕ, ◌+◌, ◌/◌, ◌%◌, ◌≤◌, List, ◌∷◌, ◌++◌, length, arith, Some}
 use Rattle.ep_base.specs.Bytes.{num}
-use Rattle.ep_icmp.specs.Icmpv4.{FieldsFit, HasNextHopMtu, HeaderFits, HasPointer, IsPayload}
-use Rattle.ep_icmp.specs.Icmpv4.{IsCanonical, ReadableIcmpv4, UnreachableFits, fixed_payload_size}
-use Rattle.ep_icmp.specs.Icmpv4.{header_len, icmpv4_header_of, is_listed, layout_of, problem_code}
-use Rattle.ep_icmp.specs.Icmpv4.{problem_fields, redirect_code, encoding, type_of, unreachable_code}
-use Rattle.ep_icmp.specs.Icmpv4.{unreachable_fields}
+use Rattle.ep_icmp.specs.Icmpv4.{FieldsFit, HasNextHopMtu, HeaderFits, HasPointer, IsPayload, IsCanonical}
+use Rattle.ep_icmp.specs.Icmpv4.{ReadableIcmpv4, UnreachableFits, fixed_payload_size, header_len, icmpv4_header_of}
+use Rattle.ep_icmp.specs.Icmpv4.{is_listed, layout_of, problem_code, problem_fields, redirect_code, encoding, type_of}
+use Rattle.ep_icmp.specs.Icmpv4.{unreachable_code, unreachable_fields}
 use Rattle.ep_icmp.specs.Layout.{bytes_of_layout, bytes_of_fields}
 use Rattle.ep_icmp.specs.declared.transport.icmpv4_header.Icmpv4Header.{Icmpv4Header}
 use Rattle.ep_icmp.proofs.Again.{bytes_again, echo_again, timestamp_again, two_again}
@@ -18,12 +16,9 @@ use Rattle.ep_icmp.specs.declared.transport.icmpv4.parameter_problem_header.Para
 use Rattle.ep_icmp.specs.declared.transport.icmpv4.parameter_problem_header.ParameterProblemHeader.TheVariants.{PointerIndicatesError}
 use Rattle.ep_icmp.specs.declared.transport.icmpv4_type.Icmpv4Type.{Icmpv4Type}
 use Rattle.ep_icmp.specs.declared.transport.icmpv4_type.Icmpv4Type.TheVariants.{Unknown, EchoReply}
-use Rattle.ep_icmp.specs.declared.transport.icmpv4_type.Icmpv4Type.TheVariants.{DestinationUnreachable}
-use Rattle.ep_icmp.specs.declared.transport.icmpv4_type.Icmpv4Type.TheVariants.{Redirect}
-use Rattle.ep_icmp.specs.declared.transport.icmpv4_type.Icmpv4Type.TheVariants.{EchoRequest}
-use Rattle.ep_icmp.specs.declared.transport.icmpv4_type.Icmpv4Type.TheVariants.{ParameterProblem}
-use Rattle.ep_icmp.specs.declared.transport.icmpv4_type.Icmpv4Type.TheVariants.{TimestampRequest}
-use Rattle.ep_icmp.specs.declared.transport.icmpv4_type.Icmpv4Type.TheVariants.{TimestampReply}
+use Rattle.ep_icmp.specs.declared.transport.icmpv4_type.Icmpv4Type.TheVariants.{DestinationUnreachable, Redirect}
+use Rattle.ep_icmp.specs.declared.transport.icmpv4_type.Icmpv4Type.TheVariants.{EchoRequest, ParameterProblem}
+use Rattle.ep_icmp.specs.declared.transport.icmpv4_type.Icmpv4Type.TheVariants.{TimestampRequest, TimestampReply}
 
 mtu_again : (header : DestUnreachableHeader) (a b c d : ℕ) (rest : List ℕ) → UnreachableFits header
     → HasNextHopMtu header (num (a ∷ b ∷ c ∷ d ∷ (bytes_of_fields (unreachable_fields header)
@@ -70,21 +65,14 @@ kind_again kind checksum rest fits out =
 
 pub header_again : (h : Icmpv4Header) (rest : List ℕ) → HeaderFits h → IsCanonical h.icmp_type
     → icmpv4_header_of (encoding h ++ rest) ≡ h
-header_again h rest fits out =
-    let kind = kind_again h.icmp_type h.checksum rest fits.kind.fields out in
-    let checksum = two_again h.checksum fits.checksum in
-    λ i. record { icmp_type = kind i; checksum = checksum i }
+header_again h rest fits out = grind (arith, kind_again, two_again)
 
 -- a header of 20 bytes is all of its message
 fixed_at : (kind : Icmpv4Type) → header_len kind ≡ 20 → fixed_payload_size kind ≡ Some 0
-fixed_at (TimestampRequest message) e = refl
-fixed_at (TimestampReply message) e = refl
-fixed_at _ e = absurd (omega arith)
+fixed_at kind e = grind arith
 
 least_len : (kind : Icmpv4Type) → 8 ≤ header_len kind
-least_len (TimestampRequest message) = omega arith
-least_len (TimestampReply message) = omega arith
-least_len _ = omega arith
+least_len kind = grind arith
 
 -- a header and a payload of its kind are a message
 pub message_again : (h : Icmpv4Header) (slice rest : List ℕ) → slice ≡ encoding h ++ rest
@@ -92,11 +80,11 @@ pub message_again : (h : Icmpv4Header) (slice rest : List ℕ) → slice ≡ enc
     → IsCanonical h.icmp_type → IsPayload h.icmp_type rest → ReadableIcmpv4 slice
 message_again h slice rest slice_is len fits out payload =
     let same : type_of slice ≡ h.icmp_type =
-    ap type_of slice_is ∙ kind_again h.icmp_type h.checksum rest fits.kind.fields out in
+    grind (arith, kind_again) in
     record {
       least = omega (arith, least_len h.icmp_type);
       timestamp = λ timestamp.
           let twenty : header_len h.icmp_type ≡ 20 =
-          sym (ap header_len same) ∙ header_len_at slice ∙ rw timestamp refl in
+          grind (arith, header_len_at) in
           omega (arith, payload 0 (fixed_at h.icmp_type twenty));
     }

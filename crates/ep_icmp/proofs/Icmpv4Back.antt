@@ -1,14 +1,12 @@
 -- The header of an ICMPv4 message is written back.
-use Rattle.std.proofs.Common.{◌≡◌, sym, refl, ℕ, ◌≤◌, Bool, true, false, if◌then◌else◌, List}
-use Rattle.std.proofs.Common.{length, slice_range, arith}
-use Rattle.ep_base.specs.Bytes.{IsBytes, num}
-use Rattle.ep_icmp.specs.Icmpv4.{ReadableIcmpv4, has_numbers, header_len, icmpv4_header_of}
-use Rattle.ep_icmp.specs.Icmpv4.{is_timestamp}
-use Rattle.ep_icmp.specs.Icmpv4.{kind_at, kinds, layout_of, encoding, type_of}
+use Rattle.std.proofs.lemmas.Bool.Decides.{nat_tests}
+use Rattle.std.proofs.Common.{◌≡◌, sym, refl, ℕ, ◌≤◌, Bool, if◌then◌else◌, List, length, slice_range, arith}
+use Rattle.ep_base.specs.Bytes.{IsBytes}
+use Rattle.ep_icmp.specs.Icmpv4.{ReadableIcmpv4, has_numbers, header_len, icmpv4_header_of, is_timestamp, kind_at}
+use Rattle.ep_icmp.specs.Icmpv4.{kinds, layout_of, encoding, type_of}
 use Rattle.ep_icmp.specs.Layout.{with_unused_bytes_zero}
 use Rattle.ep_icmp.specs.declared.transport.icmpv4_type.Icmpv4Type.TheVariants.{Unknown}
-use Rattle.ep_icmp.proofs.Back.{IsFieldIn, echo_back, mtu_back, pointer_back, range_back}
-use Rattle.ep_icmp.proofs.Back.{timestamp_back, written_back}
+use Rattle.ep_icmp.proofs.Back.{IsFieldIn, echo_back, mtu_back, pointer_back, range_back, timestamp_back, written_back}
 use Rattle.ep_icmp.proofs.Found.{found_among, found_passes}
 use Rattle.ep_icmp.proofs.Icmpv4Kinds.{header_len_at}
 use Rattle.ep_icmp.proofs.Outcomes.{numbers_are}
@@ -150,13 +148,9 @@ fields_at t c m fits =
 holds_header : (m : List ℕ) (timestamp : Bool) → is_timestamp m ≡ timestamp
     → header_len (type_of m) ≡ (if timestamp then 20 else 8) → ReadableIcmpv4 m
     → header_len (type_of m) ≤ length m
-holds_header m true is len message = omega (arith, message.timestamp is)
-holds_header m false is len message = omega (arith, message.least)
+holds_header m timestamp is len message = grind arith
 
 pub header_back : (m : List ℕ) → ReadableIcmpv4 m → IsBytes m
     → encoding (icmpv4_header_of m) ≡ with_unused_bytes_zero (layout_of (type_of m)) m
 header_back m message fits =
-    let numbers = numbers_at (num m 0 1) (num m 1 1) m in
-    let long = holds_header m (is_timestamp m) refl (header_len_at m) message in
-    written_back (layout_of (type_of m)) m (omega (arith, message.least)) fits numbers.0 numbers.1
-    (fields_at (num m 0 1) (num m 1 1) m fits long)
+    grind (arith, nat_tests, numbers_at, holds_header, header_len_at, written_back, fields_at)

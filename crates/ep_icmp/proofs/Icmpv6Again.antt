@@ -1,18 +1,15 @@
 -- A kind of ICMPv6 message is parsed again from the bytes that encode it.
-use Rattle.std.proofs.Common.{◌≡◌, sym, refl, ℕ, ◌/◌, ◌%◌, List, ◌++◌}
-use Rattle.ep_icmp.specs.Icmpv6.{FieldsFit, HeaderFits, IsCanonical, icmpv6_header_of, is_listed}
-use Rattle.ep_icmp.specs.Icmpv6.{layout_of, encoding, type_of}
+use Rattle.std.proofs.Common.{arith, ◌≡◌, sym, refl, ℕ, ◌/◌, ◌%◌, List, ◌++◌}
+use Rattle.ep_icmp.specs.Icmpv6.{FieldsFit, HeaderFits, IsCanonical, icmpv6_header_of, is_listed, layout_of, encoding}
+use Rattle.ep_icmp.specs.Icmpv6.{type_of}
 use Rattle.ep_icmp.specs.Layout.{bytes_of_layout}
 use Rattle.ep_icmp.specs.declared.transport.icmpv6_header.Icmpv6Header.{Icmpv6Header}
 use Rattle.ep_icmp.proofs.Again.{bytes_again, echo_again, four_again, two_again}
 use Rattle.ep_icmp.proofs.Icmpv6Kinds.{StandsIn, kind_is}
 use Rattle.ep_icmp.proofs.Outcomes.{not_true}
 use Rattle.ep_icmp.specs.declared.transport.icmpv6_type.Icmpv6Type.{Icmpv6Type}
-use Rattle.ep_icmp.specs.declared.transport.icmpv6_type.Icmpv6Type.TheVariants.{Unknown}
-use Rattle.ep_icmp.specs.declared.transport.icmpv6_type.Icmpv6Type.TheVariants.{PacketTooBig}
-use Rattle.ep_icmp.specs.declared.transport.icmpv6_type.Icmpv6Type.TheVariants.{ParameterProblem}
-use Rattle.ep_icmp.specs.declared.transport.icmpv6_type.Icmpv6Type.TheVariants.{EchoRequest}
-use Rattle.ep_icmp.specs.declared.transport.icmpv6_type.Icmpv6Type.TheVariants.{EchoReply}
+use Rattle.ep_icmp.specs.declared.transport.icmpv6_type.Icmpv6Type.TheVariants.{Unknown, PacketTooBig, ParameterProblem}
+use Rattle.ep_icmp.specs.declared.transport.icmpv6_type.Icmpv6Type.TheVariants.{EchoRequest, EchoReply}
 
 -- the bytes that encode the fields hold them
 stands_again : (kind : Icmpv6Type) (checksum : ℕ) (rest : List ℕ)
@@ -38,7 +35,4 @@ kind_again kind checksum rest fits out =
 
 pub header_again : (h : Icmpv6Header) (rest : List ℕ) → HeaderFits h → IsCanonical h.icmp_type
     → icmpv6_header_of (encoding h ++ rest) ≡ h
-header_again h rest fits out =
-    let kind = kind_again h.icmp_type h.checksum rest fits.kind.fields out in
-    let checksum = two_again h.checksum fits.checksum in
-    λ i. record { icmp_type = kind i; checksum = checksum i }
+header_again h rest fits out = grind (arith, kind_again, two_again)

@@ -1,9 +1,8 @@
 -- The header of an ICMPv6 message is written back.
 use Rattle.std.proofs.Common.{◌≡◌, sym, refl, ℕ, ◌≤◌, List, length, slice_range, arith}
 use Rattle.ep_base.specs.Bytes.{IsBytes, num}
-use Rattle.ep_icmp.specs.Icmpv6.{ReadableIcmpv6, has_numbers, icmpv6_header_of, kind_at, kinds}
-use Rattle.ep_icmp.specs.Icmpv6.{layout_of}
-use Rattle.ep_icmp.specs.Icmpv6.{encoding, type_of}
+use Rattle.ep_icmp.specs.Icmpv6.{ReadableIcmpv6, has_numbers, icmpv6_header_of, kind_at, kinds, layout_of, encoding}
+use Rattle.ep_icmp.specs.Icmpv6.{type_of}
 use Rattle.ep_icmp.specs.Layout.{with_unused_bytes_zero}
 use Rattle.ep_icmp.specs.declared.transport.icmpv6_type.Icmpv6Type.TheVariants.{Unknown}
 use Rattle.ep_icmp.proofs.Back.{IsFieldIn, echo_back, number_back, range_back, written_back}
@@ -116,5 +115,4 @@ pub header_back : (m : List ℕ) → ReadableIcmpv6 m → IsBytes m
     → encoding (icmpv6_header_of m) ≡ with_unused_bytes_zero (layout_of (type_of m)) m
 header_back m message fits =
     let numbers = numbers_at (num m 0 1) (num m 1 1) m in
-    written_back (layout_of (type_of m)) m (omega (arith, message.least)) fits numbers.0 numbers.1
-    (fields_at (num m 0 1) (num m 1 1) m fits message.least)
+    grind (arith, written_back, fields_at)

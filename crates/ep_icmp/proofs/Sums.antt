@@ -1,7 +1,5 @@
 -- Messages as texts with their checksum as a word in them.
-use Rattle.std.proofs.Common.{◌≡◌, ◌∙◌, sym, ℕ, ◌%◌, List, [], ◌∷◌, ◌++◌, length, length-append}
-use Rattle.std.proofs.Common.{append_assoc, arith}
-use Rattle.std.specs.Int.{w16, to_be_bytes}
+use Rattle.std.proofs.Common.{◌≡◌, ℕ, ◌%◌, List, ◌∷◌, ◌++◌, length, length-append, append_assoc, arith, []}
 use Rattle.ep_base.specs.MessageSum.{with_word}
 use Rattle.ep_icmp.specs.Icmpv6.{pseudo}
 use Rattle.ep_icmp.specs.Layout.{Layout, bytes_of_layout, bytes_of_fields}
@@ -10,10 +8,7 @@ use Rattle.ep_icmp.specs.Layout.{Layout, bytes_of_layout, bytes_of_fields}
 pub joined : (l : Layout) (prefix payload : List ℕ) (c : ℕ)
     → prefix ++ bytes_of_layout l c ++ payload ≡ with_word (prefix ++ (l.type_u8 ∷ l.code_u8 ∷ [])) c
     (bytes_of_fields l.fields ++ payload)
-joined l prefix payload c =
-    append_assoc prefix (bytes_of_layout l c) payload
-    ∙ sym (append_assoc prefix (l.type_u8 ∷ l.code_u8 ∷ [])
-    (to_be_bytes w16 c ++ (bytes_of_fields l.fields ++ payload)))
+joined l prefix payload c = grind (arith, append_assoc)
 
 -- a pseudo header, a type and a code are whole words
 pub even_pseudo : (source destination : List ℕ) (len type_u8 code_u8 : ℕ) → length source ≡ 16

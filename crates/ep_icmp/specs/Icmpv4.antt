@@ -1,13 +1,11 @@
 -- ICMPv4 messages (RFC 792): the table of their kinds, and the header that bytes encode.
-use Rattle.std.specs.Prelude.{◌≡◌, ℕ, ◌^◌, ◌<◌, ◌≤◌, ◌==◌, ◌&&◌, ◌||◌, not, Bool, IsTrue, Option}
-use Rattle.std.specs.Prelude.{Some, None, unwrap_or, List, [], ◌∷◌, ◌++◌, find, length, slice_range}
-use Rattle.std.specs.Prelude.{drop}
+use Rattle.std.specs.Prelude.{◌≡◌, ℕ, ◌^◌, ◌<◌, ◌≤◌, ◌==◌, ◌&&◌, ◌||◌, not, Bool, IsTrue, Option, Some, None, unwrap_or}
+use Rattle.std.specs.Prelude.{List, [], ◌∷◌, ◌++◌, find, length, slice_range, drop}
 use Rattle.std.specs.Int.{w16, to_be_bytes}
 use Rattle.std.specs.List.{list_any}
 use Rattle.ep_base.specs.Bytes.{num}
 use Rattle.ep_base.specs.Sum.{checksum}
-use Rattle.ep_icmp.specs.Fields.{EchoFits, TimestampFits, echo_bytes, echo_in, timestamp_bytes}
-use Rattle.ep_icmp.specs.Fields.{timestamp_in}
+use Rattle.ep_icmp.specs.Fields.{EchoFits, TimestampFits, echo_bytes, echo_in, timestamp_bytes, timestamp_in}
 use Rattle.ep_icmp.specs.Layout.{Layout, Fields, used_bytes, layout, nothing, bytes_of_layout}
 use Rattle.ep_icmp.specs.declared.transport.icmpv4.dest_unreachable_header.DestUnreachableHeader.{DestUnreachableHeader}
 use Rattle.ep_icmp.specs.declared.transport.icmpv4.dest_unreachable_header.DestUnreachableHeader.TheVariants.{Network}
@@ -42,12 +40,9 @@ use Rattle.ep_icmp.specs.declared.transport.icmpv4.timestamp_message.TimestampMe
 use Rattle.ep_icmp.specs.declared.transport.icmpv4_header.Icmpv4Header.{Icmpv4Header}
 use Rattle.ep_icmp.specs.declared.transport.icmpv4_type.Icmpv4Type.{Icmpv4Type}
 use Rattle.ep_icmp.specs.declared.transport.icmpv4_type.Icmpv4Type.TheVariants.{Unknown, EchoReply}
-use Rattle.ep_icmp.specs.declared.transport.icmpv4_type.Icmpv4Type.TheVariants.{DestinationUnreachable}
-use Rattle.ep_icmp.specs.declared.transport.icmpv4_type.Icmpv4Type.TheVariants.{Redirect}
-use Rattle.ep_icmp.specs.declared.transport.icmpv4_type.Icmpv4Type.TheVariants.{EchoRequest}
-use Rattle.ep_icmp.specs.declared.transport.icmpv4_type.Icmpv4Type.TheVariants.{TimeExceeded}
-use Rattle.ep_icmp.specs.declared.transport.icmpv4_type.Icmpv4Type.TheVariants.{ParameterProblem}
-use Rattle.ep_icmp.specs.declared.transport.icmpv4_type.Icmpv4Type.TheVariants.{TimestampRequest}
+use Rattle.ep_icmp.specs.declared.transport.icmpv4_type.Icmpv4Type.TheVariants.{DestinationUnreachable, Redirect}
+use Rattle.ep_icmp.specs.declared.transport.icmpv4_type.Icmpv4Type.TheVariants.{EchoRequest, TimeExceeded}
+use Rattle.ep_icmp.specs.declared.transport.icmpv4_type.Icmpv4Type.TheVariants.{ParameterProblem, TimestampRequest}
 use Rattle.ep_icmp.specs.declared.transport.icmpv4_type.Icmpv4Type.TheVariants.{TimestampReply}
 
 -- the codes of type 3 (RFC 792; RFC 1122, section 3.2.2.1; RFC 1812, section 5.2.7.1)

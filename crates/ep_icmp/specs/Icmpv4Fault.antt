@@ -2,8 +2,7 @@
 use Rattle.std.specs.Prelude.{ℕ, List, length, nat_lt, ◌==◌, ◌&&◌, not, Result, ◌∷◌, []}
 use Rattle.ep_base.specs.LenError.{too_few_bytes}
 use Rattle.ep_base.specs.Refusals.{unless_refused}
-use Rattle.ep_base.specs.declared.err.layer.Layer.TheVariants.{Icmpv4, Icmpv4Timestamp}
-use Rattle.ep_base.specs.declared.err.layer.Layer.TheVariants.{Icmpv4TimestampReply}
+use Rattle.ep_base.specs.declared.err.layer.Layer.TheVariants.{Icmpv4, Icmpv4Timestamp, Icmpv4TimestampReply}
 use Rattle.ep_base.specs.declared.err.len_error.LenError.{LenError}
 use Rattle.ep_icmp.specs.Icmpv4.{is_timestamp_request, is_timestamp_reply}
 

@@ -1,9 +1,8 @@
 -- The header at the start of bytes.
-use Rattle.std.proofs.Common.{◌≡◌, ℕ, ◌+◌, ◌*◌, ◌/◌, ◌<◌, ◌≤◌, List, ◌++◌, length, take, drop}
-use Rattle.std.proofs.Common.{Result, Ok, arith, sym, refl, ap, ◌∙◌}
-use Rattle.std.proofs.lemmas.Bool.{not-false, le-ltb, eq-eqb, ltb-false, eqb-true}
-use Rattle.std.proofs.lemmas.List.{get_or-take, length-take-le, take-append-drop, take_at}
-use Rattle.std.proofs.lemmas.List.{get_or_append_left, length-append, length-drop}
+use Rattle.std.proofs.Common.{◌≡◌, ℕ, ◌+◌, ◌*◌, ◌/◌, ◌<◌, ◌≤◌, List, ◌++◌, length, take, drop, Result, Ok, arith, sym}
+use Rattle.std.proofs.lemmas.Bool.{not-false, ltb-false, eqb-true}
+use Rattle.std.proofs.lemmas.List.{get_or-take, length-take-le, take-append-drop, take_at, get_or_append_left}
+use Rattle.std.proofs.lemmas.List.{length-append}
 use Rattle.ep_base.specs.Bytes.{num}
 use Rattle.ep_base.specs.declared.err.slice_error.SliceError.{SliceError}
 use Rattle.ep_ip.specs.declared.err.ipv4.header_error.HeaderError.{HeaderError}
@@ -14,14 +13,7 @@ use Rattle.ep_base.proofs.Prefixes.{guard_ok, ok_same, takes}
 
 pub header_at-ok : (bytes : List ℕ) → 20 ≤ length bytes → version_of bytes ≡ 4 → 5 ≤ ihl_of bytes
     → 4 * ihl_of bytes ≤ length bytes → header_at bytes ≡ Ok (take (4 * ihl_of bytes) bytes)
-header_at-ok bytes least version minimum whole =
-    rw (
-      le-ltb (length bytes) 20 least,
-      eq-eqb (version_of bytes) 4 version,
-      le-ltb
-          (ihl_of bytes) 5 minimum,
-      le-ltb (length bytes) (4 * ihl_of bytes) whole,
-    ) refl
+header_at-ok bytes least version minimum whole = grind arith
 
 none_empty : (n : ℕ) → 5 ≤ n → 0 < 4 * n
 none_empty n h = omega arith
@@ -53,12 +45,7 @@ prefix_takes bytes prefix e =
 -- a header is taken, whatever follows it
 prefix_again : (prefix rest : List ℕ) → IsIpv4Header prefix → header_at (prefix ++ rest) ≡ Ok prefix
 prefix_again prefix rest header =
-    let first : num (prefix ++ rest) 0 1 ≡ num prefix 0 1 =
-    get_or_append_left prefix rest 0 0 (omega (arith, header.minimum, header.whole)) in
-    let len = length-append prefix rest in
-    header_at-ok (prefix ++ rest) (omega (arith, header.minimum, header.whole))
-    (rw first header.version) (rw first header.minimum) (rw first (omega (arith, header.whole)))
-    ∙ ap Ok (rw first (take_at prefix rest (4 * ihl_of prefix) header.whole))
+    grind (arith, get_or_append_left, length-append, header_at-ok, take_at)
 
 pub takes_header : (bytes : List ℕ) (taken : Result (List ℕ) (SliceError HeaderError))
     → taken ≡ header_at bytes → TakesPrefix IsIpv4Header bytes taken
@@ -67,10 +54,8 @@ takes_header = takes IsIpv4Header header_at prefix_takes prefix_again
 -- the length field counts the options' words after five
 pub options_words : (bytes options : List ℕ) → IsIpv4Header bytes → options ≡ options_of bytes
     → 5 + length options / 4 ≡ ihl_of bytes
-options_words bytes options header e =
-    rw e (omega (arith, length-drop 20 bytes, header.minimum, header.whole))
+options_words bytes options header e = grind arith
 
 pub options_len : (bytes options : List ℕ) → IsIpv4Header bytes → options ≡ options_of bytes
     → 20 + length options ≡ length bytes
-options_len bytes options header e =
-    rw e (omega (arith, length-drop 20 bytes, header.minimum, header.whole))
+options_len bytes options header e = grind arith

@@ -1,8 +1,7 @@
 -- The bits of an IPv6 header that share bytes, as quotients and remainders.
-use Rattle.std.proofs.Common.{◌≡◌, ℕ, ◌+◌, ◌*◌, ◌/◌, ◌%◌, ◌^◌, ◌<◌, ◌≤◌, bit_and, bit_or, arith, ap}
-use Rattle.std.proofs.Common.{◌∙◌}
+use Rattle.std.proofs.Common.{◌≡◌, ℕ, ◌+◌, ◌*◌, ◌/◌, ◌%◌, ◌^◌, ◌<◌, ◌≤◌, bit_and, bit_or, arith, ◌∙◌}
 use Rattle.std.proofs.lemmas.Nat.{and_mask, or_shifted}
-use Rattle.ep_base.specs.IpEcn.{ecn_of, ecn_number}
+use Rattle.ep_base.specs.IpEcn.{ecn_number}
 use Rattle.ep_base.specs.declared.net.ip_ecn.IpEcn.{IpEcn}
 use Rattle.ep_ip.specs.Ipv6.{dscp_in, ecn_in}
 use Rattle.ep_ip.proofs.Ecn.{ecn_of-number, ecn_number_below, number-ecn_of}
@@ -26,16 +25,11 @@ or-shared_byte dscp n most small =
 -- what a code point and a notification make up has both
 pub dscp_in-or : (dscp : ℕ) (ecn : IpEcn) → dscp ≤ 63
     → dscp_in (bit_or (dscp * 4 % 256) (ecn_number ecn)) ≡ dscp
-dscp_in-or dscp ecn most =
-    let small = ecn_number_below ecn in
-    rw (or-shared_byte dscp (ecn_number ecn) most small) (omega arith)
+dscp_in-or dscp ecn most = grind (arith, ecn_number_below, or-shared_byte)
 
 pub ecn_in-or : (dscp : ℕ) (ecn : IpEcn) → dscp ≤ 63
     → ecn_in (bit_or (dscp * 4 % 256) (ecn_number ecn)) ≡ ecn
-ecn_in-or dscp ecn most =
-    let small = ecn_number_below ecn in
-    let low : (4 * dscp + ecn_number ecn) % 4 ≡ ecn_number ecn = omega arith in
-    ap ecn_in (or-shared_byte dscp (ecn_number ecn) most small) ∙ ap ecn_of low ∙ ecn_of-number ecn
+ecn_in-or dscp ecn most = grind (arith, ecn_number_below, or-shared_byte, ecn_of-number)
 
 -- version, traffic class and flow label, each in its bits
 pub or-first_word : (class label : ℕ) → class < 2 ^ 8 → label < 2 ^ 20 →

@@ -1,8 +1,7 @@
 -- The bytes of an IPv6 header against its fields.
-use Rattle.std.proofs.Common.{◌≡◌, ℕ, ◌+◌, ◌*◌, ◌/◌, ◌%◌, ◌^◌, ◌<◌, List, ◌∷◌, ◌++◌, length, take}
-use Rattle.std.proofs.Common.{drop, get_or, arith, sym, refl, ap, ◌∙◌, replicate}
-use Rattle.std.proofs.lemmas.List.{length-append, length-drop, take_at, drop_at, take_all}
-use Rattle.std.proofs.lemmas.List.{append-nil}
+use Rattle.std.proofs.Common.{◌≡◌, ℕ, ◌+◌, ◌*◌, ◌/◌, ◌%◌, ◌^◌, ◌<◌, List, ◌∷◌, ◌++◌, length, take, drop, arith, sym}
+use Rattle.std.proofs.Common.{refl, ap, ◌∙◌, replicate}
+use Rattle.std.proofs.lemmas.List.{length-append, length-drop, take_at, drop_at, take_all, append-nil}
 use borrow.Rule.Slice.PartMut.{put_mid}
 use Rattle.ep_base.specs.Bytes.{IsBytes}
 use Rattle.ep_base.proofs.Cells.{cells, drop-cells, take-drop-cells}
@@ -28,21 +27,7 @@ addresses bytes len =
 pub encoding-ipv6_header_of : (bytes : List ℕ) → IsIpv6Header bytes → IsBytes bytes
     → encoding (ipv6_header_of bytes) ≡ bytes
 encoding-ipv6_header_of bytes header fits =
-    let word = first_word (get_or bytes 0 0) (get_or bytes 1 0) (get_or bytes 2 0)
-    (get_or bytes 3 0) header.version (fits 1) (fits 2) (fits 3) in
-    let digits = digits_of (get_or bytes 0 0) (get_or bytes 1 0) (get_or bytes 2 0)
-    (get_or bytes 3 0) (fits 0) (fits 1) (fits 2) (fits 3) in
-    rw (
-      word,
-      digits.0,
-      digits.1,
-      digits.2,
-      digits.3,
-      high_of (get_or bytes 4 0) (get_or bytes 5 0) (fits 4) (fits 5),
-      low_of (get_or bytes 4 0) (get_or bytes 5 0) (fits 5),
-      addresses bytes header.whole,
-    )
-    (sym (drop-cells 8 0 bytes (omega (arith, header.whole))))
+    grind (arith, first_word, digits_of, high_of, low_of, addresses, drop-cells)
 
 -- the bytes that fields encode are a header
 pub IsIpv6Header-encoding : (h : Ipv6Header) → Fits h → IsIpv6Header (encoding h)
@@ -74,15 +59,7 @@ ipv6_header_of-encoding h fits =
     let destination : take 16 (drop 16 (h.source ++ h.destination)) ≡ h.destination =
     rw (drop_at h.source h.destination 16 fits.source)
     (take_all 16 h.destination (omega (arith, fits.destination))) in
-    λ i. record {
-      traffic_class = traffic_class i;
-      flow_label = flow_label i;
-      payload_length = payload_length i;
-      next_header = h.next_header;
-      hop_limit = h.hop_limit;
-      source = source i;
-      destination = destination i;
-    }
+    grind arith
 
 -- equal fields are equal bytes, and the other way round
 pub same_fields : (a b : List ℕ) → IsIpv6Header a → IsBytes a → IsIpv6Header b → IsBytes b

@@ -1,9 +1,8 @@
 -- The IPv6 header at the start of bytes.
-use Rattle.std.proofs.Common.{◌≡◌, ℕ, ◌≤◌, List, ◌++◌, length, take, drop, Result, Ok}
-use Rattle.std.proofs.Common.{arith, sym, refl, ap, ◌∙◌}
-use Rattle.std.proofs.lemmas.Bool.{not-false, le-ltb, eq-eqb, ltb-false, eqb-true}
-use Rattle.std.proofs.lemmas.List.{get_or-take, length-take-le, take-append-drop, take_at}
-use Rattle.std.proofs.lemmas.List.{get_or_append_left, length-append}
+use Rattle.std.proofs.Common.{◌≡◌, ℕ, ◌≤◌, List, ◌++◌, length, take, drop, Result, Ok, arith, sym, ap, ◌∙◌}
+use Rattle.std.proofs.lemmas.Bool.{not-false, ltb-false, eqb-true}
+use Rattle.std.proofs.lemmas.List.{get_or-take, length-take-le, take-append-drop, take_at, get_or_append_left}
+use Rattle.std.proofs.lemmas.List.{length-append}
 use Rattle.ep_base.specs.Bytes.{num}
 use Rattle.ep_base.specs.declared.err.slice_error.SliceError.{SliceError}
 use Rattle.ep_ip.specs.declared.err.ipv6.header_error.HeaderError.{HeaderError}
@@ -14,8 +13,7 @@ use Rattle.ep_base.proofs.Prefixes.{guard_ok, ok_same, takes}
 
 pub header_at-ok : (bytes : List ℕ) → 40 ≤ length bytes → version_of bytes ≡ 6
     → header_at bytes ≡ Ok (take 40 bytes)
-header_at-ok bytes least version =
-    rw (le-ltb (length bytes) 40 least, eq-eqb (version_of bytes) 6 version) refl
+header_at-ok bytes least version = grind arith
 
 -- 40 bytes of version 6 are a header
 pub prefix_is : (bytes : List ℕ) → 40 ≤ length bytes → version_of bytes ≡ 6

@@ -1,6 +1,5 @@
 -- Sums of pseudo headers, built up chunk by chunk.
-use Rattle.std.proofs.Common.{◌≡◌, subst, refl, ℕ, ◌%◌, List, [], ◌∷◌, ◌++◌, length, append_assoc}
-use Rattle.std.proofs.Common.{length-append, arith}
+use Rattle.std.proofs.Common.{◌≡◌, refl, ℕ, ◌%◌, List, ◌∷◌, ◌++◌, length, append_assoc, length-append, arith, []}
 use Rattle.std.specs.Int.{w16, w32, to_be_bytes}
 use Rattle.ep_base.specs.Sum.{AddsText, fold, total}
 use Rattle.ep_base.specs.MessageSum.{SumsWords}
@@ -10,10 +9,7 @@ use Rattle.ep_ip.specs.Pseudo.{pseudo_v4, pseudo_v6}
 more_words : (sum next : ℕ) (text chunk : List ℕ) → SumsWords sum text → length chunk % 2 ≡ 0
     → AddsText sum chunk next
     → SumsWords next (text ++ chunk)
-more_words sum next text chunk sums even adds = record {
-  whole = let both = length-append text chunk in omega (arith, sums.whole);
-  folded = adds text sums.whole sums.folded;
-}
+more_words sum next text chunk sums even adds = grind (arith, length-append)
 
 even_4 : (chunk : List ℕ) → length chunk ≡ 4 → length chunk % 2 ≡ 0
 even_4 chunk len = omega arith
@@ -33,8 +29,7 @@ pseudo_v4_sums source destination number len a b c d e p q none s t u v =
     let third = more_words c d (source ++ destination) (0 ∷ number ∷ []) second refl u in
     let all = more_words d e (source ++ destination ++ 0 ∷ number ∷ [])
     (to_be_bytes w16 len) third refl v in
-    subst (λ (text : List ℕ). SumsWords e text)
-    (append_assoc (source ++ destination) (0 ∷ number ∷ []) (to_be_bytes w16 len)) all
+    grind (arith, append_assoc)
 
 pub pseudo_v6_sums : (source destination : List ℕ) (number len a b c d e : ℕ) → length source ≡ 16
     → length destination ≡ 16

@@ -1,24 +1,19 @@
 -- The walk over IPv6 extension headers: headers in a row against the function that finds them.
-use Rattle.std.proofs.Common.{◌≡◌, ℕ, zero, suc, ◌+◌, ◌*◌, ◌/◌, ◌<◌, ◌≤◌, ◌-◌, Bool, true, false}
-use Rattle.std.proofs.Common.{cond, eqb, ltb, List, [], ◌∷◌, ◌++◌, length, take, drop, get_or}
-use Rattle.std.proofs.Common.{arith, refl, sym, ap, ◌∙◌, subst, IsTrue, ◌&&◌, leb, Result, Bor}
-use Rattle.std.proofs.lemmas.Bool.{le-ltb, lt-leb, le-leb}
-use Rattle.std.proofs.lemmas.List.{get_or-take, length-take-le, take-append-drop, take_at}
-use Rattle.std.proofs.lemmas.List.{take_rest, drop_at, get_or_append_left, length-append}
-use Rattle.std.proofs.lemmas.List.{append_assoc, append-nil}
+use Rattle.std.proofs.Common.{◌≡◌, ℕ, zero, suc, ◌+◌, ◌*◌, ◌/◌, ◌<◌, ◌≤◌, ◌-◌, Bool, true, false, [], cond, eqb, ltb}
+use Rattle.std.proofs.Common.{List, ◌∷◌, ◌++◌, length, take, drop, get_or, arith, refl, sym, ◌∙◌, subst, IsTrue, ◌&&◌}
+use Rattle.std.proofs.Common.{leb, Result, Bor}
+use Rattle.std.proofs.lemmas.Bool.{le-ltb, le-leb}
+use Rattle.std.proofs.lemmas.List.{get_or-take, length-take-le, take-append-drop, take_at, take_rest, drop_at}
+use Rattle.std.proofs.lemmas.List.{get_or_append_left, length-append, append_assoc, append-nil}
 use Rattle.std.specs.List.{concat}
 use Rattle.ep_base.specs.declared.err.len_error.LenError.{LenError}
 use Rattle.ep_base.specs.declared.net.ip_number.IpNumber.{IpNumber}
-use Rattle.ep_ip.specs.Skip.{is_skipped, skipped_len, required_len, IsWhole, Skips, Walk, outcome}
-use Rattle.ep_ip.specs.Skip.{headers_within, skipped_headers, next_number_after, skip, Gives, Ends}
+use Rattle.ep_ip.specs.Skip.{is_skipped, skipped_len, required_len, IsWhole, Skips, Walk, outcome, headers_within}
+use Rattle.ep_ip.specs.Skip.{skipped_headers, next_number_after, skip, Gives, Ends}
 
 -- with fewer bytes than two, two are needed
 started_of : (len n : ℕ) → cond (ltb len 2) 2 n ≤ len → (2 ≤ len) × (cond (ltb len 2) 2 n ≡ n)
-started_of zero n h = absurd (omega arith)
-started_of (suc zero) n h = absurd (omega arith)
-started_of (suc (suc len)) n h =
-    let enough : ltb (suc (suc len)) 2 ≡ false = le-ltb (suc (suc len)) 2 (omega arith) in
-    (omega arith, rw enough refl)
+started_of len n h = grind arith
 
 pub required_of : (number : ℕ) (bytes : List ℕ) → required_len number bytes ≤ length bytes
     → (2 ≤ length bytes) × (required_len number bytes ≡ skipped_len number bytes)
@@ -26,9 +21,7 @@ required_of number bytes h = started_of (length bytes) (skipped_len number bytes
 
 least_eight : (fragment authentication : Bool) (n : ℕ)
     → 8 ≤ cond fragment 8 (cond authentication ((n + 2) * 4) ((n + 1) * 8))
-least_eight true a n = omega arith
-least_eight false true n = omega arith
-least_eight false false n = omega arith
+least_eight fragment a n = grind arith
 
 -- no header is shorter than eight bytes
 pub eight_le : (number : ℕ) (bytes : List ℕ) → 8 ≤ skipped_len number bytes
@@ -37,24 +30,13 @@ eight_le number bytes = least_eight (eqb number 44) (eqb number 51) (get_or byte
 -- the length is that of the second byte alone
 same_len : (number : ℕ) (a b : List ℕ) → get_or a 1 0 ≡ get_or b 1 0
     → skipped_len number a ≡ skipped_len number b
-same_len number a b e =
-    ap (λ (n : ℕ). cond (eqb number 44) 8 (cond (eqb number 51) ((n + 2) * 4) ((n + 1) * 8))) e
+same_len number a b e = grind arith
 
 -- a prefix that is long enough is a whole header
 pub whole_prefix : (number : ℕ) (bytes : List ℕ) → required_len number bytes ≤ length bytes
     → IsWhole number (take (skipped_len number bytes) bytes)
 whole_prefix number bytes h =
-    let required = required_of number bytes h in
-    let least = eight_le number bytes in
-    let fits : skipped_len number bytes ≤ length bytes = omega (arith, required.1, h) in
-    let len : length (take (skipped_len number bytes) bytes) ≡ skipped_len number bytes =
-    length-take-le (skipped_len number bytes) bytes fits in
-    let second : get_or (take (skipped_len number bytes) bytes) 1 0 ≡ get_or bytes 1 0 =
-    get_or-take (skipped_len number bytes) bytes 1 0 (omega arith) in
-    record {
-      started = omega arith;
-      whole = len ∙ sym (same_len number (take (skipped_len number bytes) bytes) bytes second);
-    }
+    grind (arith, required_of, eight_le, length-take-le, get_or-take, same_len)
 
 -- what a step skips, as the code names it
 pub found_header : (number n : ℕ) (bytes : List ℕ)
@@ -77,62 +59,39 @@ pub eight_each : (number : ℕ) (headers : List (List ℕ)) (last : ℕ) → Ski
     → 8 * length headers ≤ length (concat headers)
 eight_each number [] last row = omega arith
 eight_each number (header ∷ headers) last row =
-    omega (
-      arith,
-      eight_each (get_or header 0 0) headers last row.2,
-      eight_le number
-          header,
-      row.1.whole,
-      length-append header (concat headers),
-    )
+    grind (arith, eight_each (get_or header 0 0) headers last row.2, eight_le, length-append)
 
 -- one more header after a row
 pub skips_more : (number : ℕ) (headers : List (List ℕ)) (m : ℕ) (header : List ℕ)
     → Skips number headers m → IsTrue (is_skipped m) → IsWhole m header
     → Skips number (headers ++ header ∷ []) (get_or header 0 0)
-skips_more number [] m header row skipped whole =
-    let P : ℕ → Type 0 = λ n. IsTrue (is_skipped n) × IsWhole n header
-    × (get_or header 0 0 ≡ get_or header 0 0) in
-    subst P (sym row) (skipped, whole, refl)
+skips_more number [] m header row skipped whole = grind arith
 skips_more number (first ∷ headers) m header row skipped whole =
     (row.0, row.1, skips_more (get_or first 0 0) headers m header row.2 skipped whole)
 
 pub concat_more : (headers : List (List ℕ)) (header : List ℕ)
     → concat (headers ++ header ∷ []) ≡ concat headers ++ header
 concat_more [] header = append-nil header
-concat_more (first ∷ headers) header =
-    ap (λ (xs : List ℕ). first ++ xs) (concat_more headers header)
-    ∙ sym (append_assoc first (concat headers) header)
+concat_more (first ∷ headers) header = grind (arith, concat_more headers header, append_assoc)
 
 stopped : (skipped : Bool) (required len : ℕ) → (IsTrue skipped → len < required)
     → (skipped && leb required len) ≡ false
-stopped true required len h = lt-leb required len (h refl)
-stopped false required len h = refl
+stopped skipped required len h = grind arith
 
 headers_none : (most number : ℕ) (bytes : List ℕ)
     → (IsTrue (is_skipped number) → length bytes < required_len number bytes)
     → headers_within most number bytes ≡ []
 unfolding headers_within
-headers_none zero number bytes h = refl
-headers_none (suc most) number bytes h =
-    ap (λ (b : Bool). cond b (take (skipped_len number bytes) bytes ∷
-    headers_within most (get_or bytes 0 0) (drop (skipped_len number bytes) bytes)) [])
-    (stopped (is_skipped number) (required_len number bytes) (length bytes) h)
+headers_none most number bytes h = grind arith
 
 -- a header of its own length, whatever follows it
 len_again : (number : ℕ) (header rest : List ℕ) → IsWhole number header
     → skipped_len number (header ++ rest) ≡ length header
-len_again number header rest whole =
-    same_len number (header ++ rest) header
-    (get_or_append_left header rest 0 1 (omega (arith, whole.started))) ∙ sym whole.whole
+len_again number header rest whole = grind (arith, same_len, get_or_append_left)
 
 required_again : (number : ℕ) (header rest : List ℕ) → IsWhole number header
     → required_len number (header ++ rest) ≤ length (header ++ rest)
-required_again number header rest whole =
-    let len = length-append header rest in
-    let enough : ltb (length (header ++ rest)) 2 ≡ false =
-    le-ltb (length (header ++ rest)) 2 (omega (arith, whole.started)) in
-    rw (enough, len_again number header rest whole) (omega arith)
+required_again number header rest whole = grind (arith, length-append, le-ltb, len_again)
 
 both : (a b : Bool) → a ≡ true → b ≡ true → (a && b) ≡ true
 both a b e f = rw (e, f) refl
@@ -142,38 +101,22 @@ headers_one : (most number : ℕ) (header rest : List ℕ) → IsTrue (is_skippe
     headers_within most (get_or header 0 0) rest
 unfolding headers_within
 headers_one most number header rest skipped whole =
-    let bytes : List ℕ = header ++ rest in
-    let test = both (is_skipped number) (leb (required_len number bytes) (length bytes)) skipped
-    (le-leb (required_len number bytes) (length bytes)
-    (required_again number header rest whole)) in
-    let len : skipped_len number bytes ≡ length header = len_again number header rest whole in
-    let prefix : take (skipped_len number bytes) bytes ≡ header =
-    take_at header rest (skipped_len number bytes) (sym len) in
-    let following : drop (skipped_len number bytes) bytes ≡ rest =
-    drop_at header rest (skipped_len number bytes) (sym len) in
-    let first : get_or bytes 0 0 ≡ get_or header 0 0 =
-    get_or_append_left header rest 0 0 (omega (arith, whole.started)) in
-    ap (λ (b : Bool). cond b (take (skipped_len number bytes) bytes ∷
-    headers_within most (get_or bytes 0 0) (drop (skipped_len number bytes) bytes)) []) test
-    ∙ ap (λ (xs : List ℕ). xs ∷ headers_within most (get_or bytes 0 0)
-    (drop (skipped_len number bytes) bytes)) prefix
-    ∙ ap (λ (xs : List ℕ). header ∷ headers_within most (get_or bytes 0 0) xs) following
-    ∙ ap (λ (n : ℕ). header ∷ headers_within most n rest) first
+    grind (arith, both, le-leb, required_again, len_again, take_at, drop_at, get_or_append_left)
 
 -- the function finds the headers in a row
 found_headers : (most number : ℕ) (headers : List (List ℕ)) (last : ℕ) (rest : List ℕ)
     → length headers ≤ most → Skips number headers last
     → (IsTrue (is_skipped last) → length rest < required_len last rest)
     → headers_within most number (concat headers ++ rest) ≡ headers
-found_headers most number [] last rest h row ended =
-    headers_none most number rest (let P : ℕ → Type 0 = λ n. IsTrue (is_skipped n)
-    → length rest < required_len n rest in subst P (sym row) ended)
+found_headers most number [] last rest h row ended = grind (arith, headers_none)
 found_headers zero number (header ∷ headers) last rest h row ended = absurd (omega arith)
 found_headers (suc most) number (header ∷ headers) last rest h row ended =
-    ap (headers_within (suc most) number) (append_assoc header (concat headers) rest)
-    ∙ headers_one most number header (concat headers ++ rest) row.0 row.1
-    ∙ ap (λ (xs : List (List ℕ)). header ∷ xs)
-    (found_headers most (get_or header 0 0) headers last rest (omega arith) row.2 ended)
+    grind (
+      arith,
+      found_headers most (get_or header 0 0) headers last rest (omega arith) row.2 ended,
+      append_assoc,
+      headers_one,
+    )
 
 named_last : (number : ℕ) (headers : List (List ℕ)) (last : ℕ) → Skips number headers last
     → next_number_after number headers ≡ last
@@ -185,48 +128,24 @@ named_last number (header ∷ headers) last row = named_last (get_or header 0 0)
 pub walk_headers : (number : ℕ) (bytes : List ℕ) (headers : List (List ℕ)) (last : ℕ)
     (rest : List ℕ) → Walk number bytes headers last rest → skipped_headers number bytes ≡ headers
 walk_headers number bytes headers last rest walk =
-    let enough : length headers ≤ length bytes =
-    omega (
-      arith,
-      eight_each number headers last walk.named,
-      ap length walk.cut,
-      length-append
-          (concat headers) rest,
-    ) in
-    ap (headers_within (length bytes) number) walk.cut
-    ∙ found_headers (length bytes) number headers last rest enough walk.named walk.ended
+    grind (arith, eight_each, length-append, found_headers)
 
 pub walk_skips : (number : ℕ) (bytes : List ℕ) (headers : List (List ℕ)) (last : ℕ) (rest : List ℕ)
     → Walk number bytes headers last rest
     → skip number bytes ≡ outcome (length (concat headers)) last rest
-walk_skips number bytes headers last rest walk =
-    let following : drop (length (concat headers)) bytes ≡ rest =
-    ap (drop (length (concat headers))) walk.cut
-    ∙ drop_at (concat headers) rest (length (concat headers)) refl in
-    ap (λ (hs : List (List ℕ)). outcome (length (concat hs)) (next_number_after number hs)
-    (drop (length (concat hs)) bytes)) (walk_headers number bytes headers last rest walk)
-    ∙ ap (λ (n : ℕ). outcome (length (concat headers)) n (drop (length (concat headers)) bytes))
-    (named_last number headers last walk.named)
-    ∙ ap (outcome (length (concat headers)) last) following
+walk_skips number bytes headers last rest walk = grind (arith, drop_at, walk_headers, named_last)
 
 -- the turns after headers in a row
 pub turns_le : (number : ℕ) (bytes : List ℕ) (headers : List (List ℕ)) (last : ℕ) (rest : List ℕ)
     (turns : ℕ) → Skips number headers last → bytes ≡ concat headers ++ rest
     → turns ≡ length headers + 1 → 8 * turns ≤ length bytes + 8
 turns_le number bytes headers last rest turns row cut counted =
-    omega (
-      arith,
-      eight_each number headers last row,
-      ap length cut,
-      length-append
-          (concat headers) rest,
-    )
+    grind (arith, eight_each, length-append)
 
 pub turns_bound : (number : ℕ) (bytes : List ℕ) (headers : List (List ℕ)) (last : ℕ) (rest : List ℕ)
     (turns : ℕ) → Skips number headers last → bytes ≡ concat headers ++ rest
     → turns ≡ length headers + 1 → turns ≤ length bytes / 8 + 1
-turns_bound number bytes headers last rest turns row cut counted =
-    let most = turns_le number bytes headers last rest turns row cut counted in omega arith
+turns_bound number bytes headers last rest turns row cut counted = grind (arith, turns_le)
 
 -- one header further
 pub walk_on : (number : ℕ) (bytes : List ℕ) (headers : List (List ℕ)) (m : ℕ) (rest : List ℕ)
@@ -237,11 +156,8 @@ pub walk_on : (number : ℕ) (bytes : List ℕ) (headers : List (List ℕ)) (m :
     × (turns + 1 ≡ length (headers ++ header ∷ []) + 1)
 walk_on number bytes headers m rest turns header following next row cut counted skipped
     whole rest_is next_is = (
-      subst (Skips number (headers ++ header ∷ [])) (sym next_is)
-          (skips_more number headers m header row skipped whole),
-      cut ∙ ap (λ (xs : List ℕ). concat headers ++ xs) rest_is
-          ∙ sym (append_assoc (concat headers) header following)
-          ∙ ap (λ (xs : List ℕ). xs ++ following) (sym (concat_more headers header)),
+      grind (arith, skips_more),
+      grind (arith, append_assoc, concat_more),
       omega (arith, length-append headers (header ∷ [])),
     )
 
@@ -268,7 +184,7 @@ ends_same number bytes headers others last other_last rest other_rest answer tur
     record {
       gives = gives_same number bytes headers others last other_last rest other_rest
           answer walk other ends.gives;
-      counted = ends.counted ∙ ap (λ (hs : List (List ℕ)). length hs + 1) same;
+      counted = grind arith;
     }
 
 -- the result is that of the function

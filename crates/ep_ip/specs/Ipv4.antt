@@ -1,12 +1,11 @@
 -- The IPv4 header (RFC 791, section 3.1): its bytes, and each field by its offset in them.
-use Rattle.std.specs.Prelude.{◌≡◌, ◌<◌, ℕ, ◌+◌, ◌*◌, ◌/◌, ◌%◌, ◌^◌, ◌≤◌, Bool, true, false, ◌==◌}
-use Rattle.std.specs.Prelude.{◌||◌, nat_lt, if◌then◌else◌, List, [], ◌∷◌, ◌++◌, replicate, length}
-use Rattle.std.specs.Prelude.{slice_range, slice_index, slice_set, drop}
+use Rattle.std.specs.Prelude.{◌≡◌, ◌<◌, ℕ, ◌+◌, ◌*◌, ◌/◌, ◌%◌, ◌^◌, ◌≤◌, Bool, true, false, ◌==◌, ◌||◌, nat_lt}
+use Rattle.std.specs.Prelude.{if◌then◌else◌, List, [], ◌∷◌, ◌++◌, replicate, length, slice_range, slice_index}
+use Rattle.std.specs.Prelude.{slice_set, drop}
 use Rattle.std.specs.Int.{bit_at, w16, to_be_bytes}
 use Rattle.ep_base.specs.Bytes.{num}
 use Rattle.ep_base.specs.Prefixes.{IsReadAs}
-use Rattle.ep_base.specs.IpEcn.{ecn_number}
-use Rattle.ep_base.specs.IpEcn.{ecn_of as ecn_value}
+use Rattle.ep_base.specs.IpEcn.{ecn_number, ecn_of as ecn_value}
 use Rattle.ep_base.specs.declared.net.ip_ecn.IpEcn.{IpEcn}
 use Rattle.ep_base.specs.declared.net.ip_ecn.IpEcn.TheVariants.{NotEct}
 use Rattle.ep_ip.specs.Ipv4Options.{IsIpv4Options}

@@ -1,7 +1,6 @@
 -- Why bytes do not begin with an IPv4 header (RFC 791, section 3.1), and why its total length
 -- leaves no payload.
-use Rattle.std.specs.Prelude.{◌≡◌, ◌<◌, ◌+◌, ◌∷◌, [], ℕ, ◌*◌, List, length, take, nat_lt, ◌==◌, not}
-use Rattle.std.specs.Prelude.{Result, Ok, Err}
+use Rattle.std.specs.Prelude.{◌≡◌, ◌<◌, ◌+◌, ◌∷◌, [], ℕ, ◌*◌, List, length, take, nat_lt, ◌==◌, not, Result, Ok, Err}
 use Rattle.ep_base.specs.LenError.{too_few_bytes}
 use Rattle.ep_base.specs.Refusals.{unless_refused}
 use Rattle.ep_base.specs.declared.err.layer.Layer.TheVariants.{Ipv4Header, Ipv4Packet}

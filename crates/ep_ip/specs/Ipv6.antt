@@ -1,8 +1,7 @@
 -- The IPv6 header (RFC 8200, section 3): its bytes, and each field by its offset in them. The
 -- traffic class is the differentiated services code point, 6 bits (RFC 2474, section 3), and
 -- explicit congestion notification, 2 bits (RFC 3168, section 5).
-use Rattle.std.specs.Prelude.{◌≡◌, ℕ, ◌+◌, ◌*◌, ◌/◌, ◌%◌, ◌^◌, ◌<◌, List, [], ◌∷◌, ◌++◌, length}
-use Rattle.std.specs.Prelude.{slice_range}
+use Rattle.std.specs.Prelude.{◌≡◌, ℕ, ◌+◌, ◌*◌, ◌/◌, ◌%◌, ◌^◌, ◌<◌, List, [], ◌∷◌, ◌++◌, length, slice_range}
 use Rattle.std.specs.Int.{w16, w32, to_be_bytes}
 use Rattle.ep_base.specs.Bytes.{num}
 use Rattle.ep_base.specs.Prefixes.{IsReadAs}

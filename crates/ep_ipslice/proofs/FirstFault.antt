@@ -1,13 +1,11 @@
 -- The fault that is found of an IP packet is the first one.
-use Rattle.std.proofs.Common.{◌≡◌, ◌∙◌, sym, ap, subst, refl, ℕ, zero, suc, ◌-◌, ◌<◌, ◌==◌, Bool, true, false, List, []}
-use Rattle.std.proofs.Common.{◌++◌, length, ◌≤◌, drop, Option, Some, None, Result, Ok, Err, arith}
+use Rattle.std.proofs.Common.{◌≡◌, ◌∙◌, sym, ap, subst, refl, ℕ, ◌-◌, ◌<◌, ◌==◌, Bool, true, false, List, [], ◌++◌}
+use Rattle.std.proofs.Common.{length, ◌≤◌, drop, Option, Some, None, Result, Ok, Err, arith}
 use Rattle.std.specs.Prelude.{nat_lt, if◌then◌else◌}
-use Rattle.std.proofs.lemmas.Bool.{eqb-false, eqb-true, ltb-false, ltb-true}
-use Rattle.std.proofs.lemmas.Option.{none-some}
+use Rattle.std.proofs.lemmas.Bool.{eqb-true, ltb-false, ltb-true}
 use Rattle.std.proofs.lemmas.List.{drop_at}
 use Rattle.ep_base.proofs.Prefixes.{err_same}
-use Rattle.ep_ext.specs.Chain.{Fault, IsEnd, fault_at, fault_in, fault_of, prefix_of}
-use Rattle.ep_ext.specs.Chain.{layer_of}
+use Rattle.ep_ext.specs.Chain.{Fault, IsEnd, fault_at, fault_of, prefix_of}
 use Rattle.ep_ext.specs.Slot.{Order}
 use Rattle.ep_ext.specs.Value.{Piece, bytes_of, slots}
 use Rattle.ep_base.specs.declared.err.slice_error.SliceError.{SliceError as HeaderSliceError}
@@ -17,14 +15,13 @@ use Rattle.ep_ip.specs.Ipv6.{next_header_of}
 use Rattle.ep_ip.specs.Ipv6Fault.{header_at}
 use Rattle.ep_ip.specs.declared.err.ipv6.header_error.HeaderError.{HeaderError as HeaderFault}
 use Rattle.ep_ip.specs.Ipv4.{version_of}
-use Rattle.ep_ipslice.specs.IpSlice.{IsIpFault, NoBytes, OfIpv4, OfIpv6, OtherVersion, ip_packet_at}
-use Rattle.ep_ipslice.specs.IpSlice.{no_version, with_ipv4, with_ipv6}
+use Rattle.ep_ipslice.specs.IpSlice.{IsIpFault, OfIpv4, OfIpv6, ip_packet_at, no_version, with_ipv4, with_ipv6}
 use Rattle.ep_ipslice.specs.Ipv4Packet.{ipv4_packet_at}
 use Rattle.ep_ipslice.specs.Ipv6Exts.{view_order}
-use Rattle.ep_ipslice.specs.Ipv6Fault.{IsFaultIn, IsIpv6Fault, IsRowFault, OfExtensions, OfHeader}
-use Rattle.ep_ipslice.specs.Ipv6Fault.{OfLength, not_whole, of_exts_fault}
-use Rattle.ep_ipslice.specs.Ipv6Packet.{body_of, extensions_of, fault_after, ipv6_packet_at}
-use Rattle.ep_ipslice.specs.Ipv6Packet.{number_after, packet_after, packet_unless, rest_after}
+use Rattle.ep_ipslice.specs.Ipv6Fault.{IsIpv6Fault, IsRowFault, OfExtensions, OfHeader, OfLength, not_whole}
+use Rattle.ep_ipslice.specs.Ipv6Fault.{of_exts_fault}
+use Rattle.ep_ipslice.specs.Ipv6Packet.{body_of, extensions_of, fault_after, ipv6_packet_at, number_after, packet_after}
+use Rattle.ep_ipslice.specs.Ipv6Packet.{packet_unless, rest_after}
 use Rattle.ep_ipslice.specs.Ipv6Walk.{pieces_within}
 use Rattle.ep_ipslice.specs.Packet.{Ipv4Packet, Ipv6Packet, body_len, body_source}
 use Rattle.ep_ipslice.specs.declared.err.ip.header_error.HeaderError.TheVariants.{UnsupportedIpVersion}
@@ -51,8 +48,7 @@ ends_open : RowEnds → (order : Order) (passed : List Ipv6ExtSlot) (last offset
     (r : Result (List ℕ) (HeaderSliceError HeaderError)) → order passed last ≡ Some slot
     → prefix_of slot rest ≡ r → fault_at offset (Some slot) last rest ≡ Some fault
     → IsEnd order passed last rest
-ends_open law order passed last offset rest slot fault (Ok header) here prefix found =
-    absurd (none-some fault (sym (ap (fault_in (layer_of slot) offset) prefix) ∙ found))
+ends_open law order passed last offset rest slot fault (Ok header) here prefix found = grind arith
 ends_open law order passed last offset rest slot fault (Err e) here prefix found =
     law.fault order passed last rest slot e here prefix
 
@@ -60,8 +56,7 @@ ends_open law order passed last offset rest slot fault (Err e) here prefix found
 ends_faulty : RowEnds → (order : Order) (passed : List Ipv6ExtSlot) (last offset : ℕ)
     (rest : List ℕ) (fault : Fault) (slot : Option Ipv6ExtSlot) → order passed last ≡ slot
     → fault_at offset slot last rest ≡ Some fault → IsEnd order passed last rest
-ends_faulty law order passed last offset rest fault None here found =
-    law.closed order passed last rest here
+ends_faulty law order passed last offset rest fault None here found = grind arith
 ends_faulty law order passed last offset rest fault (Some slot) here found =
     ends_open law order passed last offset rest slot fault (prefix_of slot rest) here refl found
 
@@ -154,8 +149,7 @@ ipv6_case law bytes (Err fault) e version at is =
     (sym (err_same {A = IpSlice} _ _ is))
 
 some_bytes : (n : ℕ) → (n == 0) ≡ false → 0 < n
-some_bytes zero none = cc
-some_bytes (suc n) none = omega arith
+some_bytes n none = grind arith
 
 by_version : RowEnds → (none four six : Bool) (bytes : List ℕ) (e : IpFault)
     → (length bytes == 0) ≡ none → (version_of bytes == 4) ≡ four → (version_of bytes == 6) ≡ six
@@ -164,16 +158,12 @@ by_version : RowEnds → (none four six : Bool) (bytes : List ℕ) (e : IpFault)
     else (if six then with_ipv6 (ipv6_packet_at bytes)
     else Err (IpHeaders (headers.Ip (UnsupportedIpVersion (version_of bytes))))))) ≡ Err e
     → IsIpFault bytes e
-by_version law true four six bytes e size v4 v6 is =
-    NoBytes (eqb-true (length bytes) 0 size) (sym (err_same {A = IpSlice} _ _ is))
+by_version law true four six bytes e size v4 v6 is = grind arith
 by_version law false true six bytes e size v4 v6 is =
     ipv4_case bytes (ipv4_packet_at bytes) e (eqb-true (version_of bytes) 4 v4) refl is
 by_version law false false true bytes e size v4 v6 is =
     ipv6_case law bytes (ipv6_packet_at bytes) e (eqb-true (version_of bytes) 6 v6) refl is
-by_version law false false false bytes e size v4 v6 is =
-    OtherVersion (some_bytes (length bytes) size)
-    (eqb-false (version_of bytes) 4 v4) (eqb-false (version_of bytes) 6 v6)
-    (sym (err_same {A = IpSlice} _ _ is))
+by_version law false false false bytes e size v4 v6 is = grind arith
 
 -- the same of a packet of either version
 pub ip_fault_found : RowEnds → (bytes : List ℕ) (e : IpFault) → ip_packet_at bytes ≡ Err e

@@ -1,18 +1,16 @@
 -- Headers in slots of one value, as a view takes them.
-use Rattle.std.proofs.Common.{◌≡◌, ◌∙◌, ℕ, ◌==◌, ◌||◌, Bool, true, false, cond, List, [], ◌∷◌, ◌++◌}
-use Rattle.std.proofs.Common.{Some, None, refl, ap, subst}
+use Rattle.std.proofs.Common.{arith, ◌≡◌, ◌∙◌, ℕ, ◌==◌, ◌||◌, Bool, true, false, cond, List, ◌∷◌, ◌++◌, [], Some, None}
+use Rattle.std.proofs.Common.{refl, ap, subst}
 use Rattle.std.specs.Option.{option_map, option_map_or}
 use Rattle.std.proofs.lemmas.List.Folds.{list_any-append}
 use Rattle.ep_base.specs.Bytes.{num}
 use Rattle.ep_ext.specs.Chain.{IsPiece, Row}
 use Rattle.ep_ext.specs.Fragment.{fragment_of, fragments}
-use Rattle.ep_ext.specs.Slot.{at_start, is_passed, is_same, slot_of}
+use Rattle.ep_ext.specs.Slot.{at_start, is_passed, slot_of}
 use Rattle.ep_ext.specs.Value.{Piece, bytes_of, piece_at}
 use Rattle.ep_ext.specs.declared.net.ipv6_ext_slot.Ipv6ExtSlot.{Ipv6ExtSlot}
-use Rattle.ep_ext.specs.declared.net.ipv6_ext_slot.Ipv6ExtSlot.TheVariants.{HopByHop, Destination}
-use Rattle.ep_ext.specs.declared.net.ipv6_ext_slot.Ipv6ExtSlot.TheVariants.{Routing, Fragment}
-use Rattle.ep_ext.specs.declared.net.ipv6_ext_slot.Ipv6ExtSlot.TheVariants.{Authentication}
-use Rattle.ep_ext.specs.declared.net.ipv6_ext_slot.Ipv6ExtSlot.TheVariants.{FinalDestination}
+use Rattle.ep_ext.specs.declared.net.ipv6_ext_slot.Ipv6ExtSlot.TheVariants.{HopByHop, Destination, Routing, Fragment}
+use Rattle.ep_ext.specs.declared.net.ipv6_ext_slot.Ipv6ExtSlot.TheVariants.{Authentication, FinalDestination}
 use Rattle.ep_ipslice.specs.Ipv6Exts.{is_any_fragmenting, view_order}
 
 -- a view has one slot for destination options
@@ -50,15 +48,12 @@ seen_more (p ∷ ps) slot = ap (λ (xs : List Ipv6ExtSlot). seen_at p ∷ xs) (s
 
 once_is : (taken : Bool) (slot found : Ipv6ExtSlot)
     → cond taken None (Some slot) ≡ Some found → slot ≡ found
-once_is true slot found is = cc
-once_is false slot found is = cc
+once_is taken slot found is = grind arith
 
 prefix_is : (passed : List Ipv6ExtSlot) (found : Ipv6ExtSlot) → at_start passed ≡ Some found
     → at_start (seen_slots passed) ≡ Some (seen_at found)
 unfolding seen_slots seen_at
-prefix_is [] found is = let same : HopByHop ≡ found = cc in
-    ap (λ (p : Ipv6ExtSlot). Some (seen_at p)) same
-prefix_is (p ∷ ps) found is = cc
+prefix_is passed found is = grind arith
 
 -- a slot that a value has for a number is one that a view has
 slot_seen_at : (zero routing fragment auth destination following : Bool) (r f a fd d : Bool)
@@ -75,19 +70,8 @@ slot_seen_at : (zero routing fragment auth destination following : Bool) (r f a 
     (cond auth (Some Authentication) (cond destination (Some Destination) None))))
     ≡ Some (seen_at found)
 unfolding seen_at
-slot_seen_at true routing fragment auth destination following r f a fd d passed found is =
-    prefix_is passed found is
-slot_seen_at false true fragment auth destination following r f a fd d passed found is =
-    ap (λ (p : Ipv6ExtSlot). Some (seen_at p)) (once_is r Routing found is)
-slot_seen_at false false true auth destination following r f a fd d passed found is =
-    ap (λ (p : Ipv6ExtSlot). Some (seen_at p)) (once_is f Fragment found is)
-slot_seen_at false false false true destination following r f a fd d passed found is =
-    ap (λ (p : Ipv6ExtSlot). Some (seen_at p)) (once_is a Authentication found is)
-slot_seen_at false false false false true true r f a fd d passed found is =
-    ap (λ (p : Ipv6ExtSlot). Some (seen_at p)) (once_is fd FinalDestination found is)
-slot_seen_at false false false false true false r f a fd d passed found is =
-    ap (λ (p : Ipv6ExtSlot). Some (seen_at p)) (once_is d Destination found is)
-slot_seen_at false false false false false following r f a fd d passed found is = cc
+slot_seen_at zero routing fragment auth destination following r f a fd d passed found is =
+    grind (arith, prefix_is, seen_at, once_is)
 
 slot_seen : (passed : List Ipv6ExtSlot) (number : ℕ) (found : Ipv6ExtSlot)
     → slot_of passed number ≡ Some found
@@ -116,46 +100,15 @@ unfolding seen
 bytes_seen [] = refl
 bytes_seen (piece ∷ pieces) = ap (λ (xs : List ℕ). piece.1 ++ xs) (bytes_seen pieces)
 
--- a second fragment header has no slot
-no_second : (zero routing fragment auth destination following : Bool) (r f a fd d : Bool)
-    (passed : List Ipv6ExtSlot) → f ≡ true →
-    cond zero (at_start passed)
-    (cond routing (cond r None (Some Routing))
-    (cond fragment (cond f None (Some Fragment))
-    (cond auth (cond a None (Some Authentication))
-    (cond destination (cond following (cond fd None (Some FinalDestination))
-    (cond d None (Some Destination))) None)))) ≡ Some Fragment → ⊥
-no_second true routing fragment auth destination following r f a fd d [] passed is = cc
-no_second true routing fragment auth destination following r f a fd d (p ∷ ps) passed is = cc
-no_second false true fragment auth destination following r f a fd d passed taken is =
-    let no : Routing ≡ Fragment = once_is r Routing Fragment is in cc
-no_second false false true auth destination following r true a fd d passed taken is = cc
-no_second false false true auth destination following r false a fd d passed taken is = cc
-no_second false false false true destination following r f a fd d passed taken is =
-    let no : Authentication ≡ Fragment = once_is a Authentication Fragment is in cc
-no_second false false false false true true r f a fd d passed taken is =
-    let no : FinalDestination ≡ Fragment = once_is fd FinalDestination Fragment is in cc
-no_second false false false false true false r f a fd d passed taken is =
-    let no : Destination ≡ Fragment = once_is d Destination Fragment is in cc
-no_second false false false false false following r f a fd d passed taken is = cc
-
 passed_more : (passed : List Ipv6ExtSlot) (slot : Ipv6ExtSlot) → is_passed passed Fragment ≡ true
     → is_passed (passed ++ slot ∷ []) Fragment ≡ true
-passed_more passed slot is =
-    list_any-append (λ p. is_same p Fragment) passed (slot ∷ [])
-    ∙ ap (λ (b : Bool). b || (is_same slot Fragment || false)) is
+passed_more passed slot is = grind (arith, list_any-append)
 
 passed_last : (passed : List Ipv6ExtSlot) → is_passed (passed ++ Fragment ∷ []) Fragment ≡ true
-passed_last passed = list_any-append (λ p. is_same p Fragment) passed (Fragment ∷ [])
-    ∙ or_last (is_passed passed Fragment)
-  where
-    or_last : (b : Bool) → (b || true) ≡ true
-    or_last true = refl
-    or_last false = refl
+passed_last passed = grind (arith, list_any-append)
 
 or_none : (b : Bool) → (b || false) ≡ b
-or_none true = refl
-or_none false = refl
+or_none b = grind arith
 
 none_after : (passed : List Ipv6ExtSlot) (number : ℕ) (pieces : List Piece) (last : ℕ)
     → is_passed passed Fragment ≡ true → Row slot_of passed number pieces last
@@ -163,19 +116,13 @@ none_after : (passed : List Ipv6ExtSlot) (number : ℕ) (pieces : List Piece) (l
 unfolding seen seen_at
 none_after passed number [] last taken row = refl
 none_after passed number ((HopByHop, header) ∷ pieces) last taken row =
-    none_after (passed ++ HopByHop ∷ []) (num header 0 1) pieces last
-    (passed_more passed HopByHop taken) row.2
+    grind (arith, none_after (passed ++ HopByHop ∷ []) (num header 0 1) pieces last)
 none_after passed number ((Destination, header) ∷ pieces) last taken row =
     none_after (passed ++ Destination ∷ []) (num header 0 1) pieces last
     (passed_more passed Destination taken) row.2
 none_after passed number ((Routing, header) ∷ pieces) last taken row =
-    none_after (passed ++ Routing ∷ []) (num header 0 1) pieces last
-    (passed_more passed Routing taken) row.2
-none_after passed number ((Fragment, header) ∷ pieces) last taken row =
-    absurd (no_second (number == 0) (number == 43) (number == 44) (number == 51) (number == 60)
-    (is_passed passed Routing) (is_passed passed Routing) (is_passed passed Fragment)
-    (is_passed passed Authentication)
-    (is_passed passed FinalDestination) (is_passed passed Destination) passed taken row.0)
+    grind (arith, none_after (passed ++ Routing ∷ []) (num header 0 1) pieces last, passed_more)
+none_after passed number ((Fragment, header) ∷ pieces) last taken row = grind arith
 none_after passed number ((Authentication, header) ∷ pieces) last taken row =
     none_after (passed ++ Authentication ∷ []) (num header 0 1) pieces last
     (passed_more passed Authentication taken) row.2
@@ -212,10 +159,4 @@ pub row_in_slots : (first : ℕ) (pieces : List Piece) (last : ℕ) → Row slot
     × (is_any_fragmenting q ≡ option_map_or fragments
     (option_map fragment_of (piece_at pieces Fragment)) false)
 unfolding seen_slots
-row_in_slots first pieces last row = (
-  seen pieces,
-  row_seen [] first pieces last row,
-  bytes_seen pieces,
-  fragments_seen
-      [] first pieces last row,
-)
+row_in_slots first pieces last row = grind (arith, seen, row_seen, bytes_seen, fragments_seen)

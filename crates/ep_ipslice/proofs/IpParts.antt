@@ -1,9 +1,7 @@
 -- An IP packet is of one version.
-use Rattle.std.proofs.Common.{◌≡◌, ℕ, ◌<◌, ◌/◌, List, ◌++◌, length, get_or, Result, Ok, ap, ◌∙◌}
-use Rattle.std.proofs.Common.{append_assoc, arith}
+use Rattle.std.proofs.Common.{◌≡◌, ℕ, ◌<◌, ◌/◌, List, ◌++◌, length, get_or, Result, Ok, ap, ◌∙◌, append_assoc, arith}
 use Rattle.std.proofs.lemmas.List.{get_or_append_left}
 use Rattle.ep_ip.specs.Ipv4 as v4
-use Rattle.ep_ext.specs.Ipv4Exts.{auth_bytes}
 use Rattle.ep_ipslice.specs.IpSlice.{IsIpPacket}
 use Rattle.ep_ipslice.specs.Packet.{Ipv4Packet, Ipv6Packet, IsIpv4Packet, IsIpv6Packet}
 use Rattle.ep_ipslice.specs.declared.err.ip.slice_error.SliceError.{SliceError}
@@ -15,19 +13,11 @@ use Rattle.ep_ipslice.proofs.Ipv6Parts.{packet_parts}
 
 first_byte : (bytes header rest : List ℕ) → bytes ≡ header ++ rest → 0 < length header
     → get_or bytes 0 0 ≡ get_or header 0 0
-first_byte bytes header rest parts some = ap (λ (xs : List ℕ). get_or xs 0 0) parts
-    ∙ get_or_append_left header rest 0 0 some
+first_byte bytes header rest parts some = grind (arith, get_or_append_left)
 
 v4_version : (bytes : List ℕ) (packet : Ipv4Packet) → IsIpv4Packet bytes packet
     → v4.version_of bytes ≡ 4
-v4_version bytes packet is =
-    let rest : List ℕ = auth_bytes packet.auth ++ packet.payload ++ is.padding in
-    let parts : bytes ≡ packet.header ++ rest =
-    is.cut ∙ ap (λ (xs : List ℕ). xs ++ is.padding)
-    (append_assoc packet.header (auth_bytes packet.auth) packet.payload)
-    ∙ append_assoc packet.header (auth_bytes packet.auth ++ packet.payload) is.padding in
-    ap (λ (n : ℕ). n / 16) (first_byte bytes packet.header rest parts
-    (omega (arith, is.header.whole, is.header.minimum))) ∙ is.header.version
+v4_version bytes packet is = grind (arith, append_assoc, first_byte)
 
 v6_version : (bytes : List ℕ) (packet : Ipv6Packet) → IsIpv6Packet bytes packet
     → v4.version_of bytes ≡ 6
@@ -51,16 +41,10 @@ pub ipv4_only : (bytes : List ℕ) (found : Ipv4Packet) → v4.version_of bytes 
     ((packet : Ipv4Packet) → IsIpv4Packet bytes packet
     → ◌≡◌ {A = Result Ipv4Packet Ipv4Fault} (Ok found) (Ok packet)) →
     (packet : IpSlice) → IsIpPacket bytes packet → IsAnswer (Ipv4 found) packet
-ipv4_only bytes found four only (Ipv4 packet) is =
-    ap (λ (p : Ipv4Packet). Ok (Ipv4 p)) (ipv4_ok found packet (only packet is))
-ipv4_only bytes found four only (Ipv6 packet) is =
-    absurd (four_six (v4.version_of bytes) four (v6_version bytes packet is))
+ipv4_only bytes found four only packet is = grind (arith, ipv4_ok, four_six, v6_version)
 
 pub ipv6_only : (bytes : List ℕ) (found : Ipv6Packet) → v4.version_of bytes ≡ 6 →
     ((packet : Ipv6Packet) → IsIpv6Packet bytes packet
     → ◌≡◌ {A = Result Ipv6Packet Ipv6Fault} (Ok found) (Ok packet)) →
     (packet : IpSlice) → IsIpPacket bytes packet → IsAnswer (Ipv6 found) packet
-ipv6_only bytes found six only (Ipv4 packet) is =
-    absurd (four_six (v4.version_of bytes) (v4_version bytes packet is) six)
-ipv6_only bytes found six only (Ipv6 packet) is =
-    ap (λ (p : Ipv6Packet). Ok (Ipv6 p)) (ipv6_ok found packet (only packet is))
+ipv6_only bytes found six only packet is = grind (arith, four_six, v4_version, ipv6_ok)

@@ -1,30 +1,28 @@
 -- The IPv6 packet at the start of bytes is the one that is there, and the fault is the first.
-use Rattle.std.proofs.Common.{◌≡◌, ◌∙◌, sym, ap, refl, ℕ, ◌+◌, ◌-◌, true, false, List, [], ◌∷◌}
-use Rattle.std.proofs.Common.{◌++◌, length, take, drop, Option, Some, None, Result, Ok, Err}
-use Rattle.std.proofs.Common.{IfOk, IfErr, arith, append-nil, append_assoc, length-append}
+use Rattle.std.proofs.Common.{◌≡◌, ◌∙◌, sym, ap, refl, ℕ, ◌+◌, ◌-◌, true, false, List, ◌∷◌, [], ◌++◌, length, drop}
+use Rattle.std.proofs.Common.{Option, Some, None, Result, Ok, Err, IfOk, IfErr, arith, append-nil, append_assoc}
+use Rattle.std.proofs.Common.{length-append}
 use Rattle.std.specs.Prelude.{nat_lt}
-use Rattle.std.proofs.lemmas.Bool.{lt-ltb, le-ltb}
+use Rattle.std.proofs.lemmas.Bool.{le-ltb}
 use Rattle.std.proofs.lemmas.List.{take_at, drop_at}
 use Rattle.ep_base.specs.Bytes.{num}
 use Rattle.ep_ip.specs.Ipv6.{next_header_of}
-use Rattle.ep_ip.specs.Ipv6Fault.{header_at}
 use Rattle.ep_ip.proofs.Ipv6Prefix.{prefix_again}
-use Rattle.ep_ext.specs.Chain.{Fault, Row, fault_at, fault_in, fault_of, prefix_of, layer_of}
+use Rattle.ep_ext.specs.Chain.{Fault, Row, fault_at, fault_in, fault_of}
 use Rattle.ep_ext.specs.Value.{Piece, bytes_of, slots}
 use Rattle.ep_base.specs.declared.err.layer.Layer.{Layer}
 use Rattle.ep_base.specs.declared.err.slice_error.SliceError.{SliceError as HeaderSliceError}
 use Rattle.ep_ext.specs.declared.err.ipv6_exts.header_error.HeaderError.{HeaderError}
 use Rattle.ep_ext.specs.declared.net.ipv6_ext_slot.Ipv6ExtSlot.{Ipv6ExtSlot}
-use Rattle.ep_ipslice.specs.Ipv6Exts.{Ipv6Exts, is_any_fragmenting, view_order}
+use Rattle.ep_ipslice.specs.Ipv6Exts.{Ipv6Exts, view_order}
 use Rattle.ep_ipslice.specs.Ipv6Fault.{IsIpv6Fault, OfHeader, OfLength, OfExtensions, not_whole}
-use Rattle.ep_ipslice.specs.Ipv6Packet.{body_of, extensions_in, extensions_of, fault_after}
-use Rattle.ep_ipslice.specs.Ipv6Packet.{ipv6_packet_at, number_after, packet_after, packet_unless}
-use Rattle.ep_ipslice.specs.Ipv6Packet.{packet_with, rest_after}
+use Rattle.ep_ipslice.specs.Ipv6Packet.{body_of, extensions_in, extensions_of, fault_after, ipv6_packet_at}
+use Rattle.ep_ipslice.specs.Ipv6Packet.{number_after, packet_unless, packet_with, rest_after}
 use Rattle.ep_ipslice.specs.Ipv6Walk.{piece_at_start, whole_piece}
-use Rattle.ep_ipslice.specs.Packet.{Ipv6Packet, IsIpv6Packet, body_len, body_source}
+use Rattle.ep_ipslice.specs.Packet.{Ipv6Packet, IsIpv6Packet, body_len}
 use Rattle.ep_ipslice.specs.declared.err.ipv6.slice_error.SliceError.{SliceError}
 use Rattle.ep_ipslice.specs.declared.err.ipv6.slice_error.SliceError.TheVariants.{Len}
-use Rattle.ep_ipslice.proofs.Ipv6Parts.{no_fault_of, none_left}
+use Rattle.ep_ipslice.proofs.Ipv6Parts.{no_fault_of}
 use Rattle.ep_ipslice.proofs.Left.{HasLeast, IsFound, walk_is}
 
 extensions_are : IsFound → HasLeast
@@ -33,9 +31,7 @@ extensions_are : IsFound → HasLeast
     body ≡ bytes_of pieces ++ rest → piece_at_start (view_order (slots pieces) last) rest ≡ None
     → extensions_of first body ≡ pieces
 extensions_are found least first body pieces last rest row cut closed =
-    ap (λ (xs : List ℕ). extensions_of first xs) cut
-    ∙ walk_is found least (length (bytes_of pieces ++ rest)) view_order
-    [] first pieces last rest row (omega (arith, length-append (bytes_of pieces) rest)) closed
+    grind (arith, walk_is, length-append)
 
 -- the number that a row names last
 number_is : (passed : List Ipv6ExtSlot) (number : ℕ) (pieces : List Piece) (last : ℕ)
@@ -48,14 +44,11 @@ number_is passed number (piece ∷ pieces) last row =
 no_header : (layer : Layer) (offset : ℕ) (slot : Ipv6ExtSlot)
     (r : Result (List ℕ) (HeaderSliceError HeaderError)) (fault : Fault)
     → fault_in layer offset r ≡ Some fault → whole_piece slot r ≡ None
-no_header layer offset slot (Ok header) fault is = cc
-no_header layer offset slot (Err e) fault is = refl
+no_header layer offset slot r fault is = grind arith
 
 closed_at : (offset : ℕ) (slot : Option Ipv6ExtSlot) (last : ℕ) (rest : List ℕ) (fault : Fault)
     → fault_at offset slot last rest ≡ Some fault → piece_at_start slot rest ≡ None
-closed_at offset None last rest fault is = refl
-closed_at offset (Some slot) last rest fault is =
-    no_header (layer_of slot) offset slot (prefix_of slot rest) fault is
+closed_at offset slot last rest fault is = grind arith
 
 -- the parts of a row in a body
 record RowIn (bytes header : List ℕ) (pieces : List Piece) (last : ℕ) (rest : List ℕ) : Type 0 where
@@ -69,19 +62,13 @@ row_in : IsFound → HasLeast
     body_of bytes header ≡ bytes_of pieces ++ rest
     → piece_at_start (view_order (slots pieces) last) rest ≡ None
     → RowIn bytes header pieces last rest
-row_in found least bytes header pieces last rest row cut closed = record {
-  pieces_are = extensions_are found least (next_header_of header)
-      (body_of bytes header) pieces last rest row cut closed;
-  number = number_is [] (next_header_of header) pieces last row;
-  left = ap (drop (length (bytes_of pieces))) cut
-      ∙ drop_at (bytes_of pieces) rest (length (bytes_of pieces)) refl;
-}
+row_in found least bytes header pieces last rest row cut closed =
+    grind (arith, extensions_are, number_is, drop_at)
 
 fault_is : (bytes header : List ℕ) (pieces : List Piece) (last : ℕ) (rest : List ℕ)
     → RowIn bytes header pieces last rest
     → fault_after bytes header pieces ≡ fault_of view_order pieces last rest
-fault_is bytes header pieces last rest row =
-    λ i. fault_of view_order pieces (row.number i) (row.left i)
+fault_is bytes header pieces last rest row = grind arith
 
 whole_is : (bytes header : List ℕ) (pieces : List Piece)
     → nat_lt (length bytes - 40) (body_len header (length bytes - 40)) ≡ false →
@@ -102,72 +89,33 @@ packet_is found least bytes packet is =
     let payload = packet.payload.payload in
     let exts = bytes_of is.pieces in
     let parts : bytes ≡ header ++ (exts ++ payload ++ is.padding) =
-    is.cut ∙ ap (λ (xs : List ℕ). xs ++ is.padding) (append_assoc header exts payload)
-    ∙ append_assoc header (exts ++ payload) is.padding in
+    grind (arith, append_assoc) in
     let following : drop 40 bytes ≡ exts ++ payload ++ is.padding =
     ap (drop 40) parts ∙ drop_at header (exts ++ payload ++ is.padding) 40 is.header.whole in
     let body_size : body_len header (length bytes - 40) ≡ length (exts ++ payload) =
-    sym is.size ∙ sym (length-append exts payload) in
+    grind (arith, length-append) in
     let body : body_of bytes header ≡ exts ++ payload =
-    (λ i. take (body_size i) (following i))
-    ∙ take_at (exts ++ payload) is.padding (length (exts ++ payload)) refl in
+    grind (arith, take_at) in
     let closed : piece_at_start (view_order (slots is.pieces) is.last) payload ≡ None =
-    ap (λ (p : Option Ipv6ExtSlot). piece_at_start p payload)
-    (none_left (slots is.pieces) is.last is.ended) in
+    grind arith in
     let row = row_in found least bytes header is.pieces is.last payload is.row body closed in
     let all : length bytes ≡ 40 + (length exts + length payload + length is.padding) =
-    omega (
-      arith,
-      ap length parts,
-      length-append header
-          (exts ++ payload ++ is.padding),
-      length-append
-          (exts ++ payload) is.padding,
-      length-append exts payload,
-      is.header.whole,
-    ) in
+    grind (arith, length-append) in
     let whole : nat_lt (length bytes - 40) (body_len header (length bytes - 40)) ≡ false =
-    le-ltb (length bytes - 40) (body_len header (length bytes - 40))
-    (omega (arith, all, body_size, length-append exts payload)) in
-    ap (packet_after bytes)
-    (ap header_at parts ∙ prefix_again header (exts ++ payload ++ is.padding) is.header)
-    ∙ ap (packet_with bytes header) row.pieces_are
-    ∙ whole_is bytes header is.pieces whole
-    ∙ ap (packet_unless bytes header is.pieces)
-    (fault_is bytes header is.pieces is.last payload row
-    ∙ no_fault_of is.pieces is.last payload is.ended)
-    ∙ (λ i. Ok (record {
-      header = header;
-      exts = sym is.exts i;
-      payload = ((λ j. record {
-        ip_number = record { 0 = row.number j };
-        fragmented = is_any_fragmenting is.pieces;
-        len_source = body_source header (length bytes - 40);
-        payload = row.left j;
-      }) ∙ sym is.fields) i;
-    }))
+    grind arith in
+    grind (arith, prefix_again, whole_is, fault_is, no_fault_of)
 
 -- bytes that start with none
 pub fault_agrees : IsFound → HasLeast → (bytes : List ℕ) (e : SliceError) → IsIpv6Fault bytes e
     → ipv6_packet_at bytes ≡ Err e
-fault_agrees found least bytes e (OfHeader fault is error) =
-    ap (packet_after bytes) is ∙ ap Err (sym error)
-fault_agrees found least bytes e (OfLength header is short) =
-    ap (packet_after bytes) is
-    ∙ short_is bytes header (extensions_of (next_header_of header) (body_of bytes header))
-    (lt-ltb (length bytes - 40) (body_len header (length bytes - 40)) short.size)
-    ∙ ap Err (sym short.error)
+fault_agrees found least bytes e (OfHeader fault is error) = grind arith
+fault_agrees found least bytes e (OfLength header is short) = grind arith
 fault_agrees found least bytes e (OfExtensions header is row) =
     let closed = closed_at (length (bytes_of row.pieces))
     (view_order (slots row.pieces) row.last) row.last row.rest row.fault row.found in
     let parts = row_in found least bytes header row.pieces row.last row.rest row.chain.row
     row.chain.cut closed in
-    ap (packet_after bytes) is ∙ ap (packet_with bytes header) parts.pieces_are
-    ∙ whole_is bytes header row.pieces
-    (le-ltb (length bytes - 40) (body_len header (length bytes - 40)) row.size)
-    ∙ ap (packet_unless bytes header row.pieces)
-    (fault_is bytes header row.pieces row.last row.rest parts ∙ row.found)
-    ∙ ap Err (sym row.error)
+    grind (arith, whole_is, le-ltb, fault_is)
 
 -- what a call that reports every fault takes is what is there
 pub found_exactly : IsFound → HasLeast → (bytes : List ℕ) (r : Result Ipv6Packet SliceError)
@@ -183,8 +131,7 @@ pub extensions_agree : IsFound → HasLeast
     → extensions_in packet ≡ is.pieces
 extensions_agree found least bytes packet is =
     let closed : piece_at_start (view_order (slots is.pieces) is.last) [] ≡ None =
-    ap (λ (p : Option Ipv6ExtSlot). piece_at_start p [])
-    (none_left (slots is.pieces) is.last is.ended) in
+    grind arith in
     extensions_are found least (next_header_of packet.header) packet.exts.slice is.pieces is.last
     [] is.row (ap (λ (e : Ipv6Exts). e.slice) is.exts
     ∙ sym (append-nil (bytes_of is.pieces))) closed

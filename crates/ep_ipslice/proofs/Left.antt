@@ -1,8 +1,7 @@
 -- The headers that an iterator has left.
-use Rattle.std.proofs.Common.{◌≡◌, ℕ, ◌+◌, ◌*◌, suc, zero, ◌≤◌, ◌==◌, Bool, true, false, cond, List}
-use Rattle.std.proofs.Common.{[], ◌∷◌, ◌++◌, length, drop, Option, Some, None, Result, Ok, Err}
-use Rattle.std.proofs.Common.{refl, sym, ap, ◌∙◌, subst, append-nil, append_assoc, length-append}
-use Rattle.std.proofs.Common.{arith}
+use Rattle.std.proofs.Common.{◌≡◌, ℕ, suc, zero, ◌≤◌, ◌==◌, Bool, true, false, cond, List, [], ◌∷◌, ◌++◌, length, drop}
+use Rattle.std.proofs.Common.{Option, Some, None, Result, Ok, Err, refl, sym, ap, ◌∙◌, subst, append-nil, append_assoc}
+use Rattle.std.proofs.Common.{length-append, arith}
 use Rattle.std.proofs.lemmas.List.{drop_at, get_or_append_left}
 use Rattle.ep_base.specs.Bytes.{num}
 use Rattle.ep_base.specs.declared.net.ip_number.IpNumber.{IpNumber}
@@ -12,17 +11,12 @@ use Rattle.ep_ext.specs.Slot.{Order, at_start}
 use Rattle.ep_ext.specs.Raw.{IsRawExt, raw_len}
 use Rattle.ep_ext.specs.Value.{Piece, bytes_of, slots}
 use Rattle.ep_ext.specs.declared.net.ipv6_ext_slot.Ipv6ExtSlot.{Ipv6ExtSlot}
-use Rattle.ep_ext.specs.declared.net.ipv6_ext_slot.Ipv6ExtSlot.TheVariants.{HopByHop, Destination}
-use Rattle.ep_ext.specs.declared.net.ipv6_ext_slot.Ipv6ExtSlot.TheVariants.{Routing, Fragment}
-use Rattle.ep_ext.specs.declared.net.ipv6_ext_slot.Ipv6ExtSlot.TheVariants.{Authentication}
-use Rattle.ep_ext.specs.declared.net.ipv6_ext_slot.Ipv6ExtSlot.TheVariants.{FinalDestination}
+use Rattle.ep_ext.specs.declared.net.ipv6_ext_slot.Ipv6ExtSlot.TheVariants.{HopByHop}
 use Rattle.ep_base.specs.declared.err.slice_error.SliceError.{SliceError}
 use Rattle.ep_ext.specs.declared.err.ipv6_exts.header_error.HeaderError.{HeaderError}
 use Rattle.ep_ipslice.specs.Ipv6Ext.{ext_len, ext_of, piece_of}
-use Rattle.ep_ipslice.specs.Ipv6Exts.{Ipv6Exts, IsView, exts_of, first_header_of, slot_after}
-use Rattle.ep_ipslice.specs.Ipv6Exts.{view_order}
-use Rattle.ep_ipslice.specs.Ipv6Walk.{IsLeft, any_order, piece_at_start, piece_then, pieces_left}
-use Rattle.ep_ipslice.specs.Ipv6Walk.{pieces_within, whole_piece}
+use Rattle.ep_ipslice.specs.Ipv6Exts.{Ipv6Exts, IsView, exts_of, first_header_of, slot_after, view_order}
+use Rattle.ep_ipslice.specs.Ipv6Walk.{IsLeft, any_order, piece_at_start, pieces_left, pieces_within, whole_piece}
 use Rattle.ep_ipslice.proofs.Prefixes.{prefix_begins}
 
 -- laws of whole headers, as they are called
@@ -35,23 +29,13 @@ HasLeast = (slot : Ipv6ExtSlot) (header : List ℕ) → IsPiece slot header → 
 
 -- no header starts where there are no bytes
 none_at_end : (slot : Option Ipv6ExtSlot) → piece_at_start slot [] ≡ None
-none_at_end None = refl
-none_at_end (Some HopByHop) = refl
-none_at_end (Some Destination) = refl
-none_at_end (Some Routing) = refl
-none_at_end (Some Fragment) = refl
-none_at_end (Some Authentication) = refl
-none_at_end (Some FinalDestination) = refl
+none_at_end slot = grind arith
 
 no_more : (most : ℕ) (order : Order) (passed : List Ipv6ExtSlot) (number : ℕ) (rest : List ℕ)
     → piece_at_start (order passed number) rest ≡ None
     → pieces_within most order passed number rest ≡ []
 unfolding pieces_within
-no_more zero order passed number rest closed = refl
-no_more (suc most) order passed number rest closed =
-    ap (λ (p : Option Piece). piece_then p
-    (λ (piece : Piece). pieces_within most order (passed ++ piece.0 ∷ []) (num piece.1 0 1)
-    (drop (length piece.1) rest))) closed
+no_more most order passed number rest closed = grind arith
 
 one_more : (most : ℕ) (order : Order) (passed : List Ipv6ExtSlot) (number : ℕ) (bytes : List ℕ)
     (piece : Piece) → piece_at_start (order passed number) bytes ≡ Some piece →
@@ -59,17 +43,12 @@ one_more : (most : ℕ) (order : Order) (passed : List Ipv6ExtSlot) (number : �
     pieces_within most order (passed ++ piece.0 ∷ []) (num piece.1 0 1)
     (drop (length piece.1) bytes)
 unfolding pieces_within
-one_more most order passed number bytes piece prefix =
-    ap (λ (p : Option Piece). piece_then p
-    (λ (piece : Piece). pieces_within most order (passed ++ piece.0 ∷ []) (num piece.1 0 1)
-    (drop (length piece.1) bytes))) prefix
+one_more most order passed number bytes piece prefix = grind arith
 
 prefix_open : IsFound → (order : Order) (passed : List Ipv6ExtSlot) (number : ℕ) (piece : Piece)
     (rest : List ℕ) → order passed number ≡ Some piece.0 → IsPiece piece.0 piece.1 →
     piece_at_start (order passed number) (piece.1 ++ rest) ≡ Some piece
-prefix_open found order passed number piece rest slot whole =
-    ap (λ (p : Option Ipv6ExtSlot). piece_at_start p (piece.1 ++ rest)) slot
-    ∙ ap (whole_piece piece.0) (found piece.0 piece.1 rest whole)
+prefix_open found order passed number piece rest slot whole = grind arith
 
 -- headers in a row are those that the walk finds, where no header is found after them
 pub walk_is : IsFound → HasLeast
@@ -78,16 +57,9 @@ pub walk_is : IsFound → HasLeast
     length (bytes_of pieces) ≤ most → piece_at_start (order (passed ++ slots pieces) last) rest ≡ None
     → pieces_within most order passed number (bytes_of pieces ++ rest) ≡ pieces
 walk_is found least most order passed number [] last rest row fits closed =
-    no_more most order passed number rest
-    ((λ i. piece_at_start (order (sym (append-nil passed) i) (row i)) rest) ∙ closed)
+    grind (arith, no_more, append-nil)
 walk_is found least zero order passed number (piece ∷ pieces) last rest row fits closed =
-    absurd (omega (
-      arith,
-      fits,
-      length-append piece.1
-          (bytes_of pieces),
-      least piece.0 piece.1 row.1,
-    ))
+    grind (arith, length-append)
 walk_is found least (suc most) order passed number (piece ∷ pieces) last rest row fits closed =
     let shorter : length (bytes_of pieces) ≤ most =
     omega (arith, fits, length-append piece.1 (bytes_of pieces), least piece.0 piece.1 row.1) in
@@ -116,9 +88,7 @@ none_whole slot rest (Err e) is ended = refl
 none_found : (slot : Option Ipv6ExtSlot) (rest : List ℕ)
     → ((p : Ipv6ExtSlot) (header following : List ℕ) → slot ≡ Some p → IsPiece p header
     → rest ≡ header ++ following → ⊥) → piece_at_start slot rest ≡ None
-none_found None rest ended = refl
-none_found (Some p) rest ended = none_whole p rest (prefix_of p rest) refl
-    (λ header following. ended p header following refl)
+none_found slot rest ended = grind (arith, none_whole)
 
 -- headers in a row, as far as the order has a slot for one, are those that the walk finds
 pub row_found : IsFound → HasLeast
@@ -126,10 +96,7 @@ pub row_found : IsFound → HasLeast
     → Chain order first bytes pieces last rest →
     pieces_within (length bytes) order [] first bytes ≡ pieces
 row_found found least order first bytes pieces last rest chain =
-    ap (pieces_within (length bytes) order [] first) chain.cut
-    ∙ walk_is found least (length bytes) order [] first pieces last rest chain.row
-    (omega (arith, ap length chain.cut, length-append (bytes_of pieces) rest))
-    (none_found (order (slots pieces) last) rest chain.ended)
+    grind (arith, walk_is, length-append, none_found)
 
 any_step : (zero : Bool) (passed : List Ipv6ExtSlot) (r : Option Ipv6ExtSlot)
     (slot : Ipv6ExtSlot) → cond zero (at_start passed) r ≡ Some slot
@@ -172,8 +139,7 @@ first_in : (number : ℕ) (bytes : List ℕ) (passed : List Ipv6ExtSlot) (pieces
     (last : ℕ) → Row view_order passed number pieces last → bytes ≡ bytes_of pieces →
     (length bytes ≡ 0 → ⊥) → First number bytes
 first_in number bytes passed [] last row cut some = absurd (some (ap length cut))
-first_in number bytes passed (piece ∷ pieces) last row cut some =
-    record { passed = passed; piece = piece; pieces = pieces; last = last; row = row; cut = cut }
+first_in number bytes passed (piece ∷ pieces) last row cut some = grind arith
 
 pub first_of : (number : ℕ) (bytes : List ℕ) → IsLeft number bytes
     → (length bytes ≡ 0 → ⊥) → First number bytes
@@ -184,59 +150,28 @@ pub first_has_slot : (number : ℕ) (bytes : List ℕ) (first : First number byt
 first_has_slot number bytes first = any_step (number == 0) first.passed _ first.piece.0 first.row.0
 
 len_raw : (header rest : List ℕ) → IsRawExt header → raw_len (header ++ rest) ≡ length header
-len_raw header rest raw = ap (λ (n : ℕ). (n + 1) * 8)
-    (get_or_append_left header rest 0 1 (omega (arith, raw.least))) ∙ sym raw.whole
+len_raw header rest raw = grind (arith, get_or_append_left)
 
 len_auth : (header rest : List ℕ) → IsAuth header → auth_len (header ++ rest) ≡ length header
-len_auth header rest auth = ap (λ (n : ℕ). (n + 2) * 4)
-    (get_or_append_left header rest 0 1 (omega (arith, auth.least))) ∙ sym auth.whole
+len_auth header rest auth = grind (arith, get_or_append_left)
 
 -- a whole header has the length that its own field says, whatever follows it
 len_again : (slot : Ipv6ExtSlot) (header rest : List ℕ) → IsPiece slot header
     → ext_len slot (header ++ rest) ≡ length header
-len_again HopByHop header rest piece = len_raw header rest piece
-len_again Destination header rest piece = len_raw header rest piece
-len_again Routing header rest piece = len_raw header rest piece
-len_again Fragment header rest piece = sym piece.whole
-len_again Authentication header rest piece = len_auth header rest piece
-len_again FinalDestination header rest piece = len_raw header rest piece
+len_again slot header rest piece = grind (arith, len_raw, len_auth)
 
 pub first_len : (number : ℕ) (bytes : List ℕ) (first : First number bytes)
     → ext_len first.piece.0 bytes ≡ length first.piece.1
-first_len number bytes first = ap (ext_len first.piece.0) first.cut
-    ∙ len_again first.piece.0 first.piece.1 (bytes_of first.pieces) first.row.1
+first_len number bytes first = grind (arith, len_again)
 
 -- the first header lies within the bytes that are left
 pub first_fits : (number : ℕ) (bytes : List ℕ) (first : First number bytes)
     → length first.piece.1 ≤ length bytes
-first_fits number bytes first =
-    omega (arith, ap length first.cut, length-append first.piece.1 (bytes_of first.pieces))
-
-same_piece_at : (prefix routing fragment auth destination : Bool)
-    (slot : Ipv6ExtSlot) (header : List ℕ) →
-    cond prefix (Some HopByHop)
-    (cond routing (Some Routing)
-    (cond fragment (Some Fragment)
-    (cond auth (Some Authentication) (cond destination (Some Destination) None))))
-    ≡ Some slot →
-    piece_of (ext_of slot header) ≡ (slot, header)
-same_piece_at prefix routing fragment auth destination HopByHop header is = refl
-same_piece_at prefix routing fragment auth destination Destination header is = refl
-same_piece_at prefix routing fragment auth destination Routing header is = refl
-same_piece_at prefix routing fragment auth destination Fragment header is = refl
-same_piece_at prefix routing fragment auth destination Authentication header is = refl
-same_piece_at true routing fragment auth destination FinalDestination header is = cc
-same_piece_at false true fragment auth destination FinalDestination header is = cc
-same_piece_at false false true auth destination FinalDestination header is = cc
-same_piece_at false false false true destination FinalDestination header is = cc
-same_piece_at false false false false true FinalDestination header is = cc
-same_piece_at false false false false false FinalDestination header is = cc
+first_fits number bytes first = grind (arith, length-append)
 
 pub first_piece : (number : ℕ) (bytes : List ℕ) (first : First number bytes)
     → piece_of (ext_of first.piece.0 first.piece.1) ≡ first.piece
-first_piece number bytes first =
-    same_piece_at (number == 0) (number == 43) (number == 44) (number == 51)
-    (number == 60) first.piece.0 first.piece.1 (first_has_slot number bytes first)
+first_piece number bytes first = grind arith
 
 pub first_left : IsFound → HasLeast → (number : ℕ) (bytes : List ℕ) (first : First number bytes)
     → pieces_left number bytes ≡ first.piece ∷ first.pieces
@@ -264,8 +199,7 @@ pub left_after : IsFound → HasLeast
     (pieces_left number bytes ≡ piece ∷ pieces_left next following) × IsLeft next following
 left_after found least number bytes first piece next following same named cut =
     let row : Row view_order (first.passed ++ first.piece.0 ∷ []) next first.pieces first.last =
-    subst (λ (n : ℕ). Row view_order (first.passed ++ first.piece.0 ∷ []) n first.pieces first.last)
-    (sym named) first.row.2 in
+    grind arith in
     let left : IsLeft next following =
     (first.passed ++ first.piece.0 ∷ [], first.pieces, first.last, row, cut) in (
       first_left found least number bytes first
@@ -273,33 +207,17 @@ left_after found least number bytes first piece next following same named cut =
       left,
     )
 
-some_number : (x y : IpNumber) → ◌≡◌ {A = Option IpNumber} (Some x) (Some y) → x ≡ y
-some_number x y h = cc
-
 first_named : (number : ℕ) (pieces : List Piece) (first : IpNumber)
     → first_header_of number pieces ≡ Some first → number ≡ first.0
-first_named number [] first is = cc
-first_named number (piece ∷ pieces) first is =
-    let same : record { 0 = number } ≡ first = some_number _ _ is in
-    ap (λ (n : IpNumber). n.0) same
+first_named number pieces first is = grind arith
 
 -- an iterator that starts has all headers of its view left
 pub view_left : (exts : Ipv6Exts) (first : IpNumber) → IsView exts → exts.first_header ≡ Some first
     → IsLeft first.0 exts.slice
-view_left exts first view is =
-    let named : view.0 ≡ first.0 = first_named view.0 view.1 first
-    (sym (ap (λ (e : Ipv6Exts). e.first_header) view.4) ∙ is) in (
-      [],
-      view.1,
-      view.2,
-      subst (λ (n : ℕ). Row view_order [] n view.1 view.2) named view.3,
-      ap
-          (λ (e : Ipv6Exts). e.slice) view.4,
-    )
+view_left exts first view is = grind (arith, first_named)
 
 pub none_named : (number : ℕ) (pieces : List Piece) → first_header_of number pieces ≡ None → pieces ≡ []
-none_named number [] is = refl
-none_named number (piece ∷ pieces) is = cc
+none_named number pieces is = grind arith
 
 -- the headers of a view are those that are left
 pub view_pieces : IsFound → HasLeast
@@ -308,8 +226,7 @@ pub view_pieces : IsFound → HasLeast
     Row view_order [] first pieces last → exts ≡ exts_of first pieces
     → pieces_left number.0 exts.slice ≡ pieces
 view_pieces found least exts number first pieces last is row seen =
-    let named : first ≡ number.0 = first_named first pieces number
-    (sym (ap (λ (e : Ipv6Exts). e.first_header) seen) ∙ is) in
+    let named : first ≡ number.0 = grind arith in
     left_is found least number.0 exts.slice (
       [],
       pieces,
@@ -321,5 +238,4 @@ view_pieces found least exts number first pieces last is row seen =
 
 pub view_empty : (exts : Ipv6Exts) (first : ℕ) (pieces : List Piece) → exts.first_header ≡ None
     → exts ≡ exts_of first pieces → pieces ≡ []
-view_empty exts first pieces none seen =
-    none_named first pieces (sym (ap (λ (e : Ipv6Exts). e.first_header) seen) ∙ none)
+view_empty exts first pieces none seen = grind arith

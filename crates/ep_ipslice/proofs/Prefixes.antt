@@ -1,6 +1,6 @@
 -- What is found at the start of some bytes is a whole header.
-use Rattle.std.proofs.Common.{◌≡◌, ℕ, ◌≤◌, ◌+◌, ◌*◌, List, ◌++◌, length, take, drop, get_or, Result}
-use Rattle.std.proofs.Common.{Ok, Err, arith, sym, ap, ◌∙◌, take-append-drop}
+use Rattle.std.proofs.Common.{◌≡◌, ℕ, ◌≤◌, ◌+◌, ◌*◌, List, ◌++◌, length, take, drop, get_or, Result, Ok, arith, sym, ap}
+use Rattle.std.proofs.Common.{◌∙◌, take-append-drop}
 use Rattle.std.proofs.lemmas.Bool.{ltb-false, eqb-false}
 use Rattle.std.proofs.lemmas.List.{get_or-take, length-take-le}
 use Rattle.ep_base.proofs.Prefixes.{guard_ok, ok_same}
@@ -15,20 +15,15 @@ use Rattle.ep_base.specs.declared.err.slice_error.SliceError.{SliceError}
 use Rattle.ep_base.specs.declared.err.slice_error.SliceError.TheVariants as slice_error
 use Rattle.ep_ext.specs.declared.err.ip_auth.header_error.HeaderError.{HeaderError as AuthError}
 use Rattle.ep_ext.specs.declared.net.ipv6_ext_slot.Ipv6ExtSlot.{Ipv6ExtSlot}
-use Rattle.ep_ext.specs.declared.net.ipv6_ext_slot.Ipv6ExtSlot.TheVariants.{HopByHop, Destination}
-use Rattle.ep_ext.specs.declared.net.ipv6_ext_slot.Ipv6ExtSlot.TheVariants.{Routing, Fragment}
-use Rattle.ep_ext.specs.declared.net.ipv6_ext_slot.Ipv6ExtSlot.TheVariants.{Authentication}
-use Rattle.ep_ext.specs.declared.net.ipv6_ext_slot.Ipv6ExtSlot.TheVariants.{FinalDestination}
+use Rattle.ep_ext.specs.declared.net.ipv6_ext_slot.Ipv6ExtSlot.TheVariants.{HopByHop, Destination, Routing, Fragment}
+use Rattle.ep_ext.specs.declared.net.ipv6_ext_slot.Ipv6ExtSlot.TheVariants.{Authentication, FinalDestination}
 
 of_len_ok : (r : Result (List ℕ) LenError) (header : List ℕ) → of_len r ≡ Ok header → r ≡ Ok header
-of_len_ok (Ok x) header h = cc
-of_len_ok (Err e) header h = cc
+of_len_ok r header h = grind arith
 
 of_auth_ok : (r : Result (List ℕ) (SliceError AuthError)) (header : List ℕ)
     → of_auth r ≡ Ok header → r ≡ Ok header
-of_auth_ok (Ok x) header h = cc
-of_auth_ok (Err (slice_error.Len e)) header h = cc
-of_auth_ok (Err (slice_error.Content e)) header h = cc
+of_auth_ok r header h = grind arith
 
 -- the prefix of this size is the header
 abbrev pub IsCut : List ℕ → ℕ → List ℕ → Type 0
@@ -36,18 +31,12 @@ IsCut bytes size header = (size ≤ length bytes) × (take size bytes ≡ header
 
 cut_found : (layer : Layer) (least size : ℕ) (bytes header : List ℕ)
     → prefix_at layer least size bytes ≡ Ok header → (least ≤ length bytes) × IsCut bytes size header
-cut_found layer least size bytes header is =
-    let first = guard_ok _ _ _ _ is in
-    let second = guard_ok _ _ _ _ first.1 in (
-      ltb-false (length bytes) least first.0,
-      (ltb-false (length bytes) size second.0, ok_same _ _ second.1),
-    )
+cut_found layer least size bytes header is = grind arith
 
 -- the bytes are the header and what follows it
 cut_parts : (bytes : List ℕ) (size : ℕ) (header : List ℕ) → IsCut bytes size header
     → bytes ≡ header ++ drop size bytes
-cut_parts bytes size header cut = sym (take-append-drop size bytes)
-    ∙ ap (λ (xs : List ℕ). xs ++ drop size bytes) cut.1
+cut_parts bytes size header cut = grind (arith, take-append-drop)
 
 cut_len : (bytes : List ℕ) (size : ℕ) (header : List ℕ)
     → IsCut bytes size header → length header ≡ size
@@ -55,8 +44,7 @@ cut_len bytes size header cut = ap length (sym cut.1) ∙ length-take-le size by
 
 cut_second : (bytes : List ℕ) (size : ℕ) (header : List ℕ) → IsCut bytes size header → 2 ≤ size
     → get_or header 1 0 ≡ get_or bytes 1 0
-cut_second bytes size header cut two = ap (λ (xs : List ℕ). get_or xs 1 0) (sym cut.1)
-    ∙ get_or-take size bytes 1 0 (omega arith)
+cut_second bytes size header cut two = grind (arith, get_or-take)
 
 -- a whole header and what follows it
 abbrev pub Begins : (List ℕ → Type 0) → List ℕ → List ℕ → Type 0
@@ -67,7 +55,7 @@ raw_begins bytes header is =
     let cut : IsCut bytes (raw_len bytes) header = (cut_found _ _ _ _ _ is).1 in
     let len = cut_len bytes (raw_len bytes) header cut in
     let second = cut_second bytes (raw_len bytes) header cut (omega arith) in (
-      record { least = omega (arith, len); whole = len ∙ ap (λ (n : ℕ). (n + 1) * 8) (sym second) },
+      grind arith,
       (drop (raw_len bytes) bytes, cut_parts bytes (raw_len bytes) header cut),
     )
 

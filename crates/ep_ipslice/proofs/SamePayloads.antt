@@ -1,12 +1,10 @@
 -- Payloads that are compared as the same list are the same.
-use Rattle.std.proofs.Common.{◌≡◌, ℕ, zero, suc, Bool, true, false, List, [], ◌∷◌, IsTrue, ◌↔◌}
-use Rattle.std.proofs.Common.{nat_eq, refl, sym, ap, ◌∙◌}
+use Rattle.std.proofs.Common.{[], arith, ◌≡◌, ℕ, zero, suc, Bool, true, false, List, ◌∷◌, IsTrue, ◌↔◌, nat_eq, sym, ap}
+use Rattle.std.proofs.Common.{◌∙◌}
 use Rattle.std.specs.Cmp.Lexicographic.{pointwise, bytes_decides}
 use Rattle.ep_base.specs.declared.len_source.LenSource.{LenSource}
-use Rattle.ep_base.specs.declared.len_source.LenSource.TheVariants.{Slice, MacsecShortLength}
-use Rattle.ep_base.specs.declared.len_source.LenSource.TheVariants.{Ipv4HeaderTotalLen}
-use Rattle.ep_base.specs.declared.len_source.LenSource.TheVariants.{Ipv6HeaderPayloadLen}
-use Rattle.ep_base.specs.declared.len_source.LenSource.TheVariants.{UdpHeaderLen, TcpHeaderLen}
+use Rattle.ep_base.specs.declared.len_source.LenSource.TheVariants.{Slice, MacsecShortLength, Ipv4HeaderTotalLen}
+use Rattle.ep_base.specs.declared.len_source.LenSource.TheVariants.{Ipv6HeaderPayloadLen, UdpHeaderLen, TcpHeaderLen}
 use Rattle.ep_base.specs.declared.len_source.LenSource.TheVariants.{ArpAddrLengths}
 use Rattle.ep_base.specs.LenSource.{source_index}
 use Rattle.ep_ipslice.specs.Compared.{bool_index, ordered_as}
@@ -23,13 +21,7 @@ source_at (suc (suc (suc (suc (suc (suc n)))))) = ArpAddrLengths
 
 source_again : (source : LenSource) → source_at (source_index source) ≡ source
 unfolding source_at
-source_again Slice = refl
-source_again MacsecShortLength = refl
-source_again Ipv4HeaderTotalLen = refl
-source_again Ipv6HeaderPayloadLen = refl
-source_again UdpHeaderLen = refl
-source_again TcpHeaderLen = refl
-source_again ArpAddrLengths = refl
+source_again source = grind arith
 
 pub bool_at : ℕ → Bool
 bool_at zero = false
@@ -37,8 +29,7 @@ bool_at (suc n) = true
 
 pub bool_again : (b : Bool) → bool_at (bool_index b) ≡ b
 unfolding bool_at
-bool_again true = refl
-bool_again false = refl
+bool_again b = grind arith
 
 blank : IpPayload
 blank = record
@@ -58,13 +49,7 @@ payload_at (n ∷ (fragment_flag ∷ (source ∷ bytes))) =
 
 payload_again : (p : IpPayload) → payload_at (ordered_as p) ≡ p
 unfolding payload_at
-payload_again p =
-    λ i. record {
-      ip_number = p.ip_number;
-      fragmented = bool_again p.fragmented i;
-      len_source = source_again p.len_source i;
-      payload = p.payload;
-    }
+payload_again p = grind (arith, bool_again, source_again)
 
 pub payload_same : (a b : IpPayload) → IsTrue (pointwise nat_eq (ordered_as a) (ordered_as b))
     ↔ (a ≡ b)

@@ -1,6 +1,6 @@
 -- Views that are compared as the same are the same.
-use Rattle.std.proofs.Common.{◌≡◌, ℕ, zero, suc, ◌+◌, Bool, true, false, ◌&&◌, List, [], ◌∷◌}
-use Rattle.std.proofs.Common.{Option, Some, None, IsTrue, ◌↔◌, nat_eq, refl, sym, ap, ◌∙◌, arith}
+use Rattle.std.proofs.Common.{◌≡◌, ℕ, zero, suc, Bool, true, false, ◌&&◌, List, ◌∷◌, [], Option, Some, None, IsTrue}
+use Rattle.std.proofs.Common.{◌↔◌, nat_eq, sym, ap, ◌∙◌, arith}
 use Rattle.std.specs.Cmp.Lexicographic.{pointwise, bytes_decides}
 use Rattle.std.specs.Cmp.Derive.{both_true}
 use Rattle.ep_base.specs.declared.net.ip_number.IpNumber.{IpNumber}
@@ -16,10 +16,7 @@ number_at (suc n) = Some (record { 0 = n })
 
 number_again : (number : Option IpNumber) → number_at (number_index number) ≡ number
 unfolding number_at
-number_again None = refl
-number_again (Some number) =
-    let next : 1 + number.0 ≡ suc number.0 = omega arith in
-    ap number_at next
+number_again number = grind arith
 
 no_exts : Ipv6Exts
 no_exts = record { first_header = None; fragmented = false; slice = [] }
@@ -32,12 +29,7 @@ exts_at (number ∷ (fragment_flag ∷ bytes)) =
 
 exts_again : (exts : Ipv6Exts) → exts_at (compared_as exts) ≡ exts
 unfolding exts_at
-exts_again exts =
-    λ i. record {
-      first_header = number_again exts.first_header i;
-      fragmented = bool_again exts.fragmented i;
-      slice = exts.slice;
-    }
+exts_again exts = grind (arith, number_again, bool_again)
 
 pub exts_same : (a b : Ipv6Exts) → IsTrue (pointwise nat_eq (compared_as a) (compared_as b))
     ↔ (a ≡ b)
@@ -64,17 +56,14 @@ auth_at (n ∷ auth) = Some auth
 
 auth_again : (auth : Option (List ℕ)) → auth_at (auth_code auth) ≡ auth
 unfolding auth_at
-auth_again None = refl
-auth_again (Some auth) = refl
+auth_again auth = grind arith
 
 auth_same : (a b : Option (List ℕ)) → auth_code a ≡ auth_code b → a ≡ b
 auth_same a b e = sym (auth_again a) ∙ ap auth_at e ∙ auth_again b
 
 -- all three tests of a comparison
 three : (x y z : Bool) → (x && y && z) ≡ true → (x ≡ true) × (y ≡ true) × (z ≡ true)
-three true true z h = (refl, refl, h)
-three true false z h = cc
-three false y z h = cc
+three x y z h = grind arith
 
 pub ipv4_same : (a b : Ipv4Packet)
     → IsTrue (pointwise nat_eq a.header b.header

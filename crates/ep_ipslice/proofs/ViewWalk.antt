@@ -1,22 +1,20 @@
 -- The walk of a view over extension headers in a row.
-use Rattle.std.proofs.Common.{◌≡◌, ℕ, ◌-◌, Bool, true, false, ◌||◌, List, [], ◌∷◌, ◌++◌, length}
-use Rattle.std.proofs.Common.{take, Option, Some, None, Err, Bor, arith, refl, sym, ap, ◌∙◌, subst}
-use Rattle.std.proofs.Common.{length-append, append_assoc}
+use Rattle.std.proofs.Common.{◌≡◌, ℕ, ◌-◌, Bool, true, false, ◌||◌, List, ◌∷◌, ◌++◌, length, [], take, Option, Some}
+use Rattle.std.proofs.Common.{None, Err, Bor, arith, refl, sym, ap, ◌∙◌, length-append, append_assoc}
 use Rattle.std.proofs.lemmas.List.{take_at}
 use Rattle.std.proofs.lemmas.List.Folds.{list_any-append}
 use Rattle.ep_base.specs.Bytes.{num}
 use Rattle.ep_base.specs.declared.err.layer.Layer.{Layer}
 use Rattle.ep_base.specs.declared.net.ip_number.IpNumber.{IpNumber}
-use Rattle.ep_ext.specs.Chain.{Chain, Fault, IsEnd, IsPiece, Row, fault_at, fault_in, fault_of}
-use Rattle.ep_ext.specs.Chain.{prefix_of, layer_of}
+use Rattle.ep_ext.specs.Chain.{Chain, Fault, IsEnd, IsPiece, Row, fault_at, prefix_of, layer_of}
 use Rattle.ep_base.specs.SliceError.{offset_by}
 use Rattle.ep_ext.specs.Slot.{Order}
 use Rattle.ep_ext.specs.Value.{Piece, bytes_of, slots}
 use Rattle.ep_base.specs.declared.err.slice_error.SliceError.{SliceError}
 use Rattle.ep_ext.specs.declared.err.ipv6_exts.header_error.HeaderError.{HeaderError}
 use Rattle.ep_ext.specs.declared.net.ipv6_ext_slot.Ipv6ExtSlot.{Ipv6ExtSlot}
-use Rattle.ep_ipslice.specs.Ipv6Exts.{Ipv6Exts, IsViewOf, Stops, exts_of, is_any_fragmenting}
-use Rattle.ep_ipslice.specs.Ipv6Exts.{is_started, is_fragmenting_piece, slot_after, view_order}
+use Rattle.ep_ipslice.specs.Ipv6Exts.{Ipv6Exts, IsViewOf, Stops, exts_of, is_any_fragmenting, is_started}
+use Rattle.ep_ipslice.specs.Ipv6Exts.{is_fragmenting_piece, slot_after, view_order}
 
 -- what the walk keeps: so far the bytes are headers in a row and the rest
 pub record Kept (first : ℕ) (bytes : List ℕ) (has_header fragmented : Bool) (number : ℕ)
@@ -43,29 +41,24 @@ BytesGrow = (pieces : List Piece) (slot : Ipv6ExtSlot) (header : List ℕ)
 -- that some header came before is all that matters for the next slot
 pub slot_shown : (pieces : List Piece) (number : ℕ)
     → slot_after (is_started pieces) number ≡ view_order (slots pieces) number
-slot_shown [] number = refl
-slot_shown (piece ∷ pieces) number = refl
+slot_shown pieces number = grind arith
 
 slot_open : (pieces : List Piece) (has_header : Bool) (number : ℕ) (slot : Option Ipv6ExtSlot)
     → has_header ≡ is_started pieces → slot_after has_header number ≡ slot
     → view_order (slots pieces) number ≡ slot
-slot_open pieces has_header number slot is following =
-    sym (slot_shown pieces number) ∙ ap (λ (b : Bool). slot_after b number) (sym is) ∙ following
+slot_open pieces has_header number slot is following = grind arith
 
 started_more : (pieces : List Piece) (piece : Piece) → true ≡ is_started (pieces ++ piece ∷ [])
 started_more [] piece = refl
 started_more (first ∷ pieces) piece = refl
 
 or_false : (b : Bool) → (b || false) ≡ b
-or_false true = refl
-or_false false = refl
+or_false b = grind arith
 
 parted_more : (pieces : List Piece) (piece : Piece)
     → is_any_fragmenting (pieces ++ piece ∷ [])
     ≡ (is_any_fragmenting pieces || is_fragmenting_piece piece)
-parted_more pieces piece =
-    list_any-append is_fragmenting_piece pieces (piece ∷ [])
-    ∙ ap (λ (b : Bool). is_any_fragmenting pieces || b) (or_false (is_fragmenting_piece piece))
+parted_more pieces piece = grind (arith, list_any-append, or_false)
 
 pub kept_more : RowGrows → BytesGrow
     → (first : ℕ) (bytes : List ℕ) (has_header fragmented : Bool) (number : ℕ) (rest : List ℕ) →
@@ -80,23 +73,18 @@ kept_more grows lengthens first bytes has_header fragmented number rest slot hea
     let open_here : view_order (slots kept.pieces) number ≡ Some slot =
     slot_open kept.pieces has_header number (Some slot) kept.started free in record {
       pieces = kept.pieces ++ (slot, header) ∷ [];
-      row = subst (Row view_order [] first (kept.pieces ++ (slot, header) ∷ [])) (sym named)
-          (grows view_order first kept.pieces number slot header kept.row open_here piece);
+      row = grind arith;
       cut =
-          kept.cut ∙ ap (λ (xs : List ℕ). bytes_of kept.pieces ++ xs) cut
-          ∙ sym (append_assoc (bytes_of kept.pieces) header following)
-          ∙ ap (λ (xs : List ℕ). xs ++ following) (sym (lengthens kept.pieces slot header));
+          grind (arith, append_assoc);
       started = started_more kept.pieces (slot, header);
-      parted = parted ∙ ap (λ (b : Bool). b || is_fragmenting_piece (slot, header)) kept.parted
-          ∙ sym (parted_more kept.pieces (slot, header));
+      parted = grind (arith, parted_more);
     }
 
 -- how many bytes the headers have
 pub passed_len : (first : ℕ) (bytes : List ℕ) (has_header fragmented : Bool) (number : ℕ) (rest : List ℕ)
     (kept : Kept first bytes has_header fragmented number rest) →
     length bytes - length rest ≡ length (bytes_of kept.pieces)
-passed_len first bytes has_header fragmented number rest kept =
-    omega (arith, ap length kept.cut, length-append (bytes_of kept.pieces) rest)
+passed_len first bytes has_header fragmented number rest kept = grind (arith, length-append)
 
 pub passed_bytes : (first : ℕ) (bytes : List ℕ) (has_header fragmented : Bool) (number : ℕ)
     (rest : List ℕ) (kept : Kept first bytes has_header fragmented number rest) (len : ℕ) →
@@ -108,8 +96,7 @@ passed_bytes first bytes has_header fragmented number rest kept len is =
 pub view_of : (first : IpNumber) (bytes : List ℕ) (has_header fragmented : Bool) (number : ℕ)
     (rest prefix : List ℕ) (kept : Kept first.0 bytes has_header fragmented number rest) →
     prefix ≡ bytes_of kept.pieces → IsViewOf first has_header fragmented prefix
-view_of first bytes has_header fragmented number rest prefix kept is =
-    (kept.pieces, number, kept.row, is, kept.started, kept.parted)
+view_of first bytes has_header fragmented number rest prefix kept is = grind arith
 
 abbrev pub Answer : Type 0
 Answer = Ipv6Exts × IpNumber × Bor (List ℕ) × Option Fault
@@ -137,24 +124,7 @@ pub found_closed : EndsClosed
     → fault ≡ fault_at 0 None number.0 [] →
     Found first bytes (view, number, rest, fault)
 found_closed ends first bytes has_header fragmented number rest view fault kept closed seen is =
-    let closed_here : view_order (slots kept.pieces) number.0 ≡ None =
-    slot_open kept.pieces has_header number.0 None kept.started closed in (
-      kept.pieces,
-      number.0,
-      rest.now,
-      record {
-        row = kept.row;
-        cut = kept.cut;
-        ended = ends view_order (slots kept.pieces) number.0 rest.now closed_here;
-      },
-      record {
-        view = seen;
-        number = refl;
-        left = refl;
-        fault = is ∙ ap (λ (p : Option Ipv6ExtSlot). fault_at
-            (length (bytes_of kept.pieces)) p number.0 rest.now) (sym closed_here);
-      },
-    )
+    grind arith
 
 pub found_fault : EndsAtFault
     → (first : ℕ) (bytes : List ℕ) (has_header fragmented : Bool) (number : IpNumber)
@@ -173,7 +143,7 @@ found_fault ends first bytes has_header fragmented number rest view slot error f
     let start : offset ≡ length (bytes_of kept.pieces) =
     offset_is ∙ passed_len first bytes has_header fragmented number.0 rest.now kept in
     let moved_is : far ≡ offset_by error (length (bytes_of kept.pieces)) =
-    far_is ∙ ap (offset_by error) start in (
+    grind arith in (
       kept.pieces,
       number.0,
       rest.now,
@@ -182,16 +152,7 @@ found_fault ends first bytes has_header fragmented number rest view slot error f
         cut = kept.cut;
         ended = ends view_order (slots kept.pieces) number.0 rest.now slot error open_here fault;
       },
-      record {
-        view = seen;
-        number = refl;
-        left = refl;
-        fault =
-            (λ i. Some (moved_is i, layer_is i))
-            ∙ ap (fault_in (layer_of slot) (length (bytes_of kept.pieces))) (sym fault)
-            ∙ ap (λ (p : Option Ipv6ExtSlot). fault_at
-            (length (bytes_of kept.pieces)) p number.0 rest.now) (sym open_here);
-      },
+      grind arith,
     )
 
 abbrev pub ChainAlone : Type 0
@@ -205,9 +166,4 @@ pub stops_same : ChainAlone
     Chain view_order first bytes p m r → Chain view_order first bytes q n s
     → Stops first p m r answer → Stops first q n s answer
 stops_same alone first bytes p q m n r s answer chain other stops =
-    let same = alone view_order first bytes p q m n r s chain other in record {
-      view = stops.view ∙ ap (exts_of first) same.0;
-      number = stops.number ∙ same.1;
-      left = stops.left ∙ same.2;
-      fault = stops.fault ∙ (λ i. fault_of view_order (same.0 i) (same.1 i) (same.2 i));
-    }
+    let same = alone view_order first bytes p q m n r s chain other in grind arith

@@ -2,8 +2,7 @@
 use Rattle.std.specs.Prelude.{ℕ, ⊤}
 use Rattle.ep_base.specs.LenError as len
 use Rattle.ep_ipslice.specs.declared.err.ip.headers_slice_error.HeadersSliceError.{HeadersSliceError}
-use Rattle.ep_ipslice.specs.declared.err.ip.headers_slice_error.HeadersSliceError.TheVariants.{Len}
-use Rattle.ep_ipslice.specs.declared.err.ip.headers_slice_error.HeadersSliceError.TheVariants.{Content}
+use Rattle.ep_ipslice.specs.declared.err.ip.headers_slice_error.HeadersSliceError.TheVariants.{Len, Content}
 use Rattle.ep_ipslice.specs.declared.err.ip.slice_error.SliceError.{SliceError}
 use Rattle.ep_ipslice.specs.declared.err.ip.slice_error.SliceError.TheVariants as packet
 

@@ -1,6 +1,5 @@
 -- The IPv4 packet at the start of bytes, or why there is none.
-use Rattle.std.specs.Prelude.{ℕ, nat_lt, if◌then◌else◌, List, length, take, drop, Option, Result}
-use Rattle.std.specs.Prelude.{Ok, Err}
+use Rattle.std.specs.Prelude.{ℕ, nat_lt, if◌then◌else◌, List, length, take, drop, Option, Result, Ok, Err}
 use Rattle.ep_base.specs.LenError.{offset_by, too_few_bytes}
 use Rattle.ep_base.specs.declared.err.layer.Layer.TheVariants as layer
 use Rattle.ep_base.specs.declared.err.len_error.LenError.{LenError}

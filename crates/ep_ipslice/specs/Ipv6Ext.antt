@@ -9,8 +9,7 @@ use Rattle.ep_ext.specs.declared.err.ipv6_exts.header_error.HeaderError.{HeaderE
 use Rattle.ep_ext.specs.declared.net.ipv6_ext_slot.Ipv6ExtSlot.{Ipv6ExtSlot}
 use Rattle.ep_ext.specs.declared.net.ipv6_ext_slot.Ipv6ExtSlot.TheVariants as slot
 use Rattle.ep_ipslice.specs.declared.net.ipv6_extension_slice.Ipv6ExtensionSlice.{Ipv6ExtensionSlice}
-use Rattle.ep_ipslice.specs.declared.net.ipv6_extension_slice.Ipv6ExtensionSlice.TheVariants.{HopByHop}
-use Rattle.ep_ipslice.specs.declared.net.ipv6_extension_slice.Ipv6ExtensionSlice.TheVariants.{Routing}
+use Rattle.ep_ipslice.specs.declared.net.ipv6_extension_slice.Ipv6ExtensionSlice.TheVariants.{HopByHop, Routing}
 use Rattle.ep_ipslice.specs.declared.net.ipv6_extension_slice.Ipv6ExtensionSlice.TheVariants.{Fragment}
 use Rattle.ep_ipslice.specs.declared.net.ipv6_extension_slice.Ipv6ExtensionSlice.TheVariants.{DestinationOptions}
 use Rattle.ep_ipslice.specs.declared.net.ipv6_extension_slice.Ipv6ExtensionSlice.TheVariants.{Authentication}

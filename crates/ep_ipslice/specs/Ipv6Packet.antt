@@ -1,6 +1,6 @@
 -- The IPv6 packet at the start of bytes, or why there is none (RFC 8200, sections 3 and 4).
-use Rattle.std.specs.Prelude.{ℕ, ◌-◌, nat_lt, if◌then◌else◌, List, [], ◌∷◌, length, take, drop}
-use Rattle.std.specs.Prelude.{Option, Some, None, Result, Ok, Err}
+use Rattle.std.specs.Prelude.{ℕ, ◌-◌, nat_lt, if◌then◌else◌, List, [], ◌∷◌, length, take, drop, Option, Some, None}
+use Rattle.std.specs.Prelude.{Result, Ok, Err}
 use Rattle.ep_base.specs.Bytes.{num}
 use Rattle.ep_ip.specs.Ipv6.{next_header_of}
 use Rattle.ep_ip.specs.Ipv6Fault.{header_at}
@@ -11,8 +11,7 @@ use Rattle.ep_ext.specs.Value.{Piece, bytes_of}
 use Rattle.ep_ipslice.specs.Ipv6Exts.{exts_of, is_any_fragmenting, view_order}
 use Rattle.ep_ipslice.specs.Ipv6Fault.{not_whole, of_exts_fault, of_header_fault}
 use Rattle.ep_ipslice.specs.Ipv6Walk.{pieces_within}
-use Rattle.ep_ipslice.specs.Packet.{FragmentFields, Ipv6Packet, body_len, body_source}
-use Rattle.ep_ipslice.specs.Packet.{ipv6_fragment_fields}
+use Rattle.ep_ipslice.specs.Packet.{FragmentFields, Ipv6Packet, body_len, body_source, ipv6_fragment_fields}
 use Rattle.ep_ipslice.specs.declared.err.ipv6.slice_error.SliceError.{SliceError}
 use Rattle.ep_ipslice.specs.declared.err.ipv6.slice_error.SliceError.TheVariants.{Len}
 

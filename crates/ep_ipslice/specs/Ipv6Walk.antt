@@ -1,6 +1,6 @@
 -- The extension headers at the start of bytes, one by one (RFC 8200, section 4).
-use Rattle.std.specs.Prelude.{◌≡◌, false, ℕ, zero, suc, List, [], ◌∷◌, ◌++◌, length, drop, Option}
-use Rattle.std.specs.Prelude.{Some, None, Result, Ok, Err}
+use Rattle.std.specs.Prelude.{◌≡◌, false, ℕ, zero, suc, List, [], ◌∷◌, ◌++◌, length, drop, Option, Some, None, Result}
+use Rattle.std.specs.Prelude.{Ok, Err}
 use Rattle.ep_base.specs.Bytes.{num}
 use Rattle.ep_ext.specs.Chain.{Row, prefix_of}
 use Rattle.ep_ext.specs.Slot.{Order}

@@ -1,12 +1,11 @@
 -- IP packets: base header, extension headers, payload and padding (IPv4: RFC 791, section 3.1, and
 -- RFC 4302, section 3.1.1; IPv6: RFC 8200, sections 3 and 4), and what a packet says of its
 -- payload.
-use Rattle.std.specs.Prelude.{◌≡◌, ℕ, ◌+◌, ◌-◌, ◌==◌, ◌&&◌, nat_lt, Bool, false, if◌then◌else◌}
-use Rattle.std.specs.Prelude.{List, [], ◌++◌, length, Option}
+use Rattle.std.specs.Prelude.{◌≡◌, ℕ, ◌+◌, ◌-◌, ◌==◌, ◌&&◌, nat_lt, Bool, false, if◌then◌else◌, List, [], ◌++◌, length}
+use Rattle.std.specs.Prelude.{Option}
 use Rattle.std.specs.Option.{option_map}
 use Rattle.ep_base.specs.declared.len_source.LenSource.{LenSource}
-use Rattle.ep_base.specs.declared.len_source.LenSource.TheVariants.{Slice, Ipv4HeaderTotalLen}
-use Rattle.ep_base.specs.declared.len_source.LenSource.TheVariants.{Ipv6HeaderPayloadLen}
+use Rattle.ep_base.specs.declared.len_source.LenSource.TheVariants.{Slice, Ipv4HeaderTotalLen, Ipv6HeaderPayloadLen}
 use Rattle.ep_base.specs.declared.net.ip_number.IpNumber.{IpNumber}
 use Rattle.ep_ip.specs.Ipv4 as v4
 use Rattle.ep_ip.specs.Ipv6 as v6

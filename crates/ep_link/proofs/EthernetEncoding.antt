@@ -1,6 +1,6 @@
 -- The bytes of an Ethernet II header against its fields.
-use Rattle.std.proofs.Common.{◌≡◌, ℕ, ◌+◌, ◌*◌, ◌/◌, ◌%◌, List, [], ◌∷◌, ◌++◌, length, take, drop}
-use Rattle.std.proofs.Common.{get_or, arith, sym, ap, ◌∙◌, append_assoc}
+use Rattle.std.proofs.Common.{◌≡◌, ℕ, ◌+◌, ◌*◌, ◌/◌, ◌%◌, List, [], ◌∷◌, ◌++◌, length, take, drop, get_or, arith, sym}
+use Rattle.std.proofs.Common.{ap, ◌∙◌, append_assoc}
 use Rattle.std.proofs.lemmas.List.{get_or-drop, length-append, take_at, drop_at}
 use Rattle.ep_base.specs.Bytes.{IsBytes}
 use Rattle.ep_base.proofs.Cells.{as_cells, cells, take-drop-cells}
@@ -34,21 +34,17 @@ ethernet_header_of-encoding h fits =
     let kind : List ℕ = h.ether_type.0 / 256 % 256 ∷ h.ether_type.0 % 256 ∷ [] in
     let joint : d ++ s ++ kind ≡ d ++ (s ++ kind) = append_assoc d s kind in
     let destination : take 6 (d ++ s ++ kind) ≡ d =
-    ap (λ (xs : List ℕ). take 6 xs) joint ∙ take_at d (s ++ kind) 6 fits.destination in
+    cc (joint, take_at d (s ++ kind) 6 fits.destination) in
     let following : drop 6 (d ++ s ++ kind) ≡ s ++ kind =
-    ap (λ (xs : List ℕ). drop 6 xs) joint ∙ drop_at d (s ++ kind) 6 fits.destination in
+    grind arith in
     let source : take 6 (drop 6 (d ++ s ++ kind)) ≡ s =
-    ap (λ (xs : List ℕ). take 6 xs) following ∙ take_at s kind 6 fits.source in
+    cc (following, take_at s kind 6 fits.source) in
     let len : length (d ++ s) ≡ 12 =
     omega (arith, length-append d s, fits.destination, fits.source) in
     let high = at_after_prefix (d ++ s) kind 12 0 len in
     let low = at_after_prefix (d ++ s) kind 12 1 len in
     let ether_type = (λ i. 256 * high i + low i) ∙ two_again h.ether_type.0 fits.ether_type in
-    λ i. record {
-      source = source i;
-      destination = destination i;
-      ether_type = record { 0 = ether_type i };
-    }
+    grind arith
 
 -- the list that the code makes
 pub put_together : (d s : List ℕ) (a b : ℕ) → length d ≡ 6 → length s ≡ 6 →

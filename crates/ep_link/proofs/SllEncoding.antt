@@ -1,35 +1,18 @@
 -- The bytes of the header of a Linux cooked capture against its fields.
-use Rattle.std.proofs.Common.{◌≡◌, ℕ, ◌+◌, ◌*◌, ◌/◌, ◌%◌, Bool, true, false, cond, List, [], ◌∷◌}
-use Rattle.std.proofs.Common.{◌++◌, length, get_or, arith, sym, refl, ap, ◌∙◌, leb, eqb, ◌||◌}
+use Rattle.std.proofs.Common.{◌≡◌, ℕ, ◌+◌, ◌*◌, ◌/◌, ◌%◌, List, ◌∷◌, ◌++◌, length, get_or, arith, sym, ap, ◌∙◌, []}
 use Rattle.std.proofs.lemmas.List.{length-append, take_at}
 use Rattle.ep_base.specs.Bytes.{IsBytes}
 use Rattle.ep_base.proofs.Cells.{as_cells, take-drop-cells}
-use Rattle.ep_link.specs.Sll.{IsSllHeader, NamesProtocol, Fits, sll_header_of, number_of}
-use Rattle.ep_link.specs.Sll.{protocol_of}
-use Rattle.ep_link.specs.Sll.{encoding}
+use Rattle.ep_link.specs.Sll.{IsSllHeader, NamesProtocol, Fits, sll_header_of, number_of, protocol_of, encoding}
 use Rattle.ep_link.specs.declared.link.arp_hardware_id.ArpHardwareId.{ArpHardwareId}
 use Rattle.ep_link.specs.declared.link.linux_sll_header.LinuxSllHeader.{LinuxSllHeader}
 use Rattle.ep_link.specs.declared.link.linux_sll_protocol_type.LinuxSllProtocolType.TheVariants as protocol
 use Rattle.ep_link.proofs.EthernetEncoding.{at_after_prefix}
 use Rattle.ep_base.proofs.Numbers.{high_of, low_of, two_again}
 
-number_kept : (a b c d : Bool) (n : ℕ) →
-    number_of (cond a (protocol.NetlinkProtocolType n)
-    (cond b (protocol.GenericRoutingEncapsulationProtocolType n)
-    (cond c (protocol.Ignored n)
-    (cond d (protocol.EtherType (record { 0 = n })) (protocol.LinuxNonstandardEtherType n)))))
-    ≡ n
-number_kept true b c d n = refl
-number_kept false true c d n = refl
-number_kept false false true d n = refl
-number_kept false false false true n = refl
-number_kept false false false false n = refl
-
 -- the number stays, whatever the hardware type makes of it
 pub number-protocol_of : (hardware : ArpHardwareId) (n : ℕ) → number_of (protocol_of hardware n) ≡ n
-number-protocol_of hardware n =
-    number_kept (eqb hardware.0 824) (eqb hardware.0 778)
-    (eqb hardware.0 803 || eqb hardware.0 770) (leb 0x600 n) n
+number-protocol_of hardware n = grind arith
 
 -- the fields that are read from a header encode its bytes
 pub encoding-sll_header_of : (bytes : List ℕ) → IsSllHeader bytes → IsBytes bytes
@@ -53,11 +36,8 @@ encoding-sll_header_of bytes is fits =
 -- the bytes that fields encode are a header
 pub IsSllHeader-encoding : (h : LinuxSllHeader) → Fits h → IsSllHeader (encoding h)
 IsSllHeader-encoding h fits = record {
-  packet_type = let same = two_again h.packet_type (omega (arith, fits.packet_type)) in
-      omega (arith, same, fits.packet_type);
-  whole = let len = length-append h.sender_address
-      (number_of h.protocol_type / 256 % 256 ∷ number_of h.protocol_type % 256 ∷ []) in
-      omega (arith, len, fits.address);
+  packet_type = grind arith;
+  whole = grind (arith, length-append);
 }
 
 -- the fields are read again, where hardware type and number name the protocol
@@ -74,13 +54,7 @@ sll_header_of-encoding h fits names =
     let low = at_after_prefix h.sender_address tail 8 1 fits.address in
     let number = (λ i. 256 * high i + low i) ∙ two_again n fits.number in
     let kind = (λ i. protocol_of (record { 0 = hardware i }) (number i)) ∙ names in
-    λ i. record {
-      packet_type = packet_type i;
-      arp_hrd_type = record { 0 = hardware i };
-      sender_address_valid_length = address_len i;
-      sender_address = address i;
-      protocol_type = kind i;
-    }
+    grind arith
 
 -- the list that the code makes
 pub put_together : (a b c d e f : ℕ) (s : List ℕ) (g h : ℕ) → length s ≡ 8 →

@@ -1,9 +1,8 @@
 -- The header of a Linux cooked capture at the start of bytes.
-use Rattle.std.proofs.Common.{◌≡◌, ℕ, ◌≤◌, List, ◌++◌, length, take, drop, get_or, Result, Ok}
-use Rattle.std.proofs.Common.{arith, sym, refl, ap, ◌∙◌}
-use Rattle.std.proofs.lemmas.Bool.{le-ltb, ltb-false}
-use Rattle.std.proofs.lemmas.List.{get_or-take, get_or_append_left, length-take-le, length-append}
-use Rattle.std.proofs.lemmas.List.{take-append-drop, take_at}
+use Rattle.std.proofs.Common.{◌≡◌, ℕ, ◌≤◌, List, ◌++◌, length, take, drop, get_or, Result, Ok, arith, sym, ap, ◌∙◌}
+use Rattle.std.proofs.lemmas.Bool.{ltb-false}
+use Rattle.std.proofs.lemmas.List.{get_or-take, get_or_append_left, length-take-le, length-append, take-append-drop}
+use Rattle.std.proofs.lemmas.List.{take_at}
 use Rattle.ep_base.specs.declared.err.slice_error.SliceError.{SliceError}
 use Rattle.ep_link.specs.declared.err.linux_sll.header_error.HeaderError.{HeaderError}
 use Rattle.ep_link.specs.Sll.{IsSllHeader, greatest_packet_type, packet_type_of, sll_len}
@@ -14,12 +13,7 @@ use Rattle.ep_base.proofs.Prefixes.{guard_ok, ok_same, takes}
 -- the first bytes of a header say what the header says
 pub prefix_is : (bytes : List ℕ) → sll_len ≤ length bytes
     → packet_type_of bytes ≤ greatest_packet_type → IsSllHeader (take sll_len bytes)
-prefix_is bytes least kind =
-    let zeroth : get_or (take 16 bytes) 0 0 ≡ get_or bytes 0 0 =
-    get_or-take 16 bytes 0 0 (omega arith) in
-    let first : get_or (take 16 bytes) 1 0 ≡ get_or bytes 1 0 =
-    get_or-take 16 bytes 1 0 (omega arith) in
-    record { packet_type = rw (zeroth, first) kind; whole = length-take-le 16 bytes least }
+prefix_is bytes least kind = grind (arith, get_or-take, length-take-le)
 
 header_found : (bytes prefix : List ℕ) → header_at bytes ≡ Ok prefix
     → IsSllHeader prefix × ((rest : List ℕ) × (bytes ≡ prefix ++ rest))
@@ -38,8 +32,7 @@ header_found bytes prefix e =
 
 header_at-ok : (bytes : List ℕ) → sll_len ≤ length bytes
     → packet_type_of bytes ≤ greatest_packet_type → header_at bytes ≡ Ok (take sll_len bytes)
-header_at-ok bytes least kind =
-    rw (le-ltb (length bytes) 16 least, le-ltb 4 (packet_type_of bytes) kind) refl
+header_at-ok bytes least kind = grind arith
 
 -- a header is taken, whatever follows it
 header_again : (header rest : List ℕ) → IsSllHeader header → header_at (header ++ rest) ≡ Ok header

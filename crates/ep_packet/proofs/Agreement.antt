@@ -1,6 +1,5 @@
 -- Headers of an IPv6 packet as values agree with its view.
-use Rattle.std.proofs.Common.{◌≡◌, ◌∙◌, ℕ, false, List, [], ◌++◌, length, refl, sym, ap}
-use Rattle.std.proofs.Common.{append_assoc, length-append}
+use Rattle.std.proofs.Common.{arith, ◌≡◌, ℕ, false, List, [], ◌++◌, append_assoc, length-append}
 use Rattle.std.specs.Option.{option_map_or}
 use Rattle.ep_ext.specs.Chain.{Row}
 use Rattle.ep_ext.specs.Follow.{has_slot}
@@ -37,30 +36,10 @@ view_is : (bytes : List ℕ) (headers : IpHeaders) (payload : IpPayload)
     })
 view_is bytes headers payload is q row same parted none =
     let body : is.body ≡ bytes_of q ++ payload.payload =
-    is.chain.cut ∙ ap (λ (xs : List ℕ). xs ++ payload.payload) (sym same) in
+    grind arith in
     let fragment : is_fragmenting headers ≡ is_any_fragmenting q =
-    ap is_fragmenting is.value ∙ sym parted in
-    record {
-      pieces = q;
-      last = is.last;
-      padding = is.begins.padding;
-      cut = is.begins.cut ∙ ap (λ (xs : List ℕ). is.header ++ xs ++ is.begins.padding) body
-          ∙ ap (λ (xs : List ℕ). xs ++ is.begins.padding)
-          (sym (append_assoc is.header (bytes_of q) payload.payload));
-      header = is.begins.whole;
-      row = row;
-      ended = ap (λ (p : IpPayload). has_slot p.ip_number.0) (sym is.returned) ∙ none;
-      size = sym (length-append (bytes_of q) payload.payload)
-          ∙ sym (ap length body) ∙ is.begins.size;
-      exts = refl;
-      fields = is.returned
-          ∙ (λ i. record {
-            ip_number = record { 0 = is.last };
-            fragmented = fragment i;
-            len_source = is.begins.bounded i;
-            payload = payload.payload;
-          });
-    }
+    grind arith in
+    grind (arith, append_assoc, length-append)
 
 pub agree : (bytes : List ℕ) → SlotsAreViews
     → ((p q : Ipv6Packet) → IsIpv6Packet bytes p → IsIpv6Packet bytes q → p ≡ q) →
@@ -78,10 +57,9 @@ agree bytes placed alone packet headers payload begins is none =
     } in
     let same : mine ≡ packet = alone mine packet
     (view_is bytes headers payload is q.0 q.1 q.2 q.3 none) begins in (
-      ap (λ (p : Ipv6Packet). p.payload) same,
+      cc same,
       (
         value_of is.pieces,
-        is.value
-            ∙ ap (λ (p : Ipv6Packet). ip.Ipv6 (ipv6_header_of p.header) (value_of is.pieces)) same,
+        grind arith,
       ),
     )

@@ -1,11 +1,9 @@
 -- The layers of a packet are in its bytes, and the layers there are the result.
-use Rattle.std.proofs.Common.{◌≡◌, ◌∙◌, ℕ, List, [], Option, Some, None, Result, Ok, Err, IfOk}
-use Rattle.std.proofs.Common.{refl, sym, ap, subst}
+use Rattle.std.proofs.Common.{arith, ◌≡◌, ◌∙◌, ℕ, List, Option, Some, None, Result, Ok, Err, IfOk, refl, sym, ap, []}
 use Rattle.ep_link.specs.declared.link.link_slice.LinkSlice.{LinkSlice}
-use Rattle.ep_packet.specs.Parts.{tags_len}
 use Rattle.ep_packet.specs.SliceFault.{later}
-use Rattle.ep_packet.specs.Sliced.{AreIpLayers, IsSliced, IsSlicedIp, Layers, layers_in}
-use Rattle.ep_packet.specs.Sliced.{packet_after, packet_of, packet_tagged, packet_with}
+use Rattle.ep_packet.specs.Sliced.{AreIpLayers, IsSliced, IsSlicedIp, Layers, layers_in, packet_after, packet_tagged}
+use Rattle.ep_packet.specs.Sliced.{packet_with}
 use Rattle.ep_packet.specs.Tags.{Tagged, most_tags, tags_in}
 use Rattle.ep_packet.specs.declared.err.packet.slice_error.SliceError.{SliceError}
 use Rattle.ep_packet.specs.declared.sliced_packet.SlicedPacket.{SlicedPacket}
@@ -15,9 +13,7 @@ use Rattle.ep_tag.specs.Ether.{EtherPayload}
 found_with : (header : Option LinkSlice) (p : EtherPayload) (n : ℕ) (t : Tagged)
     (r : Result Layers SliceError) → layers_in t.last ≡ r → Stands most_tags p t →
     IfOk (later n (packet_with header t.tags (later t.len r))) (IsSliced p)
-found_with header p n t (Ok layers) same stands =
-    record { last = t.last; tagged = stands.tagged; layers = same }
-found_with header p n t (Err e) same stands = tt
+found_with header p n t r same stands = grind arith
 
 found_tagged : MacsecIsRead
     → (header : Option LinkSlice) (p : EtherPayload) (n : ℕ) (r : Result Tagged SliceError)
@@ -30,9 +26,7 @@ found_tagged law header p n (Err e) same = tt
 pub found_after : MacsecIsRead
     → (header : LinkSlice) (p : EtherPayload) (n : ℕ) (r : Result SlicedPacket SliceError)
     → r ≡ later n (packet_after header p) → IfOk r (IsSliced p)
-found_after law header p n r same =
-    subst (λ (x : Result SlicedPacket SliceError). IfOk x (IsSliced p)) (sym same)
-    (found_tagged law (Some header) p n (tags_in most_tags p) refl)
+found_after law header p n r same = grind (arith, found_tagged)
 
 -- what is in the payload is the result
 pub taken_after : MacsecIsRead
@@ -42,12 +36,7 @@ pub taken_after : MacsecIsRead
 taken_after law header p n r same packet linked is =
     let layers : Layers = record { net = packet.net; transport = packet.transport } in
     let tags = packet.link_exts.items in
-    same
-    ∙ ap (λ (x : Result Tagged SliceError). later n (packet_tagged (Some header) x))
-    (tags_only law tags most_tags is.last p is.tagged)
-    ∙ ap (λ (x : Result Layers SliceError). later n
-    (packet_with (Some header) tags (later (tags_len tags) x))) is.layers
-    ∙ ap (λ (o : Option LinkSlice). Ok (packet_of o tags layers)) (sym linked)
+    rw (same, tags_only law tags most_tags is.last p is.tagged, is.layers, linked)
 
 -- an IP packet that the bytes start with is the result
 pub taken_ip : (bytes : List ℕ) (r : Result Layers SliceError)

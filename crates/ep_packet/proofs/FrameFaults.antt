@@ -1,8 +1,8 @@
 -- The fault at which a frame is refused is the first one.
-use Rattle.std.proofs.Common.{◌≡◌, ◌∙◌, ℕ, zero, suc, ◌-◌, ◌≤◌, ◌<◌, ◌==◌, Bool, true, false, List, [], length}
-use Rattle.std.proofs.Common.{arith, IfErr, Option, Some, None, Result, Ok, Err, refl, sym, ap, subst}
+use Rattle.std.proofs.Common.{◌≡◌, ◌∙◌, ℕ, ◌-◌, ◌≤◌, ◌<◌, ◌==◌, Bool, true, false, List, length, [], arith, IfErr}
+use Rattle.std.proofs.Common.{Option, Some, None, Result, Ok, Err, refl, sym, ap, subst}
 use Rattle.std.specs.Prelude.{nat_lt, if◌then◌else◌}
-use Rattle.std.proofs.lemmas.Bool.{eqb-false, eqb-true, ltb-false, ltb-true}
+use Rattle.std.proofs.lemmas.Bool.{eqb-true, ltb-false, ltb-true}
 use Rattle.ep_base.proofs.Prefixes.{err_same}
 use Rattle.ep_base.specs.LenError.{too_few_bytes}
 use Rattle.ep_base.specs.declared.err.layer.Layer.TheVariants.{Ethernet2Header}
@@ -16,12 +16,11 @@ use Rattle.ep_ip.specs.Ipv4.{version_of}
 use Rattle.ep_ip.specs.Ipv6.{next_header_of}
 use Rattle.ep_ip.specs.Ipv6Fault.{header_at}
 use Rattle.ep_ip.specs.declared.err.ipv6.header_error.HeaderError.{HeaderError as Ipv6HeaderFault}
-use Rattle.ep_ipslice.specs.IpFault.{headers_fault}
-use Rattle.ep_ipslice.specs.IpSlice.{IsIpFault, IsIpFaultIn, NoBytes, OfIpv4, OfIpv6, OtherVersion}
-use Rattle.ep_ipslice.specs.IpSlice.{ip_packet_at, ipv4_fault, ipv6_fault, no_version}
+use Rattle.ep_ipslice.specs.IpSlice.{IsIpFault, NoBytes, OfIpv4, OfIpv6, ip_packet_at, ipv4_fault, ipv6_fault}
+use Rattle.ep_ipslice.specs.IpSlice.{no_version}
 use Rattle.ep_ipslice.specs.Ipv4Packet.{ipv4_packet_at}
-use Rattle.ep_ipslice.specs.Ipv6Fault.{IsFaultIn, IsIpv6Fault, IsRowFault, OfExtensions, OfHeader}
-use Rattle.ep_ipslice.specs.Ipv6Fault.{OfLength, not_whole, of_exts_fault}
+use Rattle.ep_ipslice.specs.Ipv6Fault.{IsFaultIn, IsIpv6Fault, IsRowFault, OfExtensions, OfHeader, OfLength, not_whole}
+use Rattle.ep_ipslice.specs.Ipv6Fault.{of_exts_fault}
 use Rattle.ep_ipslice.specs.Ipv6Packet.{body_of, ipv6_packet_at, number_after, rest_after}
 use Rattle.ep_ipslice.specs.Ipv6Walk.{pieces_within}
 use Rattle.ep_ipslice.specs.Packet.{IpPayload, Ipv4Packet, Ipv6Packet, body_len, body_source}
@@ -47,32 +46,28 @@ use Rattle.ep_link.specs.declared.link.link_slice.LinkSlice.TheVariants as link
 use Rattle.ep_link.specs.declared.link.link_header.LinkHeader.{LinkHeader}
 use Rattle.ep_link.specs.declared.link.link_slice.LinkSlice.{LinkSlice}
 use Rattle.ep_packet.specs.FrameFault as fault
-use Rattle.ep_packet.specs.FrameFault.{IsCookedFault, IsEtherTypeFault, IsEtherTypeHeadersFault}
-use Rattle.ep_packet.specs.FrameFault.{IsFaultAfter, IsFrameFault, IsFrameHeadersFault}
-use Rattle.ep_packet.specs.FrameFault.{IsHeaderLayersFault, IsIpPacketFault}
+use Rattle.ep_packet.specs.FrameFault.{IsCookedFault, IsEtherTypeFault, IsEtherTypeHeadersFault, IsFaultAfter}
+use Rattle.ep_packet.specs.FrameFault.{IsFrameFault, IsFrameHeadersFault, IsHeaderLayersFault, IsIpPacketFault}
 use Rattle.ep_packet.specs.FrameFault.{IsIpPacketHeadersFault, IsLayersFault}
 use Rattle.ep_packet.specs.HeaderLayers as headers
-use Rattle.ep_packet.specs.HeaderLayers.{HeaderLayers, in_packet, of_headers}
-use Rattle.ep_packet.specs.IpHeadersAt.{ip_headers_at, ipv4_headers_at, ipv6_headers_at}
-use Rattle.ep_packet.specs.IpHeadersAt.{ipv6_parts_after, ipv6_parts_unless, headers_in_slots}
+use Rattle.ep_packet.specs.HeaderLayers.{HeaderLayers}
+use Rattle.ep_packet.specs.IpHeadersAt.{ip_headers_at, ipv4_headers_at, ipv6_headers_at, ipv6_parts_after}
+use Rattle.ep_packet.specs.IpHeadersAt.{ipv6_parts_unless, headers_in_slots}
 use Rattle.ep_packet.specs.IpHeaders.{with_ipv4_headers}
 use Rattle.ep_packet.specs.IpHeadersAt as at
 use Rattle.ep_packet.specs.Payload as payload
 use Rattle.ep_packet.specs.IsTagged.{IsTagged}
-use Rattle.ep_packet.specs.Parts.{tags_len}
 use Rattle.ep_packet.specs.PacketHeaders as packet_headers
-use Rattle.ep_packet.specs.PacketHeaders.{Headers, ether_type_headers, ethernet_headers}
-use Rattle.ep_packet.specs.PacketHeaders.{headers_after, headers_tagged, headers_with}
-use Rattle.ep_packet.specs.PacketHeaders.{ip_packet_headers, layers_after, result_parsed}
+use Rattle.ep_packet.specs.PacketHeaders.{Headers, ether_type_headers, ethernet_headers, headers_after, headers_tagged}
+use Rattle.ep_packet.specs.PacketHeaders.{headers_with, ip_packet_headers, layers_after, result_parsed}
 use Rattle.ep_packet.specs.PacketView.{source_after}
 use Rattle.ep_packet.specs.ReadIpHeaders.{IsIpHeadersFault}
-use Rattle.ep_packet.specs.SliceFault.{later, of_ip, of_ipv4, of_ipv6, offset_by}
+use Rattle.ep_packet.specs.SliceFault.{later, of_ipv4, of_ipv6, offset_by}
 use Rattle.ep_packet.specs.Sliced as sliced
-use Rattle.ep_packet.specs.Sliced.{ether_payload, in_cooked, in_linux_sll, packet_after}
-use Rattle.ep_packet.specs.Sliced.{sliced_ether_type, sliced_ethernet, sliced_ip, sliced_linux_sll}
-use Rattle.ep_packet.specs.Sliced.{Layers, arp_layers, arp_type, in_ipv4, in_ipv6, ip_layers}
-use Rattle.ep_packet.specs.Sliced.{ipv4_layers, ipv4_type, ipv6_layers, ipv6_type, layers_in}
-use Rattle.ep_packet.specs.Sliced.{layers_of, packet_tagged, packet_with}
+use Rattle.ep_packet.specs.Sliced.{ether_payload, in_cooked, in_linux_sll, packet_after, sliced_ether_type}
+use Rattle.ep_packet.specs.Sliced.{sliced_ethernet, sliced_ip, sliced_linux_sll, Layers, arp_layers, arp_type}
+use Rattle.ep_packet.specs.Sliced.{ip_layers, ipv4_layers, ipv4_type, ipv6_layers, ipv6_type, layers_in, packet_tagged}
+use Rattle.ep_packet.specs.Sliced.{packet_with}
 use Rattle.ep_packet.specs.Tags.{Tagged, most_tags, tags_in}
 use Rattle.ep_packet.specs.declared.err.packet.slice_error.SliceError.{SliceError}
 use Rattle.ep_packet.specs.declared.err.packet.slice_error.SliceError.TheVariants.{Len}
@@ -83,7 +78,7 @@ use Rattle.ep_packet.specs.declared.packet_headers.PacketHeaders.{PacketHeaders}
 use Rattle.ep_packet.proofs.FaultLemmas.{moved_nothing}
 use Rattle.ep_packet.proofs.SlicedLemmas.{sll_whole}
 use Rattle.ep_packet.proofs.MessageFaults.{payload_faulty, payload_parts_faulty}
-use Rattle.ep_packet.proofs.TagFaults.{AreTagsToFault, tags_first}
+use Rattle.ep_packet.proofs.TagFaults.{tags_first}
 use Rattle.ep_packet.proofs.TaggedLaws.{MacsecIsRead, tags_found}
 use Rattle.ep_tag.specs.Ether.{EtherPayload}
 use Rattle.ep_tag.specs.declared.link.link_ext_slice.LinkExtSlice.{LinkExtSlice}
@@ -170,8 +165,7 @@ layers_by law false false false p e is4 is6 isa is = cc
 
 with_err : (header : Option LinkSlice) (tags : List LinkExtSlice) (r : Result Layers SliceError)
     (e : SliceError) → packet_with header tags r ≡ Err e → r ≡ Err e
-with_err header tags (Ok layers) e is = cc
-with_err header tags (Err x) e is = ap Err (err_same {A = SlicedPacket} _ _ is)
+with_err header tags r e is = grind arith
 
 last_faulty : FaultsAreFirst → (p : EtherPayload) (t : Tagged) (o : Option EtherPayload)
     (e f : SliceError) → tags_in most_tags p ≡ Ok t → t.last ≡ o → layers_in o ≡ Err f
@@ -249,8 +243,7 @@ ipv6_in_slots law bytes e is = after_header law bytes (header_at bytes) e refl i
 
 ipv4_found : (r : Result Ipv4Packet Ipv4Fault) (e : Ipv4Fault) → with_ipv4_headers r ≡ Err e
     → r ≡ Err e
-ipv4_found (Ok packet) e is = cc
-ipv4_found (Err x) e is = ap Err (err_same {A = Parts} _ _ is)
+ipv4_found r e is = grind arith
 
 ipv4_headers_part : (t : EtherType) (bytes : List ℕ) (r : Result Parts Ipv4Fault) (e : SliceError)
     → t.0 ≡ ipv4_type → ipv4_headers_at bytes ≡ r
@@ -299,8 +292,7 @@ header_layers_by law false false false p e is4 is6 isa is = cc
 headers_with_err : (link : Option LinkHeader) (tags : List LinkExtSlice)
     (r : Result HeaderLayers SliceError) (e : SliceError) → headers_with link tags r ≡ Err e
     → r ≡ Err e
-headers_with_err link tags (Ok layers) e is = cc
-headers_with_err link tags (Err x) e is = ap Err (err_same {A = Headers} _ _ is)
+headers_with_err link tags r e is = grind arith
 
 last_headers_faulty : FaultsAreFirst → (p : EtherPayload) (t : Tagged) (o : Option EtherPayload)
     (e f : SliceError) → tags_in most_tags p ≡ Ok t → t.last ≡ o → layers_after t.tags o ≡ Err f
@@ -344,8 +336,7 @@ v6_version law bytes (Err x) e version read is = (
 )
 
 some_bytes : (n : ℕ) → (n == 0) ≡ false → 0 < n
-some_bytes zero none = cc
-some_bytes (suc n) none = omega arith
+some_bytes n none = grind arith
 
 headers_by : FaultsAreFirst → (none four six : Bool) (bytes : List ℕ) (e : HeadersSliceError)
     → (length bytes == 0) ≡ none → (version_of bytes == 4) ≡ four → (version_of bytes == 6) ≡ six
@@ -360,14 +351,11 @@ headers_by law true four six bytes e size v4 v6 is = (
   NoBytes (eqb-true (length bytes) 0 size) refl,
   sym (err_same {A = Parts} _ _ is),
 )
-headers_by law false true six bytes e size v4 v6 is =
-    v4_version bytes (ipv4_headers_at bytes) e (eqb-true (version_of bytes) 4 v4) refl is
-headers_by law false false true bytes e size v4 v6 is =
-    v6_version law bytes (ipv6_headers_at bytes) e (eqb-true (version_of bytes) 6 v6) refl is
+headers_by law false true six bytes e size v4 v6 is = grind (arith, v4_version, eqb-true)
+headers_by law false false true bytes e size v4 v6 is = grind (arith, v6_version, eqb-true)
 headers_by law false false false bytes e size v4 v6 is = (
   ip_fault.IpHeaders (headers_error.Ip (UnsupportedIpVersion (version_of bytes))),
-  OtherVersion (some_bytes (length bytes) size) (eqb-false (version_of bytes) 4 v4)
-      (eqb-false (version_of bytes) 6 v6) refl,
+  grind arith,
   sym (err_same {A = Parts} _ _ is),
 )
 
@@ -391,9 +379,7 @@ ethernet_by : FaultsAreFirst → (frame : List ℕ) (short : Bool) (e : SliceErr
     → nat_lt (length frame) ethernet_len ≡ short
     → sliced.in_frame (if short then Err (too_few_bytes Ethernet2Header ethernet_len (length frame))
     else Ok frame) ≡ Err e → IsFrameFault frame e
-ethernet_by law frame true e size is =
-    fault.InHeader (ltb-true (length frame) ethernet_len size)
-    (sym (err_same {A = SlicedPacket} _ _ is))
+ethernet_by law frame true e size is = grind arith
 ethernet_by law frame false e size is =
     let p : EtherPayload = payload_of_frame frame in
     let header : LinkSlice = link.Ethernet2 frame in
@@ -410,9 +396,7 @@ ethernet_headers_by : FaultsAreFirst → (frame : List ℕ) (short : Bool) (e : 
     → packet_headers.in_frame (if short
     then Err (too_few_bytes Ethernet2Header ethernet_len (length frame)) else Ok frame) ≡ Err e
     → IsFrameHeadersFault frame e
-ethernet_headers_by law frame true e size is =
-    fault.InHeader (ltb-true (length frame) ethernet_len size)
-    (sym (err_same {A = Headers} _ _ is))
+ethernet_headers_by law frame true e size is = grind arith
 ethernet_headers_by law frame false e size is =
     let p : EtherPayload = payload_of_frame frame in
     let header : LinkHeader = link_header.Ethernet2 (ethernet_header_of frame) in
@@ -483,8 +467,7 @@ if_err P (Err e) s same each = each e (sym same)
 pub if_err_agrees : (P : SliceError → Type 0) (r : Result PacketHeaders SliceError)
     (s : Result Headers SliceError) → result_parsed r ≡ s
     → ((e : SliceError) → s ≡ Err e → P e) → IfErr r P
-if_err_agrees P (Ok h) s same each = tt
-if_err_agrees P (Err e) s same each = each e (sym same)
+if_err_agrees P r s same each = grind arith
 
 pub later_nothing : {A : Type 0} (r : Result A SliceError) → later 0 r ≡ r
 later_nothing (Ok x) = refl

@@ -1,8 +1,7 @@
 -- The headers of the IPv6 packet at the start of bytes are those that are there, and the fault is
 -- the first.
-use Rattle.std.proofs.Common.{◌≡◌, ◌∙◌, sym, ap, subst, refl, ℕ, ◌+◌, ◌-◌, true, false, List, []}
-use Rattle.std.proofs.Common.{◌∷◌, ◌++◌, length, take, drop, Result, Ok, Err, IfOk, IfErr}
-use Rattle.std.proofs.Common.{arith, append_assoc, length-append}
+use Rattle.std.proofs.Common.{◌≡◌, ◌∙◌, sym, ap, subst, refl, ℕ, ◌+◌, ◌-◌, true, false, List, [], ◌∷◌, ◌++◌, length}
+use Rattle.std.proofs.Common.{take, drop, Result, Ok, Err, IfOk, IfErr, arith, append_assoc, length-append}
 use Rattle.std.specs.Prelude.{nat_lt}
 use Rattle.std.proofs.lemmas.Bool.{lt-ltb, le-ltb}
 use Rattle.std.proofs.lemmas.List.{take_at, drop_at}
@@ -10,20 +9,17 @@ use Rattle.ep_base.specs.Bytes.{num}
 use Rattle.ep_base.specs.declared.len_source.LenSource.{LenSource}
 use Rattle.ep_ext.specs.Chain.{Chain, Row, fault_of}
 use Rattle.ep_ext.specs.Slot.{Order, slot_of}
-use Rattle.ep_ext.specs.Value.{Piece, bytes_of}
+use Rattle.ep_ext.specs.Value.{Piece}
 use Rattle.ep_ext.specs.declared.net.ipv6_ext_slot.Ipv6ExtSlot.{Ipv6ExtSlot}
 use Rattle.ep_ip.specs.Ipv6.{next_header_of}
-use Rattle.ep_ip.specs.Ipv6Fault.{header_at}
 use Rattle.ep_ip.proofs.Ipv6Prefix.{prefix_again}
-use Rattle.ep_ipslice.specs.Ipv6Fault.{IsFaultIn, OfHeader, OfLength, OfExtensions, not_whole}
+use Rattle.ep_ipslice.specs.Ipv6Fault.{IsFaultIn, not_whole}
 use Rattle.ep_ipslice.specs.Ipv6Packet.{body_of, number_after, rest_after}
 use Rattle.ep_ipslice.specs.Ipv6Walk.{pieces_within}
 use Rattle.ep_ipslice.specs.Packet.{IpPayload, IsIpv6Body, body_len}
 use Rattle.ep_ipslice.specs.declared.err.ipv6.slice_error.SliceError.{SliceError}
 use Rattle.ep_ipslice.specs.declared.err.ipv6.slice_error.SliceError.TheVariants.{Len}
-use Rattle.ep_packet.specs.IpHeaders.{is_fragmenting}
-use Rattle.ep_packet.specs.IpHeadersAt.{fault_after, ipv6_headers_at, ipv6_parts}
-use Rattle.ep_packet.specs.IpHeadersAt.{ipv6_parts_after, ipv6_parts_unless, ipv6_parts_with}
+use Rattle.ep_packet.specs.IpHeadersAt.{fault_after, ipv6_headers_at, ipv6_parts, ipv6_parts_unless, ipv6_parts_with}
 use Rattle.ep_packet.specs.IpHeadersAt.{headers_in_slots}
 use Rattle.ep_packet.specs.ReadIpHeaders.{IsIpv6Headers}
 use Rattle.ep_packet.specs.declared.net.ip_headers.IpHeaders.{IpHeaders}
@@ -55,15 +51,13 @@ row_in : RowsFound → (bytes header : List ℕ) (pieces : List Piece) (last : �
 row_in found bytes header pieces last rest chain = record {
   pieces_are = found slot_of (next_header_of header) (body_of bytes header) pieces last rest chain;
   number = number_is slot_of [] (next_header_of header) pieces last chain.row;
-  left = ap (drop (length (bytes_of pieces))) chain.cut
-      ∙ drop_at (bytes_of pieces) rest (length (bytes_of pieces)) refl;
+  left = grind (arith, drop_at);
 }
 
 fault_is : (bytes header : List ℕ) (pieces : List Piece) (last : ℕ) (rest : List ℕ)
     → RowIn bytes header pieces last rest
     → fault_after bytes header pieces ≡ fault_of slot_of pieces last rest
-fault_is bytes header pieces last rest row =
-    λ i. fault_of slot_of pieces (row.number i) (row.left i)
+fault_is bytes header pieces last rest row = grind arith
 
 whole_is : (bytes header : List ℕ) (pieces : List Piece)
     → nat_lt (length bytes - 40) (body_len header (length bytes - 40)) ≡ false →
@@ -81,7 +75,7 @@ body_is : (bytes header : List ℕ) (source : LenSource) (body : List ℕ)
     → IsIpv6Body bytes header source body → body_of bytes header ≡ body
 body_is bytes header source body is =
     let parts : bytes ≡ header ++ (body ++ is.padding) =
-    is.cut ∙ append_assoc header body is.padding in
+    grind (arith, append_assoc) in
     ap (λ (xs : List ℕ). take (body_len header (length bytes - 40)) (drop 40 xs)) parts
     ∙ ap (take (body_len header (length bytes - 40)))
     (drop_at header (body ++ is.padding) 40 is.whole.whole)
@@ -92,15 +86,7 @@ parts_same : (bytes : List ℕ) (headers : IpHeaders) (payload : IpPayload)
     (is : IsIpv6Headers bytes headers payload)
     → RowIn bytes is.header is.pieces is.last payload.payload →
     ipv6_parts bytes is.header is.pieces ≡ (headers, payload)
-parts_same bytes headers payload is row =
-    let returned : (ipv6_parts bytes is.header is.pieces).1 ≡ payload =
-    (λ i. record {
-      ip_number = record { 0 = row.number i };
-      fragmented = is_fragmenting (sym is.value i);
-      len_source = sym is.begins.bounded i;
-      payload = row.left i;
-    }) ∙ sym is.returned in
-    λ i. (sym is.value i, returned i)
+parts_same bytes headers payload is row = grind arith
 
 -- bytes that start with headers
 pub parts_are : RowsFound → (bytes : List ℕ) (headers : IpHeaders) (payload : IpPayload)
@@ -108,50 +94,21 @@ pub parts_are : RowsFound → (bytes : List ℕ) (headers : IpHeaders) (payload 
 parts_are found bytes headers payload is =
     let header = is.header in
     let parts : bytes ≡ header ++ (is.body ++ is.begins.padding) =
-    is.begins.cut ∙ append_assoc header is.body is.begins.padding in
+    grind (arith, append_assoc) in
     let chain = subst (λ (xs : List ℕ). Chain slot_of
     (next_header_of header) xs is.pieces is.last payload.payload)
     (sym (body_is bytes header is.source is.body is.begins)) is.chain in
     let row = row_in found bytes header is.pieces is.last payload.payload chain in
     let all : length bytes ≡ 40 + (length is.body + length is.begins.padding) =
-    omega (
-      arith,
-      ap length parts,
-      length-append header
-          (is.body ++ is.begins.padding),
-      length-append is.body
-          is.begins.padding,
-      is.begins.whole.whole,
-    ) in
+    grind (arith, length-append) in
     let whole : nat_lt (length bytes - 40) (body_len header (length bytes - 40)) ≡ false =
-    le-ltb (length bytes - 40) (body_len header (length bytes - 40))
-    (omega (arith, all, is.begins.size)) in
-    ap (ipv6_parts_after bytes)
-    (ap header_at parts ∙ prefix_again header (is.body ++ is.begins.padding) is.begins.whole)
-    ∙ ap (ipv6_parts_with bytes header) row.pieces_are
-    ∙ whole_is bytes header is.pieces whole
-    ∙ ap (ipv6_parts_unless bytes header is.pieces)
-    (fault_is bytes header is.pieces is.last payload.payload row ∙ is.ended)
-    ∙ ap Ok (parts_same bytes headers payload is row)
+    grind arith in
+    grind (arith, prefix_again, whole_is, fault_is, parts_same)
 
 -- bytes that start with none
 pub fault_agrees : RowsFound → (bytes : List ℕ) (e : SliceError) → IsFaultIn slot_of bytes e
     → ipv6_headers_at bytes ≡ Err e
-fault_agrees found bytes e (OfHeader fault is error) =
-    ap (ipv6_parts_after bytes) is ∙ ap Err (sym error)
-fault_agrees found bytes e (OfLength header is short) =
-    ap (ipv6_parts_after bytes) is
-    ∙ short_is bytes header (headers_in_slots (next_header_of header) (body_of bytes header))
-    (lt-ltb (length bytes - 40) (body_len header (length bytes - 40)) short.size)
-    ∙ ap Err (sym short.error)
-fault_agrees found bytes e (OfExtensions header is row) =
-    let parts = row_in found bytes header row.pieces row.last row.rest row.chain in
-    ap (ipv6_parts_after bytes) is ∙ ap (ipv6_parts_with bytes header) parts.pieces_are
-    ∙ whole_is bytes header row.pieces
-    (le-ltb (length bytes - 40) (body_len header (length bytes - 40)) row.size)
-    ∙ ap (ipv6_parts_unless bytes header row.pieces)
-    (fault_is bytes header row.pieces row.last row.rest parts ∙ row.found)
-    ∙ ap Err (sym row.error)
+fault_agrees found bytes e h = grind (arith, short_is, lt-ltb, row_in, whole_is, le-ltb, fault_is)
 
 -- a call that reports every fault returns what is there
 pub found_exactly : RowsFound → (bytes : List ℕ) (r : Result Parts SliceError)

@@ -1,12 +1,11 @@
 -- The headers of the network and the transport layer and the payload after them agree with their
 -- slices.
-use Rattle.std.proofs.Common.{◌≡◌, ◌∙◌, ℕ, ◌+◌, ◌-◌, ◌==◌, ◌||◌, Bool, true, false, cond}
-use Rattle.std.proofs.Common.{if◌then◌else◌, List, [], ◌++◌, length, Option, Some, None, Result, Ok}
-use Rattle.std.proofs.Common.{Err, refl, sym, ap, subst, append_assoc, length-append, arith}
+use Rattle.std.proofs.Common.{◌≡◌, ◌∙◌, ℕ, ◌+◌, ◌-◌, ◌==◌, ◌||◌, Bool, true, false, cond, [], if◌then◌else◌, List, ◌++◌}
+use Rattle.std.proofs.Common.{length, Option, Some, None, Result, Ok, Err, refl, sym, ap, append_assoc, length-append}
+use Rattle.std.proofs.Common.{arith}
 use Rattle.std.proofs.lemmas.List.{append-nil}
 use Rattle.std.specs.Option.{option_map, option_map_or}
-use Rattle.ep_base.specs.declared.err.len_error.LenError.{LenError}
-use Rattle.ep_base.proofs.Prefixes.{err_ok, ok_same}
+use Rattle.ep_base.proofs.Prefixes.{err_ok}
 use Rattle.ep_ext.specs.Chain.{Chain, IsPiece, Row, fault_of}
 use Rattle.ep_ext.specs.Follow.{has_slot}
 use Rattle.ep_ext.specs.Fragment.{fragments}
@@ -14,20 +13,17 @@ use Rattle.ep_ext.specs.Ipv4Exts.{auth_bytes, ipv4_exts_of}
 use Rattle.ep_ext.specs.Slot.{Order, slot_of}
 use Rattle.ep_ext.specs.Value.{Piece, bytes_of, slots, value_of}
 use Rattle.ep_ext.specs.declared.net.ipv6_ext_slot.Ipv6ExtSlot.{Ipv6ExtSlot}
-use Rattle.ep_ext.specs.declared.net.ipv6_ext_slot.Ipv6ExtSlot.TheVariants.{HopByHop, Destination}
-use Rattle.ep_ext.specs.declared.net.ipv6_ext_slot.Ipv6ExtSlot.TheVariants.{Routing, Fragment}
-use Rattle.ep_ext.specs.declared.net.ipv6_ext_slot.Ipv6ExtSlot.TheVariants.{Authentication}
-use Rattle.ep_ext.specs.declared.net.ipv6_ext_slot.Ipv6ExtSlot.TheVariants.{FinalDestination}
+use Rattle.ep_ext.specs.declared.net.ipv6_ext_slot.Ipv6ExtSlot.TheVariants.{HopByHop, Destination, Routing, Fragment}
+use Rattle.ep_ext.specs.declared.net.ipv6_ext_slot.Ipv6ExtSlot.TheVariants.{Authentication, FinalDestination}
 use Rattle.ep_ip.specs.Ipv4 as v4
 use Rattle.ep_ip.specs.Ipv6 as v6
-use Rattle.ep_ipslice.specs.IpSlice.{ip_packet_at, ipv4_fault, ipv6_fault, no_version, with_ipv4}
-use Rattle.ep_ipslice.specs.IpSlice.{with_ipv6}
+use Rattle.ep_ipslice.specs.IpSlice.{ip_packet_at, no_version, with_ipv4, with_ipv6}
 use Rattle.ep_ipslice.specs.Ipv4Packet.{ipv4_packet_at}
-use Rattle.ep_ipslice.specs.Ipv6Exts.{Ipv6Exts, is_any_fragmenting, view_order}
-use Rattle.ep_ipslice.specs.Ipv6Packet.{ipv6_packet_at, number_after}
+use Rattle.ep_ipslice.specs.Ipv6Exts.{is_any_fragmenting}
+use Rattle.ep_ipslice.specs.Ipv6Packet.{ipv6_packet_at}
 use Rattle.ep_ipslice.specs.Ipv6Walk.{pieces_within}
-use Rattle.ep_ipslice.specs.Packet.{IpPayload, Ipv4Packet, Ipv6Packet, IsIpv6Body, IsIpv6Packet}
-use Rattle.ep_ipslice.specs.Packet.{body_source, ipv4_payload}
+use Rattle.ep_ipslice.specs.Packet.{IpPayload, Ipv4Packet, Ipv6Packet, IsIpv6Body, IsIpv6Packet, body_source}
+use Rattle.ep_ipslice.specs.Packet.{ipv4_payload}
 use Rattle.ep_ipslice.specs.declared.err.ip.header_error.HeaderError.TheVariants.{UnsupportedIpVersion}
 use Rattle.ep_ipslice.specs.declared.err.ip.headers_error.HeadersError.TheVariants as headers_error
 use Rattle.ep_ipslice.specs.declared.err.ip.headers_slice_error.HeadersSliceError.TheVariants as slice_error
@@ -45,9 +41,9 @@ use Rattle.ep_packet.specs.NetSlice.{ip_payload_in}
 use Rattle.ep_packet.specs.PacketView.{ip_payload_of}
 use Rattle.ep_packet.specs.Payload.{Payload, Ether, Ip}
 use Rattle.ep_packet.specs.ReadIpHeaders.{IsIpv6Headers}
-use Rattle.ep_packet.specs.SameHeaders.{AreFieldsOf, AreNetFields, IsInSlots, IsWholeIn}
-use Rattle.ep_packet.specs.SameHeaders.{after_layers, after_packet, transport_fields}
-use Rattle.ep_packet.specs.SliceFault.{offset_by, of_ip as of_ip_fault, of_ipv4, of_ipv6}
+use Rattle.ep_packet.specs.SameHeaders.{AreFieldsOf, AreNetFields, IsInSlots, IsWholeIn, after_layers, after_packet}
+use Rattle.ep_packet.specs.SameHeaders.{transport_fields}
+use Rattle.ep_packet.specs.SliceFault.{of_ipv4, of_ipv6}
 use Rattle.ep_packet.specs.Sliced as slices
 use Rattle.ep_packet.specs.Sliced.{Layers, no_layers, transport_in, with_transport}
 use Rattle.ep_packet.specs.declared.err.packet.slice_error.SliceError.{SliceError}
@@ -106,17 +102,11 @@ rows_same found order first p q last end row other same =
 no_slot : (a b c d e : Bool) (h r g u o : Option Ipv6ExtSlot)
     → (a || (b || (c || (d || (e || false))))) ≡ false →
     (cond a h (cond b r (cond c g (cond d u (cond e o None)))) ≡ None) × (a ≡ false)
-no_slot true b c d e h r g u o is = cc
-no_slot false true c d e h r g u o is = cc
-no_slot false false true d e h r g u o is = cc
-no_slot false false false true e h r g u o is = cc
-no_slot false false false false true h r g u o is = cc
-no_slot false false false false false h r g u o is = (refl, refl)
+no_slot a b c d e h r g u o is = grind arith
 
 no_slot_taken : (passed : List Ipv6ExtSlot) (last : ℕ) → has_slot last ≡ false
     → (slot_of passed last ≡ None) × ((last == 0) ≡ false)
-no_slot_taken passed last is = no_slot (last == 0) (last == 43) (last == 44) (last == 51)
-    (last == 60) _ _ _ _ _ is
+no_slot_taken passed last is = grind arith
 
 none_named : (position : Ipv6ExtSlot) (o : Option Ipv6ExtSlot) → o ≡ None → o ≡ Some position → ⊥
 none_named position o none is = cc
@@ -136,53 +126,21 @@ headers_in_slots laws bytes packet h is placed =
     let first : ℕ = v6.next_header_of packet.header in
     let q = laws.views first placed.pieces placed.last placed.row in
     let same : bytes_of placed.pieces ≡ bytes_of is.pieces =
-    placed.all ∙ ap (λ (e : Ipv6Exts). e.slice) is.exts in
+    grind arith in
     let seen : q.0 ≡ is.pieces =
-    rows_same laws.found view_order first q.0 is.pieces placed.last is.last q.1 is.row
-    (q.2 ∙ same) in
+    grind (arith, rows_same) in
     let last_same : placed.last ≡ is.last =
-    sym (number_is view_order [] first q.0 placed.last q.1) ∙ ap (number_after first) seen
-    ∙ number_is view_order [] first is.pieces is.last is.row in
+    grind (arith, number_is) in
     let none = no_slot_taken (slots placed.pieces) placed.last (ap has_slot last_same ∙ is.ended) in
     let parted : is_any_fragmenting is.pieces
     ≡ option_map_or fragments (value_of placed.pieces).fragment false =
-    ap is_any_fragmenting (sym seen) ∙ q.3 in
+    grind arith in
     let payload : List ℕ = packet.payload.payload in
     let body : List ℕ = bytes_of placed.pieces ++ payload in
     let source = body_source packet.header (length bytes - 40) in
-    let begins : IsIpv6Body bytes packet.header source body = record {
-      padding = is.padding;
-      cut = is.cut ∙ ap (λ (xs : List ℕ). packet.header ++ xs ++ payload ++ is.padding) (sym same)
-          ∙ ap (λ (xs : List ℕ). xs ++ is.padding)
-          (append_assoc packet.header (bytes_of placed.pieces) payload);
-      whole = is.header;
-      size = length-append (bytes_of placed.pieces) payload
-          ∙ ap (λ (xs : List ℕ). length xs + length payload) same ∙ is.size;
-      bounded = refl;
-    } in
-    record {
-      header = packet.header;
-      source = source;
-      body = body;
-      pieces = placed.pieces;
-      last = placed.last;
-      begins = begins;
-      chain = record {
-        row = placed.row;
-        cut = refl;
-        ended = λ position header following named piece found. none_named position
-            (slot_of (slots placed.pieces) placed.last) none.0 named;
-      };
-      ended = no_fault placed.pieces placed.last payload none.0 none.1;
-      value = refl;
-      returned = is.fields
-          ∙ (λ i. record {
-            ip_number = record { 0 = sym last_same i };
-            fragmented = parted i;
-            len_source = source;
-            payload = payload;
-          });
-    }
+    let begins : IsIpv6Body bytes packet.header source body =
+    grind (arith, append_assoc, length-append) in
+    grind arith
 
 -- the layers of headers that belong to these layers of slices; without an IP packet, this is the
 -- payload
@@ -199,18 +157,13 @@ layers_are : (packet : NetSlice) (n : ℕ) (r : Result (Option TransportSlice) S
     (layers : Layers) → with_transport packet n r ≡ Ok layers →
     (o : Option TransportSlice) × (r ≡ Ok o)
     × (record { net = Some packet; transport = o } ≡ layers)
-layers_are packet n (Ok o) layers is =
-    (o, refl, ok_same {E = SliceError} (record { net = Some packet; transport = o }) layers is)
-layers_are packet n (Err e) layers is = absurd (err_ok (offset_by n e) layers is)
+layers_are packet n r layers is = grind arith
 
 joined : (packet : NetSlice) (position : ℕ) (h : IpHeaders) (p : IpPayload) (below : Payload)
     (o : Option TransportSlice) → after_packet packet ≡ Ip p →
     with_message (of_ip h) position p (Ok (option_map parts_of o))
     ≡ Ok (returned below (Some (of_ip h)) (record { net = Some packet; transport = o }))
-joined packet position h p below None following =
-    ap (λ (x : Payload). Ok (record { net = Some (of_ip h); transport = None; payload = x }))
-    (sym following)
-joined packet position h p below (Some m) following = refl
+joined packet position h p below o following = grind arith
 
 packet_same : (packet : NetSlice) (n found : ℕ) (h : IpHeaders) (p : IpPayload) (below : Payload)
     (headers : Option NetHeaders) (layers : Layers) →
@@ -233,8 +186,7 @@ fields_in : (packet : NetSlice) (n : ℕ) (r : Result (Option TransportSlice) Sl
     (headers : Option NetHeaders) (layers : Layers) → with_transport packet n r ≡ Ok layers
     → AreNetFields layers.net headers →
     (fields : NetHeaders) × (headers ≡ Some fields) × AreFieldsOf packet fields
-fields_in packet n r headers layers is are =
-    subst (λ (l : Layers). AreNetFields l.net headers) (sym (layers_are packet n r layers is).2) are
+fields_in packet n r headers layers is are = grind arith
 
 -- of version 4
 ipv4_same : (found : ℕ) (below : Payload) (headers : Option NetHeaders) (layers : Layers)
@@ -268,30 +220,7 @@ ipv6_same laws found below headers layers bytes (Ok packet) at is are whole =
     (headers_in_slots laws bytes packet fields.0 (laws.begins bytes packet at) placed))
     ∙ packet_same (net.Ipv6 packet) n found h packet.payload below headers layers refl refl is
     (fields.1 ∙ ap Some placed.fields) whole
-ipv6_same laws found below headers layers bytes (Err e) at is are whole =
-    absurd (err_ok (of_ipv6 e) layers is)
-
-arp_same : (below : Payload) (headers : Option NetHeaders) (layers : Layers)
-    (r : Result (List ℕ) LenError) → slices.arp_layers r ≡ Ok layers
-    → AreNetFields layers.net headers →
-    values.arp_layers r ≡ Ok (returned below headers layers)
-arp_same below headers layers (Ok packet) is are =
-    let same : record { net = Some (net.Arp packet); transport = None } ≡ layers =
-    ok_same {E = SliceError}
-    (record { net = Some (net.Arp packet); transport = None }) layers is in
-    let fields = subst (λ (l : Layers). AreNetFields l.net headers) (sym same) are in
-    λ i. Ok (returned below (sym (fields.1 ∙ ap Some fields.2) i) (same i))
-arp_same below headers layers (Err e) is are = absurd (err_ok (Len e) layers is)
-
-none_same : (q : EtherPayload) (headers : Option NetHeaders) (layers : Layers)
-    → ◌≡◌ {A = Result Layers SliceError} (Ok no_layers) (Ok layers)
-    → AreNetFields layers.net headers →
-    ◌≡◌ {A = Result HeaderLayers SliceError} (Ok (payload_alone (Ether q)))
-    (Ok (returned (Ether q) headers layers))
-none_same q headers layers is are =
-    let same : no_layers ≡ layers = ok_same {E = SliceError} no_layers layers is in
-    let none : headers ≡ None = subst (λ (l : Layers). AreNetFields l.net headers) (sym same) are in
-    λ i. Ok (returned (Ether q) (sym none i) (same i))
+ipv6_same laws found below headers layers bytes (Err e) at is are whole = grind arith
 
 layer_cases : PacketLaws → (a b c : Bool) (bytes : List ℕ) (q : EtherPayload)
     (headers : Option NetHeaders) (layers : Layers) →
@@ -303,15 +232,12 @@ layer_cases : PacketLaws → (a b c : Bool) (bytes : List ℕ) (q : EtherPayload
     else (if b then values.ipv6_layers (length bytes) (ipv6_headers_at bytes)
     else (if c then values.arp_layers (arp.packet_at bytes) else Ok (payload_alone (Ether q)))))
     ≡ Ok (returned (Ether q) headers layers)
-layer_cases laws true b c bytes q headers layers is are whole =
-    ipv4_same (length bytes) (Ether q) headers layers (ipv4_packet_at bytes) is are whole
+layer_cases laws true b c bytes q headers layers is are whole = grind (arith, ipv4_same)
 layer_cases laws false true c bytes q headers layers is are whole =
     ipv6_same laws (length bytes) (Ether q) headers layers bytes
     (ipv6_packet_at bytes) refl is are whole
-layer_cases laws false false true bytes q headers layers is are whole =
-    arp_same (Ether q) headers layers (arp.packet_at bytes) is are
-layer_cases laws false false false bytes q headers layers is are whole =
-    none_same q headers layers is are
+layer_cases laws false false true bytes q headers layers is are whole = grind arith
+layer_cases laws false false false bytes q headers layers is are whole = grind arith
 
 -- the layers in what an ether type names
 pub layers_same : PacketLaws → (p q : EtherPayload) (headers : Option NetHeaders) (layers : Layers)
@@ -329,23 +255,19 @@ layers_same laws p q headers layers typed same is are whole =
 -- an IP packet of either version
 ip4_agrees : (layers : Layers) (r : Result Ipv4Packet Ipv4Fault)
     → slices.ip_layers (with_ipv4 r) ≡ Ok layers → slices.ipv4_layers r ≡ Ok layers
-ip4_agrees layers (Ok packet) is = is
-ip4_agrees layers (Err e) is = absurd (err_ok (of_ip_fault (ipv4_fault e)) layers is)
+ip4_agrees layers r is = grind arith
 
 ip6_agrees : (layers : Layers) (r : Result Ipv6Packet Ipv6Fault)
     → slices.ip_layers (with_ipv6 r) ≡ Ok layers → slices.ipv6_layers r ≡ Ok layers
-ip6_agrees layers (Ok packet) is = is
-ip6_agrees layers (Err e) is = absurd (err_ok (of_ip_fault (ipv6_fault e)) layers is)
+ip6_agrees layers r is = grind arith
 
 of_ip4 : (found : ℕ) (x : HeaderLayers) (r : Result (IpHeaders × IpPayload) Ipv4Fault)
     → values.ipv4_layers found r ≡ Ok x → values.ip_layers found (at.of_ipv4 r) ≡ Ok x
-of_ip4 found x (Ok parts) is = is
-of_ip4 found x (Err e) is = absurd (err_ok (of_ipv4 e) x is)
+of_ip4 found x r is = grind arith
 
 of_ip6 : (found : ℕ) (x : HeaderLayers) (r : Result (IpHeaders × IpPayload) Ipv6Fault)
     → values.ipv6_layers found r ≡ Ok x → values.ip_layers found (at.of_ipv6 r) ≡ Ok x
-of_ip6 found x (Ok parts) is = is
-of_ip6 found x (Err e) is = absurd (err_ok (of_ipv6 e) x is)
+of_ip6 found x r is = grind arith
 
 ip_cases : PacketLaws → (a b c : Bool) (bytes : List ℕ) (below : Payload)
     (headers : Option NetHeaders) (layers : Layers) →

@@ -1,9 +1,8 @@
 -- The header of a message and the payload after it agree with its slice.
-use Rattle.std.proofs.Common.{◌≡◌, ◌∙◌, ◌⊎◌, ⊎_elim, ℕ, zero, suc, ◌+◌, ◌*◌, ◌<◌, ◌==◌, ◌&&◌, not, Bool}
-use Rattle.std.proofs.Common.{true, false, if◌then◌else◌, List, length, take, drop, get_or, Option, Some}
-use Rattle.std.proofs.Common.{None, Result, Ok, Err, refl, sym, ap, subst, arith}
+use Rattle.std.proofs.lemmas.Bool.Decides.{nat_tests}
+use Rattle.std.proofs.Common.{◌≡◌, ◌∙◌, ◌⊎◌, ℕ, ◌<◌, ◌==◌, ◌&&◌, not, Bool, true, false, if◌then◌else◌, List, length}
+use Rattle.std.proofs.Common.{take, get_or, Option, Some, None, Result, Ok, Err, sym, ap, subst, arith}
 use Rattle.std.specs.Option.{option_map}
-use Rattle.std.specs.Prelude.{nat_lt}
 use Rattle.std.proofs.lemmas.List.{get_or-take, take_all}
 use Rattle.ep_base.specs.declared.err.len_error.LenError.{LenError}
 use Rattle.ep_base.specs.declared.len_source.LenSource.{LenSource}
@@ -11,8 +10,8 @@ use Rattle.ep_base.proofs.Prefixes.{err_ok, ok_same}
 use Rattle.ep_icmp.specs.Icmpv4Fault as icmpv4_fault
 use Rattle.ep_icmp.specs.Icmpv6Fault as icmpv6_fault
 use Rattle.ep_ipslice.specs.Packet.{IpPayload}
-use Rattle.ep_packet.specs.HeaderLayers.{MessageParts, icmpv4_parts, icmpv6_parts, message_in}
-use Rattle.ep_packet.specs.HeaderLayers.{message_parts, tcp_parts, udp_parts}
+use Rattle.ep_packet.specs.HeaderLayers.{MessageParts, icmpv4_parts, icmpv6_parts, message_in, message_parts, tcp_parts}
+use Rattle.ep_packet.specs.HeaderLayers.{udp_parts}
 use Rattle.ep_packet.specs.Payload.{Payload}
 use Rattle.ep_packet.specs.Payload as payload
 use Rattle.ep_packet.specs.Readable.{ReadMessage, message_at, read_as, tcp_fault}
@@ -30,7 +29,6 @@ use Rattle.ep_packet.specs.declared.transport.transport_slice.TransportSlice.The
 use Rattle.ep_tcpudp.specs.TcpFault.{segment_at}
 use Rattle.ep_tcpudp.specs.Udp.{udp_header_of, length_of}
 use Rattle.ep_tcpudp.specs.UdpFault.{header_at, udp_at}
-use Rattle.ep_tcpudp.specs.declared.transport.udp_header.UdpHeader.{UdpHeader}
 
 -- the header and the payload of a message's slice
 abbrev pub parts_of : TransportSlice → TransportHeader × Payload
@@ -45,25 +43,10 @@ byte_is bytes i lt = get_or-take 8 bytes i 0 lt
 
 -- the fields of a datagram's header are those of its first 8 bytes
 fields_are : (bytes : List ℕ) → udp_header_of (take 8 bytes) ≡ udp_header_of bytes
-fields_are bytes =
-    let a = byte_is bytes 0 (omega arith) in
-    let b = byte_is bytes 1 (omega arith) in
-    let c = byte_is bytes 2 (omega arith) in
-    let d = byte_is bytes 3 (omega arith) in
-    let e = byte_is bytes 4 (omega arith) in
-    let f = byte_is bytes 5 (omega arith) in
-    let g = byte_is bytes 6 (omega arith) in
-    let h = byte_is bytes 7 (omega arith) in
-    λ i. record {
-      source_port = 256 * a i + b i;
-      destination_port = 256 * c i + d i;
-      length = 256 * e i + f i;
-      checksum = 256 * g i + h i;
-    }
+fields_are bytes = grind arith
 
 not_zero : (n : ℕ) → n ≡ 0 → (n == 0) ≡ false → ⊥
-not_zero zero is other = cc
-not_zero (suc n) is other = cc
+not_zero n is other = grind arith
 
 -- what is read of a datagram that counts all
 udp_cases : (short beyond nothing small : Bool) (e f g : LenError) (bytes m : List ℕ) →
@@ -72,27 +55,12 @@ udp_cases : (short beyond nothing small : Bool) (e f g : LenError) (bytes m : Li
     if not nothing && small then Err g else
     Ok (if nothing then bytes else take (length_of bytes) bytes)))) ≡ Ok m → Counts bytes → (length_of bytes == 0) ≡ nothing
     → (short ≡ false) × (m ≡ bytes)
-udp_cases true beyond nothing small e f g bytes m is counts zero_is = cc
-udp_cases false true nothing small e f g bytes m is counts zero_is = cc
-udp_cases false false true small e f g bytes m is counts zero_is =
-    (refl, sym (ok_same {E = LenError} bytes m is))
-udp_cases false false false true e f g bytes m is counts zero_is = cc
-udp_cases false false false false e f g bytes m is counts zero_is = (
-  refl,
-  sym (ok_same {E = LenError} (take (length_of bytes) bytes) m is)
-      ∙ ⊎_elim (λ none. absurd (not_zero (length_of bytes) none zero_is))
-      (λ all. ap (λ (n : ℕ). take n bytes) all
-      ∙ take_all (length bytes) bytes (omega arith)) counts,
-)
+udp_cases short beyond nothing small e f g bytes m is counts zero_is =
+    grind (arith, ok_same, not_zero, take_all)
 
 udp_same : (bytes m : List ℕ) → udp_at bytes ≡ Ok m → Counts bytes
     → udp_parts bytes (header_at bytes) ≡ Ok (Some (parts_of (slice.Udp m)))
-udp_same bytes m is counts =
-    let found = udp_cases (nat_lt (length bytes) 8) (nat_lt (length bytes) (length_of bytes))
-    (length_of bytes == 0) (nat_lt (length_of bytes) 8) _ _ _ bytes m is counts refl in
-    rw found.0 (ap (λ (h : UdpHeader). Ok (Some (transport.Udp h, payload.Udp (drop 8 bytes))))
-    (fields_are bytes) ∙ ap (λ (xs : List ℕ). Ok (Some (parts_of (slice.Udp xs))))
-    (sym found.1))
+udp_same bytes m is counts = grind (arith, nat_tests, udp_cases, fields_are)
 
 -- what a protocol's reader returns for its message
 read_alike : {E : Type 0} (message : List ℕ → ReadMessage) (fault : E → SliceError)
@@ -112,11 +80,7 @@ CountsAll bytes o = (datagram : List ℕ) → o ≡ Some (slice.Udp datagram) �
 datagram_same : (bytes : List ℕ) (r : Result (List ℕ) LenError) (m : ReadMessage) → udp_at bytes ≡ r
     → read_as (λ x. Udp x) (λ e. Len e) r ≡ Ok m → CountsAll bytes (transport_of m) →
     udp_parts bytes (header_at bytes) ≡ Ok (option_map parts_of (transport_of m))
-datagram_same bytes (Ok x) m found is counts =
-    let returned : Udp x ≡ m = ok_same {E = SliceError} (Udp x) m is in
-    udp_same bytes x found (counts x (sym (ap transport_of returned)))
-    ∙ ap (λ (w : ReadMessage). Ok (option_map parts_of (transport_of w))) returned
-datagram_same bytes (Err e) m found is counts = absurd (err_ok (Len e) m is)
+datagram_same bytes r m found is counts = grind (arith, ok_same, udp_same, err_ok)
 
 message_cases : (a b c d : Bool) (bytes : List ℕ) (m : ReadMessage) →
     (if a then read_as (λ x. Icmpv4 x) (λ e. Len e) (icmpv4_fault.message_at bytes)
@@ -129,19 +93,11 @@ message_cases : (a b c d : Bool) (bytes : List ℕ) (m : ReadMessage) →
     else (if c then udp_parts bytes (header_at bytes)
     else (if d then icmpv6_parts (icmpv6_fault.message_at bytes) else Ok None))))
     ≡ Ok (option_map parts_of (transport_of m))
-message_cases true b c d bytes m is counts =
-    read_alike (λ x. Icmpv4 x) (λ e. Len e) icmpv4_parts (λ x. refl)
-    (icmpv4_fault.message_at bytes) m is
-message_cases false true c d bytes m is counts =
-    read_alike (λ x. Tcp x) tcp_fault tcp_parts (λ x. refl) (segment_at bytes) m is
-message_cases false false true d bytes m is counts =
-    datagram_same bytes (udp_at bytes) m refl is counts
-message_cases false false false true bytes m is counts =
-    read_alike (λ x. Icmpv6 x) (λ e. Len e) icmpv6_parts (λ x. refl)
-    (icmpv6_fault.message_at bytes) m is
-message_cases false false false false bytes m is counts =
-    ap (λ (w : ReadMessage). Ok (option_map parts_of (transport_of w)))
-    (ok_same {E = SliceError} (Raw bytes) m is)
+message_cases true b c d bytes m is counts = grind arith
+message_cases false true c d bytes m is counts = grind arith
+message_cases false false true d bytes m is counts = grind (arith, datagram_same)
+message_cases false false false true bytes m is counts = grind arith
+message_cases false false false false bytes m is counts = grind arith
 
 message_same : (n : ℕ) (bytes : List ℕ) (m : ReadMessage) → message_at n bytes ≡ Ok m
     → CountsAll bytes (transport_of m)
@@ -155,19 +111,15 @@ read_same : (outer : LenSource) (n : ℕ) (bytes : List ℕ) (r : Result ReadMes
     message_parts n bytes ≡ Ok (option_map parts_of o)
 read_same outer n bytes (Ok m) o found is counts =
     let returned : transport_of m ≡ o = ok_same {E = SliceError} (transport_of m) o is in
-    message_same n bytes m found (subst (CountsAll bytes) (sym returned) counts)
-    ∙ ap (λ (w : Option TransportSlice). Ok (option_map parts_of w)) returned
+    cc (message_same n bytes m found (subst (CountsAll bytes) (sym returned) counts), returned)
 read_same outer n bytes (Err e) o found is counts = absurd (err_ok (within outer e) o is)
 
 fragmented_cases : (fragment : Bool) (outer : LenSource) (n : ℕ) (bytes : List ℕ) (o : Option TransportSlice)
     → (if fragment then Ok None else result_within outer (read_transport (message_at n bytes))) ≡ Ok o
     → CountsAll bytes o →
     (if fragment then Ok None else message_parts n bytes) ≡ Ok (option_map parts_of o)
-fragmented_cases true outer n bytes o is counts =
-    ap (λ (w : Option TransportSlice). Ok (option_map parts_of w))
-    (ok_same {E = SliceError} None o is)
-fragmented_cases false outer n bytes o is counts =
-    read_same outer n bytes (message_at n bytes) o refl is counts
+fragmented_cases true outer n bytes o is counts = grind arith
+fragmented_cases false outer n bytes o is counts = grind (arith, nat_tests, read_same)
 
 -- header and payload of the message in an IP payload are those of its slice
 pub parts_in : (p : IpPayload) (o : Option TransportSlice) → transport_in p ≡ Ok o

@@ -1,8 +1,6 @@
 -- The headers of a packet, as values, agree with its slices.
-use Rattle.std.proofs.Common.{◌≡◌, ◌∙◌, ℕ, List, [], map, Option, Some, None, Result, Ok, Err, refl}
-use Rattle.std.proofs.Common.{sym, ap, subst}
+use Rattle.std.proofs.Common.{arith, ◌≡◌, ℕ, List, Option, Some, None, Result, Ok, Err, refl, sym, ap, subst, []}
 use Rattle.std.specs.Option.{option_map}
-use Rattle.ep_base.specs.declared.err.layer.Layer.TheVariants.{Ethernet2Header}
 use Rattle.ep_base.specs.declared.err.len_error.LenError.{LenError}
 use Rattle.ep_base.specs.declared.link.ether_type.EtherType.{EtherType}
 use Rattle.ep_base.proofs.Prefixes.{err_ok, ok_same}
@@ -10,29 +8,22 @@ use Rattle.ep_ipslice.specs.IpSlice.{ip_packet_at}
 use Rattle.ep_link.specs.Ethernet.{ethernet_len, payload_of}
 use Rattle.ep_link.specs.declared.link.link_slice.LinkSlice.{LinkSlice}
 use Rattle.ep_link.specs.declared.link.link_slice.LinkSlice.TheVariants as link
-use Rattle.ep_packet.specs.HeaderLayers.{HeaderLayers}
 use Rattle.ep_packet.specs.PacketHeaders as values
-use Rattle.ep_packet.specs.PacketHeaders.{Headers, ether_type_headers, ethernet_headers, headers_of}
-use Rattle.ep_packet.specs.PacketHeaders.{headers_tagged, headers_with, ip_packet_headers}
-use Rattle.ep_packet.specs.PacketHeaders.{layers_after, modified_after}
-use Rattle.ep_packet.specs.PacketView.{ether_payload_in, ip_payload_of, last_of, link_payload}
-use Rattle.ep_packet.specs.PacketView.{source_after}
+use Rattle.ep_packet.specs.PacketHeaders.{Headers, ether_type_headers, ethernet_headers, headers_of, headers_tagged}
+use Rattle.ep_packet.specs.PacketHeaders.{headers_with, ip_packet_headers, layers_after}
+use Rattle.ep_packet.specs.PacketView.{ether_payload_in, ip_payload_of, link_payload, source_after}
 use Rattle.ep_packet.specs.Payload.{Payload, Empty}
-use Rattle.ep_packet.specs.SameHeaders.{AreHeadersOf, AreNetFields, IsWholeIn, after_layers}
-use Rattle.ep_packet.specs.SameHeaders.{after_tags, link_fields, transport_fields}
+use Rattle.ep_packet.specs.SameHeaders.{AreHeadersOf, AreNetFields, IsWholeIn, after_tags, link_fields}
 use Rattle.ep_packet.specs.SliceFault.{later, offset_by}
 use Rattle.ep_packet.specs.Sliced as slices
-use Rattle.ep_packet.specs.Sliced.{Layers, ether_payload, layers_in, no_layers, packet_of}
-use Rattle.ep_packet.specs.Sliced.{packet_tagged, packet_with, sliced_ether_type, sliced_ethernet}
-use Rattle.ep_packet.specs.Sliced.{sliced_ip}
+use Rattle.ep_packet.specs.Sliced.{Layers, layers_in, packet_of, packet_tagged, packet_with, sliced_ether_type}
+use Rattle.ep_packet.specs.Sliced.{sliced_ethernet, sliced_ip}
 use Rattle.ep_packet.specs.Tags.{Tagged, most_tags, tags_in}
 use Rattle.ep_packet.specs.declared.err.packet.slice_error.SliceError.{SliceError}
 use Rattle.ep_packet.specs.declared.err.packet.slice_error.SliceError.TheVariants.{Len}
 use Rattle.ep_packet.specs.declared.net.net_headers.NetHeaders.{NetHeaders}
 use Rattle.ep_packet.specs.declared.sliced_packet.SlicedPacket.{SlicedPacket}
 use Rattle.ep_tag.specs.Ether.{EtherPayload}
-use Rattle.ep_tag.specs.Prefix.{whole_at}
-use Rattle.ep_tag.specs.LinkExt.{fields_of}
 use Rattle.ep_tag.specs.declared.link.link_ext_slice.LinkExtSlice.{LinkExtSlice}
 use Rattle.ep_packet.proofs.HeadersOfLayers.{PacketLaws, ip_same, layers_same, returned}
 use Rattle.ep_packet.proofs.HeadersOfTags.{last_is}
@@ -47,10 +38,7 @@ after_same : PacketLaws → (tags : List LinkExtSlice) (last : Option EtherPaylo
     IsWholeIn (ip_payload_of layers.net) layers.transport
     → layers_after tags last
     ≡ Ok (returned (after_tags tags (option_map (bounded_after tags) last)) headers layers)
-after_same laws tags None headers layers is are whole =
-    let same : no_layers ≡ layers = ok_same {E = SliceError} no_layers layers is in
-    let none : headers ≡ None = subst (λ (l : Layers). AreNetFields l.net headers) (sym same) are in
-    λ i. Ok (returned (modified_after (last_of tags)) (sym none i) (same i))
+after_same laws tags None headers layers is are whole = grind arith
 after_same laws tags (Some p) headers layers is are whole =
     layers_same laws p (bounded_after tags p) headers layers refl refl is are whole
 
@@ -59,27 +47,7 @@ gathered : (link : Option LinkSlice) (tags : List LinkExtSlice) (layers : Layers
     (packet : SlicedPacket) (h : Headers) (below : Payload) → packet_of link tags layers ≡ packet →
     after_tags tags (ether_payload_in packet) ≡ below → AreHeadersOf packet h
     → headers_of (link_fields link) tags (returned below h.net layers) ≡ h
-gathered link tags layers packet h below same payload are =
-    let linked : link_fields link ≡ h.link =
-    ap (λ (p : SlicedPacket). link_fields p.link) same ∙ sym are.link in
-    let tagged : map fields_of tags ≡ h.link_exts =
-    ap (λ (p : SlicedPacket). map fields_of p.link_exts.items) same ∙ sym are.link_exts in
-    let message : option_map transport_fields layers.transport ≡ h.transport =
-    ap (λ (p : SlicedPacket). option_map transport_fields p.transport) same
-    ∙ sym are.transport in
-    let tags_are : after_tags packet.link_exts.items (ether_payload_in packet) ≡ below =
-    ap (λ (p : SlicedPacket). after_tags p.link_exts.items (ether_payload_in packet))
-    (sym same) ∙ payload in
-    let following : after_layers layers.net layers.transport below ≡ h.payload =
-    ap (λ (p : SlicedPacket). after_layers p.net p.transport below) same
-    ∙ ap (after_layers packet.net packet.transport) (sym tags_are) ∙ sym are.payload in
-    λ i. record {
-      link = linked i;
-      link_exts = tagged i;
-      net = h.net;
-      transport = message i;
-      payload = following i;
-    }
+gathered link tags layers packet h below same payload are = grind arith
 
 layers_gathered : PacketLaws
     → (link : Option LinkSlice) (p : EtherPayload) (g : Tagged) (r : Result Layers SliceError)
@@ -92,36 +60,28 @@ layers_gathered laws link p g (Ok layers) packet h linked read at is are =
     ok_same {E = SliceError} (packet_of link g.tags layers) packet is in
     let below : Payload = after_tags g.tags (option_map (bounded_after g.tags) g.last) in
     let named : after_tags g.tags (ether_payload_in packet) ≡ below =
-    ap (λ (x : SlicedPacket). after_tags g.tags (ether_payload_in x)) (sym same)
-    ∙ ap (λ (o : Option EtherPayload). after_tags g.tags
-    (option_map (bounded_after g.tags) o)) (last_is most_tags link p g linked read) in
+    grind (arith, last_is) in
     let fields : AreNetFields layers.net h.net =
-    subst (λ (x : SlicedPacket). AreNetFields x.net h.net) (sym same) are.net in
+    grind arith in
     let whole : IsWholeIn (ip_payload_of layers.net) layers.transport =
     subst (λ (x : SlicedPacket). IsWholeIn (ip_payload_of x.net) x.transport)
     (sym same) are.datagram in
-    ap (λ (x : Result HeaderLayers SliceError). headers_with (link_fields link) g.tags
-    (later g.len x)) (after_same laws g.tags g.last h.net layers at fields whole)
-    ∙ ap Ok (gathered link g.tags layers packet h below same named are)
-layers_gathered laws link p g (Err e) packet h linked read at is are =
-    absurd (err_ok (offset_by g.len e) packet is)
+    grind (arith, after_same, gathered)
+layers_gathered laws link p g (Err e) packet h linked read at is are = grind arith
 
 tags_gathered : PacketLaws → (link : Option LinkSlice) (p : EtherPayload)
     (r : Result Tagged SliceError) (packet : SlicedPacket) (h : Headers)
     → link_payload link ≡ Some p → tags_in most_tags p ≡ r →
     packet_tagged link r ≡ Ok packet → AreHeadersOf packet h
     → headers_tagged (link_fields link) r ≡ Ok h
-tags_gathered laws link p (Ok g) packet h linked read is are =
-    layers_gathered laws link p g (layers_in g.last) packet h linked read refl is are
-tags_gathered laws link p (Err e) packet h linked read is are = absurd (err_ok e packet is)
+tags_gathered laws link p r packet h linked read is are = grind (arith, layers_gathered, err_ok)
 
 -- after a link header
 after_link : PacketLaws → (link : LinkSlice) (p : EtherPayload) (packet : SlicedPacket)
     (h : Headers) → link_payload (Some link) ≡ Some p → slices.packet_after link p ≡ Ok packet
     → AreHeadersOf packet h →
     values.headers_after (link_fields (Some link)) p ≡ Ok h
-after_link laws link p packet h linked is are =
-    tags_gathered laws (Some link) p (tags_in most_tags p) packet h linked refl is are
+after_link laws link p packet h linked is are = grind (arith, tags_gathered)
 
 earlier : {A : Type 0} (n : ℕ) (r : Result A SliceError) (x : A) → later n r ≡ Ok x → r ≡ Ok x
 earlier n (Ok y) x is = is
@@ -139,17 +99,14 @@ frame_same laws (Err e) packet h is are = absurd (err_ok (Len e) packet is)
 -- in an Ethernet II frame
 pub ethernet_same : PacketLaws → (bytes : List ℕ) (packet : SlicedPacket) (h : Headers)
     → sliced_ethernet bytes ≡ Ok packet → AreHeadersOf packet h → ethernet_headers bytes ≡ Ok h
-ethernet_same laws bytes packet h is are =
-    frame_same laws (whole_at Ethernet2Header ethernet_len bytes) packet h is are
+ethernet_same laws bytes packet h is are = grind (arith, frame_same)
 
 -- after an ether type
 pub ether_type_same : PacketLaws
     → (t : EtherType) (bytes : List ℕ) (packet : SlicedPacket) (h : Headers)
     → sliced_ether_type t bytes ≡ Ok packet → AreHeadersOf packet h
     → ether_type_headers t bytes ≡ Ok h
-ether_type_same laws t bytes packet h is are =
-    after_link laws (link.EtherPayload (ether_payload t bytes))
-    (ether_payload t bytes) packet h refl is are
+ether_type_same laws t bytes packet h is are = grind (arith, after_link)
 
 ip_gathered : PacketLaws → (bytes : List ℕ) (r : Result Layers SliceError) (packet : SlicedPacket)
     (h : Headers) → slices.ip_layers (ip_packet_at bytes) ≡ r → packet_with None [] r ≡ Ok packet
@@ -159,18 +116,16 @@ ip_gathered laws bytes (Ok layers) packet h at is are =
     let same : packet_of None [] layers ≡ packet =
     ok_same {E = SliceError} (packet_of None [] layers) packet is in
     let named : after_tags [] (ether_payload_in packet) ≡ Empty =
-    ap (λ (x : SlicedPacket). after_tags [] (ether_payload_in x)) (sym same) in
+    cc same in
     let fields : AreNetFields layers.net h.net =
-    subst (λ (x : SlicedPacket). AreNetFields x.net h.net) (sym same) are.net in
+    grind arith in
     let whole : IsWholeIn (ip_payload_of layers.net) layers.transport =
     subst (λ (x : SlicedPacket). IsWholeIn (ip_payload_of x.net) x.transport)
     (sym same) are.datagram in
-    ap (headers_with None []) (ip_same laws bytes Empty h.net layers at fields whole)
-    ∙ ap Ok (gathered None [] layers packet h Empty same named are)
+    grind (arith, ip_same, gathered)
 ip_gathered laws bytes (Err e) packet h at is are = absurd (err_ok e packet is)
 
 -- in an IP packet
 pub ip_packet_same : PacketLaws → (bytes : List ℕ) (packet : SlicedPacket) (h : Headers)
     → sliced_ip bytes ≡ Ok packet → AreHeadersOf packet h → ip_packet_headers bytes ≡ Ok h
-ip_packet_same laws bytes packet h is are =
-    ip_gathered laws bytes (slices.ip_layers (ip_packet_at bytes)) packet h refl is are
+ip_packet_same laws bytes packet h is are = grind (arith, ip_gathered)

@@ -1,13 +1,12 @@
 -- What the last of the tags names.
-use Rattle.std.proofs.Common.{◌≡◌, ◌∙◌, ℕ, zero, suc, ◌+◌, ◌-◌, List, [], ◌∷◌, length, Option, Some}
-use Rattle.std.proofs.Common.{None, Result, Ok, Err, refl, sym, ap, subst, arith}
+use Rattle.std.proofs.Common.{◌≡◌, ℕ, zero, suc, ◌+◌, ◌-◌, List, ◌∷◌, length, Option, Some, [], Result, Ok, Err, refl}
+use Rattle.std.proofs.Common.{subst, arith}
 use Rattle.std.specs.List.{slice_get}
 use Rattle.ep_base.proofs.Prefixes.{err_ok, ok_same}
 use Rattle.ep_link.specs.declared.link.link_slice.LinkSlice.{LinkSlice}
-use Rattle.ep_packet.specs.PacketView.{last_payload, link_payload, named_by}
+use Rattle.ep_packet.specs.PacketView.{last_payload, link_payload}
 use Rattle.ep_packet.specs.SliceFault.{offset_by}
-use Rattle.ep_packet.specs.Tags.{Tagged, with_tag, from_tag, read_further, tag_at, tags_in}
-use Rattle.ep_packet.specs.Tags.{without_tags}
+use Rattle.ep_packet.specs.Tags.{Tagged, with_tag, from_tag, read_further, tag_at, tags_in, without_tags}
 use Rattle.ep_packet.specs.declared.err.packet.slice_error.SliceError.{SliceError}
 use Rattle.ep_tag.specs.Ether.{EtherPayload}
 use Rattle.ep_tag.specs.LinkExt.{payload_after, tag_len}
@@ -30,8 +29,7 @@ IsLast p (t ∷ ts) last = last ≡ payload_after (last_or t ts)
 last_more : (t : LinkExtSlice) (q : EtherPayload) (ts : List LinkExtSlice)
     (last : Option EtherPayload) → payload_after t ≡ Some q → IsLast q ts last
     → last ≡ payload_after (last_or t ts)
-last_more t q [] last named is = is ∙ sym named
-last_more t q (u ∷ ts) last named is = is
+last_more t q ts last named is = grind arith
 
 abbrev Reads : (EtherPayload → Result Tagged SliceError) → Type 0
 Reads read = (p : EtherPayload) (g : Tagged) → read p ≡ Ok g → IsLast p g.tags g.last
@@ -50,20 +48,12 @@ last_after t p q (Err e) g named read is = absurd (err_ok (offset_by (tag_len t)
 last_further : (read : EtherPayload → Result Tagged SliceError) → Reads read
     → (t : LinkExtSlice) (p : EtherPayload) (o : Option EtherPayload) (g : Tagged)
     → payload_after t ≡ o → with_tag t (read_further read o) ≡ Ok g → IsLast p g.tags g.last
-last_further read reads t p None g named is =
-    subst (λ (h : Tagged). IsLast p h.tags h.last)
-    (ok_same {E = SliceError} (record { tags = t ∷ []; len = tag_len t + 0; last = None }) g is)
-    (sym named)
-last_further read reads t p (Some q) g named is = last_after t p q (read q) g named (reads q) is
+last_further read reads t p o g named is = grind (arith, ok_same, last_after)
 
 last_from : (read : EtherPayload → Result Tagged SliceError) → Reads read
     → (p : EtherPayload) (r : Result (Option LinkExtSlice) SliceError) (g : Tagged)
     → from_tag read p r ≡ Ok g → IsLast p g.tags g.last
-last_from read reads p (Err e) g is = absurd (err_ok e g is)
-last_from read reads p (Ok None) g is =
-    subst (λ (h : Tagged). IsLast p h.tags h.last)
-    (ok_same {E = SliceError} (without_tags (Some p)) g is) refl
-last_from read reads p (Ok (Some t)) g is = last_further read reads t p (payload_after t) g refl is
+last_from read reads p r g is = grind (arith, err_ok, ok_same, last_further)
 
 read_last : (n : ℕ) → Reads (tags_in n)
 unfolding tags_in
@@ -77,10 +67,7 @@ one_less n = omega arith
 last_agrees : (header : Option LinkSlice) (p : EtherPayload) (tags : List LinkExtSlice)
     (last : Option EtherPayload) → link_payload header ≡ Some p → IsLast p tags last
     → last_payload header tags ≡ last
-last_agrees header p [] last linked is = linked ∙ sym is
-last_agrees header p (t ∷ ts) last linked is =
-    ap (λ (n : ℕ). named_by header (slice_get (t ∷ ts) n)) (one_less (length ts))
-    ∙ ap (named_by header) (get_last t ts) ∙ sym is
+last_agrees header p tags last linked is = grind (arith, one_less, get_last)
 
 -- what was read last is what the tags and the link header name last
 pub last_is : (n : ℕ) (header : Option LinkSlice) (p : EtherPayload) (g : Tagged)

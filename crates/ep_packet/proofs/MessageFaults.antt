@@ -1,6 +1,5 @@
 -- The fault at which a message, or the header of one, is refused.
-use Rattle.std.proofs.Common.{◌≡◌, ◌∙◌, ℕ, ◌==◌, Bool, true, false, List, Option, Some, None}
-use Rattle.std.proofs.Common.{Result, Ok, Err, refl, sym, ap}
+use Rattle.std.proofs.Common.{arith, ◌≡◌, ℕ, ◌==◌, Bool, true, false, List, Option, None, Result, Ok, Err, refl, sym}
 use Rattle.std.specs.Prelude.{if◌then◌else◌}
 use Rattle.std.proofs.lemmas.Bool.{eqb-true}
 use Rattle.ep_base.proofs.Prefixes.{err_same}
@@ -10,17 +9,13 @@ use Rattle.ep_base.specs.declared.len_source.LenSource.{LenSource}
 use Rattle.ep_icmp.specs.Icmpv4Fault as icmpv4_fault
 use Rattle.ep_icmp.specs.Icmpv6Fault as icmpv6_fault
 use Rattle.ep_ipslice.specs.Packet.{IpPayload}
-use Rattle.ep_packet.specs.FrameFault.{IsMessageFault, IsPayloadFault, OfIcmpv4, OfIcmpv6, OfTcp}
-use Rattle.ep_packet.specs.FrameFault.{OfUdp}
-use Rattle.ep_packet.specs.HeaderLayers.{HeaderLayers, MessageParts, icmpv4_parts, icmpv6_parts}
-use Rattle.ep_packet.specs.HeaderLayers.{message_in, message_parts, tcp_parts, udp_parts}
-use Rattle.ep_packet.specs.HeaderLayers.{with_message}
-use Rattle.ep_packet.specs.Readable.{ReadMessage, icmpv4, icmpv6, message_at, read_as, tcp}
-use Rattle.ep_packet.specs.Readable.{tcp_fault, udp}
+use Rattle.ep_packet.specs.FrameFault.{IsMessageFault, IsPayloadFault, OfIcmpv4, OfIcmpv6, OfTcp, OfUdp}
+use Rattle.ep_packet.specs.HeaderLayers.{MessageParts, icmpv4_parts, icmpv6_parts, message_in, message_parts, tcp_parts}
+use Rattle.ep_packet.specs.HeaderLayers.{udp_parts, with_message}
+use Rattle.ep_packet.specs.Readable.{ReadMessage, icmpv4, icmpv6, message_at, read_as, tcp, tcp_fault, udp}
 use Rattle.ep_packet.specs.Readable as readable
 use Rattle.ep_packet.specs.SliceFault.{offset_by, within}
-use Rattle.ep_packet.specs.Sliced.{Layers, read_transport, result_within, transport_in}
-use Rattle.ep_packet.specs.Sliced.{with_transport}
+use Rattle.ep_packet.specs.Sliced.{read_transport, result_within, transport_in, with_transport}
 use Rattle.ep_packet.specs.declared.err.packet.slice_error.SliceError.{SliceError}
 use Rattle.ep_packet.specs.declared.err.packet.slice_error.SliceError.TheVariants.{Len}
 use Rattle.ep_packet.specs.declared.net.net_headers.NetHeaders.{NetHeaders}
@@ -66,9 +61,7 @@ message_faulty n bytes e is =
 read_transport_faulty : (source : LenSource) (r : Result ReadMessage SliceError) (e : SliceError)
     → result_within source (read_transport r) ≡ Err e
     → (x : SliceError) × (r ≡ Err x) × (e ≡ within source x)
-read_transport_faulty source (Ok message) e is = cc
-read_transport_faulty source (Err x) e is =
-    (x, refl, sym (err_same {A = Option TransportSlice} _ _ is))
+read_transport_faulty source r e is = grind arith
 
 transport_by : (cut : Bool) (p : IpPayload) (n : ℕ) (e f : SliceError) → p.fragmented ≡ cut
     → (if cut then Ok None else result_within p.len_source
@@ -81,14 +74,13 @@ transport_by false p n e f cut is error =
       fault = x.0;
       uncut = cut;
       message = message_faulty p.ip_number.0 p.payload x.0 x.1;
-      error = error ∙ ap (offset_by n) x.2;
+      error = grind arith;
     }
 
 with_faulty : (packet : NetSlice) (n : ℕ) (r : Result (Option TransportSlice) SliceError)
     (e : SliceError) → with_transport packet n r ≡ Err e
     → (f : SliceError) × (r ≡ Err f) × (e ≡ offset_by n f)
-with_faulty packet n (Ok message) e is = cc
-with_faulty packet n (Err f) e is = (f, refl, sym (err_same {A = Layers} _ _ is))
+with_faulty packet n r e is = grind arith
 
 -- of a view
 pub payload_faulty : (packet : NetSlice) (n : ℕ) (p : IpPayload) (e : SliceError)
@@ -99,23 +91,19 @@ payload_faulty packet n p e is =
 
 icmpv4_parts_faulty : (r : Result (List ℕ) LenError) (e : SliceError) → icmpv4_parts r ≡ Err e
     → (x : LenError) × (r ≡ Err x) × (e ≡ Len x)
-icmpv4_parts_faulty (Ok m) e is = cc
-icmpv4_parts_faulty (Err x) e is = (x, refl, sym (err_same {A = MessageParts} _ _ is))
+icmpv4_parts_faulty r e is = grind arith
 
 tcp_parts_faulty : (r : Result (List ℕ) (HeaderSliceError HeaderError)) (e : SliceError)
     → tcp_parts r ≡ Err e → (x : HeaderSliceError HeaderError) × (r ≡ Err x) × (e ≡ tcp_fault x)
-tcp_parts_faulty (Ok m) e is = cc
-tcp_parts_faulty (Err x) e is = (x, refl, sym (err_same {A = MessageParts} _ _ is))
+tcp_parts_faulty r e is = grind arith
 
 udp_parts_faulty : (bytes : List ℕ) (r : Result (List ℕ) LenError) (e : SliceError)
     → udp_parts bytes r ≡ Err e → (x : LenError) × (r ≡ Err x) × (e ≡ Len x)
-udp_parts_faulty bytes (Ok m) e is = cc
-udp_parts_faulty bytes (Err x) e is = (x, refl, sym (err_same {A = MessageParts} _ _ is))
+udp_parts_faulty bytes r e is = grind arith
 
 icmpv6_parts_faulty : (r : Result (List ℕ) LenError) (e : SliceError) → icmpv6_parts r ≡ Err e
     → (x : LenError) × (r ≡ Err x) × (e ≡ Len x)
-icmpv6_parts_faulty (Ok m) e is = cc
-icmpv6_parts_faulty (Err x) e is = (x, refl, sym (err_same {A = MessageParts} _ _ is))
+icmpv6_parts_faulty r e is = grind arith
 
 parts_by : (v4 seg dgram v6 : Bool) (n : ℕ) (bytes : List ℕ) (e : SliceError)
     → (n == icmpv4) ≡ v4 → (n == tcp) ≡ seg → (n == udp) ≡ dgram → (n == icmpv6) ≡ v6
@@ -150,9 +138,7 @@ parts_in_by false p f cut is = (
 with_message_faulty : (headers : NetHeaders) (n : ℕ) (p : IpPayload)
     (r : Result MessageParts SliceError) (e : SliceError) → with_message headers n p r ≡ Err e
     → (f : SliceError) × (r ≡ Err f) × (e ≡ offset_by n (within p.len_source f))
-with_message_faulty headers n p (Ok None) e is = cc
-with_message_faulty headers n p (Ok (Some m)) e is = cc
-with_message_faulty headers n p (Err f) e is = (f, refl, sym (err_same {A = HeaderLayers} _ _ is))
+with_message_faulty headers n p r e is = grind arith
 
 -- of headers as values
 pub payload_parts_faulty : (headers : NetHeaders) (n : ℕ) (p : IpPayload) (e : SliceError)

@@ -1,26 +1,21 @@
 -- The offsets of the parts of a frame.
-use Rattle.std.proofs.Common.{◌≡◌, ℕ, ◌+◌, ◌*◌, ◌≤◌, ◌==◌, ◌&&◌, not, Bool, true, false, cond, List}
-use Rattle.std.proofs.Common.{[], ◌∷◌, ◌++◌, length, take, drop, Option, Some, None, Result, Ok}
-use Rattle.std.proofs.Common.{Err, IfSome, arith, refl, sym, ap, subst, ◌∙◌, append_assoc}
-use Rattle.std.proofs.Common.{length-append}
+use Rattle.std.proofs.Common.{◌≡◌, ℕ, ◌+◌, ◌*◌, ◌≤◌, ◌==◌, ◌&&◌, not, Bool, true, false, cond, List, [], ◌∷◌, ◌++◌}
+use Rattle.std.proofs.Common.{length, take, drop, Option, Some, None, Result, Ok, Err, IfSome, arith, refl, sym, ap}
+use Rattle.std.proofs.Common.{subst, ◌∙◌, append_assoc, length-append}
 use Rattle.std.specs.Prelude.{MatchResult, nat_lt}
-use Rattle.std.proofs.lemmas.Bool.{ltb-false}
 use Rattle.std.proofs.lemmas.List.{take-append-drop, append-nil, length-take-le}
 use Rattle.ep_base.specs.declared.err.layer.Layer.{Layer}
 use Rattle.ep_base.specs.declared.err.len_error.LenError.{LenError}
 use Rattle.ep_base.specs.declared.len_source.LenSource.{LenSource}
-use Rattle.ep_base.proofs.Prefixes.{guard_ok, ok_same}
 use Rattle.ep_ext.specs.Ipv4Exts.{auth_bytes}
 use Rattle.ep_ext.specs.Value.{bytes_of}
 use Rattle.ep_icmp.specs.Icmpv4.{is_timestamp_reply, is_timestamp_request}
 use Rattle.ep_icmp.specs.Icmpv4Fault as icmpv4_fault
 use Rattle.ep_icmp.specs.Icmpv6Fault as icmpv6_fault
-use Rattle.ep_ipslice.specs.Ipv6Exts.{Ipv6Exts}
 use Rattle.ep_ipslice.specs.Packet.{Ipv4Packet, Ipv6Packet, IsIpv4Packet, IsIpv6Packet}
-use Rattle.ep_packet.specs.Parts.{AreTagsAt, IsAt, IsTagAt, LayersIn, StandAt, TagIn, TagsIn}
-use Rattle.ep_packet.specs.Parts.{macsec_bytes, tags_len, transport_bytes}
-use Rattle.ep_packet.specs.Readable.{ReadMessage, icmpv4, icmpv6, message_at, read_as, tcp}
-use Rattle.ep_packet.specs.Readable.{tcp_fault, udp}
+use Rattle.ep_packet.specs.Parts.{AreTagsAt, IsAt, IsTagAt, LayersIn, StandAt, TagIn, TagsIn, macsec_bytes, tags_len}
+use Rattle.ep_packet.specs.Parts.{transport_bytes}
+use Rattle.ep_packet.specs.Readable.{ReadMessage, icmpv4, icmpv6, message_at, read_as, tcp, tcp_fault, udp}
 use Rattle.ep_packet.specs.Readable.ReadMessage.{Icmpv4, Icmpv6, Tcp, Udp}
 use Rattle.ep_packet.specs.SliceFault.{fault_offset, within}
 use Rattle.ep_packet.specs.Sliced.{read_transport, transport_of}
@@ -31,9 +26,7 @@ use Rattle.ep_packet.specs.declared.transport.transport_slice.TransportSlice.{Tr
 use Rattle.ep_tag.specs.Ether.{EtherPayload}
 use Rattle.ep_tag.specs.Prefix.{whole_at}
 use Rattle.ep_tag.specs.LinkExt.{payload_after, tag_len}
-use Rattle.ep_tag.specs.Macsec.{is_unmodified}
-use Rattle.ep_tag.specs.MacsecPayload.{IsMacsec, Macsec, MacsecPayload, Unmodified, Modified}
-use Rattle.ep_tag.specs.MacsecPayload.{named_payload, payload_under}
+use Rattle.ep_tag.specs.MacsecPayload.{IsMacsec, Macsec, MacsecPayload, Unmodified, Modified, named_payload}
 use Rattle.ep_tag.specs.Vlan.{vlan_len}
 use Rattle.ep_tag.specs.declared.link.link_ext_slice.LinkExtSlice.{LinkExtSlice}
 use Rattle.ep_tag.specs.declared.link.link_ext_slice.LinkExtSlice.TheVariants as tag
@@ -49,8 +42,7 @@ at_in bytes part sub p q outer inner = record {
   before = outer.before ++ inner.before;
   after = inner.after ++ outer.after;
   here = omega (arith, length-append outer.before inner.before, outer.here, inner.here);
-  parts = outer.parts ∙ ap (λ (xs : List ℕ). outer.before ++ xs ++ outer.after) inner.parts
-      ∙ simp append_assoc;
+  parts = grind (arith, append_assoc);
 }
 
 at_whole : (bytes : List ℕ) → IsAt bytes 0 bytes
@@ -71,30 +63,21 @@ at_drop n bytes fits =
       before = take n bytes;
       after = [];
       here = length-take-le n bytes fits;
-      parts = sym (append-nil (take n bytes ++ drop n bytes) ∙ take-append-drop n bytes);
+      parts = grind (arith, append-nil, take-append-drop);
     }
 
 pub at_fits : (bytes part : List ℕ) (p : ℕ) → IsAt bytes p part → p + length part ≤ length bytes
-at_fits bytes part p at =
-    omega (
-      arith,
-      ap length at.parts,
-      length-append
-          (at.before ++ part) at.after,
-      length-append at.before part,
-      at.here,
-    )
+at_fits bytes part p at = grind (arith, length-append)
 
 at_prefix : (bytes part sub : List ℕ) (p : ℕ) → IsAt bytes p part
     → IsAt part 0 sub → IsAt bytes p sub
 at_prefix bytes part sub p outer inner = let sum : p + 0 ≡ p = omega arith in
-    subst (λ (n : ℕ). IsAt bytes n sub) sum (at_in bytes part sub p 0 outer inner)
+    grind (arith, at_in)
 
 -- a part after so many of the bytes
 at_parts : (bytes before part after : List ℕ) (position : ℕ) → length before ≡ position
     → bytes ≡ before ++ part ++ after → IsAt bytes position part
-at_parts bytes before part after position here parts =
-    record { before = before; after = after; here = here; parts = parts }
+at_parts bytes before part after position here parts = grind arith
 
 -- the same offset, as another sum
 pub at_same_position : (bytes part : List ℕ) (p q : ℕ) → p ≡ q → IsAt bytes p part → IsAt bytes q part
@@ -107,9 +90,7 @@ chosen P false x y left right = right
 -- all bytes are taken, of which there are enough
 pub whole_is : (layer : Layer) (n : ℕ) (bytes taken : List ℕ) → Ok taken ≡ whole_at layer n bytes
     → (taken ≡ bytes) × (n ≤ length bytes)
-whole_is layer n bytes taken same =
-    let enough = guard_ok _ _ _ _ (sym same) in
-    (sym (ok_same {E = LenError} bytes taken enough.1), ltb-false (length bytes) n enough.0)
+whole_is layer n bytes taken same = grind arith
 
 -- a VLAN tag
 pub vlan_in : (layer : Layer) (bytes vlan : List ℕ) → Ok vlan ≡ whole_at layer vlan_len bytes
@@ -118,11 +99,6 @@ vlan_in layer bytes vlan same =
     let whole = whole_is layer vlan_len bytes vlan same in
     subst (λ (xs : List ℕ). TagIn bytes (tag.Vlan xs)) (sym whole.0)
     (record { tag = at_whole bytes; next = at_drop vlan_len bytes whole.1 })
-
--- a MACsec header and its payload
-under_bytes : (header payload : List ℕ) → macsec_bytes (payload_under header payload) ≡ payload
-under_bytes header payload = chosen (λ (p : MacsecPayload). macsec_bytes p ≡ payload)
-    (is_unmodified header) _ _ refl refl
 
 named_in : (bytes header : List ℕ) (p : MacsecPayload) → IsAt bytes (length header) (macsec_bytes p)
     → IfSome (named_payload p) (λ next. IsAt bytes (length header) next.payload)
@@ -133,15 +109,12 @@ pub macsec_in : (bytes : List ℕ) (macsec : Macsec) → IsMacsec bytes macsec
     → TagIn bytes (tag.Macsec macsec)
 macsec_in bytes macsec is =
     let inside : IsAt bytes (length macsec.header) (macsec_bytes macsec.payload) =
-    subst (IsAt bytes (length macsec.header))
-    (sym (ap macsec_bytes is.kind ∙ under_bytes macsec.header is.payload))
-    (at_parts bytes macsec.header is.payload is.beyond (length macsec.header) refl is.parts) in
+    grind arith in
     record {
       tag = (
         at_parts bytes [] macsec.header (is.payload ++ is.beyond) 0 refl
             (is.parts ∙ append_assoc macsec.header is.payload is.beyond),
-        at_same_position bytes (macsec_bytes macsec.payload) (length macsec.header)
-            (0 + length macsec.header) (omega arith) inside,
+        grind arith,
       );
       next = named_in bytes macsec.header macsec.payload inside;
     }
@@ -153,10 +126,8 @@ stand_in bytes header exts payload padding parts = (
   at_parts bytes [] header (exts ++ payload ++ padding) 0 refl
       (parts ∙ ap (λ (xs : List ℕ). xs ++ padding) (append_assoc header exts payload)
       ∙ append_assoc header (exts ++ payload) padding),
-  at_parts bytes header exts (payload ++ padding) (0 + length header) (omega arith)
-      (parts ∙ append_assoc (header ++ exts) payload padding),
-  at_parts bytes (header ++ exts) payload padding (0 + length header + length exts)
-      (omega (arith, length-append header exts)) parts,
+  grind (arith, at_parts, append_assoc),
+  grind (arith, at_parts, length-append),
 )
 
 -- the message in the payload of a packet
@@ -186,7 +157,7 @@ pub layers_in_ipv6 : (bytes : List ℕ) (packet : Ipv6Packet) (o : Option Transp
 layers_in_ipv6 bytes packet o is at =
     let payload = packet.payload.payload in
     let same : bytes_of is.pieces ≡ packet.exts.slice =
-    sym (ap (λ (e : Ipv6Exts). e.slice) is.exts) in
+    cc is.exts in
     let stands = stand_in bytes packet.header packet.exts.slice payload is.padding
     (is.cut ∙ ap (λ (xs : List ℕ). packet.header ++ xs ++ payload ++ is.padding) same) in
     record {
@@ -259,36 +230,14 @@ message_read number bytes =
     (read_in bytes (λ m. Icmpv6 m) of_len (icmpv6_fault.message_at bytes) (λ m at. at)
     (icmpv6_reads bytes)) tt)))
 
--- a fault keeps its offset, whatever bounds the payload
-offset_within : (outer : LenSource) (e : SliceError) → fault_offset (within outer e) ≡ fault_offset e
-offset_within outer (error.Len e) = refl
-offset_within outer (error.LinuxSll e) = refl
-offset_within outer (error.Macsec e) = refl
-offset_within outer (error.Ip e) = refl
-offset_within outer (error.Ipv4 e) = refl
-offset_within outer (error.Ipv6 e) = refl
-offset_within outer (error.Ipv4Exts e) = refl
-offset_within outer (error.Ipv6Exts e) = refl
-offset_within outer (error.Tcp e) = refl
-
-read_of : (bytes : List ℕ) (r : Result ReadMessage SliceError) (e : SliceError) → ReadIn bytes r
-    → ◌≡◌ {A = Result (Option TransportSlice) SliceError} (Err e) (read_transport r)
-    → fault_offset e ≡ 0
-read_of bytes (Ok message) e read same = cc
-read_of bytes (Err f) e read same = let is : e ≡ f = cc in ap fault_offset is ∙ read
-
 pub fault_at_start : (number : ℕ) (bytes : List ℕ) (outer : LenSource) (e returned : SliceError)
     → Err e ≡ read_transport (message_at number bytes) → returned ≡ within outer e → fault_offset returned
     ≡ 0
-fault_at_start number bytes outer e returned same is =
-    ap fault_offset is ∙ offset_within outer e ∙ read_of bytes (message_at number bytes) e
-    (message_read number bytes) same
+fault_at_start number bytes outer e returned same is = grind arith
 
 found_of : (bytes : List ℕ) (r : Result ReadMessage SliceError) (o : Option TransportSlice)
     → ReadIn bytes r → Ok o ≡ read_transport r → MessageIn bytes o
-found_of bytes (Ok message) o read same =
-    subst (MessageIn bytes) (sym (ok_same {E = SliceError} o (transport_of message) same)) read
-found_of bytes (Err e) o read same = cc
+found_of bytes r o read same = grind arith
 
 pub transport_found : (number : ℕ) (bytes payload : List ℕ) (o : Option TransportSlice)
     → Ok o ≡ read_transport (message_at number bytes) → bytes ≡ payload
@@ -300,18 +249,11 @@ transport_found number bytes payload o same is =
 -- a part of a part, at this offset in the whole
 pub at_later : (frame bytes part : List ℕ) (position p q : ℕ) → position + p ≡ q → IsAt frame position bytes
     → IsAt bytes p part → IsAt frame q part
-at_later frame bytes part position p q sum at inner =
-    at_same_position frame part (position + p) q sum (at_in frame bytes part position p at inner)
+at_later frame bytes part position p q sum at inner = grind (arith, at_same_position, at_in)
 
 pub tag_later : (frame bytes : List ℕ) (position p q : ℕ) (t : LinkExtSlice) → position + p ≡ q
     → IsAt frame position bytes → IsTagAt bytes p t → IsTagAt frame q t
-tag_later frame bytes position p q (tag.Vlan b) sum at here =
-    at_later frame bytes b position p q sum at here
-tag_later frame bytes position p q (tag.Macsec m) sum at here = (
-  at_later frame bytes m.header position p q sum at here.0,
-  at_later frame bytes (macsec_bytes m.payload) position (p + length m.header) (q + length m.header)
-      (omega (arith, sum)) at here.1,
-)
+tag_later frame bytes position p q t sum at here = grind (arith, at_later)
 
 -- one tag more
 pub more_tags_len : (tags : List LinkExtSlice) (t : LinkExtSlice)
@@ -329,9 +271,7 @@ more_tags : (frame : List ℕ) (position : ℕ) (tags : List LinkExtSlice) (t : 
 more_tags frame position [] t are at = (tag_moved frame (position + 0) position t (omega arith) at, tt)
 more_tags frame position (u ∷ tags) t are at = (
   are.0,
-  more_tags frame (position + tag_len u) tags t are.1
-      (tag_moved frame (position + (tag_len u + tags_len tags))
-      (position + tag_len u + tags_len tags) t (omega arith) at),
+  grind (arith, more_tags frame (position + tag_len u) tags t are.1),
 )
 
 -- tags that were read, and the rest after them
@@ -354,14 +294,12 @@ tags_more : (bytes : List ℕ) (tags more : List LinkExtSlice) (len : ℕ) (rest
     → AreTagsAt bytes 0 more
 tags_more bytes tags more len rest t passed in_rest pushed =
     let here : IsTagAt bytes (0 + tags_len tags) t =
-    tag_later bytes rest len 0 (0 + tags_len tags) t
-    (omega (arith, passed.len_is)) passed.rest_at in_rest.tag in
+    grind (arith, tag_later) in
     subst (AreTagsAt bytes 0) (sym pushed) (more_tags bytes 0 tags t passed.tags_at here)
 
 len_more : (tags more : List LinkExtSlice) (len n : ℕ) (t : LinkExtSlice) → len ≡ tags_len tags
     → more ≡ tags ++ t ∷ [] → n ≡ tag_len t → len + n ≡ tags_len more
-len_more tags more len n t len_is pushed counted =
-    omega (arith, len_is, counted, ap tags_len pushed ∙ more_tags_len tags t)
+len_more tags more len n t len_is pushed counted = grind (arith, more_tags_len)
 
 pub passed_more : (bytes : List ℕ) (tags more : List LinkExtSlice) (len n : ℕ) (rest next : List ℕ)
     (t : LinkExtSlice) → Passed bytes tags len rest → TagIn rest t
@@ -370,20 +308,16 @@ pub passed_more : (bytes : List ℕ) (tags more : List LinkExtSlice) (len n : �
 passed_more bytes tags more len n rest next t passed in_rest pushed counted at = record {
   tags_at = tags_more bytes tags more len rest t passed in_rest pushed;
   len_is = len_more tags more len n t passed.len_is pushed counted;
-  rest_at = at_same_position bytes next (len + tag_len t) (len + n) (omega (arith, counted))
-      (at_in bytes rest next len (tag_len t) passed.rest_at at);
+  rest_at = grind (arith, at_same_position, at_in);
 }
 
 pub tag_found : (bytes : List ℕ) (o : Option LinkExtSlice) (t : LinkExtSlice)
     → IfSome o (λ u. TagIn bytes u) → o ≡ Some t → TagIn bytes t
-tag_found bytes o t at same =
-    subst (λ (x : Option LinkExtSlice). IfSome x (λ u. TagIn bytes u)) same at
+tag_found bytes o t at same = grind arith
 
 pub next_at : (bytes : List ℕ) (t : LinkExtSlice) (next : EtherPayload) → TagIn bytes t
     → payload_after t ≡ Some next → IsAt bytes (tag_len t) next.payload
-next_at bytes t next in_bytes named =
-    subst (λ (o : Option EtherPayload). IfSome o (λ q. IsAt bytes (tag_len t) q.payload))
-    named in_bytes.next
+next_at bytes t next in_bytes named = grind arith
 
 -- where the tags end
 pub ended_with : (bytes : List ℕ) (tags : List LinkExtSlice) (len : ℕ) (rest : EtherPayload)

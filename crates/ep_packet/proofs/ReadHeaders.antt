@@ -1,7 +1,6 @@
 -- The headers of the IP packet at the start of bytes.
-use Rattle.std.proofs.Common.{◌≡◌, ℕ, ◌<◌, ◌/◌, ◌==◌, Bool, false, List, [], ◌∷◌, ◌++◌, length}
-use Rattle.std.proofs.Common.{get_or, Option, Some, None, Result, Ok, Err, ⊎_elim, sym, ap, ◌∙◌}
-use Rattle.std.proofs.Common.{subst, append_assoc, arith}
+use Rattle.std.proofs.Common.{◌≡◌, ℕ, ◌<◌, ◌==◌, Bool, false, List, ◌++◌, length, get_or, Option, Some, None, Result}
+use Rattle.std.proofs.Common.{Ok, Err, sym, ap, ◌∙◌, arith}
 use Rattle.std.proofs.lemmas.List.{get_or_append_left}
 use Rattle.std.specs.Option.{option_map_or}
 use Rattle.ep_base.specs.declared.len_source.LenSource.{LenSource}
@@ -9,7 +8,6 @@ use Rattle.ep_base.specs.declared.net.ip_number.IpNumber.{IpNumber}
 use Rattle.ep_base.proofs.Prefixes.{err_ok, ok_same}
 use Rattle.ep_ext.specs.Chain.{Chain, Fault, fault_of}
 use Rattle.ep_ext.specs.Fragment.{fragments}
-use Rattle.ep_ext.specs.Ipv4Exts.{auth_bytes}
 use Rattle.ep_ext.specs.Slot.{Order, slot_of}
 use Rattle.ep_ext.specs.Value.{Piece, value_of}
 use Rattle.ep_ext.specs.declared.net.ipv6_extensions.Ipv6Extensions.{Ipv6Extensions}
@@ -17,8 +15,7 @@ use Rattle.ep_ip.specs.Ipv4 as v4
 use Rattle.ep_ip.specs.Ipv6 as v6
 use Rattle.ep_ip.specs.declared.net.ipv6_header.Ipv6Header.{Ipv6Header}
 use Rattle.ep_ipslice.specs.Ipv4Packet.{ipv4_packet_at}
-use Rattle.ep_ipslice.specs.Ipv6Fault.{IsFaultIn, IsPrefixFault, InHeader, InLength, OfHeader}
-use Rattle.ep_ipslice.specs.Ipv6Fault.{OfLength}
+use Rattle.ep_ipslice.specs.Ipv6Fault.{IsFaultIn, IsPrefixFault, InHeader, InLength, OfHeader, OfLength}
 use Rattle.ep_ipslice.specs.Packet.{IpPayload, Ipv4Packet, IsIpv4Packet, IsIpv6Body}
 use Rattle.ep_ipslice.specs.declared.err.ip.headers_slice_error.HeadersSliceError.{HeadersSliceError}
 use Rattle.ep_ipslice.specs.declared.err.ipv4.slice_error.SliceError.{SliceError as Ipv4Fault}
@@ -61,8 +58,7 @@ ipv4_never bytes e only headers payload is = absurd (err_ok e is.packet (only is
 -- without headers and payload there is no packet
 refused_of : (r : Result Ipv4Packet Ipv4Fault) (e : Ipv4Fault)
     → ◌≡◌ {A = Result Parts Ipv4Fault} (Err e) (with_ipv4_headers r) → r ≡ Err e
-refused_of (Ok packet) e is = absurd (err_ok e (ipv4_parts packet) is)
-refused_of (Err fault) e is = let same : fault ≡ e = cc in ap Err same
+refused_of r e is = grind arith
 
 pub ipv4_refused : (bytes : List ℕ) (e : Ipv4Fault)
     → ◌≡◌ {A = Result Parts Ipv4Fault} (Err e) (with_ipv4_headers (ipv4_packet_at bytes))
@@ -78,9 +74,7 @@ prefix_fault order bytes e (InLength header is cut) = OfLength header is cut
 pub chain_same : (first number : ℕ) (body other : List ℕ) (pieces : List Piece) (last : ℕ)
     (rest : List ℕ) → first ≡ number → body ≡ other → Chain slot_of number other pieces last rest →
     Chain slot_of first body pieces last rest
-chain_same first number body other pieces last rest named cut chain =
-    subst (λ (n : ℕ). Chain slot_of n body pieces last rest) (sym named)
-    (subst (λ (xs : List ℕ). Chain slot_of number xs pieces last rest) (sym cut) chain)
+chain_same first number body other pieces last rest named cut chain = grind arith
 
 -- a row that ends without a fault isn't refused
 pub never_refused : (pieces : List Piece) (last : ℕ) (rest : List ℕ) (fault : Fault)
@@ -113,16 +107,10 @@ ipv6_found bytes h header source body first pieces last rest exts number fragmen
       pieces = pieces;
       last = last;
       begins = begins;
-      chain = subst (λ (n : ℕ). Chain slot_of n body pieces last left) named
-          (subst (λ (xs : List ℕ). Chain slot_of first body pieces last xs) (sym left_is) chain);
-      ended = ap (fault_of slot_of pieces last) left_is ∙ ended;
+      chain = grind arith;
+      ended = grind arith;
       value = λ i. Ipv6 (fields i) (exts_is i);
-      returned = λ i. record {
-        ip_number = record { 0 = numbered i };
-        fragmented = parted i;
-        len_source = source;
-        payload = left;
-      };
+      returned = grind arith;
     }
 
 -- what is read of the headers is what is there
@@ -142,45 +130,26 @@ pub ipv6_only : (bytes : List ℕ) (headers : IpHeaders) (payload : IpPayload)
     (headers, payload)
 ipv6_only bytes headers payload is h header exts number fragmented source rest fields same exts_is
     named parted bounded left =
-    let h_is : h ≡ v6.ipv6_header_of is.header = fields ∙ ap v6.ipv6_header_of same in
-    let value : Ipv6 h exts ≡ headers = (λ i. Ipv6 (h_is i) (exts_is i)) ∙ sym is.value in
-    let parted_is : fragmented ≡ is_fragmenting headers = parted ∙ ap is_fragmenting value in
+    let h_is : h ≡ v6.ipv6_header_of is.header = grind arith in
+    let value : Ipv6 h exts ≡ headers = grind arith in
+    let parted_is : fragmented ≡ is_fragmenting headers = grind arith in
     let returned : record
     { ip_number = number; fragmented = fragmented; len_source = source; payload = rest }
     ≡ payload =
-    (λ i. record {
-      ip_number = record { 0 = named i };
-      fragmented = parted_is i;
-      len_source = bounded i;
-      payload = left i;
-    }) ∙ sym is.returned in
+    grind arith in
     λ i. Ok (value i, returned i)
 
 first_byte : (bytes header rest : List ℕ) → bytes ≡ header ++ rest → 0 < length header
     → get_or bytes 0 0 ≡ get_or header 0 0
-first_byte bytes header rest parts some = ap (λ (xs : List ℕ). get_or xs 0 0) parts
-    ∙ get_or_append_left header rest 0 0 some
+first_byte bytes header rest parts some = grind (arith, get_or_append_left)
 
 ipv4_version : (bytes : List ℕ) (headers : IpHeaders) (payload : IpPayload)
     → IsIpv4Headers bytes headers payload → v4.version_of bytes ≡ 4
-ipv4_version bytes headers payload is =
-    let packet = is.packet in
-    let begins = is.begins in
-    let rest : List ℕ = auth_bytes packet.auth ++ packet.payload ++ begins.padding in
-    let parts : bytes ≡ packet.header ++ rest =
-    begins.cut ∙ ap (λ (xs : List ℕ). xs ++ begins.padding)
-    (append_assoc packet.header (auth_bytes packet.auth) packet.payload)
-    ∙ append_assoc packet.header (auth_bytes packet.auth ++ packet.payload) begins.padding in
-    ap (λ (n : ℕ). n / 16) (first_byte bytes packet.header rest parts
-    (omega (arith, begins.header.whole, begins.header.minimum))) ∙ begins.header.version
+ipv4_version bytes headers payload is = grind arith
 
 ipv6_version : (bytes : List ℕ) (headers : IpHeaders) (payload : IpPayload)
     → IsIpv6Headers bytes headers payload → v4.version_of bytes ≡ 6
-ipv6_version bytes headers payload is =
-    let parts : bytes ≡ is.header ++ (is.body ++ is.begins.padding) =
-    is.begins.cut ∙ append_assoc is.header is.body is.begins.padding in
-    ap (λ (n : ℕ). n / 16) (first_byte bytes is.header (is.body ++ is.begins.padding) parts
-    (omega (arith, is.begins.whole.whole))) ∙ is.begins.whole.version
+ipv6_version bytes headers payload is = grind arith
 
 four_six : (n : ℕ) → n ≡ 4 → n ≡ 6 → ⊥
 four_six n four six = omega (arith, four, six)
@@ -188,23 +157,16 @@ four_six n four six = omega (arith, four, six)
 -- the version decides whose headers are there
 pub of_four : (bytes : List ℕ) (headers : IpHeaders) (payload : IpPayload) → v4.version_of bytes ≡ 4
     → IsIpHeaders bytes headers payload → IsIpv4Headers bytes headers payload
-of_four bytes headers payload four either =
-    ⊎_elim (λ is. is)
-    (λ is. absurd (four_six (v4.version_of bytes) four (ipv6_version bytes headers payload is)))
-    either
+of_four bytes headers payload four either = grind arith
 
 pub of_six : (bytes : List ℕ) (headers : IpHeaders) (payload : IpPayload) → v4.version_of bytes ≡ 6
     → IsIpHeaders bytes headers payload → IsIpv6Headers bytes headers payload
-of_six bytes headers payload six either =
-    ⊎_elim (λ is. absurd (four_six (v4.version_of bytes)
-    (ipv4_version bytes headers payload is) six)) (λ is. is) either
+of_six bytes headers payload six either = grind arith
 
 pub of_neither : (bytes : List ℕ) (headers : IpHeaders) (payload : IpPayload)
     → (v4.version_of bytes ≡ 4 → ⊥) → (v4.version_of bytes ≡ 6 → ⊥)
     → IsIpHeaders bytes headers payload → ⊥
-of_neither bytes headers payload four six either =
-    ⊎_elim (λ is. four (ipv4_version bytes headers payload is))
-    (λ is. six (ipv6_version bytes headers payload is)) either
+of_neither bytes headers payload four six either = grind arith
 
 -- the same with faults of both versions
 pub same_as : {E : Type 0} (x y : Parts) → IsSame E x y → IsSame HeadersSliceError x y
@@ -217,17 +179,10 @@ refusal_as e f x is = absurd (err_ok e x is)
 -- number and bytes of the one payload
 pub read_same : (a b : IpHeaders) (p q : IpPayload) → IsSame HeadersSliceError (a, p) (b, q)
     → (a ≡ b) × (p.ip_number ≡ q.ip_number) × (p.payload ≡ q.payload)
-read_same a b p q is =
-    let same : (a, p) ≡ (b, q) = ok_same (a, p) (b, q) is in (
-      ap (λ (r : Parts). r.0) same,
-      ap (λ (r : Parts). r.1.ip_number) same,
-      ap
-          (λ (r : Parts). r.1.payload) same,
-    )
+read_same a b p q is = grind arith
 
 pub read_never : (e : HeadersSliceError) (x : Parts) → IsRefusal HeadersSliceError e x → ⊥
 read_never e x is = err_ok e x is
 
 pub some_bytes : (bytes : List ℕ) → (length bytes == 0) ≡ false → 0 < length bytes
-some_bytes [] none = cc
-some_bytes (x ∷ xs) none = omega arith
+some_bytes bytes none = grind arith

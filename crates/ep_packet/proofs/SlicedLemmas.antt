@@ -1,32 +1,25 @@
 -- The layers of a packet together.
-use Rattle.std.proofs.Common.{◌≡◌, ◌∙◌, ℕ, ◌≤◌, drop, ◌+◌, List, [], ◌∷◌, length, Option, Some}
-use Rattle.std.proofs.Common.{None, Result, Ok, Err, IfOk, IfSome, IsSome, ◌<◌, ◌^◌, arith, refl}
-use Rattle.std.proofs.Common.{sym, ap, subst}
+use Rattle.std.proofs.Common.{◌≡◌, ℕ, ◌≤◌, drop, ◌+◌, List, ◌∷◌, length, Option, Some, [], None, Result, Ok, Err, IfOk}
+use Rattle.std.proofs.Common.{IfSome, IsSome, ◌<◌, ◌^◌, arith, sym, subst}
 use Rattle.std.specs.Option.{ok_or}
-use Rattle.std.proofs.lemmas.Bool.{ltb-false}
 use Rattle.ep_base.specs.declared.len_source.LenSource.TheVariants as source
-use Rattle.ep_base.proofs.Prefixes.{guard_ok, ok_same}
 use Rattle.ep_ext.specs.Ipv4Exts.{auth_bytes}
 use Rattle.ep_link.specs.Sll.{sll_len}
 use Rattle.ep_link.specs.SllFault.{whole_at as sll_at}
 use Rattle.ep_link.specs.SllPayload.{ether_payload_of, named_payload, payload_of}
-use Rattle.ep_base.specs.declared.err.slice_error.SliceError.{SliceError as HeaderSliceError}
-use Rattle.ep_link.specs.declared.err.linux_sll.header_error.HeaderError.{HeaderError as SllFault}
 use Rattle.ep_link.specs.declared.link.linux_sll_protocol_type.LinuxSllProtocolType.{LinuxSllProtocolType}
 use Rattle.ep_link.specs.declared.link.linux_sll_protocol_type.LinuxSllProtocolType.TheVariants as protocol
 use Rattle.ep_link.specs.declared.link.link_slice.LinkSlice.{LinkSlice}
-use Rattle.ep_packet.specs.Parts.{AreTagsAt, ArePartsOf, IsAt, IsNetAt, LayersIn}
-use Rattle.ep_packet.specs.Parts.{StandAt, TagsIn, headers_len, tags_len, transport_bytes}
+use Rattle.ep_packet.specs.Parts.{AreTagsAt, ArePartsOf, IsAt, IsNetAt, LayersIn, StandAt, TagsIn, headers_len}
+use Rattle.ep_packet.specs.Parts.{tags_len, transport_bytes}
 use Rattle.ep_packet.specs.SliceFault.{later, offset_by, fault_offset}
 use Rattle.ep_packet.specs.Sliced.{Layers, layers_in, no_layers, packet_after, packet_of}
-use Rattle.ep_packet.specs.Sliced.{packet_tagged, packet_with}
 use Rattle.ep_packet.specs.Tags.{Tagged, tags_in}
 use Rattle.ep_packet.specs.declared.err.packet.slice_error.SliceError.{SliceError}
 use Rattle.ep_packet.specs.declared.net.net_slice.NetSlice.{NetSlice}
 use Rattle.ep_packet.specs.declared.net.net_slice.NetSlice.TheVariants as net
 use Rattle.ep_packet.specs.declared.sliced_packet.SlicedPacket.{SlicedPacket}
 use Rattle.ep_packet.specs.declared.transport.transport_slice.TransportSlice.{TransportSlice}
-use Rattle.ep_packet.proofs.FaultLemmas.{moved_twice}
 use Rattle.ep_packet.proofs.PartsLemmas.{at_drop, at_fits, at_later, tag_later}
 use Rattle.ep_tag.specs.Ether.{EtherPayload}
 use Rattle.ep_tag.specs.LinkExt.{tag_len}
@@ -35,37 +28,23 @@ use Rattle.ep_tag.specs.declared.link.link_ext_slice.LinkExtSlice.{LinkExtSlice}
 -- the results for a packet after a link header
 pub faulty_tags : (link : LinkSlice) (p : EtherPayload) (n : ℕ) (e returned : SliceError)
     → Err e ≡ tags_in 3 p → returned ≡ offset_by n e → Err returned ≡ later n (packet_after link p)
-faulty_tags link p n e returned same is = ap Err is
-    ∙ ap (λ (r : Result Tagged SliceError). later n (packet_tagged (Some link) r)) same
+faulty_tags link p n e returned same is = grind arith
 
 pub faulty_layers : (link : LinkSlice) (p : EtherPayload) (n : ℕ) (t : Tagged) (e returned : SliceError)
     → Ok t ≡ tags_in 3 p → Err e ≡ layers_in t.last → returned ≡ offset_by (n + t.len) e →
     Err returned ≡ later n (packet_after link p)
-faulty_layers link p n t e returned tagged same is =
-    ap Err (is ∙ sym (moved_twice n t.len e))
-    ∙ ap (λ (r : Result Layers SliceError). later n
-    (packet_with (Some link) t.tags (later t.len r))) same
-    ∙ ap (λ (r : Result Tagged SliceError). later n (packet_tagged (Some link) r)) tagged
+faulty_layers link p n t e returned tagged same is = grind arith
 
 pub whole_packet : (link : LinkSlice) (p : EtherPayload) (n : ℕ) (t : Tagged) (layers : Layers)
     → Ok t ≡ tags_in 3 p → Ok layers ≡ layers_in t.last →
     Ok (packet_of (Some link) t.tags layers) ≡ later n (packet_after link p)
-whole_packet link p n t layers tagged same =
-    ap (λ (r : Result Layers SliceError). later n
-    (packet_with (Some link) t.tags (later t.len r))) same
-    ∙ ap (λ (r : Result Tagged SliceError). later n (packet_tagged (Some link) r)) tagged
+whole_packet link p n t layers tagged same = grind arith
 
 -- parts of a part, at this offset in the whole
 stand_later : (frame bytes header exts payload : List ℕ) (position p q : ℕ) → position + p ≡ q
     → IsAt frame position bytes → StandAt bytes p header exts payload
     → StandAt frame q header exts payload
-stand_later frame bytes header exts payload position p q sum at here = (
-  at_later frame bytes header position p q sum at here.0,
-  at_later frame bytes exts position (p + length header) (q + length header)
-      (omega (arith, sum)) at here.1,
-  at_later frame bytes payload position (p + length header + length exts)
-      (q + length header + length exts) (omega (arith, sum)) at here.2,
-)
+stand_later frame bytes header exts payload position p q sum at here = grind (arith, at_later)
 
 net_later : (frame bytes : List ℕ) (position p q : ℕ) (packet : NetSlice) → position + p ≡ q
     → IsAt frame position bytes → IsNetAt bytes p packet → IsNetAt frame q packet
@@ -75,22 +54,17 @@ net_later frame bytes position p q (net.Ipv4 packet) sum at here =
 net_later frame bytes position p q (net.Ipv6 packet) sum at here =
     stand_later frame bytes packet.header packet.exts.slice
     packet.payload.payload position p q sum at here
-net_later frame bytes position p q (net.Arp packet) sum at here =
-    at_later frame bytes packet position p q sum at here
+net_later frame bytes position p q (net.Arp packet) sum at here = grind (arith, at_later)
 
 maybe_net_later : (frame bytes : List ℕ) (position p q : ℕ) (o : Option NetSlice) → position + p ≡ q
     → IsAt frame position bytes → IfSome o (IsNetAt bytes p) → IfSome o (IsNetAt frame q)
-maybe_net_later frame bytes position p q None sum at here = tt
-maybe_net_later frame bytes position p q (Some packet) sum at here =
-    net_later frame bytes position p q packet sum at here
+maybe_net_later frame bytes position p q o sum at here = grind (arith, net_later)
 
 transport_later : (frame bytes : List ℕ) (position p q n : ℕ) (o : Option TransportSlice)
     → position + p ≡ q → IsAt frame position bytes
     → IfSome o (λ m. IsAt bytes (p + n) (transport_bytes m)) →
     IfSome o (λ m. IsAt frame (q + n) (transport_bytes m))
-transport_later frame bytes position p q n None sum at here = tt
-transport_later frame bytes position p q n (Some m) sum at here =
-    at_later frame bytes (transport_bytes m) position (p + n) (q + n) (omega (arith, sum)) at here
+transport_later frame bytes position p q n o sum at here = grind (arith, at_later)
 
 layers_later : (frame bytes : List ℕ) (position p q : ℕ) (layers : Layers) → position + p ≡ q
     → IsAt frame position bytes → LayersIn bytes p layers → LayersIn frame q layers
@@ -132,9 +106,7 @@ layer_fits_at bytes n len (Some q) e at fits some room =
 
 -- where layers are refused, something was named
 pub named_of : (o : Option EtherPayload) (e : SliceError) → Err e ≡ layers_in o → IsSome o
-named_of None e same = let no : ◌≡◌ {A = Result Layers SliceError} (Err e) (Ok no_layers) =
-    same in cc
-named_of (Some q) e same = refl
+named_of o e same = grind arith
 
 -- the layers in what an ether type names, if it was named
 abbrev LayersAfter : Option EtherPayload → Layers → Type 0
@@ -144,8 +116,7 @@ LayersAfter (Some q) layers = LayersIn q.payload 0 layers
 layers_after : (bytes : List ℕ) (n position : ℕ) (o : Option EtherPayload) (layers : Layers)
     → n ≡ position → IfSome o (λ q. IsAt bytes n q.payload) → LayersAfter o layers
     → LayersIn bytes position layers
-layers_after bytes n position None layers same at none =
-    subst (LayersIn bytes position) (sym none) (record { net = tt; transport = tt })
+layers_after bytes n position None layers same at none = grind arith
 layers_after bytes n position (Some q) layers same at inside =
     layers_later bytes q.payload n 0 position layers (omega (arith, same)) at inside
 
@@ -170,13 +141,7 @@ layer_fits bytes n t e tags fits some room =
 -- what the last ether type names starts where the tags end
 named_at_end : (bytes : List ℕ) (t : Tagged) (q : EtherPayload) → t.last ≡ Some q
     → TagsIn bytes 0 t → t.len + length q.payload ≤ length bytes
-named_at_end bytes t q named tags =
-    omega (
-      arith,
-      at_fits bytes q.payload (0 + t.len)
-          (subst (λ (o : Option EtherPayload). IfSome o (λ p. IsAt bytes (0 + t.len) p.payload)) named
-          tags.last),
-    )
+named_at_end bytes t q named tags = grind (arith, at_fits)
 
 pub tags_fit : (bytes : List ℕ) (n : ℕ) (t : Tagged) (q : EtherPayload) → t.last ≡ Some q
     → TagsIn bytes 0 t → n + length bytes < 2 ^ 64 → n + t.len < 2 ^ 64
@@ -208,28 +173,15 @@ parts_in_frame frame bytes position (Err e) at are = tt
 -- a cooked capture's packet is all of its bytes, and they hold its header
 pub sll_whole : (bytes packet : List ℕ) → Ok packet ≡ sll_at bytes
     → (packet ≡ bytes) × (sll_len ≤ length bytes)
-sll_whole bytes packet same =
-    let enough = guard_ok _ _ _ _ (sym same) in
-    let taken = guard_ok _ _ _ _ enough.1 in (
-      sym (ok_same {E = HeaderSliceError SllFault} bytes packet taken.1),
-      ltb-false
-          (length bytes) sll_len enough.0,
-    )
+sll_whole bytes packet same = grind arith
 
 -- what its protocol names, if it is an ether type
 pub some_named : (o : Option EtherPayload) (p : EtherPayload) → Ok p ≡ ok_or o (tt {0}) → o ≡ Some p
-some_named None p same = cc
-some_named (Some q) p same = cc
+some_named o p same = grind arith
 
 named_bytes : (protocol : LinuxSllProtocolType) (bytes : List ℕ) (p : EtherPayload)
     → ether_payload_of protocol bytes ≡ Some p → p.payload ≡ bytes
-named_bytes (protocol.Ignored n) bytes p same = cc
-named_bytes (protocol.NetlinkProtocolType n) bytes p same = cc
-named_bytes (protocol.GenericRoutingEncapsulationProtocolType n) bytes p same = cc
-named_bytes (protocol.EtherType t) bytes p same =
-    let is : record { ether_type = t; len_source = source.Slice; payload = bytes } ≡ p = cc in
-    ap (λ (q : EtherPayload). q.payload) (sym is)
-named_bytes (protocol.LinuxNonstandardEtherType n) bytes p same = cc
+named_bytes protocol bytes p same = grind arith
 
 pub named_at : (bytes : List ℕ) (p : EtherPayload) → sll_len ≤ length bytes
     → named_payload (payload_of bytes) ≡ Some p → IsAt bytes sll_len p.payload

@@ -1,23 +1,18 @@
 -- The fault at which the reading of tags ends is that of the first tag that isn't whole or breaks
 -- its format.
-use Rattle.std.proofs.Common.{◌≡◌, ◌∙◌, ℕ, zero, suc, ◌+◌, ◌<◌, Bool, true, false, cond, List}
-use Rattle.std.proofs.Common.{[], ◌∷◌, length, Option, Some, None, Result, Ok, Err, MatchOption}
-use Rattle.std.proofs.Common.{arith, refl, sym, ap, subst}
-use Rattle.std.specs.Prelude.{nat_lt}
-use Rattle.std.proofs.lemmas.Bool.{ltb-true}
+use Rattle.std.proofs.lemmas.Bool.Decides.{nat_tests}
+use Rattle.std.proofs.Common.{◌≡◌, ℕ, zero, suc, ◌<◌, Bool, true, false, cond, List, [], ◌∷◌, length, Option, Some}
+use Rattle.std.proofs.Common.{None, Result, Ok, Err, arith, refl, sym}
 use Rattle.ep_base.proofs.Prefixes.{err_same}
-use Rattle.ep_base.specs.LenError.{too_few_bytes}
 use Rattle.ep_base.specs.declared.err.layer.Layer.TheVariants.{VlanHeader}
-use Rattle.ep_base.specs.declared.err.len_error.LenError.{LenError}
 use Rattle.ep_base.specs.declared.err.slice_error.SliceError.{SliceError as HeaderSliceError}
-use Rattle.ep_packet.specs.FrameFault.{IsTagFault, OfMacsec, OfVlan}
+use Rattle.ep_packet.specs.FrameFault.{IsTagFault, OfMacsec}
 use Rattle.ep_packet.specs.IsTagged.{AreTags}
 use Rattle.ep_packet.specs.Parts.{tags_len}
 use Rattle.ep_packet.specs.SliceFault.{offset_by}
-use Rattle.ep_packet.specs.Tags.{Tagged, from_tag, is_macsec_type, is_vlan_type, macsec_tag}
-use Rattle.ep_packet.specs.Tags.{read_further, tag_at, tags_in, vlan_tag, with_tag}
+use Rattle.ep_packet.specs.Tags.{Tagged, from_tag, is_macsec_type, is_vlan_type, macsec_tag, read_further, tag_at}
+use Rattle.ep_packet.specs.Tags.{tags_in, vlan_tag, with_tag}
 use Rattle.ep_packet.specs.declared.err.packet.slice_error.SliceError.{SliceError}
-use Rattle.ep_packet.proofs.FaultLemmas.{moved_nothing, moved_twice}
 use Rattle.ep_packet.proofs.TaggedLaws.{MacsecIsRead, tag_read}
 use Rattle.ep_tag.specs.Ether.{EtherPayload}
 use Rattle.ep_tag.specs.Prefix.{whole_at}
@@ -30,14 +25,6 @@ use Rattle.ep_tag.specs.declared.link.link_ext_slice.LinkExtSlice.{LinkExtSlice}
 abbrev MaybeTag : Type 0
 MaybeTag = Option LinkExtSlice
 
-vlan_faulty : (p : EtherPayload) (short : Bool) (e : SliceError) → is_vlan_type p.ether_type ≡ true
-    → nat_lt (length p.payload) vlan_len ≡ short
-    → vlan_tag (cond short (Err (too_few_bytes VlanHeader vlan_len (length p.payload)))
-    (Ok p.payload)) ≡ Err e → IsTagFault p e
-vlan_faulty p true e named short is =
-    OfVlan named (ltb-true (length p.payload) vlan_len short) (sym (err_same {A = MaybeTag} _ _ is))
-vlan_faulty p false e named short is = cc
-
 macsec_faulty : (p : EtherPayload) (r : Result Macsec (HeaderSliceError HeaderError))
     (e : SliceError) → is_vlan_type p.ether_type ≡ false → is_macsec_type p.ether_type ≡ true
     → macsec_at p.payload ≡ r → macsec_tag r ≡ Err e → IsTagFault p e
@@ -49,8 +36,7 @@ faulty_by : (vlan sec : Bool) (p : EtherPayload) (e : SliceError)
     → is_vlan_type p.ether_type ≡ vlan → is_macsec_type p.ether_type ≡ sec
     → cond vlan (vlan_tag (whole_at VlanHeader vlan_len p.payload))
     (cond sec (macsec_tag (macsec_at p.payload)) (Ok None)) ≡ Err e → IsTagFault p e
-faulty_by true sec p e v s is =
-    vlan_faulty p (nat_lt (length p.payload) vlan_len) e v refl is
+faulty_by true sec p e v s is = grind arith
 faulty_by false true p e v s is = macsec_faulty p (macsec_at p.payload) e v s refl is
 faulty_by false false p e v s is = cc
 
@@ -75,8 +61,7 @@ IsFirst n = (p : EtherPayload) (e : SliceError) → tags_in n p ≡ Err e → Ar
 err_after : (t : LinkExtSlice) (r : Result Tagged SliceError) (e : SliceError)
     → with_tag t r ≡ Err e
     → (more : SliceError) × (r ≡ Err more) × (e ≡ offset_by (tag_len t) more)
-err_after t (Ok more) e is = cc
-err_after t (Err x) e is = (x, refl, sym (err_same {A = Tagged} _ _ is))
+err_after t r e is = grind arith
 
 one_more : (n : ℕ) (p : EtherPayload) (t : LinkExtSlice) (o : Option EtherPayload)
     (e more : SliceError) → MacsecIsRead → IsFirst n → tag_at p ≡ Ok (Some t)
@@ -92,13 +77,10 @@ one_more n p t (Some q) e more law first read named is error =
       few = let few = rest.few in omega (arith, few);
       are = (
         tag_read law p (Some t) read,
-        subst (λ (o : Option EtherPayload). MatchOption o
-            ((rest.tags ≡ []) × (Some rest.next ≡ None))
-            (λ next. AreTags next rest.tags (Some rest.next))) (sym named) rest.are,
+        grind arith,
       );
       tag = rest.tag;
-      error = error ∙ ap (offset_by (tag_len t)) rest.error
-          ∙ moved_twice (tag_len t) (tags_len rest.tags) rest.fault;
+      error = grind arith;
     }
 
 from_tag_first : MacsecIsRead → (n : ℕ) (p : EtherPayload)
@@ -111,12 +93,10 @@ from_tag_first law n p (Err x) e first read is = record {
   few = omega arith;
   are = refl;
   tag = tag_faulty p x read;
-  error = sym (err_same {A = Tagged} _ _ is) ∙ sym (moved_nothing x);
+  error = grind arith;
 }
 from_tag_first law n p (Ok None) e first read is = cc
-from_tag_first law n p (Ok (Some t)) e first read is =
-    let following = err_after t (read_further (tags_in n) (payload_after t)) e is in
-    one_more n p t (payload_after t) e following.0 law first read refl following.1 following.2
+from_tag_first law n p (Ok (Some t)) e first read is = grind (arith, nat_tests, err_after, one_more)
 
 pub tags_first : MacsecIsRead → (n : ℕ) → IsFirst n
 unfolding tags_in

@@ -1,25 +1,18 @@
 -- The tags that are read are those that are there.
-use Rattle.std.proofs.Common.{◌≡◌, ℕ, zero, suc, ◌+◌, ◌<◌, ◌≤◌, ◌||◌, Bool, true, false, cond, List}
-use Rattle.std.proofs.Common.{[], ◌∷◌, length, Option, Some, None, Result, Ok, Err, IfSome}
-use Rattle.std.proofs.Common.{MatchOption, arith, refl, sym, ap, subst, ◌∙◌}
-use Rattle.std.proofs.lemmas.Bool.{le-ltb}
+use Rattle.std.proofs.lemmas.Bool.Decides.{nat_tests}
+use Rattle.std.proofs.Common.{◌≡◌, ℕ, zero, suc, ◌+◌, ◌<◌, ◌≤◌, ◌||◌, Bool, false, cond, List, [], ◌∷◌, length, Option}
+use Rattle.std.proofs.Common.{Some, None, Result, Ok, Err, IfSome, MatchOption, arith, refl, sym, ap, subst, ◌∙◌}
 use Rattle.ep_base.specs.declared.err.layer.Layer.TheVariants.{VlanHeader}
-use Rattle.ep_base.specs.declared.err.len_error.LenError.{LenError}
-use Rattle.ep_base.proofs.Prefixes.{ok_same}
 use Rattle.ep_packet.specs.IsTagged.{AreTags, IsTag, IsTagged}
 use Rattle.ep_packet.specs.Parts.{tags_len}
-use Rattle.ep_packet.specs.Tags.{Tagged, with_tag, from_tag, is_macsec_type, is_vlan_type}
-use Rattle.ep_packet.specs.Tags.{macsec_tag}
-use Rattle.ep_packet.specs.Tags.{names_tag, read_further, tag_at, tags_in, without_tags, vlan_tag}
+use Rattle.ep_packet.specs.Tags.{Tagged, with_tag, from_tag, is_macsec_type, is_vlan_type, macsec_tag, names_tag}
+use Rattle.ep_packet.specs.Tags.{read_further, tag_at, tags_in, without_tags, vlan_tag}
 use Rattle.ep_packet.specs.declared.err.packet.slice_error.SliceError.{SliceError}
-use Rattle.ep_packet.proofs.PartsLemmas.{whole_is}
 use Rattle.ep_tag.specs.Ether.{EtherPayload}
 use Rattle.ep_tag.specs.Prefix.{whole_at}
 use Rattle.ep_tag.specs.LinkExt.{payload_after, tag_len}
 use Rattle.ep_tag.specs.MacsecPayload.{IsMacsec, Macsec, macsec_at}
 use Rattle.ep_tag.specs.Vlan.{vlan_len}
-use Rattle.ep_base.specs.declared.err.slice_error.SliceError.{SliceError as HeaderSliceError}
-use Rattle.ep_tag.specs.declared.err.macsec.header_error.HeaderError.{HeaderError}
 use Rattle.ep_tag.specs.declared.link.link_ext_slice.LinkExtSlice.{LinkExtSlice}
 use Rattle.ep_tag.specs.declared.link.link_ext_slice.LinkExtSlice.TheVariants as tag
 
@@ -35,66 +28,29 @@ abbrev pub IsRead : EtherPayload → Option LinkExtSlice → Type 0
 IsRead p None = names_tag p.ether_type ≡ false
 IsRead p (Some t) = IsTag p t
 
-macsec_tag_found : MacsecIsRead
-    → (p : EtherPayload) (o : Option LinkExtSlice)
-    (r : Result Macsec (HeaderSliceError HeaderError)) → is_vlan_type p.ether_type ≡ false
-    → is_macsec_type p.ether_type ≡ true →
-    macsec_at p.payload ≡ r → macsec_tag r ≡ Ok o → IsRead p o
-macsec_tag_found law p o (Ok m) no_vlan sec e f =
-    let same : Some (tag.Macsec m) ≡ o = ok_same _ _ f in
-    subst (IsRead p) same (no_vlan, sec, law.found p.payload m e)
-macsec_tag_found law p o (Err x) no_vlan sec e f = cc
-
-vlan_tag_found : (p : EtherPayload) (o : Option LinkExtSlice) (r : Result (List ℕ) LenError)
-    → is_vlan_type p.ether_type ≡ true → r ≡ whole_at VlanHeader vlan_len p.payload
-    → vlan_tag r ≡ Ok o → IsRead p o
-vlan_tag_found p o (Ok bytes) vlan same e =
-    let whole = whole_is VlanHeader vlan_len p.payload bytes same in
-    let is : Some (tag.Vlan bytes) ≡ o = ok_same _ _ e in
-    subst (IsRead p) is (vlan, whole.1, whole.0)
-vlan_tag_found p o (Err x) vlan same e = cc
-
 found_by : MacsecIsRead → (vlan sec : Bool) (p : EtherPayload) (o : Option LinkExtSlice)
     → is_vlan_type p.ether_type ≡ vlan → is_macsec_type p.ether_type ≡ sec →
     cond vlan (vlan_tag (whole_at VlanHeader vlan_len p.payload))
     (cond sec (macsec_tag (macsec_at p.payload)) (Ok None)) ≡ Ok o → IsRead p o
-found_by law true sec p o v s e = vlan_tag_found p o
-    (whole_at VlanHeader vlan_len p.payload) v refl e
-found_by law false true p o v s e = macsec_tag_found law p o (macsec_at p.payload) v s refl e
-found_by law false false p o v s e =
-    let same : None ≡ o = ok_same _ _ e in
-    subst (IsRead p) same (rw (v, s) refl)
+found_by law vlan sec p o v s e = grind arith
 
 pub tag_read : MacsecIsRead → (p : EtherPayload) (o : Option LinkExtSlice)
     → tag_at p ≡ Ok o → IsRead p o
-tag_read law p o e = found_by law (is_vlan_type p.ether_type)
-    (is_macsec_type p.ether_type) p o refl refl e
-
-whole_only : (bytes : List ℕ) → vlan_len ≤ length bytes
-    → whole_at VlanHeader vlan_len bytes ≡ Ok bytes
-whole_only bytes fits = rw (le-ltb (length bytes) vlan_len fits) refl
+tag_read law p o e = grind (arith, nat_tests)
 
 tag_only : MacsecIsRead → (p : EtherPayload) (t : LinkExtSlice) → IsTag p t → tag_at p ≡ Ok (Some t)
-tag_only law p (tag.Vlan bytes) is =
-    rw is.0 (ap vlan_tag (whole_only p.payload is.1)
-    ∙ ap (λ (b : List ℕ). Ok (Some (tag.Vlan b))) (sym is.2))
+tag_only law p (tag.Vlan bytes) is = grind arith
 tag_only law p (tag.Macsec m) is = rw (is.0, is.1) (ap macsec_tag (law.only p.payload m is.2))
 
 neither : (a b : Bool) → a || b ≡ false → (a ≡ false) × (b ≡ false)
-neither true b h = cc
-neither false b h = (refl, h)
-
-none_only : (p : EtherPayload) → names_tag p.ether_type ≡ false → tag_at p ≡ Ok None
-none_only p none = let both = neither (is_vlan_type p.ether_type)
-    (is_macsec_type p.ether_type) none in rw (both.0, both.1) refl
+neither a b h = grind arith
 
 -- after a tag, an Ok is that of what was read there
 ok_after : (t : LinkExtSlice) (r : Result Tagged SliceError) (all : Tagged) → with_tag t r ≡ Ok
     all →
     (more : Tagged) × (r ≡ Ok more)
     × (all ≡ record { tags = t ∷ more.tags; len = tag_len t + more.len; last = more.last })
-ok_after t (Ok more) all e = (more, refl, cc)
-ok_after t (Err x) all e = cc
+ok_after t r all e = grind arith
 
 -- what is read is there
 pub record Stands (n : ℕ) (p : EtherPayload) (t : Tagged) : Type 0 where
@@ -108,14 +64,8 @@ further_found : (n : ℕ) (o : Option EtherPayload) (more : Tagged) → Sound n
     → read_further (tags_in n) o ≡ Ok more →
     MatchOption o ((more.tags ≡ []) × (more.last ≡ None) × (more.len ≡ 0))
     (λ next. Stands n next more)
-further_found n None more sound e = let same : more ≡ without_tags None = cc in
-    rw same (refl, refl, refl)
+further_found n None more sound e = grind arith
 further_found n (Some next) more sound e = sound next more e
-
-stands_none : (n : ℕ) (p : EtherPayload) → names_tag p.ether_type ≡ false
-    → Stands n p (without_tags (Some p))
-stands_none n p none =
-    record { tagged = record { few = omega arith; are = refl; ends = λ _. none }; len = refl }
 
 stands_full : (p : EtherPayload) → Stands 0 p (without_tags (Some p))
 stands_full p =
@@ -129,30 +79,13 @@ tagged_after : (n : ℕ) (p : EtherPayload) (t : LinkExtSlice) (o : Option Ether
     MatchOption o ((more.tags ≡ []) × (more.last ≡ None) × (more.len ≡ 0))
     (λ next. Stands n next more) →
     Stands (suc n) p (record { tags = t ∷ more.tags; len = tag_len t + more.len; last = more.last })
-tagged_after n p t None more is named at = record {
-  tagged = record {
-    few = rw at.0 (omega arith);
-    are = (is, rw named (at.0, at.1));
-    ends = λ _. rw at.1 tt;
-  };
-  len = rw (at.0, at.2) refl;
-}
-tagged_after n p t (Some next) more is named at = record {
-  tagged = record {
-    few = let few = at.tagged.few in omega (arith, few);
-    are = (is, rw named at.tagged.are);
-    ends = λ less. at.tagged.ends (omega arith);
-  };
-  len = ap (λ (k : ℕ). tag_len t + k) at.len;
-}
+tagged_after n p t o more is named at = grind arith
 
 from_tag_found : MacsecIsRead
     → (n : ℕ) (p : EtherPayload) (r : Result (Option LinkExtSlice) SliceError) (t : Tagged)
     → Sound n → tag_at p ≡ r → from_tag (tags_in n) p r ≡ Ok t → Stands (suc n) p t
 from_tag_found law n p (Err x) t sound read e = cc
-from_tag_found law n p (Ok None) t sound read e =
-    let same : without_tags (Some p) ≡ t = cc in
-    subst (Stands (suc n) p) same (stands_none (suc n) p (tag_read law p None read))
+from_tag_found law n p (Ok None) t sound read e = grind arith
 from_tag_found law n p (Ok (Some g)) t sound read e =
     let found = ok_after g (read_further (tags_in n) (payload_after g)) t e in
     let stands = tagged_after n p g (payload_after g) found.0 (tag_read law p (Some g) read) refl
@@ -169,12 +102,7 @@ tags_found law (suc n) p t e = from_tag_found law n p (tag_at p) t (tags_found l
 untagged_only : (n : ℕ) (p : EtherPayload) (last : Option EtherPayload) → IsTagged n p [] last
     → tags_in n p ≡ Ok (record { tags = []; len = 0; last = last })
 unfolding tags_in
-untagged_only zero p last is = ap (λ (o : Option EtherPayload). Ok (without_tags o)) (sym is.are)
-untagged_only (suc n) p last is =
-    let ends = is.ends (omega arith) in
-    let none : names_tag p.ether_type ≡ false = rw is.are at ends in
-    ap (from_tag (tags_in n) p) (none_only p none)
-    ∙ ap (λ (o : Option EtherPayload). Ok (without_tags o)) (sym is.are)
+untagged_only n p last is = grind arith
 
 abbrev pub Complete : ℕ → List LinkExtSlice → Option EtherPayload → Type 0
 Complete n tags last = (p : EtherPayload) → IsTagged n p tags last
@@ -185,9 +113,7 @@ further_only : (n : ℕ) (o : Option EtherPayload) (tags : List LinkExtSlice)
     (length tags < n → IfSome last (λ q. names_tag q.ether_type ≡ false))
     → MatchOption o ((tags ≡ []) × (last ≡ None)) (λ next. AreTags next tags last) →
     read_further (tags_in n) o ≡ Ok (record { tags = tags; len = tags_len tags; last = last })
-further_only n None tags last complete few ends are = rw (are.0, are.1) refl
-further_only n (Some next) tags last complete few ends are =
-    complete next (record { few = few; are = are; ends = ends })
+further_only n o tags last complete few ends are = grind arith
 
 pub tags_only : MacsecIsRead → (tags : List LinkExtSlice) (n : ℕ) (last : Option EtherPayload)
     → Complete n tags last

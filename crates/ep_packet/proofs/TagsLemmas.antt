@@ -1,11 +1,10 @@
 -- Tags read one after the other.
-use Rattle.std.proofs.Common.{◌≡◌, ℕ, suc, ◌+◌, List, [], ◌∷◌, ◌++◌, Option, Some, None, Result, Ok}
-use Rattle.std.proofs.Common.{Err, arith, refl, sym, ap, ◌∙◌, append_assoc, append-nil}
+use Rattle.std.proofs.Common.{◌≡◌, ℕ, suc, ◌+◌, List, ◌∷◌, ◌++◌, Option, Some, None, Result, Ok, [], Err, arith, refl}
+use Rattle.std.proofs.Common.{sym, ap, ◌∙◌, append_assoc, append-nil}
 use Rattle.ep_packet.specs.SliceFault.{offset_by}
-use Rattle.ep_packet.specs.Tags.{Tagged, with_tag, from_tag, read_further, tag_at, tags_in}
-use Rattle.ep_packet.specs.Tags.{without_tags}
+use Rattle.ep_packet.specs.Tags.{Tagged, with_tag, from_tag, read_further, tag_at, tags_in, without_tags}
 use Rattle.ep_packet.specs.declared.err.packet.slice_error.SliceError.{SliceError}
-use Rattle.ep_packet.proofs.FaultLemmas.{moved_nothing, moved_twice}
+use Rattle.ep_packet.proofs.FaultLemmas.{moved_twice}
 use Rattle.ep_tag.specs.Ether.{EtherPayload}
 use Rattle.ep_tag.specs.LinkExt.{payload_after, tag_len}
 use Rattle.ep_tag.specs.declared.link.link_ext_slice.LinkExtSlice.{LinkExtSlice}
@@ -16,20 +15,12 @@ joined tags len (Ok t) = Ok (record { tags = tags ++ t.tags; len = len + t.len; 
 joined tags len (Err e) = Err (offset_by len e)
 
 pub joined_nothing : (r : Result Tagged SliceError) → joined [] 0 r ≡ r
-joined_nothing (Ok t) = let sum : 0 + t.len ≡ t.len = omega arith in
-    ap (λ (n : ℕ). Ok (record { tags = t.tags; len = n; last = t.last })) sum
-joined_nothing (Err e) = ap Err (moved_nothing e)
+joined_nothing r = grind arith
 
 pub joined_after : (tags : List LinkExtSlice) (len : ℕ) (tag : LinkExtSlice)
     (r : Result Tagged SliceError) →
     joined tags len (with_tag tag r) ≡ joined (tags ++ tag ∷ []) (len + tag_len tag) r
-joined_after tags len tag (Ok t) =
-    let sum : len + (tag_len tag + t.len) ≡ len + tag_len tag + t.len = omega arith in
-    ap (λ (n : ℕ). Ok (record { tags = tags ++ tag ∷ t.tags; len = n; last = t.last })) sum
-    ∙ ap (λ (ts : List LinkExtSlice). Ok
-    (record { tags = ts; len = len + tag_len tag + t.len; last = t.last }))
-    (sym (append_assoc tags (tag ∷ []) t.tags))
-joined_after tags len tag (Err e) = ap Err (moved_twice len (tag_len tag) e)
+joined_after tags len tag r = grind (arith, append_assoc, moved_twice)
 
 tags_turn : (n : ℕ) (p : EtherPayload) (r : Result (Option LinkExtSlice) SliceError) → tag_at p ≡ r
     → tags_in (suc n) p ≡ from_tag (tags_in n) p r
@@ -43,11 +34,7 @@ tags_in_full p = refl
 -- nothing more is read
 pub joined_untagged : (tags : List LinkExtSlice) (len : ℕ) (last : Option EtherPayload)
     → joined tags len (Ok (without_tags last)) ≡ Ok (record { tags = tags; len = len; last = last })
-joined_untagged tags len last =
-    let sum : len + 0 ≡ len = omega arith in
-    ap (λ (n : ℕ). Ok (record { tags = tags ++ []; len = n; last = last })) sum
-    ∙ ap (λ (ts : List LinkExtSlice). Ok (record { tags = ts; len = len; last = last }))
-    (append-nil tags)
+joined_untagged tags len last = grind (arith, append-nil)
 
 -- the ends of the loop, where k + 1 tags may still follow, and its next turn
 pub ends_untagged : (all : Result Tagged SliceError) (tags : List LinkExtSlice) (len k n : ℕ)

@@ -1,14 +1,13 @@
 -- The class of an Ethernet II frame: a whole message, a fragment, something else, or refused.
-use Rattle.std.specs.Prelude.{ℕ, ⊤, ◌<◌, ◌^◌, ◌==◌, if◌then◌else◌, Bool, List, Option, Some, None}
-use Rattle.std.specs.Prelude.{Result, Ok, Err}
+use Rattle.std.specs.Prelude.{ℕ, ⊤, ◌<◌, ◌^◌, ◌==◌, if◌then◌else◌, Bool, List, Option, Some, None, Result, Ok, Err}
 use Rattle.ep_base.specs.declared.err.layer.Layer.TheVariants.{Ethernet2Header}
 use Rattle.ep_base.specs.declared.err.len_error.LenError.{LenError}
 use Rattle.ep_ip.specs.Ipv4 as v4
 use Rattle.ep_ip.specs.Ipv6 as v6
 use Rattle.ep_ipslice.specs.Ipv4Packet.{ipv4_packet_at}
 use Rattle.ep_ipslice.specs.Ipv6Packet.{fragment_fields_in, ipv6_packet_at}
-use Rattle.ep_ipslice.specs.Packet.{FragmentFields, IpPayload, Ipv4Packet, Ipv6Packet}
-use Rattle.ep_ipslice.specs.Packet.{ipv4_fragment_fields, ipv4_payload}
+use Rattle.ep_ipslice.specs.Packet.{FragmentFields, IpPayload, Ipv4Packet, Ipv6Packet, ipv4_fragment_fields}
+use Rattle.ep_ipslice.specs.Packet.{ipv4_payload}
 use Rattle.ep_ipslice.specs.declared.err.ipv4.slice_error.SliceError.{SliceError as Ipv4Fault}
 use Rattle.ep_ipslice.specs.declared.err.ipv6.slice_error.SliceError.{SliceError as Ipv6Fault}
 use Rattle.ep_link.specs.Arp.{packet_at}
@@ -20,11 +19,11 @@ use Rattle.ep_packet.specs.Tags.{Tagged, most_tags, tags_in, vlan_ids_of}
 use Rattle.ep_packet.specs.declared.addresses.Addresses.{Addresses}
 use Rattle.ep_packet.specs.declared.addresses.Addresses.TheVariants.{V4, V6}
 use Rattle.ep_packet.specs.declared.class.Class.{Class as ReturnedClass}
-use Rattle.ep_packet.specs.declared.class.SlicedFragment.{SlicedFragment}
 use Rattle.ep_packet.specs.declared.class.Class.TheVariants as returned
 use Rattle.ep_packet.specs.declared.err.packet.slice_error.SliceError.{SliceError}
 use Rattle.ep_packet.specs.declared.net.net_slice.NetSlice.{NetSlice}
 use Rattle.ep_packet.specs.declared.net.net_slice.NetSlice.TheVariants as net
+use Rattle.ep_packet.specs.declared.sliced_fragment.SlicedFragment.{SlicedFragment}
 use Rattle.ep_packet.specs.declared.sliced_packet.SlicedPacket.{SlicedPacket}
 use Rattle.ep_packet.specs.declared.transport.transport_slice.TransportSlice.{TransportSlice}
 use Rattle.ep_packet.specs.declared.transport.transport_slice.TransportSlice.TheVariants as transport
@@ -159,9 +158,9 @@ abbrev pub sliced_class : Result SlicedPacket SliceError → Class
 sliced_class (Ok packet) = packet_parsed packet
 sliced_class (Err e) = Refused
 
--- all fields of a fragment: IP number, offset, whether more follow, and bytes
-abbrev pub fragment_values : SlicedFragment → ℕ × ℕ × Bool × List ℕ
-fragment_values fragment = (fragment.ip_number.0, fragment.offset, fragment.more_fragments, fragment.bytes.now)
+-- all fields of a fragment: offset, whether more follow, and bytes
+abbrev pub fragment_values : SlicedFragment → ℕ × Bool × List ℕ
+fragment_values fragment = (fragment.offset, fragment.more_fragments, fragment.bytes.now)
 
 -- the class that the code returns
 abbrev pub as_class : ReturnedClass → Class
@@ -170,7 +169,7 @@ as_class (returned.Cut m) = Cut (record {
   vlan_ids = m.vlan_ids.items;
   addresses = m.addresses;
   identification = m.identification;
-  number = m.fragment.ip_number.0;
+  number = m.ip_number.0;
 }) m.fragment.offset m.fragment.more_fragments m.fragment.bytes.now
 as_class returned.Other = Other
 as_class returned.Refused = Refused

@@ -1,8 +1,7 @@
 -- Why a frame is refused: the first fault in the order of its layers. It has the layer, how many
 -- bytes that layer needs and how many are there, by which length field, and the offset in the
 -- frame.
-use Rattle.std.specs.Prelude.{◌≡◌, ◌<◌, ◌≤◌, ◌+◌, ◌-◌, ℕ, true, false, List, length, Option}
-use Rattle.std.specs.Prelude.{Some, Result, Ok, Err}
+use Rattle.std.specs.Prelude.{◌≡◌, ◌<◌, ◌≤◌, ◌+◌, ◌-◌, ℕ, true, false, List, length, Option, Some, Result, Ok, Err}
 use Rattle.ep_base.specs.LenError.{too_few_bytes}
 use Rattle.ep_base.specs.declared.err.layer.Layer.TheVariants.{Ethernet2Header, VlanHeader}
 use Rattle.ep_base.specs.declared.err.len_error.LenError.{LenError}
@@ -35,8 +34,7 @@ use Rattle.ep_packet.specs.NetSlice.{of_ip as net_of}
 use Rattle.ep_packet.specs.Parts.{headers_len, tags_len}
 use Rattle.ep_packet.specs.ReadIpHeaders.{IsIpHeadersFault}
 use Rattle.ep_packet.specs.Readable as number
-use Rattle.ep_packet.specs.SliceFault.{of_ip, of_ipv4, of_ipv6, of_linux_sll, of_macsec, offset_by}
-use Rattle.ep_packet.specs.SliceFault.{within}
+use Rattle.ep_packet.specs.SliceFault.{of_ip, of_ipv4, of_ipv6, of_linux_sll, of_macsec, offset_by, within}
 use Rattle.ep_packet.specs.Sliced.{arp_type, ether_payload, ipv4_type, ipv6_type}
 use Rattle.ep_packet.specs.Tags.{is_macsec_type, is_vlan_type, most_tags}
 use Rattle.ep_packet.specs.declared.err.packet.slice_error.SliceError.{SliceError}

@@ -3,8 +3,7 @@ use Rattle.std.specs.Prelude.{Bool, true, false, Option, Some, None}
 use Rattle.ep_ext.specs.declared.err.ipv4_exts.exts_walk_error.ExtsWalkError as ipv4
 use Rattle.ep_ext.specs.declared.err.ipv6_exts.exts_walk_error.ExtsWalkError as ipv6
 use Rattle.ep_packet.specs.declared.err.ip.headers_write_error.HeadersWriteError.{HeadersWriteError}
-use Rattle.ep_packet.specs.declared.err.ip.headers_write_error.HeadersWriteError.TheVariants.{Memory}
-use Rattle.ep_packet.specs.declared.err.ip.headers_write_error.HeadersWriteError.TheVariants.{Ipv4Exts}
+use Rattle.ep_packet.specs.declared.err.ip.headers_write_error.HeadersWriteError.TheVariants.{Memory, Ipv4Exts}
 use Rattle.ep_packet.specs.declared.err.ip.headers_write_error.HeadersWriteError.TheVariants.{Ipv6Exts}
 
 -- out of memory

@@ -1,27 +1,23 @@
 -- The headers of an IP packet of either version (RFC 791; RFC 8200).
-use Rattle.std.specs.Prelude.{◌≡◌, ℕ, ◌+◌, ◌-◌, nat_lt, Bool, false, is_some, if◌then◌else◌, List}
-use Rattle.std.specs.Prelude.{◌++◌, length, Option, Some, None, Result, Ok, Err}
+use Rattle.std.specs.Prelude.{◌≡◌, ℕ, ◌+◌, ◌-◌, nat_lt, Bool, false, is_some, if◌then◌else◌, List, ◌++◌, length, Option}
+use Rattle.std.specs.Prelude.{Some, None, Result, Ok, Err}
 use Rattle.std.specs.Option.{option_map_or}
 use Rattle.ep_base.specs.Bounded.{too_big}
 use Rattle.ep_base.specs.declared.err.value_too_big_error.ValueTooBigError.{ValueTooBigError}
-use Rattle.ep_base.specs.declared.err.value_type.ValueType.TheVariants.{Ipv4PayloadLength}
-use Rattle.ep_base.specs.declared.err.value_type.ValueType.TheVariants.{Ipv6PayloadLength}
+use Rattle.ep_base.specs.declared.err.value_type.ValueType.TheVariants.{Ipv4PayloadLength, Ipv6PayloadLength}
 use Rattle.ep_base.specs.declared.net.ip_number.IpNumber.{IpNumber}
 use Rattle.ep_ext.specs.Follow as exts
 use Rattle.ep_ext.specs.Fragment.{fragments}
-use Rattle.ep_ext.specs.Ipv4Exts.{auth_number, ipv4_exts_of, ipv4_exts_encoding, ipv4_walk_fault}
-use Rattle.ep_ext.specs.Ipv4Exts.{ipv4_with_link}
+use Rattle.ep_ext.specs.Ipv4Exts.{auth_number, ipv4_exts_of, ipv4_exts_encoding, ipv4_walk_fault, ipv4_with_link}
 use Rattle.ep_ext.specs.Value.{Piece, bytes_of}
 use Rattle.ep_ext.specs.Link.{all_slots, pieces_in, with_links}
 use Rattle.ep_ext.specs.declared.err.ip_exts.exts_walk_error.ExtsWalkError.{ExtsWalkError}
-use Rattle.ep_ext.specs.declared.err.ip_exts.exts_walk_error.ExtsWalkError.TheVariants.{Ipv4Exts}
-use Rattle.ep_ext.specs.declared.err.ip_exts.exts_walk_error.ExtsWalkError.TheVariants.{Ipv6Exts}
+use Rattle.ep_ext.specs.declared.err.ip_exts.exts_walk_error.ExtsWalkError.TheVariants.{Ipv4Exts, Ipv6Exts}
 use Rattle.ep_ext.specs.declared.err.ipv4_exts.exts_walk_error.ExtsWalkError as ipv4
 use Rattle.ep_ext.specs.declared.err.ipv6_exts.exts_walk_error.ExtsWalkError as ipv6
 use Rattle.ep_ext.specs.declared.net.ipv4_extensions.Ipv4Extensions.{Ipv4Extensions}
 use Rattle.ep_ext.specs.declared.net.ipv6_extensions.Ipv6Extensions.{Ipv6Extensions}
-use Rattle.ep_ip.specs.Ipv4.{header_len, ipv4_header_of, is_fragmenting as is_fragmenting_v4}
-use Rattle.ep_ip.specs.Ipv4.{encoding as encoding_v4}
+use Rattle.ep_ip.specs.Ipv4.{header_len, ipv4_header_of, is_fragmenting as is_fragmenting_v4, encoding as encoding_v4}
 use Rattle.ep_ip.specs.Ipv4Checksum.{right_checksum}
 use Rattle.ep_ip.specs.Ipv6.{encoding as encoding_v6}
 use Rattle.ep_ip.specs.declared.net.ipv4_header.Ipv4Header.{Ipv4Header}

@@ -1,6 +1,6 @@
 -- A payload is tags, one after the other, and what follows them.
-use Rattle.std.specs.Prelude.{◌≡◌, ◌<◌, ◌≤◌, ℕ, true, false, List, [], ◌∷◌, length, Option, Some}
-use Rattle.std.specs.Prelude.{None, MatchOption, IfSome}
+use Rattle.std.specs.Prelude.{◌≡◌, ◌<◌, ◌≤◌, ℕ, true, false, List, [], ◌∷◌, length, Option, Some, None, MatchOption}
+use Rattle.std.specs.Prelude.{IfSome}
 use Rattle.ep_packet.specs.Tags.{is_macsec_type, is_vlan_type, names_tag}
 use Rattle.ep_tag.specs.Ether.{EtherPayload}
 use Rattle.ep_tag.specs.LinkExt.{payload_after}

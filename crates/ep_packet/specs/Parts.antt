@@ -1,6 +1,5 @@
 -- The offsets in a frame of its parts: tags, headers and payloads.
-use Rattle.std.specs.Prelude.{◌≡◌, ℕ, ◌+◌, ⊤, List, [], ◌∷◌, ◌++◌, length, Option, Some, None}
-use Rattle.std.specs.Prelude.{IfSome}
+use Rattle.std.specs.Prelude.{◌≡◌, ℕ, ◌+◌, ⊤, List, [], ◌∷◌, ◌++◌, length, Option, Some, None, IfSome}
 use Rattle.ep_ext.specs.Ipv4Exts.{auth_bytes}
 use Rattle.ep_packet.specs.Sliced.{Layers, no_layers}
 use Rattle.ep_packet.specs.Tags.{Tagged}

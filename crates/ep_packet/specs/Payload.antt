@@ -6,8 +6,7 @@ use Rattle.ep_ipslice.specs.Packet.{IpPayload}
 use Rattle.ep_packet.specs.declared.payload_slice.PayloadSlice.{PayloadSlice}
 use Rattle.ep_packet.specs.declared.payload_slice.PayloadSlice.TheVariants as slice
 use Rattle.ep_tag.specs.Ether.{EtherPayload}
-use Rattle.ep_tag.specs.EtherOrder.{hashed_as as ether_hashed_as}
-use Rattle.ep_tag.specs.EtherOrder.{ordered_as as ether_ordered_as}
+use Rattle.ep_tag.specs.EtherOrder.{hashed_as as ether_hashed_as, ordered_as as ether_ordered_as}
 
 -- no bytes; bytes that an ether type names; bytes that MACsec modified; the payload of an IP
 -- packet; and that of a message of each protocol that is read

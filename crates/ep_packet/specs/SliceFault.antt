@@ -14,10 +14,8 @@ use Rattle.ep_base.specs.declared.err.slice_error.SliceError.{SliceError as Head
 use Rattle.ep_base.specs.declared.err.slice_error.SliceError.TheVariants as slice_error
 use Rattle.ep_link.specs.declared.err.linux_sll.header_error.HeaderError.{HeaderError as SllFault}
 use Rattle.ep_packet.specs.declared.err.packet.slice_error.SliceError.{SliceError}
-use Rattle.ep_packet.specs.declared.err.packet.slice_error.SliceError.TheVariants.{Len, LinuxSll}
-use Rattle.ep_packet.specs.declared.err.packet.slice_error.SliceError.TheVariants.{Macsec, Ip, Ipv4}
-use Rattle.ep_packet.specs.declared.err.packet.slice_error.SliceError.TheVariants.{Ipv6, Ipv4Exts}
-use Rattle.ep_packet.specs.declared.err.packet.slice_error.SliceError.TheVariants.{Ipv6Exts, Tcp}
+use Rattle.ep_packet.specs.declared.err.packet.slice_error.SliceError.TheVariants.{Len, LinuxSll, Macsec, Ip, Ipv4}
+use Rattle.ep_packet.specs.declared.err.packet.slice_error.SliceError.TheVariants.{Ipv6, Ipv4Exts, Ipv6Exts, Tcp}
 use Rattle.ep_tag.specs.declared.err.macsec.header_error.HeaderError.{HeaderError as MacsecFault}
 
 abbrev pub of_linux_sll : HeaderSliceError SllFault → SliceError

@@ -1,6 +1,5 @@
 -- A frame, or a packet in one, sliced into its layers.
-use Rattle.std.specs.Prelude.{◌≡◌, ℕ, ◌+◌, ◌==◌, if◌then◌else◌, List, [], length, Option, Some}
-use Rattle.std.specs.Prelude.{None, Result, Ok, Err}
+use Rattle.std.specs.Prelude.{◌≡◌, ℕ, ◌+◌, ◌==◌, if◌then◌else◌, List, [], length, Option, Some, None, Result, Ok, Err}
 use Rattle.ep_base.specs.declared.err.layer.Layer.TheVariants.{Ethernet2Header}
 use Rattle.ep_base.specs.declared.err.len_error.LenError.{LenError}
 use Rattle.ep_base.specs.declared.len_source.LenSource.{LenSource}
@@ -27,8 +26,7 @@ use Rattle.ep_link.specs.declared.link.link_slice.LinkSlice.{LinkSlice}
 use Rattle.ep_link.specs.declared.link.link_slice.LinkSlice.TheVariants as link
 use Rattle.ep_packet.specs.Readable.{ReadMessage, message_at}
 use Rattle.ep_packet.specs.Readable.ReadMessage.{Icmpv4, Icmpv6, Raw, Tcp, Udp}
-use Rattle.ep_packet.specs.SliceFault.{later, offset_by, of_ip, of_ipv4, of_ipv6, of_linux_sll}
-use Rattle.ep_packet.specs.SliceFault.{within}
+use Rattle.ep_packet.specs.SliceFault.{later, offset_by, of_ip, of_ipv4, of_ipv6, of_linux_sll, within}
 use Rattle.ep_packet.specs.IsTagged.{IsTagged}
 use Rattle.ep_packet.specs.Tags.{Tagged, most_tags, tags_in}
 use Rattle.ep_packet.specs.declared.err.packet.slice_error.SliceError.{SliceError}

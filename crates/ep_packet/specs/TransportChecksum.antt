@@ -1,10 +1,8 @@
 -- Transport headers with the checksum that belongs to a payload and two addresses.
 use Rattle.std.specs.Prelude.{ℕ, ◌-◌, List, length, Result, Ok, Err}
 use Rattle.ep_base.specs.declared.err.value_too_big_error.ValueTooBigError.{ValueTooBigError}
-use Rattle.ep_base.specs.declared.err.value_type.ValueType.TheVariants.{UdpPayloadLengthIpv4}
-use Rattle.ep_base.specs.declared.err.value_type.ValueType.TheVariants.{UdpPayloadLengthIpv6}
-use Rattle.ep_base.specs.declared.err.value_type.ValueType.TheVariants.{TcpPayloadLengthIpv4}
-use Rattle.ep_base.specs.declared.err.value_type.ValueType.TheVariants.{TcpPayloadLengthIpv6}
+use Rattle.ep_base.specs.declared.err.value_type.ValueType.TheVariants.{UdpPayloadLengthIpv4, UdpPayloadLengthIpv6}
+use Rattle.ep_base.specs.declared.err.value_type.ValueType.TheVariants.{TcpPayloadLengthIpv4, TcpPayloadLengthIpv6}
 use Rattle.ep_base.specs.declared.err.value_type.ValueType.TheVariants.{Icmpv6PayloadLength}
 use Rattle.ep_icmp.specs.Icmpv4 as icmpv4
 use Rattle.ep_icmp.specs.Icmpv6 as icmpv6
@@ -12,10 +10,7 @@ use Rattle.ep_packet.specs.declared.err.packet.transport_checksum_error.Transpor
 use Rattle.ep_packet.specs.declared.err.packet.transport_checksum_error.TransportChecksumError.TheVariants.{PayloadLen}
 use Rattle.ep_packet.specs.declared.err.packet.transport_checksum_error.TransportChecksumError.TheVariants.{Icmpv6InIpv4}
 use Rattle.ep_packet.specs.declared.transport.transport_header.TransportHeader.{TransportHeader}
-use Rattle.ep_packet.specs.declared.transport.transport_header.TransportHeader.TheVariants.{Udp}
-use Rattle.ep_packet.specs.declared.transport.transport_header.TransportHeader.TheVariants.{Tcp}
-use Rattle.ep_packet.specs.declared.transport.transport_header.TransportHeader.TheVariants.{Icmpv4}
-use Rattle.ep_packet.specs.declared.transport.transport_header.TransportHeader.TheVariants.{Icmpv6}
+use Rattle.ep_packet.specs.declared.transport.transport_header.TransportHeader.TheVariants.{Udp, Tcp, Icmpv4, Icmpv6}
 use Rattle.ep_tcpudp.specs.Limit.{value_up_to}
 use Rattle.ep_tcpudp.specs.Tcp.{header_len}
 use Rattle.ep_tcpudp.specs.TcpChecksum as tcp

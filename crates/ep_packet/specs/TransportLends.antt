@@ -7,10 +7,7 @@ use Rattle.ep_icmp.specs.declared.transport.icmpv4_header.Icmpv4Header.{Icmpv4He
 use Rattle.ep_icmp.specs.declared.transport.icmpv6_header.Icmpv6Header.{Icmpv6Header}
 use Rattle.ep_packet.specs.contracts.transport.transport_header.TransportHeader.{the_row}
 use Rattle.ep_packet.specs.declared.transport.transport_header.TransportHeader.{TransportHeader}
-use Rattle.ep_packet.specs.declared.transport.transport_header.TransportHeader.TheVariants.{Udp}
-use Rattle.ep_packet.specs.declared.transport.transport_header.TransportHeader.TheVariants.{Tcp}
-use Rattle.ep_packet.specs.declared.transport.transport_header.TransportHeader.TheVariants.{Icmpv4}
-use Rattle.ep_packet.specs.declared.transport.transport_header.TransportHeader.TheVariants.{Icmpv6}
+use Rattle.ep_packet.specs.declared.transport.transport_header.TransportHeader.TheVariants.{Udp, Tcp, Icmpv4, Icmpv6}
 use Rattle.ep_tcpudp.specs.contracts.transport.tcp_header.TcpHeader.{the_row as tcp_row}
 use Rattle.ep_tcpudp.specs.contracts.transport.udp_header.UdpHeader.{the_row as udp_row}
 use Rattle.ep_tcpudp.specs.declared.transport.tcp_header.TcpHeader.{TcpHeader}

@@ -1,15 +1,14 @@
 //! The class of a frame: a whole message, a fragment, something else, or refused.
 ghost use Rattle.std.specs.Prelude.{◌≡◌};
 ghost use Rattle.ep_ipslice.specs.Packet.{fragment_fields};
-ghost use Rattle.ep_packet.specs.Class.{IdentificationFits, ClassFits, as_class, class_of};
-ghost use Rattle.ep_packet.specs.Class.{fragment_class, ipv4_addresses, ipv6_addresses, net_class};
-ghost use Rattle.ep_packet.specs.Class.{packet_parsed, whole_class};
+ghost use Rattle.ep_packet.specs.Class.{IdentificationFits, ClassFits, as_class, class_of, fragment_class};
+ghost use Rattle.ep_packet.specs.Class.{ipv4_addresses, ipv6_addresses, net_class, packet_parsed, whole_class};
 ghost use Rattle.ep_packet.specs.Tags.{vlan_ids_of};
 ghost use Rattle.ep_packet.specs.declared.net.net_slice.NetSlice.TheVariants as net;
 
 use crate::laws::traits;
 use crate::message::message_of;
-use crate::{Addresses, Message, NetSlice, SlicedPacket};
+use crate::{Addresses, Message, NetSlice, SlicedFragment, SlicedPacket};
 use arrayvec::ArrayVec;
 use ep_base::{IpFragOffset, IpNumber};
 use ep_ipslice::laws::{extensions_of_a_packet, ipv4_fragment_fields, ipv6_fragment_fields};
@@ -54,21 +53,10 @@ pub struct IpFragment<'a> {
     pub addresses: Addresses,
     /// The identification, of 16 bits over IPv4.
     pub identification: u32,
-    /// The offset and the bytes of the fragment.
-    pub fragment: SlicedFragment<'a>,
-}
-
-/// The bytes of a fragment, and their offset in the payload of the datagram.
-#[derive(Clone, Copy, Debug, PartialEq, Eq)]
-pub struct SlicedFragment<'a> {
     /// The IP number of the datagram's payload.
     pub ip_number: IpNumber,
-    /// The offset of the bytes in the payload of the datagram, in units of 8 bytes.
-    pub offset: IpFragOffset,
-    /// Whether more fragments follow.
-    pub more_fragments: bool,
-    /// The bytes.
-    pub bytes: &'a [u8],
+    /// The offset and the bytes of the fragment.
+    pub fragment: SlicedFragment<'a>,
 }
 
 impl<'a> Class<'a> {
@@ -185,8 +173,8 @@ impl<'a> SlicedPacket<'a> {
             vlan_ids: self.vlan_ids(),
             addresses,
             identification,
+            ip_number: payload.ip_number,
             fragment: SlicedFragment {
-                ip_number: payload.ip_number,
                 offset,
                 more_fragments,
                 bytes: payload.payload,

@@ -9,9 +9,8 @@ ghost use Rattle.ep_ipslice.specs.Packet.{IsIpv4Packet, IsIpv6Packet};
 ghost use Rattle.ep_packet.specs.Parts.{IsAt, LayersIn, transport_bytes};
 ghost use Rattle.ep_packet.specs.Readable.{message_at};
 ghost use Rattle.ep_packet.specs.SliceFault.{fault_offset};
-ghost use Rattle.ep_packet.specs.Sliced.{AreIpLayers, Layers, in_ipv4, in_ipv6, ip_layers};
-ghost use Rattle.ep_packet.specs.Sliced.{arp_layers, ipv4_layers, ipv6_layers};
-ghost use Rattle.ep_packet.specs.Sliced.{read_transport, transport_in};
+ghost use Rattle.ep_packet.specs.Sliced.{AreIpLayers, Layers, in_ipv4, in_ipv6, ip_layers, arp_layers, ipv4_layers};
+ghost use Rattle.ep_packet.specs.Sliced.{ipv6_layers, read_transport, transport_in};
 
 use crate::err::packet::SliceError;
 use crate::{NetSlice, TransportSlice, slice_fault};

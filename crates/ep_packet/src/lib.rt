@@ -13,15 +13,17 @@ mod net;
 mod packet_headers;
 mod payload_slice;
 mod slice_fault;
+mod sliced_fragment;
 mod sliced_packet;
 mod tagged_slice;
 mod transport;
 
 pub use addresses::Addresses;
-pub use class::{Class, IpFragment, SlicedFragment, WholeMessage};
+pub use class::{Class, IpFragment, WholeMessage};
 pub use message::{Message, read_message};
 pub use net::{IpHeader, IpHeaders, NetHeaders, NetSlice};
 pub use packet_headers::PacketHeaders;
 pub use payload_slice::PayloadSlice;
+pub use sliced_fragment::SlicedFragment;
 pub use sliced_packet::SlicedPacket;
 pub use transport::{TransportHeader, TransportSlice};

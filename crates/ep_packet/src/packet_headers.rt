@@ -1,10 +1,8 @@
 ghost use Rattle.std.specs.Prelude.{◌≡◌, ◌≤◌, ◌<◌, ◌+◌, ◌^◌, ℕ, length, map, IfErr, IfSome, Ok};
 ghost use Rattle.std.specs.Option.{option_map};
-ghost use Rattle.ep_packet.specs.FrameFault.{IsEtherTypeHeadersFault, IsFrameHeadersFault};
-ghost use Rattle.ep_packet.specs.FrameFault.{IsIpPacketHeadersFault};
-ghost use Rattle.ep_packet.specs.PacketHeaders.{Headers, ether_type_headers, ethernet_headers};
-ghost use Rattle.ep_packet.specs.PacketHeaders.{headers_after, ids_in, ip_packet_headers};
-ghost use Rattle.ep_packet.specs.PacketHeaders.{layers_after, modified_after, result_parsed};
+ghost use Rattle.ep_packet.specs.FrameFault.{IsEtherTypeHeadersFault, IsFrameHeadersFault, IsIpPacketHeadersFault};
+ghost use Rattle.ep_packet.specs.PacketHeaders.{Headers, ether_type_headers, ethernet_headers, headers_after, ids_in};
+ghost use Rattle.ep_packet.specs.PacketHeaders.{ip_packet_headers, layers_after, modified_after, result_parsed};
 ghost use Rattle.ep_packet.specs.PacketHeaders.{vlan_headers, vlan_header_of};
 ghost use Rattle.ep_packet.specs.Payload.{payload_parsed};
 ghost use Rattle.ep_packet.specs.SameHeaders.{AreHeadersOf};

@@ -1,9 +1,8 @@
 //! The errors of each layer as those of all layers, with offsets from an earlier start.
 ghost use Rattle.std.specs.Prelude.{◌≡◌};
 ghost use Rattle.ep_packet.specs.Readable.{tcp_fault};
-ghost use Rattle.ep_packet.specs.SliceFault.{CanMove, bounded_by, offset_by, of_ip, of_ipv4};
-ghost use Rattle.ep_packet.specs.SliceFault.{of_ipv6};
-ghost use Rattle.ep_packet.specs.SliceFault.{of_linux_sll, of_macsec, within};
+ghost use Rattle.ep_packet.specs.SliceFault.{CanMove, bounded_by, offset_by, of_ip, of_ipv4, of_ipv6, of_linux_sll};
+ghost use Rattle.ep_packet.specs.SliceFault.{of_macsec, within};
 
 use crate::err::packet::SliceError;
 use ep_base::LenSource;

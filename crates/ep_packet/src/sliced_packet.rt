@@ -1,5 +1,4 @@
-ghost use Rattle.std.specs.Prelude.{◌≡◌, ◌≤◌, ◌<◌, ◌+◌, ◌^◌, ◌↔◌, IfErr, IfOk, IfSome, IsErr, length};
-ghost use Rattle.std.specs.Prelude.{Ok, Some};
+ghost use Rattle.std.specs.Prelude.{◌≡◌, ◌≤◌, ◌<◌, ◌+◌, ◌^◌, ◌↔◌, IfErr, IfOk, IfSome, IsErr, length, Ok, Some};
 ghost use Rattle.std.specs.Option.{option_map};
 ghost use Rattle.ep_link.specs.Ethernet.{ethernet_len, payload_of};
 ghost use Rattle.ep_link.specs.Sll.{sll_len};
@@ -7,16 +6,13 @@ ghost use Rattle.ep_link.specs.SllPayload.{named_payload, payload_of as sll_payl
 ghost use Rattle.ep_link.specs.declared.link.link_slice.LinkSlice.TheVariants as link_slice;
 ghost use Rattle.ep_packet.specs.Class.{class_of, sliced_class};
 ghost use Rattle.ep_packet.specs.Class.Class.{Refused};
-ghost use Rattle.ep_packet.specs.FrameFault.{IsCookedFault, IsEtherTypeFault, IsFrameFault};
-ghost use Rattle.ep_packet.specs.FrameFault.{IsIpPacketFault};
-ghost use Rattle.ep_packet.specs.PacketView.{ether_payload_in, ip_payload_of, is_fragment};
-ghost use Rattle.ep_packet.specs.PacketView.{last_payload, payload_ether_type_in, vlan_slice_of};
-ghost use Rattle.ep_packet.specs.PacketView.{vlan_tags};
+ghost use Rattle.ep_packet.specs.FrameFault.{IsCookedFault, IsEtherTypeFault, IsFrameFault, IsIpPacketFault};
+ghost use Rattle.ep_packet.specs.PacketView.{ether_payload_in, ip_payload_of, is_fragment, last_payload};
+ghost use Rattle.ep_packet.specs.PacketView.{payload_ether_type_in, vlan_slice_of, vlan_tags};
 ghost use Rattle.ep_packet.specs.Parts.{ArePartsOf};
 ghost use Rattle.ep_packet.specs.SliceFault.{later};
-ghost use Rattle.ep_packet.specs.Sliced.{IsSliced, IsSlicedIp, ether_payload, packet_after};
-ghost use Rattle.ep_packet.specs.Sliced.{sliced_ether_type, sliced_ethernet, sliced_ip};
-ghost use Rattle.ep_packet.specs.Sliced.{sliced_linux_sll};
+ghost use Rattle.ep_packet.specs.Sliced.{IsSliced, IsSlicedIp, ether_payload, packet_after, sliced_ether_type};
+ghost use Rattle.ep_packet.specs.Sliced.{sliced_ethernet, sliced_ip, sliced_linux_sll};
 ghost use Rattle.ep_packet.specs.Tags.{vlan_ids_of};
 
 use crate::err::packet::SliceError;

@@ -1,14 +1,14 @@
 -- The MACsec header at the start of bytes.
-use Rattle.std.proofs.Common.{◌≡◌, ℕ, ◌+◌, ◌≤◌, Bool, false, cond, List, ◌++◌, length, take, drop}
-use Rattle.std.proofs.Common.{get_or, Result, Ok, arith, refl, sym, ap, subst, ◌∙◌}
-use Rattle.std.proofs.lemmas.Bool.{le-ltb, ltb-false}
-use Rattle.std.proofs.lemmas.List.{get_or-take, get_or_append_left, length-take-le, length-append}
-use Rattle.std.proofs.lemmas.List.{take-append-drop, take_at}
+use Rattle.std.proofs.lemmas.Bool.Decides.{nat_tests}
+use Rattle.std.proofs.Common.{◌≡◌, ℕ, ◌+◌, ◌≤◌, Bool, false, cond, List, ◌++◌, length, take, drop, Result, Ok, arith}
+use Rattle.std.proofs.Common.{sym, subst}
+use Rattle.std.proofs.lemmas.Bool.{ltb-false}
+use Rattle.std.proofs.lemmas.List.{get_or-take, get_or_append_left, length-take-le, length-append, take-append-drop}
+use Rattle.std.proofs.lemmas.List.{take_at}
 use Rattle.ep_base.specs.declared.err.slice_error.SliceError.{SliceError}
 use Rattle.ep_tag.specs.declared.err.macsec.header_error.HeaderError.{HeaderError}
 use Rattle.ep_base.specs.Prefixes.{TakesPrefix}
-use Rattle.ep_tag.specs.Macsec.{IsMacsecHeader, version_of, has_sci, has_no_room, header_len_of}
-use Rattle.ep_tag.specs.Macsec.{is_unmodified}
+use Rattle.ep_tag.specs.Macsec.{IsMacsecHeader, version_of, has_no_room, header_len_of}
 use Rattle.ep_tag.specs.MacsecFault.{header_at}
 use Rattle.ep_base.proofs.Prefixes.{guard_ok, ok_same, takes}
 
@@ -18,46 +18,25 @@ header_len-least a b = omega arith
 pub header_at-ok : (bytes : List ℕ) → 6 ≤ length bytes → version_of bytes ≡ false
     → has_no_room bytes ≡ false → header_len_of bytes ≤ length bytes
     → header_at bytes ≡ Ok (take (header_len_of bytes) bytes)
-header_at-ok bytes least version room whole =
-    rw (
-      le-ltb (length bytes) 6 least,
-      version,
-      room,
-      le-ltb (length bytes)
-          (header_len_of bytes) whole,
-    ) refl
+header_at-ok bytes least version room whole = grind arith
 
 -- the first bytes of a header say what the header says
 pub prefix_is : (bytes : List ℕ) → 6 ≤ length bytes → version_of bytes ≡ false
     → has_no_room bytes ≡ false → header_len_of bytes ≤ length bytes
     → IsMacsecHeader (take (header_len_of bytes) bytes)
 prefix_is bytes least version room whole =
-    let n = header_len_of bytes in
-    let six : 6 ≤ n = header_len-least (has_sci bytes) (is_unmodified bytes) in
-    let zeroth : get_or (take n bytes) 0 0 ≡ get_or bytes 0 0 =
-    get_or-take n bytes 0 0 (omega arith) in
-    let first : get_or (take n bytes) 1 0 ≡ get_or bytes 1 0 =
-    get_or-take n bytes 1 0 (omega arith) in
-    let len : length (take n bytes) ≡ n = length-take-le n bytes whole in
-    record {
-      least = omega arith;
-      version = rw zeroth version;
-      room = rw (zeroth, first) room;
-      whole = rw zeroth len;
-    }
+    grind (arith, header_len-least, get_or-take, length-take-le)
 
 -- the same with the length as it was computed
 pub taken : (bytes : List ℕ) (n : ℕ) → 6 ≤ length bytes → version_of bytes ≡ false
     → has_no_room bytes ≡ false → n ≡ header_len_of bytes → n ≤ length bytes
     → Ok (take n bytes) ≡ header_at bytes
-taken bytes n least version room counted whole =
-    rw counted (sym (header_at-ok bytes least version room (rw counted at whole)))
+taken bytes n least version room counted whole = grind arith
 
 pub prefix_at : (bytes : List ℕ) (n : ℕ) → 6 ≤ length bytes → version_of bytes ≡ false
     → has_no_room bytes ≡ false → n ≡ header_len_of bytes → n ≤ length bytes
     → IsMacsecHeader (take n bytes)
-prefix_at bytes n least version room counted whole =
-    rw counted (prefix_is bytes least version room (rw counted at whole))
+prefix_at bytes n least version room counted whole = grind (arith, nat_tests, prefix_is)
 
 -- what is taken is a header, and a prefix of the bytes
 pub header_takes : (bytes header : List ℕ) → header_at bytes ≡ Ok header
@@ -82,8 +61,7 @@ header_found bytes header e =
       found.0,
       (
         drop n bytes,
-        sym (ap (λ (h : List ℕ). h ++ drop n bytes) found.1
-            ∙ take-append-drop n bytes),
+        grind (arith, take-append-drop),
       ),
     )
 
@@ -91,15 +69,7 @@ header_found bytes header e =
 pub header_again : (header rest : List ℕ) → IsMacsecHeader header
     → header_at (header ++ rest) ≡ Ok header
 header_again header rest is =
-    let zeroth : get_or (header ++ rest) 0 0 ≡ get_or header 0 0 =
-    get_or_append_left header rest 0 0 (omega (arith, is.least)) in
-    let first : get_or (header ++ rest) 1 0 ≡ get_or header 1 0 =
-    get_or_append_left header rest 0 1 (omega (arith, is.least)) in
-    let len = length-append header rest in
-    let whole : header_len_of (header ++ rest) ≡ length header = rw zeroth (sym is.whole) in
-    header_at-ok (header ++ rest) (omega (arith, is.least)) (rw zeroth is.version)
-    (rw (zeroth, first) is.room) (rw whole (omega arith))
-    ∙ ap Ok (ap (λ n. take n (header ++ rest)) whole ∙ take_at header rest (length header) refl)
+    grind (arith, get_or_append_left, length-append, header_at-ok, take_at)
 
 pub takes_header : (bytes : List ℕ) (taken : Result (List ℕ) (SliceError HeaderError))
     → taken ≡ header_at bytes → TakesPrefix IsMacsecHeader bytes taken

@@ -1,6 +1,5 @@
 -- The prefix of some bytes of the length that a layer needs.
 use Rattle.std.proofs.Common.{◌≡◌, ℕ, ◌≤◌, List, ◌++◌, length, take, drop, Result, Ok, arith, sym}
-use Rattle.std.proofs.Common.{ap}
 use Rattle.std.proofs.lemmas.Bool.{le-ltb, ltb-false}
 use Rattle.std.proofs.lemmas.List.{length-take-le, take-append-drop, take_at, length-append}
 use Rattle.ep_base.specs.Prefixes.{IsOfLength, TakesPrefix}
@@ -21,11 +20,8 @@ prefix_takes layer n bytes prefix e =
 -- a prefix of the layer's length is taken, whatever follows it
 prefix_again : (layer : Layer) (n : ℕ) (prefix rest : List ℕ) → IsOfLength n prefix
     → prefix_at layer n (prefix ++ rest) ≡ Ok prefix
-prefix_again layer n prefix rest whole =
-    let len = length-append prefix rest in
-    rw (le-ltb (length (prefix ++ rest)) n (omega arith)) (ap Ok (take_at prefix rest n whole))
+prefix_again layer n prefix rest whole = grind (arith, length-append, le-ltb, take_at)
 
 pub takes_prefix : (layer : Layer) (n : ℕ) (bytes : List ℕ) (taken : Result (List ℕ) LenError)
     → taken ≡ prefix_at layer n bytes → TakesPrefix (IsOfLength n) bytes taken
-takes_prefix layer n = takes (IsOfLength n) (prefix_at layer n)
-    (prefix_takes layer n) (prefix_again layer n)
+takes_prefix layer n = grind (arith, takes, prefix_takes, prefix_again)

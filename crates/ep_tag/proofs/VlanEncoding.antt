@@ -1,12 +1,12 @@
 -- The bytes of a VLAN tag against its fields.
-use Rattle.std.proofs.Common.{◌≡◌, ℕ, ◌+◌, ◌*◌, ◌/◌, ◌%◌, ◌^◌, ◌<◌, ◌≤◌, Bool, true, false, cond}
-use Rattle.std.proofs.Common.{eqb, bit_or, List, length, get_or, arith, sym, refl}
+use Rattle.std.proofs.Common.{◌≡◌, ℕ, ◌+◌, ◌*◌, ◌/◌, ◌%◌, ◌^◌, ◌<◌, ◌≤◌, Bool, true, false, cond, eqb, bit_or, List}
+use Rattle.std.proofs.Common.{length, get_or, arith, sym}
 use Rattle.std.proofs.lemmas.Nat.{or_shifted}
 use Rattle.ep_base.specs.Bytes.{IsBytes}
 use Rattle.ep_tag.specs.Vlan.{single_vlan_header_of, encoding, vlan_len, Fits}
 use Rattle.ep_tag.specs.declared.link.single_vlan_header.SingleVlanHeader.{SingleVlanHeader}
 use Rattle.ep_base.proofs.Cells.{as_cells}
-use Rattle.ep_base.proofs.Numbers.{high_of, low_of, two_again}
+use Rattle.ep_base.proofs.Numbers.{high_of, low_of}
 use Rattle.ep_tag.proofs.Numbers.{worth_of}
 
 -- priority, drop bit and identifier, each in its bits
@@ -42,35 +42,12 @@ encoding-single_vlan_header_of tag whole fits =
     )
     (sym (as_cells 4 tag whole))
 
-pcp_again : (pcp id : ℕ) (drops : Bool) → pcp ≤ 7 → id ≤ 4095
-    → (pcp * 2 ^ 13 + cond drops (2 ^ 12) 0 + id) / 256 % 256 / 2 ^ 5 ≡ pcp
-pcp_again pcp id true h k = omega arith
-pcp_again pcp id false h k = omega arith
-
-drops_again : (pcp id : ℕ) (drops : Bool) → pcp ≤ 7 → id ≤ 4095
-    → eqb ((pcp * 2 ^ 13 + cond drops (2 ^ 12) 0 + id) / 256 % 256 / 2 ^ 4 % 2) 1 ≡ drops
-drops_again pcp id true h k =
-    let bit : (pcp * 2 ^ 13 + 2 ^ 12 + id) / 256 % 256 / 2 ^ 4 % 2 ≡ 1 = omega arith in rw bit refl
-drops_again pcp id false h k =
-    let bit : (pcp * 2 ^ 13 + 0 + id) / 256 % 256 / 2 ^ 4 % 2 ≡ 0 = omega arith in rw bit refl
-
 id_again : (pcp id : ℕ) (drops : Bool) → pcp ≤ 7 → id ≤ 4095 →
     (256 * ((pcp * 2 ^ 13 + cond drops (2 ^ 12) 0 + id) / 256 % 256) +
     (pcp * 2 ^ 13 + cond drops (2 ^ 12) 0 + id) % 256) % 2 ^ 12 ≡ id
-id_again pcp id true h k = omega arith
-id_again pcp id false h k = omega arith
+id_again pcp id drops h k = grind arith
 
 -- the fields are read again
 pub single_vlan_header_of-encoding : (h : SingleVlanHeader) → Fits h → single_vlan_header_of
     (encoding h) ≡ h
-single_vlan_header_of-encoding h fits =
-    let pcp = pcp_again h.pcp h.vlan_id h.drop_eligible_indicator fits.pcp fits.vlan_id in
-    let drops = drops_again h.pcp h.vlan_id h.drop_eligible_indicator fits.pcp fits.vlan_id in
-    let vlan_id = id_again h.pcp h.vlan_id h.drop_eligible_indicator fits.pcp fits.vlan_id in
-    let ether_type = two_again h.ether_type.0 fits.ether_type in
-    λ i. record {
-      pcp = pcp i;
-      drop_eligible_indicator = drops i;
-      vlan_id = vlan_id i;
-      ether_type = record { 0 = ether_type i };
-    }
+single_vlan_header_of-encoding h fits = grind arith

@@ -1,7 +1,6 @@
 -- The VLAN tag after the ether type that names it (IEEE 802.1Q, section 9.6): its bytes, and each
 -- field by its offset in them.
-use Rattle.std.specs.Prelude.{ℕ, ◌+◌, ◌*◌, ◌/◌, ◌%◌, ◌^◌, ◌<◌, ◌≤◌, ◌==◌, Bool, false}
-use Rattle.std.specs.Prelude.{if◌then◌else◌, List, ◌++◌, drop}
+use Rattle.std.specs.Prelude.{ℕ, ◌+◌, ◌*◌, ◌/◌, ◌%◌, ◌^◌, ◌<◌, ◌≤◌, ◌==◌, Bool, false, if◌then◌else◌, List, ◌++◌, drop}
 use Rattle.std.specs.Int.{w16, bit_at, to_be_bytes}
 use Rattle.ep_base.specs.Bytes.{num}
 use Rattle.ep_base.specs.declared.len_source.LenSource.TheVariants.{Slice}

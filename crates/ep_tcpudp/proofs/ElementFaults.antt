@@ -1,19 +1,15 @@
 -- What is wrong with an option that isn't read, and back.
-use Rattle.std.proofs.Common.{◌≡◌, inl, inr, ⊎_elim, ℕ, ◌+◌, ◌*◌, ◌<◌, ◌≤◌, true, false, eqb, ltb}
-use Rattle.std.proofs.Common.{not, List, length, Result, Err, arith, sym, refl, ap, ◌∙◌, subst}
-use Rattle.std.proofs.lemmas.Bool.{eqb-true, eqb-false, ne_eqb, ltb-true, ltb-false, lt-ltb, le-ltb}
-use Rattle.std.proofs.lemmas.Bool.{not-true, not-false, or_cases, or_parts, true_from_ne_false}
-use Rattle.std.proofs.lemmas.Bool.{cases_Bool}
+use Rattle.std.proofs.Common.{◌≡◌, inl, inr, ⊎_elim, ℕ, ◌<◌, ◌≤◌, true, false, eqb, List, length, Result, Err, arith}
+use Rattle.std.proofs.Common.{sym, refl, ap, ◌∙◌, subst}
+use Rattle.std.proofs.lemmas.Bool.{eqb-true, lt-ltb, or_cases}
 use Rattle.ep_base.specs.Bytes.{num}
 use Rattle.ep_tcpudp.specs.Elements.{HasOneSize, IsFault, IsSizeOfBlocks}
-use Rattle.ep_tcpudp.specs.Options.{kind_at, of_size, is_size_of_blocks, acknowledgement_at}
-use Rattle.ep_tcpudp.specs.Options.{element_at}
+use Rattle.ep_tcpudp.specs.Options.{kind_at, of_size, is_size_of_blocks, acknowledgement_at, element_at}
 use Rattle.ep_tcpudp.specs.declared.transport.tcp_option_element.TcpOptionElement.{TcpOptionElement}
 use Rattle.ep_tcpudp.specs.declared.transport.tcp_option_read_error.TcpOptionReadError.{TcpOptionReadError}
 use Rattle.ep_tcpudp.specs.declared.transport.tcp_option_read_error.TcpOptionReadError.TheVariants.{UnexpectedEndOfSlice}
 use Rattle.ep_tcpudp.specs.declared.transport.tcp_option_read_error.TcpOptionReadError.TheVariants.{UnexpectedSize}
 use Rattle.ep_tcpudp.specs.declared.transport.tcp_option_read_error.TcpOptionReadError.TheVariants.{UnknownId}
-use Rattle.ep_base.proofs.Prefixes.{err_same}
 use Rattle.ep_tcpudp.proofs.Guards.{by_test}
 
 -- ---- the sizes of selective acknowledgements
@@ -30,61 +26,19 @@ blocks_is n h =
     (4, (omega arith, omega arith, omega arith)))
     (or_cases _ _ h)) (or_cases _ _ h)) (or_cases _ _ h)
 
-blocks_not : (n : ℕ) → is_size_of_blocks n ≡ false → IsSizeOfBlocks n → ⊥
-blocks_not n h size =
-    let one = or_parts _ _ h in
-    let two = or_parts _ _ one.1 in
-    let three = or_parts _ _ two.1 in
-    let not_one : n ≡ 10 → ⊥ = eqb-false n 10 one.0 in
-    let not_two : n ≡ 18 → ⊥ = eqb-false n 18 two.0 in
-    let not_three : n ≡ 26 → ⊥ = eqb-false n 26 three.0 in
-    let not_four : n ≡ 34 → ⊥ = eqb-false n 34 three.1 in
-    let blocks : ℕ = size.0 in
-    let least : 1 ≤ blocks = size.1.0 in
-    let most : blocks ≤ 4 = size.1.1 in
-    let is : n ≡ 2 + 8 * blocks = size.1.2 in
-    omega arith
-
-is_blocks : (n : ℕ) → IsSizeOfBlocks n → is_size_of_blocks n ≡ true
-is_blocks n size = true_from_ne_false (is_size_of_blocks n) (λ h. blocks_not n h size)
-
 no_blocks : (n : ℕ) → (IsSizeOfBlocks n → ⊥) → is_size_of_blocks n ≡ false
-no_blocks n none =
-    ⊎_elim (λ (h : is_size_of_blocks n ≡ true). absurd (none (blocks_is n h)))
-    (λ (h : is_size_of_blocks n ≡ false). h) (cases_Bool (is_size_of_blocks n))
+no_blocks n none = grind (arith, blocks_is)
 
 -- ---- what isn't read has a fault
 
 of_size-fault : (size : ℕ) (bytes : List ℕ) (value : TcpOptionElement) (f : TcpOptionReadError)
     → HasOneSize (kind_at bytes) size
     → of_size size bytes value ≡ Err f → IsFault bytes f
-of_size-fault size bytes value f one h =
-    let P : Type 0 = IsFault bytes f in
-    by_test P (ltb (length bytes) size) _ _ _
-    (λ short h. subst (IsFault bytes) (err_same _ _ h) (refl, inl one, refl, ltb-true _ _ short))
-    (λ room h. by_test P (not (eqb (num bytes 1 1) size)) _ _ _
-    (λ other h. subst (IsFault bytes) (err_same _ _ h)
-    (refl, refl, inl (size, (one, ltb-false _ _ room, eqb-false _ _ (not-true _ other)))))
-    (λ _ h. cc) h) h
+of_size-fault size bytes value f one h = grind arith
 
 acknowledgement-fault : (bytes : List ℕ) (f : TcpOptionReadError) → kind_at bytes ≡ 5
     → acknowledgement_at bytes ≡ Err f → IsFault bytes f
-acknowledgement-fault bytes f is_kind h =
-    let P : Type 0 = IsFault bytes f in
-    by_test P (ltb (length bytes) 2) _ _ _
-    (λ short h. subst (IsFault bytes) (err_same _ _ h)
-    (refl, inr (is_kind, inl (ltb-true _ _ short, refl)), refl, ltb-true _ _ short))
-    (λ room h. by_test P (not (is_size_of_blocks (num bytes 1 1))) _ _ _
-    (λ other h. subst (IsFault bytes) (err_same _ _ h)
-    (refl, refl, inr (is_kind, ltb-false _ _ room, blocks_not _ (not-true _ other))))
-    (λ sized h. by_test P (ltb (length bytes) (num bytes 1 1)) _ _ _
-    (λ short h. subst (IsFault bytes) (err_same _ _ h) (
-      refl,
-      inr (is_kind, inr (ltb-false _ _ room, refl, blocks_is _ (not-false _ sized))),
-      refl,
-      ltb-true _ _ short,
-    ))
-    (λ _ h. cc) h) h) h
+acknowledgement-fault bytes f is_kind h = grind arith
 
 unknown-fault : (bytes : List ℕ) (f : TcpOptionReadError) → eqb (kind_at bytes) 0 ≡ false
     → eqb (kind_at bytes) 1 ≡ false → eqb (kind_at bytes) 2 ≡ false
@@ -92,18 +46,7 @@ unknown-fault : (bytes : List ℕ) (f : TcpOptionReadError) → eqb (kind_at byt
     → eqb (kind_at bytes) 8 ≡ false
     → ◌≡◌ {A = Result TcpOptionElement TcpOptionReadError} (Err (UnknownId (kind_at bytes))) (Err f)
     → IsFault bytes f
-unknown-fault bytes f k0 k1 k2 k3 k4 k5 k8 h =
-    subst (IsFault bytes) (err_same _ _ h) (
-      refl,
-      eqb-false _ _ k0,
-      eqb-false _ _ k1,
-      eqb-false _ _ k2,
-      eqb-false _ _ k3,
-      eqb-false _ _
-          k4,
-      eqb-false _ _ k5,
-      eqb-false _ _ k8,
-    )
+unknown-fault bytes f k0 k1 k2 k3 k4 k5 k8 h = grind arith
 
 pub element_fault : (bytes : List ℕ) (f : TcpOptionReadError) → eqb (kind_at bytes) 0 ≡ false
     → element_at bytes ≡ Err f → IsFault bytes f
@@ -128,50 +71,12 @@ element_fault bytes f k0 h =
 short_of_one_size : (bytes : List ℕ) (kind needed : ℕ) → HasOneSize kind needed
     → kind_at bytes ≡ kind → length bytes < needed
     → element_at bytes ≡ Err (UnexpectedEndOfSlice kind needed (length bytes))
-short_of_one_size bytes kind needed one is_kind short =
-    ⊎_elim (λ (p : (kind ≡ 2) × (needed ≡ 4)). rw
-    (p.0, p.1, is_kind ∙ p.0, lt-ltb (length bytes) 4 (omega arith)) refl) (λ h.
-    ⊎_elim (λ (p : (kind ≡ 3) × (needed ≡ 3)). rw
-    (p.0, p.1, is_kind ∙ p.0, lt-ltb (length bytes) 3 (omega arith)) refl) (λ h.
-    ⊎_elim (λ (p : (kind ≡ 4) × (needed ≡ 2)). rw
-    (p.0, p.1, is_kind ∙ p.0, lt-ltb (length bytes) 2 (omega arith)) refl)
-    (λ (p : (kind ≡ 8) × (needed ≡ 10)). rw
-    (p.0, p.1, is_kind ∙ p.0, lt-ltb (length bytes) 10 (omega arith)) refl)
-    h) h) one
+short_of_one_size bytes kind needed one is_kind short = grind arith
 
 other_than_one_size : (bytes : List ℕ) (kind right : ℕ) → HasOneSize kind right
     → kind_at bytes ≡ kind → right ≤ length bytes → (num bytes 1 1 ≡ right → ⊥)
     → element_at bytes ≡ Err (UnexpectedSize kind (num bytes 1 1))
-other_than_one_size bytes kind right one is_kind room other =
-    ⊎_elim (λ (p : (kind ≡ 2) × (right ≡ 4)). rw (
-      p.0,
-      is_kind ∙ p.0,
-      le-ltb (length bytes) 4 (omega arith),
-      ne_eqb (num bytes 1 1) 4
-          (λ e. omega arith),
-    ) refl) (λ h.
-    ⊎_elim (λ (p : (kind ≡ 3) × (right ≡ 3)). rw (
-      p.0,
-      is_kind ∙ p.0,
-      le-ltb (length bytes) 3 (omega arith),
-      ne_eqb (num bytes 1 1) 3
-          (λ e. omega arith),
-    ) refl) (λ h.
-    ⊎_elim (λ (p : (kind ≡ 4) × (right ≡ 2)). rw (
-      p.0,
-      is_kind ∙ p.0,
-      le-ltb (length bytes) 2 (omega arith),
-      ne_eqb (num bytes 1 1) 2
-          (λ e. omega arith),
-    ) refl)
-    (λ (p : (kind ≡ 8) × (right ≡ 10)). rw (
-      p.0,
-      is_kind ∙ p.0,
-      le-ltb (length bytes) 10 (omega arith),
-      ne_eqb (num bytes 1 1) 10
-          (λ e. omega arith),
-    ) refl)
-    h) h) one
+other_than_one_size bytes kind right one is_kind room other = grind arith
 
 -- selective acknowledgements
 acknowledgement_is : (bytes : List ℕ) → kind_at bytes ≡ 5
@@ -186,18 +91,11 @@ cut_acknowledgement : (bytes : List ℕ) → 2 ≤ length bytes → IsSizeOfBloc
     → length bytes < num bytes 1 1
     → acknowledgement_at bytes
     ≡ Err (UnexpectedEndOfSlice (kind_at bytes) (num bytes 1 1) (length bytes))
-cut_acknowledgement bytes room size short =
-    rw (
-      le-ltb (length bytes) 2 room,
-      is_blocks (num bytes 1 1) size,
-      lt-ltb (length bytes)
-          (num bytes 1 1) short,
-    ) refl
+cut_acknowledgement bytes room size short = grind arith
 
 other_acknowledgement : (bytes : List ℕ) → 2 ≤ length bytes → (IsSizeOfBlocks (num bytes 1 1) → ⊥)
     → acknowledgement_at bytes ≡ Err (UnexpectedSize (kind_at bytes) (num bytes 1 1))
-other_acknowledgement bytes room other =
-    rw (le-ltb (length bytes) 2 room, no_blocks (num bytes 1 1) other) refl
+other_acknowledgement bytes room other = grind arith
 
 pub fault_refused : (bytes : List ℕ) (f : TcpOptionReadError) → IsFault bytes f
     → element_at bytes ≡ Err f
@@ -225,34 +123,7 @@ fault_refused bytes (UnexpectedSize kind size) h =
     ∙ other_acknowledgement bytes five.1 (λ s. five.2 (subst IsSizeOfBlocks h.1 s))
     ∙ (λ i. Err (UnexpectedSize (h.0 i) (h.1 i))))
     h.2
-fault_refused bytes (UnknownId kind) h =
-    rw (
-      h.0,
-      ne_eqb kind 1 h.2,
-      ne_eqb kind 2 h.3,
-      ne_eqb kind 3 h.4,
-      ne_eqb kind 4 h.5,
-      ne_eqb kind
-          5 h.6,
-      ne_eqb kind 8 h.7,
-    ) refl
-
--- the kind of an option with a fault isn't 0
-one_size-kind : (kind size : ℕ) → HasOneSize kind size → kind ≡ 0 → ⊥
-one_size-kind kind size one none =
-    ⊎_elim (λ (p : (kind ≡ 2) × (size ≡ 4)). omega (arith, p.0)) (λ h.
-    ⊎_elim (λ (p : (kind ≡ 3) × (size ≡ 3)). omega (arith, p.0)) (λ h.
-    ⊎_elim (λ (p : (kind ≡ 4) × (size ≡ 2)). omega (arith, p.0))
-    (λ (p : (kind ≡ 8) × (size ≡ 10)). omega (arith, p.0)) h) h) one
+fault_refused bytes (UnknownId kind) h = grind arith
 
 pub fault_kind : (bytes : List ℕ) (f : TcpOptionReadError) → IsFault bytes f → kind_at bytes ≡ 0 → ⊥
-fault_kind bytes (UnexpectedEndOfSlice kind needed left) h none =
-    ⊎_elim (λ (one : HasOneSize kind needed). one_size-kind kind needed one (sym h.0 ∙ none))
-    (λ five. omega (arith, h.0, five.0)) h.1
-fault_kind bytes (UnexpectedSize kind size) h none =
-    ⊎_elim
-    (λ (one : (right : ℕ) × (HasOneSize kind right × (right ≤ length bytes) × (size ≡ right → ⊥))).
-    one_size-kind kind one.0 one.1.0 (sym h.0 ∙ none))
-    (λ (five : (kind ≡ 5) × (2 ≤ length bytes) × (IsSizeOfBlocks size → ⊥)). omega
-    (arith, h.0, five.0)) h.2
-fault_kind bytes (UnknownId kind) h none = h.1 (sym h.0 ∙ none)
+fault_kind bytes f h none = grind arith

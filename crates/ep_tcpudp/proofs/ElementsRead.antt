@@ -1,23 +1,20 @@
 -- An element that is parsed is encoded by the bytes that it is parsed from.
-use Rattle.std.proofs.Common.{◌≡◌, ⊎_elim, ℕ, ◌+◌, ◌<◌, ◌≤◌, true, false, eqb, List, [], ◌∷◌, ◌++◌}
-use Rattle.std.proofs.Common.{length, drop, Option, Some, None, Ok, arith, sym, refl, ap, ◌∙◌}
-use Rattle.std.proofs.Common.{subst, append_assoc}
+use Rattle.std.proofs.Common.{◌≡◌, ℕ, ◌+◌, ◌<◌, ◌≤◌, true, false, eqb, List, ◌∷◌, ◌++◌, [], length, drop, Option, Some}
+use Rattle.std.proofs.Common.{None, Ok, arith, refl, ap, ◌∙◌, subst, append_assoc}
 use Rattle.std.proofs.lemmas.Bool.{eqb-true, ltb-false, not-false, or_cases}
-use Rattle.std.specs.Int.{w32, to_be_bytes}
 use Rattle.ep_base.specs.Bytes.{IsBytes, num}
-use Rattle.ep_tcpudp.specs.Options.{kind_at, size_at, of_size, block_at, block_bytes, blocks_at}
-use Rattle.ep_tcpudp.specs.Options.{is_size_of_blocks, acknowledgement_at, element_at}
-use Rattle.ep_tcpudp.specs.Options.{element_bytes, packed_element, FitsBlock, FitsElement}
+use Rattle.ep_tcpudp.specs.Options.{kind_at, size_at, of_size, block_at, block_bytes, blocks_at, is_size_of_blocks}
+use Rattle.ep_tcpudp.specs.Options.{acknowledgement_at, element_at, element_bytes, packed_element, FitsBlock}
+use Rattle.ep_tcpudp.specs.Options.{FitsElement}
 use Rattle.ep_tcpudp.specs.declared.transport.tcp_option_element.TcpOptionElement.{TcpOptionElement}
-use Rattle.ep_tcpudp.specs.declared.transport.tcp_option_element.TcpOptionElement.TheVariants.{Noop}
-use Rattle.ep_tcpudp.specs.declared.transport.tcp_option_element.TcpOptionElement.TheVariants.{MaximumSegmentSize}
+use Rattle.ep_tcpudp.specs.declared.transport.tcp_option_element.TcpOptionElement.TheVariants.{Noop, MaximumSegmentSize}
 use Rattle.ep_tcpudp.specs.declared.transport.tcp_option_element.TcpOptionElement.TheVariants.{WindowScale}
 use Rattle.ep_tcpudp.specs.declared.transport.tcp_option_element.TcpOptionElement.TheVariants.{SelectiveAcknowledgementPermitted}
 use Rattle.ep_tcpudp.specs.declared.transport.tcp_option_element.TcpOptionElement.TheVariants.{SelectiveAcknowledgement}
 use Rattle.ep_tcpudp.specs.declared.transport.tcp_option_element.TcpOptionElement.TheVariants.{Timestamp}
 use Rattle.ep_base.proofs.Prefixes.{guard_ok, ok_same}
 use Rattle.ep_tcpudp.proofs.Guards.{by_test}
-use Rattle.ep_tcpudp.proofs.Words.{byte_prefix, half_prefix, word_prefix, half_small, word_small}
+use Rattle.ep_tcpudp.proofs.Words.{word_prefix, word_small}
 
 -- an element as it is parsed from the start of bytes
 pub record IsRead (bytes : List ℕ) (element : TcpOptionElement) : Type 0 where
@@ -28,10 +25,7 @@ pub record IsRead (bytes : List ℕ) (element : TcpOptionElement) : Type 0 where
 -- kind and size come first
 kind_and_size : (kind size : ℕ) (bytes : List ℕ) → 2 ≤ length bytes → kind_at bytes ≡ kind
     → num bytes 1 1 ≡ size → bytes ≡ kind ∷ size ∷ drop 2 bytes
-kind_and_size kind size bytes two is_kind is_size =
-    byte_prefix 0 1 bytes (omega arith) refl
-    ∙ ap (λ (xs : List ℕ). kind_at bytes ∷ xs) (byte_prefix 1 2 bytes (omega arith) refl)
-    ∙ rw (is_kind, is_size) refl
+kind_and_size kind size bytes two is_kind is_size = grind arith
 
 -- the size of an option that isn't a no-operation is its second byte
 second_size : (kind size : ℕ) (bytes : List ℕ) → kind_at bytes ≡ kind → eqb kind 1 ≡ false
@@ -39,63 +33,31 @@ second_size : (kind size : ℕ) (bytes : List ℕ) → kind_at bytes ≡ kind �
 second_size kind size bytes is_kind other is_size = rw (is_kind, other) is_size
 
 noop_read : (bytes : List ℕ) → 1 ≤ length bytes → kind_at bytes ≡ 1 → IsRead bytes Noop
-noop_read bytes one is_kind = record {
-  encoded = byte_prefix 0 1 bytes one refl ∙ rw is_kind refl;
-  fits = tt;
-  packed = refl;
-}
+noop_read bytes one is_kind = grind arith
 
 maximum_read : (bytes : List ℕ) → IsBytes bytes → 4 ≤ length bytes → kind_at bytes ≡ 2
     → num bytes 1 1 ≡ 4 → IsRead bytes (MaximumSegmentSize (num bytes 2 2))
-maximum_read bytes fits least is_kind is_size = record {
-  encoded = kind_and_size 2 4 bytes (omega arith) is_kind is_size
-      ∙ ap (λ (xs : List ℕ). 2 ∷ 4 ∷ xs) (half_prefix 2 4 bytes least refl fits)
-      ∙ rw (second_size 2 4 bytes is_kind refl is_size) refl;
-  fits = half_small 2 bytes fits;
-  packed = refl;
-}
+maximum_read bytes fits least is_kind is_size = grind arith
 
 scale_read : (bytes : List ℕ) → IsBytes bytes → 3 ≤ length bytes → kind_at bytes ≡ 3
     → num bytes 1 1 ≡ 3 → IsRead bytes (WindowScale (num bytes 2 1))
-scale_read bytes fits least is_kind is_size = record {
-  encoded = kind_and_size 3 3 bytes (omega arith) is_kind is_size
-      ∙ ap (λ (xs : List ℕ). 3 ∷ 3 ∷ xs) (byte_prefix 2 3 bytes least refl)
-      ∙ rw (second_size 3 3 bytes is_kind refl is_size) refl;
-  fits = fits 2;
-  packed = refl;
-}
+scale_read bytes fits least is_kind is_size = grind arith
 
 permitted_read : (bytes : List ℕ) → 2 ≤ length bytes → kind_at bytes ≡ 4 → num bytes 1 1 ≡ 2
     → IsRead bytes SelectiveAcknowledgementPermitted
-permitted_read bytes least is_kind is_size = record {
-  encoded = kind_and_size 4 2 bytes (omega arith) is_kind is_size
-      ∙ rw (second_size 4 2 bytes is_kind refl is_size) refl;
-  fits = tt;
-  packed = refl;
-}
+permitted_read bytes least is_kind is_size = grind arith
 
 -- two words in a row are a block
 block_prefix : (p q : ℕ) (bytes : List ℕ) → IsBytes bytes → p + 8 ≤ length bytes → p + 8 ≡ q
     → drop p bytes ≡ block_bytes (block_at bytes p) ++ drop q bytes
-block_prefix p q bytes fits least e =
-    word_prefix p (p + 4) bytes (omega arith) refl fits
-    ∙ ap (λ (xs : List ℕ). to_be_bytes w32 (num bytes p 4) ++ xs)
-    (word_prefix (p + 4) q bytes (omega arith) (omega arith) fits)
-    ∙ sym (append_assoc (to_be_bytes w32 (num bytes p 4))
-    (to_be_bytes w32 (num bytes (p + 4) 4)) (drop q bytes))
+block_prefix p q bytes fits least e = grind (arith, word_prefix, append_assoc)
 
 block_small : (p : ℕ) (bytes : List ℕ) → IsBytes bytes → FitsBlock (Some (block_at bytes p))
 block_small p bytes fits = (word_small p bytes fits, word_small (p + 4) bytes fits)
 
 timestamp_read : (bytes : List ℕ) → IsBytes bytes → 10 ≤ length bytes → kind_at bytes ≡ 8
     → num bytes 1 1 ≡ 10 → IsRead bytes (Timestamp (num bytes 2 4) (num bytes 6 4))
-timestamp_read bytes fits least is_kind is_size = record {
-  encoded = kind_and_size 8 10 bytes (omega arith) is_kind is_size
-      ∙ ap (λ (xs : List ℕ). 8 ∷ 10 ∷ xs) (block_prefix 2 10 bytes fits least refl)
-      ∙ rw (second_size 8 10 bytes is_kind refl is_size) refl;
-  fits = block_small 2 bytes fits;
-  packed = refl;
-}
+timestamp_read bytes fits least is_kind is_size = grind arith
 
 -- the blocks after the first, in an option of one of the four sizes
 Acknowledged : List ℕ → List (Option (ℕ × ℕ)) → Type 0
@@ -104,13 +66,7 @@ Acknowledged bytes blocks = IsRead bytes (SelectiveAcknowledgement (block_at byt
 one_block : (bytes : List ℕ) → IsBytes bytes → 10 ≤ length bytes → kind_at bytes ≡ 5
     → num bytes 1 1 ≡ 10 → Acknowledged bytes (None ∷ None ∷ None ∷ [])
 unfolding Acknowledged
-one_block bytes fits least is_kind is_size = record {
-  encoded = kind_and_size 5 10 bytes (omega arith) is_kind is_size
-      ∙ ap (λ (xs : List ℕ). 5 ∷ 10 ∷ xs) (block_prefix 2 10 bytes fits least refl)
-      ∙ rw (second_size 5 10 bytes is_kind refl is_size) refl;
-  fits = (block_small 2 bytes fits, refl, (tt, (tt, (tt, tt))));
-  packed = refl;
-}
+one_block bytes fits least is_kind is_size = grind arith
 
 two_blocks : (bytes : List ℕ) → IsBytes bytes → 18 ≤ length bytes
     → kind_at bytes ≡ 5 → num bytes 1 1 ≡ 18
@@ -139,11 +95,7 @@ three_blocks bytes fits least is_kind is_size = record {
       (block_bytes (block_at bytes 2) ++ (block_bytes (block_at bytes 10) ++ xs)))
       (block_prefix 18 26 bytes fits (omega arith) refl)
       ∙ rw (second_size 5 26 bytes is_kind refl is_size) refl;
-  fits = (
-    block_small 2 bytes fits,
-    refl,
-    (block_small 10 bytes fits, (block_small 18 bytes fits, (tt, tt))),
-  );
+  fits = grind arith;
   packed = refl;
 }
 
@@ -165,11 +117,7 @@ four_blocks bytes fits least is_kind is_size = record {
       ++ (block_bytes (block_at bytes 10) ++ (block_bytes (block_at bytes 18) ++ xs))))
       (block_prefix 26 34 bytes fits (omega arith) refl)
       ∙ rw (second_size 5 34 bytes is_kind refl is_size) refl;
-  fits = (
-    block_small 2 bytes fits,
-    refl,
-    (block_small 10 bytes fits, (block_small 18 bytes fits, (block_small 26 bytes fits, tt))),
-  );
+  fits = grind arith;
   packed = refl;
 }
 
@@ -178,33 +126,17 @@ blocks_read : (bytes : List ℕ) → IsBytes bytes → kind_at bytes ≡ 5
     → IsRead bytes (SelectiveAcknowledgement (block_at bytes 2) (blocks_at bytes))
 unfolding Acknowledged
 blocks_read bytes fits is_kind sized room =
-    ⊎_elim (λ (one : eqb (num bytes 1 1) 10 ≡ true). let n = eqb-true _ _ one in
-    rw n (one_block bytes fits (omega arith) is_kind n)) (λ h.
-    ⊎_elim (λ (two : eqb (num bytes 1 1) 18 ≡ true). let n = eqb-true _ _ two in
-    rw n (two_blocks bytes fits (omega arith) is_kind n)) (λ h.
-    ⊎_elim (λ (three : eqb (num bytes 1 1) 26 ≡ true). let n = eqb-true _ _ three in
-    rw n (three_blocks bytes fits (omega arith) is_kind n))
-    (λ (four : eqb (num bytes 1 1) 34 ≡ true). let n = eqb-true _ _ four in
-    rw n (four_blocks bytes fits (omega arith) is_kind n))
-    (or_cases _ _ h)) (or_cases _ _ h)) (or_cases _ _ sized)
+    grind (arith, eqb-true, one_block, two_blocks, three_blocks, four_blocks, or_cases)
 
 acknowledgement_read : (bytes : List ℕ) (x : TcpOptionElement) → IsBytes bytes → kind_at bytes ≡ 5
     → acknowledgement_at bytes ≡ Ok x → IsRead bytes x
 acknowledgement_read bytes x fits is_kind h =
-    let two = guard_ok _ _ _ _ h in
-    let blocks = guard_ok _ _ _ _ two.1 in
-    let room = guard_ok _ _ _ _ blocks.1 in
-    subst (IsRead bytes) (ok_same _ _ room.1)
-    (blocks_read bytes fits is_kind (not-false _ blocks.0) (ltb-false _ _ room.0))
+    grind (arith, guard_ok, ok_same, blocks_read, not-false, ltb-false)
 
 of_size-read : (size : ℕ) (bytes : List ℕ) (value x : TcpOptionElement)
     → (size ≤ length bytes → num bytes 1 1 ≡ size → IsRead bytes value)
     → of_size size bytes value ≡ Ok x → IsRead bytes x
-of_size-read size bytes value x reads h =
-    let room = guard_ok _ _ _ _ h in
-    let same = guard_ok _ _ _ _ room.1 in
-    subst (IsRead bytes) (ok_same _ _ same.1)
-    (reads (ltb-false _ _ room.0) (eqb-true _ _ (not-false _ same.0)))
+of_size-read size bytes value x reads h = grind arith
 
 pub element_read : (bytes : List ℕ) (x : TcpOptionElement) → IsBytes bytes → 0 < length bytes
     → element_at bytes ≡ Ok x → IsRead bytes x

@@ -1,38 +1,15 @@
 -- The items of options, step by step.
-use Rattle.std.proofs.Common.{◌≡◌, ⊎_elim, ℕ, zero, suc, ◌-◌, ◌<◌, ◌≤◌, Bool, true, false, eqb}
-use Rattle.std.proofs.Common.{List, [], ◌∷◌, length, take, drop, Result, Ok, Err, Some, arith, sym}
-use Rattle.std.proofs.Common.{refl, ap, ◌∙◌}
+use Rattle.std.proofs.lemmas.Bool.Decides.{nat_tests}
+use Rattle.std.proofs.Common.{◌≡◌, ⊎_elim, ℕ, zero, suc, ◌-◌, ◌<◌, ◌≤◌, Bool, true, false, eqb, [], List, ◌∷◌, length}
+use Rattle.std.proofs.Common.{take, drop, Result, Ok, Err, Some, arith, sym, refl, ap, ◌∙◌}
 use Rattle.std.specs.Prelude.{⊤}
 use Rattle.std.specs.Iterator.{item_count, MakesProgress}
-use Rattle.std.proofs.lemmas.Bool.{cases_Bool, eqb-true, not-false}
+use Rattle.std.proofs.lemmas.Bool.{cases_Bool}
 use Rattle.std.proofs.lemmas.List.{drop_all, length-drop, take_rest}
 use Rattle.ep_base.specs.Bytes.{num}
-use Rattle.ep_tcpudp.specs.Options.{kind_at, size_at, of_size, is_size_of_blocks}
-use Rattle.ep_tcpudp.specs.Options.{acknowledgement_at, element_at, is_end, rest_after}
-use Rattle.ep_tcpudp.specs.Options.{items_within}
-use Rattle.ep_tcpudp.specs.Options.{items_of, rest_at}
+use Rattle.ep_tcpudp.specs.Options.{kind_at, size_at, element_at, is_end, rest_after, items_within, items_of, rest_at}
 use Rattle.ep_tcpudp.specs.declared.transport.tcp_option_element.TcpOptionElement.{TcpOptionElement}
 use Rattle.ep_tcpudp.specs.declared.transport.tcp_option_read_error.TcpOptionReadError.{TcpOptionReadError}
-use Rattle.ep_base.proofs.Prefixes.{guard_ok}
-use Rattle.ep_tcpudp.proofs.Guards.{by_test}
-
-of_size-ok : {A : Type 0} (size : ℕ) (bytes : List ℕ) (value x : A)
-    → of_size size bytes value ≡ Ok x → num bytes 1 1 ≡ size
-of_size-ok size bytes value x h =
-    let room = guard_ok _ _ _ _ h in
-    let same = guard_ok _ _ _ _ room.1 in
-    eqb-true (num bytes 1 1) size (not-false _ same.0)
-
-blocks_some : (n : ℕ) → is_size_of_blocks n ≡ true → 0 < n
-blocks_some zero h = cc
-blocks_some (suc n) h = omega arith
-
-acknowledgement-ok : (bytes : List ℕ) (x : TcpOptionElement)
-    → acknowledgement_at bytes ≡ Ok x → 0 < num bytes 1 1
-acknowledgement-ok bytes x h =
-    let two = guard_ok _ _ _ _ h in
-    let blocks = guard_ok _ _ _ _ two.1 in
-    blocks_some (num bytes 1 1) (not-false _ blocks.0)
 
 size_of : (bytes : List ℕ) → eqb (kind_at bytes) 1 ≡ false → 0 < num bytes 1 1 → 0 < size_at bytes
 size_of bytes no_noop positive = rw no_noop positive
@@ -47,40 +24,23 @@ sized bytes size other is positive = size_of bytes other (rw is positive)
 -- an element takes some bytes
 pub element_size : (bytes : List ℕ) (x : TcpOptionElement)
     → element_at bytes ≡ Ok x → 0 < size_at bytes
-element_size bytes x h =
-    let P : Type 0 = 0 < size_at bytes in
-    by_test P (eqb (kind_at bytes) 1) _ _ _ (λ noop _. one_size bytes noop) (λ other h.
-    by_test P (eqb (kind_at bytes) 2) _ _ _
-    (λ _ h. sized bytes 4 other (of_size-ok 4 bytes _ x h) (omega arith)) (λ _ h.
-    by_test P (eqb (kind_at bytes) 3) _ _ _
-    (λ _ h. sized bytes 3 other (of_size-ok 3 bytes _ x h) (omega arith)) (λ _ h.
-    by_test P (eqb (kind_at bytes) 4) _ _ _
-    (λ _ h. sized bytes 2 other (of_size-ok 2 bytes _ x h) (omega arith)) (λ _ h.
-    by_test P (eqb (kind_at bytes) 5) _ _ _
-    (λ _ h. size_of bytes other (acknowledgement-ok bytes x h)) (λ _ h.
-    by_test P (eqb (kind_at bytes) 8) _ _ _
-    (λ _ h. sized bytes 10 other (of_size-ok 10 bytes _ x h) (omega arith)) (λ _ h. cc) h) h) h)
-    h) h) h
+element_size bytes x h = grind (arith, nat_tests)
 
 -- not the end is some bytes
 pub some_left : (bytes : List ℕ) → is_end bytes ≡ false → 0 < length bytes
-some_left [] h = cc
-some_left (x ∷ xs) h = omega arith
+some_left bytes h = grind arith
 
 shorter : (r : Result TcpOptionElement TcpOptionReadError) (bytes : List ℕ) → r ≡ element_at bytes
     → 0 < length bytes → length (rest_after r bytes) < length bytes
-shorter (Ok x) bytes e some = let size = element_size bytes x (sym e) in
-    omega (arith, length-drop (size_at bytes) bytes)
+shorter (Ok x) bytes e some = grind (arith, nat_tests, element_size, length-drop)
 shorter (Err f) bytes e some = some
 
 within_end : (n : ℕ) (bytes : List ℕ) → is_end bytes ≡ true → items_within n bytes ≡ []
 unfolding items_within
-within_end zero bytes e = refl
-within_end (suc n) bytes e = rw e refl
+within_end n bytes e = grind arith
 
 empty_end : (bytes : List ℕ) → length bytes ≤ 0 → is_end bytes ≡ true
-empty_end [] h = refl
-empty_end (x ∷ xs) h = absurd (omega arith)
+empty_end bytes h = grind arith
 
 -- however many steps there may be, if they are enough
 within_enough : (n m : ℕ) (bytes : List ℕ) → length bytes ≤ n → length bytes ≤ m
@@ -104,19 +64,12 @@ items-end bytes ends = within_end (length bytes) bytes ends
 within_step : (n : ℕ) (bytes : List ℕ) → length bytes ≡ suc n → is_end bytes ≡ false
     → items_within (suc n) bytes ≡ element_at bytes ∷ items_of (rest_after (element_at bytes) bytes)
 unfolding items_within
-within_step n bytes size goes =
-    let less = shorter (element_at bytes) bytes refl (some_left bytes goes) in
-    rw goes (ap (λ (xs : List (Result TcpOptionElement TcpOptionReadError)). element_at bytes ∷ xs)
-    (within_enough n (length (rest_after (element_at bytes) bytes))
-    (rest_after (element_at bytes) bytes) (omega arith) (omega arith)))
+within_step n bytes size goes = grind (arith, shorter, some_left, within_enough)
 
 -- the first item, and those of what is left
 pub items-step : (bytes : List ℕ) → is_end bytes ≡ false
     → items_of bytes ≡ element_at bytes ∷ items_of (rest_after (element_at bytes) bytes)
-items-step bytes goes =
-    let some = some_left bytes goes in
-    let size : length bytes ≡ suc (length bytes - 1) = omega arith in
-    ap (λ n. items_within n bytes) size ∙ within_step (length bytes - 1) bytes size goes
+items-step bytes goes = grind (arith, nat_tests, some_left, within_step)
 
 pub items-none : items_of [] ≡ []
 items-none = items-end [] refl
@@ -133,29 +86,22 @@ pub step_ok : (bytes xs : List ℕ) (element : TcpOptionElement) (size : ℕ) (e
     → ends ≡ is_end xs → ends ≡ false
     → Ok element ≡ element_at xs → size ≡ size_at xs
     → items_of bytes ≡ Ok element ∷ items_of (take (length xs - size) (drop size xs))
-step_ok bytes xs element size ends view is goes item sizes =
-    let step = items-step xs (sym is ∙ goes) in
-    ap items_of (sym view) ∙ step ∙ rw (← item, sizes, take_rest xs (size_at xs)) refl
+step_ok bytes xs element size ends view is goes item sizes = grind (arith, items-step, take_rest)
 
 pub step_err : (bytes xs : List ℕ) (fault : TcpOptionReadError) (ends : Bool) → xs ≡ bytes
     → ends ≡ is_end xs → ends ≡ false
     → Err fault ≡ element_at xs → items_of bytes ≡ Err fault ∷
     items_of (take (length xs - length xs) (drop (length xs) xs))
-step_err bytes xs fault ends view is goes item =
-    let step = items-step xs (sym is ∙ goes) in
-    ap items_of (sym view) ∙ step ∙ rw (← item, items-none, none_after xs) refl
+step_err bytes xs fault ends view is goes item = grind (arith, items-step, items-none, none_after)
 
 pub rest_ok : (bytes xs : List ℕ) (element : TcpOptionElement) (size : ℕ) (ends : Bool) → xs ≡ bytes
     → ends ≡ is_end xs → ends ≡ false
     → Ok element ≡ element_at xs → size ≡ size_at xs
     → take (length xs - size) (drop size xs) ≡ rest_at bytes
-rest_ok bytes xs element size ends view is goes item sizes =
-    rw (← view, sym is ∙ goes, ← item, sizes) (take_rest xs (size_at xs))
+rest_ok bytes xs element size ends view is goes item sizes = grind (arith, take_rest)
 
 -- an item makes progress
 pub progress : (s t : List ℕ) (item : Result TcpOptionElement TcpOptionReadError)
     → items_of s ≡ item ∷ items_of t
     → MakesProgress (λ (bytes : List ℕ). ⊤) (item_count items_of) s (Some item) t
-progress s t item e =
-    let less : length (items_of t) < length (items_of s) = omega (arith, ap length e) in
-    record { on = λ _. (tt, tt, less); keeps = tt; rests = λ _. tt }
+progress s t item e = grind arith

@@ -9,8 +9,7 @@ use Rattle.ep_base.proofs.Same.{field, last_field, one_part, options_same, recor
 use Rattle.ep_tcpudp.specs.contracts.transport.tcp_header.TcpHeaderPartialEq.TheImpl as headers
 use Rattle.ep_tcpudp.specs.contracts.transport.tcp_options.TcpOptionsPartialEq.TheImpl as options
 use Rattle.ep_tcpudp.specs.declared.transport.tcp_header.TcpHeader.{TcpHeader}
-use Rattle.ep_tcpudp.specs.declared.transport.tcp_option_element.TcpOptionElement.TheVariants.{Noop}
-use Rattle.ep_tcpudp.specs.declared.transport.tcp_option_element.TcpOptionElement.TheVariants.{MaximumSegmentSize}
+use Rattle.ep_tcpudp.specs.declared.transport.tcp_option_element.TcpOptionElement.TheVariants.{Noop, MaximumSegmentSize}
 use Rattle.ep_tcpudp.specs.declared.transport.tcp_option_element.TcpOptionElement.TheVariants.{WindowScale}
 use Rattle.ep_tcpudp.specs.declared.transport.tcp_option_element.TcpOptionElement.TheVariants.{SelectiveAcknowledgementPermitted}
 use Rattle.ep_tcpudp.specs.declared.transport.tcp_option_element.TcpOptionElement.TheVariants.{SelectiveAcknowledgement}

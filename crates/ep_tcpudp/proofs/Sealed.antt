@@ -1,14 +1,13 @@
 -- Headers with their checksums in them.
-use Rattle.std.proofs.Common.{◌≡◌, ◌≤◌, ℕ, ◌+◌, ◌*◌, ◌%◌, List, ◌∷◌, ◌++◌, length, take, drop}
-use Rattle.std.proofs.Common.{length-append, append_assoc, arith}
+use Rattle.std.proofs.Common.{◌≡◌, ◌≤◌, ℕ, ◌+◌, ◌*◌, ◌%◌, List, ◌∷◌, ◌++◌, length, take, drop, length-append}
+use Rattle.std.proofs.Common.{append_assoc, arith}
 use Rattle.std.specs.Int.{w16, w32, to_be_bytes}
 use Rattle.std.proofs.lemmas.List.{length-take-le}
 use Rattle.ep_base.specs.MessageSum.{ChecksumSumsToAllOnes, NoZeroSumsToAllOnes}
 use Rattle.ep_tcpudp.specs.Tcp as tcp
 use Rattle.ep_tcpudp.specs.Tcp.{data_offset, flag, flags}
 use Rattle.ep_tcpudp.specs.TcpChecksum as tcp_checksum
-use Rattle.ep_tcpudp.specs.TcpChecksum.{SealedTcpSumsToAllOnes, SealedSegmentSumsToAllOnes}
-use Rattle.ep_tcpudp.specs.TcpChecksum.{segment_checksum}
+use Rattle.ep_tcpudp.specs.TcpChecksum.{SealedTcpSumsToAllOnes, SealedSegmentSumsToAllOnes, segment_checksum}
 use Rattle.ep_tcpudp.specs.declared.transport.tcp_header.TcpHeader.{TcpHeader}
 use Rattle.ep_tcpudp.specs.Udp.{encoding}
 use Rattle.ep_tcpudp.proofs.TcpSums.{segment_around}
@@ -31,13 +30,7 @@ around pseudo payload h c = simp append_assoc
 even_prefix : (pseudo : List ℕ) (h : UdpHeader) → length pseudo % 2 ≡ 0
     → length (prefix_of pseudo h) % 2 ≡ 0
 unfolding prefix_of
-even_prefix pseudo h even =
-    omega (
-      arith,
-      length-append pseudo
-          (to_be_bytes w16 h.source_port ++ to_be_bytes w16 h.destination_port
-          ++ to_be_bytes w16 h.length),
-    )
+even_prefix pseudo h even = grind (arith, length-append)
 
 pub sealed_udp : NoZeroSumsToAllOnes → SealedUdpSumsToAllOnes
 sealed_udp sums pseudo payload h even =
@@ -64,14 +57,7 @@ tcp_around pseudo payload h c = simp append_assoc
 even_tcp : (pseudo : List ℕ) (h : TcpHeader) → length pseudo % 2 ≡ 0
     → length (tcp_prefix pseudo h) % 2 ≡ 0
 unfolding tcp_prefix
-even_tcp pseudo h even =
-    omega (
-      arith,
-      length-append pseudo (to_be_bytes w16 h.source_port ++ to_be_bytes w16 h.destination_port
-          ++ to_be_bytes w32 h.sequence_number
-          ++ to_be_bytes w32 h.acknowledgment_number ++ (data_offset h * 16 + flag h.ns 1) ∷
-          flags h ∷ to_be_bytes w16 h.window_size),
-    )
+even_tcp pseudo h even = grind (arith, length-append)
 
 pub sealed_tcp : ChecksumSumsToAllOnes → SealedTcpSumsToAllOnes
 sealed_tcp sums pseudo payload h even words =
@@ -84,8 +70,7 @@ sealed_tcp sums pseudo payload h even words =
 
 even_segment : (pseudo segment : List ℕ) → length pseudo % 2 ≡ 0 → 18 ≤ length segment
     → length (pseudo ++ take 16 segment) % 2 ≡ 0
-even_segment pseudo segment even least =
-    omega (arith, length-append pseudo (take 16 segment), length-take-le 16 segment)
+even_segment pseudo segment even least = grind (arith, length-append, length-take-le)
 
 pub sealed_segment : ChecksumSumsToAllOnes → SealedSegmentSumsToAllOnes
 sealed_segment sums pseudo segment even least =

@@ -1,15 +1,12 @@
 -- The bytes of a TCP header against its fields.
-use Rattle.std.proofs.Common.{◌≡◌, ℕ, zero, suc, ◌+◌, ◌*◌, ◌/◌, ◌%◌, ◌^◌, ◌<◌, ◌≤◌, Bool, true}
-use Rattle.std.proofs.Common.{false, eqb, List, ◌∷◌, ◌++◌, length, drop, get_or, set, arith, sym}
-use Rattle.std.proofs.Common.{refl, ap, ◌∙◌}
+use Rattle.std.proofs.Common.{◌≡◌, ℕ, ◌+◌, ◌*◌, ◌/◌, ◌%◌, ◌^◌, ◌<◌, ◌≤◌, Bool, true, false, eqb, List, length, get_or}
+use Rattle.std.proofs.Common.{arith, refl}
 use Rattle.ep_base.specs.Bytes.{IsBytes}
-use Rattle.ep_tcpudp.specs.Tcp.{IsTcpHeader, tcp_header_of, encoding, with_reserved_bits_zero, flag}
-use Rattle.ep_tcpudp.specs.Tcp.{flags, data_offset, data_offset_of, options_of, Fits}
+use Rattle.ep_tcpudp.specs.Tcp.{IsTcpHeader, tcp_header_of, encoding, with_reserved_bits_zero, flag, flags, data_offset}
+use Rattle.ep_tcpudp.specs.Tcp.{data_offset_of, options_of, Fits}
 use Rattle.ep_tcpudp.specs.declared.transport.tcp_header.TcpHeader.{TcpHeader}
 use Rattle.ep_tcpudp.proofs.TcpPrefix.{options_rest, options_offset, readable_header}
-use Rattle.ep_base.proofs.Cells.{drop-cells}
 use Rattle.ep_base.proofs.Numbers.{two_again, four_again}
-use Rattle.ep_tcpudp.proofs.SameValues.{header_by_fields}
 use Rattle.ep_tcpudp.proofs.Words.{half_cells, word_cells}
 
 -- a flag as a number
@@ -19,24 +16,19 @@ bit false = 0
 
 bit_below : (b : Bool) → bit b < 2
 unfolding bit
-bit_below true = omega arith
-bit_below false = omega arith
+bit_below b = grind arith
 
 eqb_bit : (b : Bool) → eqb (bit b) 1 ≡ b
 unfolding bit
-eqb_bit true = refl
-eqb_bit false = refl
+eqb_bit b = grind arith
 
 flag-bit : (b : Bool) (w : ℕ) → flag b w ≡ bit b * w
 unfolding bit
-flag-bit true w = omega arith
-flag-bit false w = omega arith
+flag-bit b w = grind arith
 
 -- a bit with its value
 flag_worth : (q w : ℕ) → q < 2 → flag (eqb q 1) w ≡ q * w
-flag_worth zero w h = omega arith
-flag_worth (suc zero) w h = omega arith
-flag_worth (suc (suc n)) w h = absurd (omega arith)
+flag_worth q w h = grind arith
 
 -- the flags of a byte make up the byte
 flags_are : (n : ℕ) → n < 256 →
@@ -44,21 +36,7 @@ flags_are : (n : ℕ) → n < 256 →
     (eqb (n / 2 ^ 5 % 2) 1) 32 + flag (eqb (n / 2 ^ 4 % 2) 1) 16 + flag
     (eqb (n / 2 ^ 3 % 2) 1) 8 + flag (eqb (n / 2 ^ 2 % 2) 1) 4 + flag
     (eqb (n / 2 ^ 1 % 2) 1) 2 + flag (eqb (n / 2 ^ 0 % 2) 1) 1 ≡ n
-flags_are n h =
-    rw (
-      flag_worth (n / 2 ^ 7 % 2) 128 (omega arith),
-      flag_worth (n / 2 ^ 6 % 2) 64
-          (omega arith),
-      flag_worth (n / 2 ^ 5 % 2) 32 (omega arith),
-      flag_worth (n / 2 ^ 4 % 2) 16
-          (omega arith),
-      flag_worth (n / 2 ^ 3 % 2) 8 (omega arith),
-      flag_worth (n / 2 ^ 2 % 2) 4
-          (omega arith),
-      flag_worth (n / 2 ^ 1 % 2) 2 (omega arith),
-      flag_worth (n / 2 ^ 0 % 2) 1
-          (omega arith),
-    ) (omega arith)
+flags_are n h = grind (arith, flag_worth)
 
 -- the bits of a number that eight bits make up
 bits_of : (n a b c d e f g h : ℕ)
@@ -66,33 +44,12 @@ bits_of : (n a b c d e f g h : ℕ)
     → a < 2 → b < 2 → c < 2 → d < 2 → e < 2 → f < 2 → g < 2 → h < 2
     → (n / 2 ^ 7 % 2 ≡ a) × (n / 2 ^ 6 % 2 ≡ b) × (n / 2 ^ 5 % 2 ≡ c) × (n / 2 ^ 4 % 2 ≡ d)
     × (n / 2 ^ 3 % 2 ≡ e) × (n / 2 ^ 2 % 2 ≡ f) × (n / 2 ^ 1 % 2 ≡ g) × (n / 2 ^ 0 % 2 ≡ h)
-bits_of n a b c d e f g h is pa pb pc pd pe pf pg ph = (
-  omega arith,
-  omega arith,
-  omega arith,
-  omega arith,
-  omega arith,
-  omega
-      arith,
-  omega arith,
-  omega arith,
-)
+bits_of n a b c d e f g h is pa pb pc pd pe pf pg ph = grind arith
 
 flags_bits : (h : TcpHeader)
     → flags h ≡ bit h.cwr * 128 + bit h.ece * 64 + bit h.urg * 32 + bit h.ack * 16 + bit
     h.psh * 8 + bit h.rst * 4 + bit h.syn * 2 + bit h.fin * 1
-flags_bits h =
-    rw (
-      flag-bit h.cwr 128,
-      flag-bit h.ece 64,
-      flag-bit h.urg 32,
-      flag-bit h.ack 16,
-      flag-bit h.psh
-          8,
-      flag-bit h.rst 4,
-      flag-bit h.syn 2,
-      flag-bit h.fin 1,
-    ) refl
+flags_bits h = grind (arith, flag-bit)
 
 offset_and_ns : (n rest : ℕ) → rest ≡ n / 16
     → rest * 16 + flag (eqb (n / 2 ^ 0 % 2) 1) 1 ≡ n / 16 * 16 + n % 2
@@ -111,13 +68,10 @@ encoding-tcp_header_of bytes header fits =
     let value : ℕ = get_or bytes 12 0 / 16 * 16 + get_or bytes 12 0 % 2 in
     let half = λ (p : ℕ). half_cells p bytes fits in
     let word = λ (p : ℕ). word_cells p bytes fits in
-    (λ i. half 0 i ++ (half 2 i ++ (word 4 i ++ (word 8 i ++ (offset i ∷ flags i ∷
-    (half 14 i ++ (half 16 i ++ (half 18 i ++ rest i))))))))
-    ∙ sym (ap (λ (xs : List ℕ). set xs 12 value) (drop-cells 20 0 bytes least))
+    grind arith
 
 offset_again : (len : ℕ) (ns : Bool) → ((5 + len / 4) * 16 + flag ns 1) / 16 ≡ 5 + len / 4
-offset_again len true = omega arith
-offset_again len false = omega arith
+offset_again len ns = grind arith
 
 ns_bit : (n b : ℕ) → b < 2 → (n * 16 + b * 1) / 2 ^ 0 % 2 ≡ b
 ns_bit n b h = omega arith
@@ -156,5 +110,4 @@ tcp_header_of-encoding h fits =
     let checksum = two_again h.checksum fits.checksum in
     let urgent_pointer = two_again h.urgent_pointer fits.urgent_pointer in
     let options = options_rest (encoding h) (IsTcpHeader-encoding h fits) in
-    header_by_fields source_port destination_port sequence_number acknowledgment_number ns fin syn rst
-    psh ack urg ece cwr window_size checksum urgent_pointer options
+    grind arith

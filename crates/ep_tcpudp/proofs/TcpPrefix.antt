@@ -1,9 +1,9 @@
 -- The TCP header at the start of bytes.
-use Rattle.std.proofs.Common.{◌≡◌, ℕ, ◌+◌, ◌-◌, ◌*◌, ◌/◌, ◌≤◌, ◌↔◌, List, ◌++◌, length, take, drop}
-use Rattle.std.proofs.Common.{Result, Ok, Err, IfOk, IsOk, arith, sym, refl, ap, ◌∙◌}
-use Rattle.std.proofs.lemmas.Bool.{le-ltb, ltb-false, true≢false}
-use Rattle.std.proofs.lemmas.List.{get_or-take, length-take-le, take-append-drop, take_at}
-use Rattle.std.proofs.lemmas.List.{take_rest, get_or_append_left, length-append, length-drop}
+use Rattle.std.proofs.Common.{◌≡◌, ℕ, ◌+◌, ◌*◌, ◌/◌, ◌≤◌, ◌↔◌, List, ◌++◌, length, take, drop, Result, Ok, IfOk, IsOk}
+use Rattle.std.proofs.Common.{arith, sym, refl}
+use Rattle.std.proofs.lemmas.Bool.{le-ltb, ltb-false}
+use Rattle.std.proofs.lemmas.List.{get_or-take, length-take-le, take-append-drop, take_at, take_rest}
+use Rattle.std.proofs.lemmas.List.{get_or_append_left, length-append, length-drop}
 use Rattle.ep_base.specs.Bytes.{num}
 use Rattle.ep_base.specs.Prefixes.{TakesPrefix}
 use Rattle.ep_base.proofs.Prefixes.{guard_ok, ok_same, takes}
@@ -46,12 +46,8 @@ pub header_is : (bytes : List ℕ) → ReadableTcp bytes
     → IsTcpHeader (take (4 * data_offset_of bytes) bytes)
 header_is bytes readable =
     let first : num (take (4 * data_offset_of bytes) bytes) 12 1 ≡ num bytes 12 1 =
-    get_or-take (4 * data_offset_of bytes) bytes 12 0
-    (omega (arith, twenty (data_offset_of bytes) readable.minimum)) in
-    record {
-      minimum = rw first readable.minimum;
-      whole = rw first (length-take-le (4 * data_offset_of bytes) bytes readable.header);
-    }
+    grind (arith, get_or-take, twenty) in
+    grind (arith, length-take-le)
 
 prefix_takes : (bytes prefix : List ℕ) → header_at bytes ≡ Ok prefix
     → IsTcpHeader prefix × ((rest : List ℕ) × (bytes ≡ prefix ++ rest))
@@ -66,9 +62,7 @@ prefix_again prefix rest header =
     let first : num (prefix ++ rest) 12 1 ≡ num prefix 12 1 =
     get_or_append_left prefix rest 0 12 (omega (arith, header.minimum, header.whole)) in
     let len = length-append prefix rest in
-    with_header-ok (prefix ++ rest) (take (4 * data_offset_of (prefix ++ rest)) (prefix ++ rest))
-    (record { minimum = rw first header.minimum; header = rw first (omega (arith, header.whole)) })
-    ∙ ap Ok (rw first (take_at prefix rest (4 * data_offset_of prefix) header.whole))
+    grind (arith, with_header-ok, take_at)
 
 pub takes_header : (bytes : List ℕ) (taken : Result (List ℕ) (SliceError HeaderError))
     → taken ≡ header_at bytes → TakesPrefix IsTcpHeader bytes taken
@@ -76,14 +70,11 @@ takes_header = takes IsTcpHeader header_at prefix_takes prefix_again
 
 pub ok_readable : (bytes : List ℕ) (r : Result (List ℕ) (SliceError HeaderError))
     → r ≡ segment_at bytes → IsOk r ↔ ReadableTcp bytes
-ok_readable bytes (Ok segment) e = ((λ _. (taken bytes bytes segment (sym e)).0), (λ _. refl))
-ok_readable bytes (Err fault) e =
-    ((λ h. absurd (true≢false (sym h))), (λ readable. cc (e, with_header-ok bytes bytes readable)))
+ok_readable bytes r e = grind arith
 
 pub ok_view : (bytes : List ℕ) (r : Result (List ℕ) (SliceError HeaderError)) → r ≡ segment_at bytes
     → IfOk r (λ segment. segment ≡ bytes)
-ok_view bytes (Ok segment) e = sym (taken bytes bytes segment (sym e)).1
-ok_view bytes (Err fault) e = tt
+ok_view bytes r e = grind arith
 
 -- the options of a header are all after its fixed fields
 pub options_rest : (bytes : List ℕ) → IsTcpHeader bytes → options_of bytes ≡ drop 20 bytes
@@ -92,19 +83,11 @@ options_rest bytes header = rw (← header.whole) (take_rest bytes 20)
 -- the options fit
 pub options_fit : (bytes options : List ℕ) → ReadableTcp bytes → data_offset_of bytes ≤ 15
     → options ≡ options_of bytes → IsTcpOptions options
-options_fit bytes options readable small e =
-    let size : length (options_of bytes) ≡ 4 * data_offset_of bytes - 20 =
-    length-take-le (4 * data_offset_of bytes - 20) (drop 20 bytes)
-    (omega (arith, length-drop 20 bytes, readable.header)) in
-    rw e (record { fits = omega (arith, size); words = omega (arith, size, readable.minimum) })
+options_fit bytes options readable small e = grind (arith, length-take-le, length-drop)
 
 pub options_len : (bytes options : List ℕ) → ReadableTcp bytes → options ≡ options_of bytes
     → 20 + length options ≡ 4 * data_offset_of bytes
-options_len bytes options readable e =
-    let size : length (options_of bytes) ≡ 4 * data_offset_of bytes - 20 =
-    length-take-le (4 * data_offset_of bytes - 20) (drop 20 bytes)
-    (omega (arith, length-drop 20 bytes, readable.header)) in
-    rw e (omega (arith, size, readable.minimum))
+options_len bytes options readable e = grind (arith, length-take-le, length-drop)
 
 pub options_offset : (bytes options : List ℕ) → ReadableTcp bytes → options ≡ options_of bytes
     → 5 + length options / 4 ≡ data_offset_of bytes

@@ -1,6 +1,5 @@
 -- The sums of segments, added part by part.
-use Rattle.std.proofs.Common.{◌≡◌, ℕ, ◌%◌, ◌≤◌, List, ◌++◌, length, take, drop, arith, ap, ◌∙◌}
-use Rattle.std.proofs.Common.{length-append, append_assoc}
+use Rattle.std.proofs.Common.{◌≡◌, ℕ, ◌%◌, ◌≤◌, List, ◌++◌, length, take, drop, arith, length-append, append_assoc}
 use Rattle.std.proofs.lemmas.List.{length-take-le, take-append-le, drop-append-le, length-drop}
 use Rattle.std.specs.Int.{w16, to_be_bytes}
 use Rattle.ep_base.specs.MessageSum.{with_word}
@@ -25,10 +24,7 @@ header_added sum last prefix header payload even least words sums adds =
     let around = length-append (take 16 header) (to_be_bytes w16 0) in
     let whole = length-append (take 16 header ++ to_be_bytes w16 0) (drop 18 header) in
     let all = length-append prefix (with_checksum header 0) in
-    adds (prefix ++ with_checksum header 0) (omega arith) sums
-    ∙ ap (λ (text : List ℕ). fold (total text))
-    (rw (take-append-le 16 header payload (omega arith), drop-append-le 18 header payload least)
-    (simp append_assoc))
+    grind (arith, take-append-le, drop-append-le, append_assoc)
 
 -- so it is after the two parts of a header, its fixed fields and its options
 pub parts_added : (sum last : ℕ) (prefix fixed options payload header : List ℕ)
@@ -37,8 +33,4 @@ pub parts_added : (sum last : ℕ) (prefix fixed options payload header : List �
     → AddsText sum payload last
     → last ≡ fold (total (prefix ++ header ++ payload))
 parts_added sum last prefix fixed options payload header even size words is sums adds =
-    let both = length-append prefix fixed in
-    let all = length-append (prefix ++ fixed) options in
-    adds (prefix ++ fixed ++ options) (omega arith) sums
-    ∙ ap (λ (xs : List ℕ). fold (total (xs ++ payload)))
-    (append_assoc prefix fixed options ∙ ap (λ (xs : List ℕ). prefix ++ xs) is)
+    grind (arith, length-append, append_assoc)

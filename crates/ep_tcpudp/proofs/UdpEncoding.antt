@@ -1,10 +1,9 @@
 -- The bytes of a UDP header against its fields.
-use Rattle.std.proofs.Common.{◌≡◌, ℕ, List, ◌++◌, sym, refl, ◌∙◌}
+use Rattle.std.proofs.Common.{arith, ◌≡◌, ℕ, List, ◌++◌, sym, refl, ◌∙◌}
 use Rattle.ep_base.specs.Bytes.{IsBytes}
 use Rattle.ep_tcpudp.specs.Udp.{IsUdpHeader, udp_header_of, encoding, Fits}
 use Rattle.ep_tcpudp.specs.declared.transport.udp_header.UdpHeader.{UdpHeader}
 use Rattle.ep_base.proofs.Cells.{as_cells}
-use Rattle.ep_base.proofs.Numbers.{two_again}
 use Rattle.ep_tcpudp.proofs.Words.{half_cells}
 
 -- what is read from the bytes of a header is encoded by them
@@ -16,17 +15,7 @@ encoding-udp_header_of bytes header fits =
 
 -- the fields are read again
 pub udp_header_of-encoding : (h : UdpHeader) → Fits h → udp_header_of (encoding h) ≡ h
-udp_header_of-encoding h fits =
-    let source_port = two_again h.source_port fits.source_port in
-    let destination_port = two_again h.destination_port fits.destination_port in
-    let size = two_again h.length fits.size in
-    let checksum = two_again h.checksum fits.checksum in
-    λ i. record {
-      source_port = source_port i;
-      destination_port = destination_port i;
-      length = size i;
-      checksum = checksum i;
-    }
+udp_header_of-encoding h fits = grind arith
 
 pub IsUdpHeader-encoding : (h : UdpHeader) → IsUdpHeader (encoding h)
 IsUdpHeader-encoding h = record { whole = refl }

@@ -2,8 +2,8 @@
 -- and why the list ends where it does. End, no-operation and maximum segment size: RFC 9293,
 -- section 3.2; window scale and timestamps: RFC 7323, sections 2.2 and 3.2; selective
 -- acknowledgement: RFC 2018, sections 2 and 3.
-use Rattle.std.specs.Prelude.{◌≡◌, ◌≢◌, ◌⊎◌, ◌<◌, ◌≤◌, map, ℕ, ◌+◌, ◌*◌, List, [], ◌∷◌, ◌++◌}
-use Rattle.std.specs.Prelude.{length, Option, Some, None, Result, Ok, Err}
+use Rattle.std.specs.Prelude.{◌≡◌, ◌≢◌, ◌⊎◌, ◌<◌, ◌≤◌, map, ℕ, ◌+◌, ◌*◌, List, [], ◌∷◌, ◌++◌, length, Option, Some}
+use Rattle.std.specs.Prelude.{None, Result, Ok, Err}
 use Rattle.ep_base.specs.Bytes.{IsBytes, num}
 use Rattle.ep_tcpudp.specs.Options.{FitsElements, elements_bytes, items_of, kind_at, packed_element}
 use Rattle.ep_tcpudp.specs.declared.transport.tcp_option_element.TcpOptionElement.{TcpOptionElement}

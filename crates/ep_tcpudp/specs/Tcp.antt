@@ -1,8 +1,7 @@
 -- The TCP header (RFC 9293, section 3.1): its bytes, and each field by its offset in them. The flag
 -- ns is that of RFC 3540, ece and cwr those of RFC 3168, section 6.1.
-use Rattle.std.specs.Prelude.{◌≡◌, ◌<◌, ◌≤◌, ℕ, ◌+◌, ◌*◌, ◌/◌, ◌%◌, ◌^◌, Bool, false, ◌==◌}
-use Rattle.std.specs.Prelude.{if◌then◌else◌, List, [], ◌∷◌, ◌++◌, length, slice_index, slice_range}
-use Rattle.std.specs.Prelude.{slice_set, take, drop}
+use Rattle.std.specs.Prelude.{◌≡◌, ◌<◌, ◌≤◌, ℕ, ◌+◌, ◌*◌, ◌/◌, ◌%◌, ◌^◌, Bool, false, ◌==◌, if◌then◌else◌, List, []}
+use Rattle.std.specs.Prelude.{◌∷◌, ◌++◌, length, slice_index, slice_range, slice_set, take, drop}
 use Rattle.std.specs.Int.{w16, w32, to_be_bytes, bit_at}
 use Rattle.ep_base.specs.Bytes.{num}
 use Rattle.ep_base.specs.Prefixes.{IsReadAs}

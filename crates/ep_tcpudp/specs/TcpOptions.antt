@@ -1,7 +1,7 @@
 -- The options of a TCP header (RFC 9293, section 3.1): what the data offset, in words of 4 bytes
 -- from 5 to 15, leaves after the 20 bytes of the fixed fields.
-use Rattle.std.specs.Prelude.{◌≡◌, ℕ, ◌-◌, ◌%◌, ◌≤◌, nat_lt, if◌then◌else◌, List, ◌++◌, length}
-use Rattle.std.specs.Prelude.{replicate, Result, Ok, Err}
+use Rattle.std.specs.Prelude.{◌≡◌, ℕ, ◌-◌, ◌%◌, ◌≤◌, nat_lt, if◌then◌else◌, List, ◌++◌, length, replicate, Result, Ok}
+use Rattle.std.specs.Prelude.{Err}
 use Rattle.ep_tcpudp.specs.declared.transport.tcp_option_write_error.TcpOptionWriteError.{TcpOptionWriteError}
 use Rattle.ep_tcpudp.specs.declared.transport.tcp_option_write_error.TcpOptionWriteError.TheVariants.{NotEnoughSpace}
 

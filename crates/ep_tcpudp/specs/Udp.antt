@@ -1,6 +1,5 @@
 -- UDP (RFC 768): the bytes of the header, each field by its offset in them, and the whole datagram.
-use Rattle.std.specs.Prelude.{◌≡◌, ◌⊎◌, ℕ, ◌+◌, ◌^◌, ◌<◌, ◌≤◌, ◌==◌, if◌then◌else◌, List, ◌++◌}
-use Rattle.std.specs.Prelude.{length, take}
+use Rattle.std.specs.Prelude.{◌≡◌, ◌⊎◌, ℕ, ◌+◌, ◌^◌, ◌<◌, ◌≤◌, ◌==◌, if◌then◌else◌, List, ◌++◌, length, take}
 use Rattle.std.specs.Int.{w16, to_be_bytes}
 use Rattle.ep_base.specs.Bytes.{num}
 use Rattle.ep_base.specs.Prefixes.{IsReadAs}

@@ -1,13 +1,11 @@
 -- Fragments taken one after the other.
-use Rattle.std.proofs.Common.{◌≡◌, ℕ, ◌+◌, ◌<◌, None, List, [], ◌∷◌, ◌++◌, length, map, take, drop}
-use Rattle.std.proofs.Common.{get_or, add-one, drop-cons, ap, sym, subst, ◌∙◌, refl, Bool, true, false, not, cond, is_some}
-use Rattle.std.proofs.Common.{arith}
+use Rattle.std.proofs.Common.{◌≡◌, ℕ, ◌+◌, ◌<◌, None, List, [], ◌∷◌, ◌++◌, length, map, take, drop, get_or, add-one}
+use Rattle.std.proofs.Common.{drop-cons, ap, sym, subst, ◌∙◌, refl, Bool, not, cond, is_some, arith}
 use Rattle.std.proofs.lemmas.List.{take_more, map-append, take-append-drop}
 use Rattle.etherparse.specs.declared.defrag.ip_defrag_error.IpDefragError.{IpDefragError}
 use Rattle.etherparse.specs.declared.defrag.ip_defrag_error.IpDefragError.TheVariants.{AllocationFailure}
 use Rattle.etherparse.specs.declared.defrag.overlap_rule.OverlapRule.{OverlapRule}
-use Rattle.etherparse.specs.Fragments.{Fragment, accepted_count, end_of, refusal_of, with_accepted}
-use Rattle.etherparse.specs.Fragments.{with_all_accepted}
+use Rattle.etherparse.specs.Fragments.{Fragment, accepted_count, end_of, refusal_of, with_accepted, with_all_accepted}
 use Rattle.etherparse.specs.IpDefragBuf.{Contents, SameButRoom, Shows, Stops}
 use Rattle.etherparse.proofs.Rooms.{still_shows}
 
@@ -28,8 +26,7 @@ module _ (rule : OverlapRule) where
       + one_accepted (with_all_accepted rule fs elements) f
   accepted_count-push fs [] f = omega arith
   accepted_count-push fs (p ∷ elements) f =
-      let rest = accepted_count-push (with_accepted rule fs p) elements f in
-      rw rest (omega arith)
+      grind (arith, accepted_count-push (with_accepted rule fs p) elements f)
 
   -- one more of them, the element x at i
   pub accepted_more : {P : Type 0} (element : P → Fragment) (fs : List Fragment) (elements : List P)
@@ -84,18 +81,12 @@ module _ (rule : OverlapRule) where
 pub counted_more : (old rule : OverlapRule) (fs : List Fragment) (f : Fragment) (taken : Bool)
     (count so_far : ℕ) → is_some (refusal_of old fs f) ≡ not taken → old ≡ rule → count ≡ so_far
     → count + cond taken 1 0 ≡ so_far + cond (is_some (refusal_of rule fs f)) 0 1
-counted_more old rule fs f taken count so_far is same counted =
-    let test : is_some (refusal_of rule fs f) ≡ not taken =
-    subst (λ (r : OverlapRule). is_some (refusal_of r fs f) ≡ not taken) same is in
-    elim taken as (λ (b : Bool). is_some (refusal_of rule fs f) ≡ not b
-    → count + cond b 1 0 ≡ so_far + cond (is_some (refusal_of rule fs f)) 0 1)
-    [ true ↦ λ t. rw t (omega arith) | false ↦ λ t. rw t (omega arith) ] test
+counted_more old rule fs f taken count so_far is same counted = grind arith
 
 -- the same by the same rule
 pub same_refusal : (old rule : OverlapRule) (fs : List Fragment) (f : Fragment) → old ≡ rule
     → refusal_of old fs f ≡ None → refusal_of rule fs f ≡ None
-same_refusal old rule fs f same is =
-    subst (λ (r : OverlapRule). refusal_of r fs f ≡ None) same is
+same_refusal old rule fs f same is = grind arith
 
 pub same_shown : {N : Type 0} (buf : Contents N) (old rule : OverlapRule) (fs : List Fragment)
     (f : Fragment) → old ≡ rule → Shows buf (with_accepted old fs f)

@@ -1,47 +1,36 @@
 -- What holds of every list of accepted fragments.
-use Rattle.std.proofs.Common.{◌≡◌, ℕ, ◌+◌, ◌%◌, ◌≤◌, Bool, true, false, cond, not, ◌&&◌, ltb}
-use Rattle.std.proofs.Common.{Option, Some, None, is_some, inl, inr, List, [], ◌∷◌, ◌++◌, length}
-use Rattle.std.proofs.Common.{append_assoc, length-append, arith, ap, sym, subst, ◌∙◌, refl}
-use Rattle.std.proofs.lemmas.Bool.{cases_Bool, ltb-false, eqb-true}
-use Rattle.std.proofs.lemmas.Bool.Decides.{nat_tests}
+use Rattle.std.proofs.Common.{◌≡◌, ℕ, ◌+◌, ◌%◌, ◌≤◌, Bool, true, false, not, ◌&&◌, ltb, Option, None, inl, inr, List}
+use Rattle.std.proofs.Common.{[], ◌∷◌, ◌++◌, length, append_assoc, length-append, arith, ap, sym, ◌∙◌, refl}
+use Rattle.std.proofs.lemmas.Bool.{ltb-false, eqb-true}
 use Rattle.std.proofs.lemmas.List.{append-nil}
 use Rattle.std.proofs.lemmas.List.Elements.{All-from_recursion}
 use Rattle.std.specs.List.{AllByRecursion}
 use Rattle.std.specs.Option.{option_or}
 use Rattle.std.specs.Prelude.{◌==◌}
-use Rattle.etherparse.specs.declared.defrag.ip_defrag_error.IpDefragError.{IpDefragError}
 use Rattle.etherparse.specs.declared.defrag.ip_defrag_error.IpDefragError.TheVariants.{SegmentTooBig}
 use Rattle.etherparse.specs.declared.defrag.ip_defrag_error.IpDefragError.TheVariants.{UnalignedFragmentPayloadLen}
 use Rattle.etherparse.specs.declared.defrag.overlap_rule.OverlapRule.{OverlapRule}
 use Rattle.etherparse.specs.declared.defrag.overlap_rule.OverlapRule.TheVariants.{Refuses}
-use Rattle.etherparse.specs.Fragments.{Fragment, end_of, named_end, refusal_at, overlaps}
-use Rattle.etherparse.specs.Fragments.{with_accepted, with_all_accepted, IsAccepted, AgreesWith}
-use Rattle.etherparse.specs.Fragments.{FragmentsAgree, AreDisjoint, AcceptedAreDisjoint, holds, Holds}
+use Rattle.etherparse.specs.Fragments.{Fragment, end_of, named_end, refusal_at, overlaps, with_accepted}
+use Rattle.etherparse.specs.Fragments.{with_all_accepted, IsAccepted, AgreesWith, FragmentsAgree, AreDisjoint}
+use Rattle.etherparse.specs.Fragments.{AcceptedAreDisjoint, Holds}
 use Rattle.etherparse.specs.FragmentBytes.{byte_of, LastByteCounts, UncoveredHasNone}
 use Rattle.etherparse.proofs.Clash.{clash_is}
 use Rattle.etherparse.proofs.Disjoint.{disjoint_push}
 use Rattle.etherparse.proofs.ListElements.{AllByRecursion-push, AnyOf-from_Any, Any-from_AnyOf}
-use Rattle.etherparse.proofs.Push.{named_end-push, own_end, cond_none, agrees, end_push}
-use Rattle.etherparse.proofs.Push.{byte_of-here}
+use Rattle.etherparse.proofs.Push.{named_end-push, own_end, cond_none, agrees, end_push, byte_of-here}
 
 -- a fragment of a list agrees with that list and one more fragment
 still_agrees : (fs gs : List Fragment) (f : Fragment) → AllByRecursion (AgreesWith fs) gs
     → AllByRecursion (AgreesWith (fs ++ f ∷ [])) gs
 still_agrees fs [] f h = tt
 still_agrees fs (g ∷ gs) f h = (
-  record {
-    short = h.0.short;
-    whole_units = h.0.whole_units;
-    end = λ last. named_end-push fs f
-        ∙ ap (λ (o : Option ℕ). option_or o (own_end f)) (h.0.end last);
-  },
+  grind (arith, named_end-push, own_end),
   still_agrees fs gs f h.1,
 )
 
 units_test : (more test : Bool) → (more && not test) ≡ false → more ≡ true → test ≡ true
-units_test true true h e = refl
-units_test true false h e = cc
-units_test false test h e = cc
+units_test more test h e = grind arith
 
 -- one that isn't refused agrees with the list whose last fragment it is
 last_agrees : (fs : List Fragment) (f : Fragment) → refusal_at (named_end fs) f ≡ None
@@ -59,23 +48,17 @@ last_agrees fs f none =
 
 length-with_accepted : (rule : OverlapRule) (fs : List Fragment) (f : Fragment)
     → length (with_accepted rule fs f) ≤ length fs + 1
-length-with_accepted rule fs f =
-    elim (is_some (refusal_at (named_end fs) f)) as (λ (b : Bool). length
-    (cond b fs (cond (overlaps rule fs f) [] (fs ++ f ∷ []))) ≤ length fs + 1) [
-      | true ↦ omega arith
-      | false ↦ elim (overlaps rule fs f) as (λ (b : Bool). length (cond b [] (fs ++ f ∷ []))
-          ≤ length fs + 1)
-          [ true ↦ omega arith | false ↦ omega (arith, length-append fs (f ∷ [])) ]
-    ]
+length-with_accepted rule fs f = grind (arith, length-append)
 
 length-with_all_accepted : (rule : OverlapRule) (fs rest : List Fragment)
     → length (with_all_accepted rule fs rest) ≤ length fs + length rest
 length-with_all_accepted rule fs [] = omega arith
-length-with_all_accepted rule fs (f ∷ rest) = omega (
-  arith,
-  length-with_all_accepted rule (with_accepted rule fs f) rest,
-  length-with_accepted rule fs f,
-)
+length-with_all_accepted rule fs (f ∷ rest) =
+    grind (
+      arith,
+      length-with_all_accepted rule (with_accepted rule fs f) rest,
+      length-with_accepted,
+    )
 
 -- where all of them are accepted, the first one is
 record First (rule : OverlapRule) (fs rest : List Fragment) (f : Fragment) : Type 0 where
@@ -88,32 +71,7 @@ first_is : (rule : OverlapRule) (fs rest : List Fragment) (f : Fragment)
 first_is rule fs rest f is =
     let joined : (fs ++ f ∷ []) ++ rest ≡ fs ++ f ∷ rest = append_assoc fs (f ∷ []) rest in
     let len = ap (λ (gs : List Fragment). length gs) is ∙ length-append fs (f ∷ rest) in
-    elim (refusal_at (named_end fs) f) as (λ (o : Option IpDefragError).
-    refusal_at (named_end fs) f ≡ o → with_all_accepted rule
-    (cond (is_some o) fs (cond (overlaps rule fs f) [] (fs ++ f ∷ []))) rest
-    ≡ fs ++ f ∷ rest → First rule fs rest f) [
-      | Some e ↦ λ refused passed. absurd (omega (
-        arith,
-        length-with_all_accepted rule fs rest,
-        ap (λ (gs : List Fragment). length gs) passed,
-        length-append fs (f ∷ rest),
-      ))
-      | None ↦ λ none passed. elim (overlaps rule fs f) as (λ (b : Bool). overlaps rule fs f ≡ b
-          → with_all_accepted rule (cond b [] (fs ++ f ∷ [])) rest ≡ fs ++ f ∷ rest
-          → First rule fs rest f) [
-            | true ↦ λ clash gone. absurd (omega (
-              arith,
-              length-with_all_accepted rule [] rest,
-              ap (λ (gs : List Fragment). length gs) gone,
-              length-append fs (f ∷ rest),
-            ))
-            | false ↦ λ alone taken. record {
-              unrefused = none;
-              alone = alone;
-              others = taken ∙ sym joined;
-            }
-          ] refl passed
-    ] refl is
+    grind (arith, length-with_all_accepted, length-append)
 
 -- what one more fragment keeps, all keep
 pub fragments_by : (rule : OverlapRule) (P : List Fragment → Type 0)
@@ -123,9 +81,7 @@ pub fragments_by : (rule : OverlapRule) (P : List Fragment → Type 0)
 fragments_by rule P step fs [] is h = rw append-nil h
 fragments_by rule P step fs (f ∷ rest) is h =
     let first = first_is rule fs rest f is in
-    subst P (append_assoc fs (f ∷ []) rest)
-    (fragments_by rule P step (fs ++ f ∷ []) rest first.others
-    (step fs f h first.unrefused first.alone))
+    grind (arith, fragments_by rule P step (fs ++ f ∷ []) rest first.others)
 
 pub stored_fragments : (rule : OverlapRule) (fs : List Fragment) → IsAccepted rule fs
     → AllByRecursion (AgreesWith fs) fs
@@ -146,11 +102,7 @@ fragments_agree rule fs is = All-from_recursion (AgreesWith fs) fs (stored_fragm
 -- ---- bytes
 
 not_held : (f : Fragment) (p : ℕ) → (Holds f p → ⊥) → byte_of f p ≡ None
-not_held f p missing_byte =
-    elim (cases_Bool (holds f p)) [
-      | inl t ↦ absurd (missing_byte (grind (arith, nat_tests)))
-      | inr t ↦ rw t refl
-    ]
+not_held f p missing_byte = grind arith
 
 pub uncovered_has_none : UncoveredHasNone
 uncovered_has_none [] p h = refl

@@ -1,12 +1,11 @@
 -- Lists of accepted fragments, followed through the outcome of one more fragment.
-use Rattle.std.proofs.Common.{◌≡◌, ◌∙◌, ap, refl, ℕ, None, List, [], ◌∷◌, ◌++◌}
+use Rattle.std.proofs.Common.{arith, ◌≡◌, refl, ℕ, None, List, [], ◌∷◌, ◌++◌}
 use Rattle.etherparse.specs.declared.defrag.overlap_rule.OverlapRule.{OverlapRule}
 use Rattle.etherparse.specs.declared.defrag.overlap_rule.OverlapRule.TheVariants.{Refuses}
-use Rattle.etherparse.specs.Fragments.{Fragment, IsAccepted, refusal_of, with_accepted}
+use Rattle.etherparse.specs.Fragments.{Fragment, IsAccepted, refusal_of}
 use Rattle.etherparse.specs.Joined.{IsJoined}
 use Rattle.etherparse.specs.Outcome.{Held, Outcome, held_after, outcome}
 use Rattle.etherparse.specs.Outcome.Outcome.{Completed}
-use Rattle.etherparse.specs.FragmentBytes.{text_of}
 use Rattle.etherparse.proofs.Accepted.{with_all_accepted-push}
 use Rattle.etherparse.proofs.Complete.{complete_Decides}
 use Rattle.etherparse.proofs.Found.{accepted_is}
@@ -18,9 +17,7 @@ one_text a b is = cc
 
 one_more : (rule : OverlapRule) (fs : List Fragment) (f : Fragment) → IsAccepted rule fs
     → refusal_of rule fs f ≡ None → IsAccepted rule (fs ++ f ∷ [])
-one_more rule fs f accepted taken =
-    with_all_accepted-push rule [] fs f
-    ∙ ap (λ (gs : List Fragment). with_accepted rule gs f) accepted ∙ accepted_is rule fs f taken
+one_more rule fs f accepted taken = grind (arith, with_all_accepted-push, accepted_is)
 
 pub held_accepted : (rule : OverlapRule) (h : Held) (time : ℕ) (f : Fragment)
     → IsAccepted rule h.fragments
@@ -36,24 +33,9 @@ held_accepted rule h time f accepted =
 module _ (fs : List Fragment) (f : Fragment) (text : List ℕ) where
   pub completed_accepted : (rule : OverlapRule) → IsAccepted rule fs
       → outcome rule fs f ≡ Completed text → IsAccepted rule (fs ++ f ∷ [])
-  completed_accepted rule accepted is =
-      by_outcome rule fs f
-      (λ (o : Outcome). o ≡ Completed text → IsAccepted rule (fs ++ f ∷ []))
-      (λ error refused never. cc)
-      (λ none clash never. cc)
-      (λ taken open_end never. cc)
-      (λ taken whole same. one_more rule fs f accepted taken)
-      is
+  completed_accepted rule accepted is = grind (arith, by_outcome, one_more)
 
   pub completed_joined : IsAccepted Refuses fs → outcome Refuses fs f ≡ Completed text
       → IsJoined (fs ++ f ∷ []) text
   completed_joined accepted is =
-      let all = fs ++ f ∷ [] in
-      by_outcome Refuses fs f
-      (λ (o : Outcome). o ≡ Completed text → IsJoined all text)
-      (λ error refused never. cc)
-      (λ none clash never. cc)
-      (λ taken open_end never. cc)
-      (λ taken whole same. rw (one_text (text_of all) text same) at
-      (no_overlap all (one_more Refuses fs f accepted taken) ((complete_Decides all).0 whole)))
-      is
+      grind (arith, by_outcome, one_text, no_overlap, one_more, complete_Decides)

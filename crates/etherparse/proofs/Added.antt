@@ -1,17 +1,16 @@
 -- A range that is added to sections in order, by the indices at which the touched ones start and
 -- end.
-use Rattle.std.proofs.Common.{◌≡◌, ℕ, zero, suc, ◌+◌, ◌-◌, ◌<◌, ◌≤◌, List, [], ◌∷◌, ◌++◌, length}
-use Rattle.std.proofs.Common.{take, drop, set, get_or, add-one, drop-cons, append_assoc, arith, ap, refl}
-use Rattle.std.proofs.Common.{sym, ◌∙◌, subst, min, max, true}
+use Rattle.std.proofs.Common.{◌≡◌, ℕ, zero, suc, ◌+◌, ◌-◌, ◌<◌, ◌≤◌, List, [], ◌∷◌, ◌++◌, length, take, drop, set}
+use Rattle.std.proofs.Common.{get_or, add-one, drop-cons, append_assoc, arith, ap, refl, sym, ◌∙◌, subst, min, max}
+use Rattle.std.proofs.Common.{true}
 use Rattle.std.proofs.lemmas.Bool.Decides.{leb_tells}
-use Rattle.std.proofs.lemmas.List.{take-append-drop, drop-take, drop-drop, drop-set-lt}
-use Rattle.std.proofs.lemmas.List.{get_or-drop, get_or_default, length-drop, take_more_set}
+use Rattle.std.proofs.lemmas.List.{take-append-drop, drop-take, drop-drop, drop-set-lt, get_or-drop, get_or_default}
+use Rattle.std.proofs.lemmas.List.{length-drop, take_more_set}
 use Rattle.std.specs.List.{AllByRecursion, remove_range}
 use Rattle.etherparse.specs.declared.defrag.ip_frag_range.IpFragRange.{IpFragRange}
-use Rattle.etherparse.specs.IpFragRange.{AreOrdered, EndBefore, HasNumber, StartBy, has_number}
-use Rattle.etherparse.specs.IpFragRange.{hull}
-use Rattle.etherparse.proofs.Ordered.{IsAdded, added_alone, added_joined, last_of, all_split}
-use Rattle.etherparse.proofs.Ordered.{back_all, ends_below, from_offset, prefix_all, starts_rise}
+use Rattle.etherparse.specs.IpFragRange.{AreOrdered, EndBefore, HasNumber, StartBy, has_number, hull}
+use Rattle.etherparse.proofs.Ordered.{IsAdded, added_alone, added_joined, last_of, all_split, back_all, ends_below}
+use Rattle.etherparse.proofs.Ordered.{from_offset, prefix_all, starts_rise}
 
 -- those that end before the range are no more than those that start by its end
 pub no_fewer : (rs : List IpFragRange) (low high first following : ℕ) → AreOrdered rs → low ≤ high
@@ -19,8 +18,7 @@ pub no_fewer : (rs : List IpFragRange) (low high first following : ℕ) → AreO
     → AllByRecursion (λ s. high < s.start) (drop following rs) → first ≤ length rs → first ≤ following
 no_fewer rs low high zero following h o prefix back long = omega arith
 no_fewer [] low high (suc first) following h o prefix back long = absurd (omega arith)
-no_fewer (r ∷ rs) low high (suc first) zero h o prefix back long =
-    absurd (omega (arith, h.0, prefix.0, back.0))
+no_fewer (r ∷ rs) low high (suc first) zero h o prefix back long = grind arith
 no_fewer (r ∷ rs) low high (suc first) (suc following) h o prefix back long =
     let rest = no_fewer rs low high first following h.2 o prefix.1 back (omega arith) in omega arith
 
@@ -40,19 +38,12 @@ last_take a (x ∷ xs) (suc n) d long = last_take x xs n d (omega arith)
 pub before_range : (rs ss ts : List IpFragRange) (r : IpFragRange) (first following : ℕ) → ss ≡ rs
     → ts ≡ rs → AreOrdered rs → r.start ≤ r.end → EndBefore ss r.start first
     → StartBy ts r.end following → first ≤ length ss → first ≤ following
-before_range rs ss ts r first following s_is t_is h o low high long =
-    let before = subst (λ (xs : List IpFragRange). EndBefore xs r.start first) s_is low in
-    let up_to = subst (λ (xs : List IpFragRange). StartBy xs r.end following) t_is high in
-    no_fewer rs r.start r.end first following h o before.0 up_to.1
-    (subst (λ (xs : List IpFragRange). first ≤ length xs) s_is long)
+before_range rs ss ts r first following s_is t_is h o low high long = grind (arith, no_fewer)
 
 pub added_after : (rs : List IpFragRange) (location : ℕ) (r : IpFragRange) → AreOrdered rs
     → r.start ≤ r.end → EndBefore rs r.start location → StartBy rs r.end location
     → IsAdded rs (take location rs ++ r ∷ drop location rs) r
-added_after rs location r h o low high =
-    let all = take-append-drop location rs in
-    subst (λ (xs : List IpFragRange). IsAdded xs (take location rs ++ r ∷ drop location rs) r) all
-    (added_alone (take location rs) (drop location rs) r o (subst AreOrdered (sym all) h) low.0 high.1)
+added_after rs location r h o low high = grind (arith, take-append-drop, added_alone)
 
 pub added_at : (rs : List IpFragRange) (first following : ℕ) (a z r : IpFragRange) → AreOrdered rs
     → r.start ≤ r.end → EndBefore rs r.start first → StartBy rs r.end following → first < following
@@ -64,19 +55,16 @@ added_at rs first following a z r h o low high some long a_is z_is =
     let at : drop first rs ≡ a ∷ rest =
     rw add-one (drop-cons rs first a (omega arith)) ∙ ap (λ (x : IpFragRange). x ∷ rest) (sym a_is) in
     let after_end_is : first + 1 + n ≡ following = omega arith in
-    let back : drop n rest ≡ drop following rs = drop-drop n (first + 1) rs
-    ∙ ap (λ (k : ℕ). drop k rs) after_end_is in
+    let back : drop n rest ≡ drop following rs = grind (arith, drop-drop) in
     let parts : (a ∷ take n rest) ++ drop n rest ≡ a ∷ rest =
-    ap (λ (xs : List IpFragRange). a ∷ xs) (take-append-drop n rest) in
+    cc (take-append-drop n rest) in
     let whole : take first rs ++ ((a ∷ take n rest) ++ drop n rest) ≡ rs =
-    ap (λ (xs : List IpFragRange). take first rs ++ xs) (parts ∙ sym at)
-    ∙ take-append-drop first rs in
+    grind (arith, take-append-drop) in
     let from = all_split (λ s. r.start ≤ s.end) (a ∷ take n rest) (drop n rest)
     (subst (AllByRecursion (λ s. r.start ≤ s.end)) (at ∙ sym parts) low.1) in
     let count : first + suc n ≡ following = omega arith in
     let taken : drop first (take following rs) ≡ a ∷ take n rest =
-    ap (λ (k : ℕ). drop first (take k rs)) (sym count) ∙ drop-take first (suc n) rs
-    ∙ ap (take (suc n)) at in
+    grind (arith, drop-take) in
     let to = subst (AllByRecursion (λ s. s.start ≤ r.end)) taken
     (all_drop (λ s. s.start ≤ r.end) (take following rs) first high.0) in
     let z_at : last_of a (take n rest) ≡ z =
@@ -87,13 +75,7 @@ added_at rs first following a z r h o low high some long a_is z_is =
     let is_added = added_joined (take first rs) a (take n rest) (drop n rest) r o
     (subst AreOrdered (sym whole) h) low.0 from.0 to
     (subst (AllByRecursion (λ s. r.end < s.start)) (sym back) high.1) in
-    subst (λ (xs : List IpFragRange). IsAdded rs xs r)
-    (sym (append_assoc (take first rs) (j ∷ []) (drop following rs)))
-    (subst (λ (xs : List IpFragRange). IsAdded rs (take first rs ++ j ∷ xs) r) back
-    (subst (λ (y : IpFragRange). IsAdded rs (take first rs ++ hull (hull r a) y ∷ drop n rest) r)
-    z_at
-    (subst (λ (xs : List IpFragRange). IsAdded xs
-    (take first rs ++ hull (hull r a) (last_of a (take n rest)) ∷ drop n rest) r) whole is_added)))
+    grind (arith, append_assoc, last_of)
 
 -- the first touched section is the joined one, and the others are taken out
 pub added_set : (rs new : List IpFragRange) (first following : ℕ) (a z r j : IpFragRange)
@@ -102,13 +84,7 @@ pub added_set : (rs new : List IpFragRange) (first following : ℕ) (a z r j : I
     → j ≡ hull (hull r a) z → new ≡ remove_range (set rs first j) (first + 1) following
     → IsAdded rs new r
 added_set rs new first following a z r j h o low high some long a_is z_is j_is new_is =
-    let prefix = take_more_set rs first j (omega arith) in
-    let back = drop-set-lt following rs first j (omega arith) in
-    let items : new ≡ (take first rs ++ j ∷ []) ++ drop following rs =
-    new_is ∙ (λ i. prefix i ++ back i) in
-    subst (λ (xs : List IpFragRange). IsAdded rs xs r) (sym items)
-    (subst (λ (k : IpFragRange). IsAdded rs ((take first rs ++ k ∷ []) ++ drop following rs) r)
-    (sym j_is) (added_at rs first following a z r h o low high some long a_is z_is))
+    grind (arith, take_more_set, drop-set-lt, added_at)
 
 -- one section alone is touched, and is the joined one
 added_one : (rs new : List IpFragRange) (i : ℕ) (a r j : IpFragRange) → AreOrdered rs
@@ -132,7 +108,7 @@ pub added_to_last : (rs new : List IpFragRange) (last : ℕ) (a r j : IpFragRang
 added_to_last rs new last a r j h o long a_is meets j_is new_is =
     let has = number_in a r.start meets in
     let at : (d : IpFragRange) → get_or rs last d ≡ a =
-    λ d. get_or_default rs last d a (omega arith) ∙ sym a_is in
+    grind (arith, get_or_default) in
     let ends = ap (λ (s : IpFragRange). s.end) (at a) in
     added_one rs new last a r j h o (
       prefix_all (λ s. s.end < r.start) rs last (omega arith)
@@ -165,7 +141,7 @@ pub added_to_first : (rs new : List IpFragRange) (a r j : IpFragRange) → AreOr
 added_to_first rs new a r j h o some a_is before meets j_is new_is =
     let has = number_in a r.end meets in
     let at : (d : IpFragRange) → get_or rs 0 d ≡ a =
-    λ d. get_or_default rs 0 d a some ∙ sym a_is in
+    grind (arith, get_or_default) in
     added_one rs new 0 a r j h o (
       tt,
       back_all (λ s. r.start ≤ s.end) rs 0

@@ -1,18 +1,14 @@
 -- IP headers that lead through all extension headers are appended where there is capacity.
-use Rattle.std.proofs.Common.{◌≡◌, ◌∙◌, ap, refl, subst, ℕ, ◌+◌, List, [], ◌++◌, length}
-use Rattle.std.proofs.Common.{length-append, append_assoc, Option, Some, None, Result, Ok, Err}
-use Rattle.std.proofs.Common.{IsOk, is_some, if◌then◌else◌}
+use Rattle.std.proofs.Common.{arith, ◌≡◌, ◌∙◌, ap, ℕ, ◌+◌, List, ◌++◌, length, length-append, append_assoc, Option}
+use Rattle.std.proofs.Common.{Some, None, Result, Err, IsOk, is_some, if◌then◌else◌}
 use Rattle.ep_base.specs.declared.net.ip_number.IpNumber.{IpNumber}
-use Rattle.ep_ext.specs.Chain.{Row}
 use Rattle.ep_ext.specs.Follow.{Appends, Follows, header_len, walk_fault}
 use Rattle.ep_ext.specs.Ipv4Exts.{auth_number, ipv4_exts_encoding, ipv4_with_link}
 use Rattle.ep_ext.specs.Link.{all_slots, pieces_in, with_links}
-use Rattle.ep_ext.specs.Slot.{slot_of}
 use Rattle.ep_ext.specs.Value.{Piece, bytes_of}
 use Rattle.ep_ext.specs.declared.err.ipv6_exts.exts_walk_error.ExtsWalkError.{ExtsWalkError}
 use Rattle.ep_ext.specs.declared.err.ipv6_exts.header_write_error.HeaderWriteError.{HeaderWriteError}
 use Rattle.ep_ext.specs.declared.err.ipv6_exts.header_write_error.HeaderWriteError.TheVariants.{Memory}
-use Rattle.ep_ext.specs.declared.err.ipv6_exts.header_write_error.HeaderWriteError.TheVariants.{Content}
 use Rattle.ep_ext.specs.declared.net.ipv4_extensions.Ipv4Extensions.{Ipv4Extensions}
 use Rattle.ep_ext.specs.declared.net.ipv6_extensions.Ipv6Extensions.{Ipv6Extensions}
 use Rattle.ep_ip.specs.Ipv4.{encoding as encoding_v4}
@@ -32,10 +28,7 @@ pub appended : (value : Ipv6Extensions) (pieces : List Piece) (last : ℕ) (old 
     → walk_fault value pieces last ≡ None → (result ≡ Err Memory → ⊥)
     → Appends value pieces last old new result
     → IsOk result × (new ≡ old ++ bytes_of pieces)
-appended value pieces last old new (Ok u) whole memory appends = (refl, appends.0)
-appended value pieces last old new (Err Memory) whole memory appends = absurd (memory refl)
-appended value pieces last old new (Err (Content e)) whole memory appends =
-    absurd (no_fault e _ whole appends.1)
+appended value pieces last old new result whole memory appends = grind arith
 
 -- an IPv6 header that names the first number, and the extension headers after it
 pub ipv6_appended : (h : Ipv6Header) (e new : Ipv6Extensions) (first : IpNumber) (last : ℕ)
@@ -45,22 +38,12 @@ pub ipv6_appended : (h : Ipv6Header) (e new : Ipv6Extensions) (first : IpNumber)
     → whole ≡ middle ++ bytes_of (pieces_in new all_slots)
     → whole ≡ prefix ++ ip_bytes (with_last_number (Ipv6 h e) last)
 ipv6_appended h e new first last prefix middle whole links follows header exts =
-    let row = subst (λ (x : Ipv6Extensions). Row slot_of [] first.0 (pieces_in x all_slots) last)
-    links follows.row in
-    let named = first_linked e first.0 last row in
-    exts
-    ∙ ap (λ (xs : List ℕ). xs ++ bytes_of (pieces_in new all_slots)) header
-    ∙ append_assoc prefix (encoding (record h { next_header = first }))
-    (bytes_of (pieces_in new all_slots))
-    ∙ (λ i. prefix ++ (encoding (record h { next_header = record { 0 = named i } })
-    ++ bytes_of (pieces_in (links i) all_slots)))
+    grind (arith, first_linked, append_assoc)
 
 pub ipv6_len : (e new : Ipv6Extensions) (last : ℕ) (middle whole : List ℕ) → new ≡ with_links e last
     → whole ≡ middle ++ bytes_of (pieces_in new all_slots)
     → length whole ≡ length middle + header_len e
-ipv6_len e new last middle whole links exts =
-    ap length exts ∙ length-append middle (bytes_of (pieces_in new all_slots))
-    ∙ ap (λ n. length middle + n) (pieces_len new ∙ ap header_len links ∙ linked_len e last)
+ipv6_len e new last middle whole links exts = grind (arith, length-append, pieces_len, linked_len)
 
 -- an IPv4 header that names the first number, and the extension header after it
 pub ipv4_appended : (h : Ipv4Header) (e new : Ipv4Extensions) (first : IpNumber) (last : ℕ)
@@ -92,7 +75,4 @@ pub ipv4_len : (e new : Ipv4Extensions) (last : ℕ) (middle whole : List ℕ)
     → new ≡ ipv4_with_link e last
     → whole ≡ middle ++ ipv4_exts_encoding new
     → length whole ≡ length middle + length (ipv4_exts_encoding e)
-ipv4_len e new last middle whole links exts =
-    ap length exts ∙ length-append middle (ipv4_exts_encoding new)
-    ∙ ap (λ n. length middle + n) (ap (λ (x : Ipv4Extensions). length (ipv4_exts_encoding x)) links
-    ∙ ipv4_linked_len e last)
+ipv4_len e new last middle whole links exts = grind (arith, length-append, ipv4_linked_len)

@@ -6,8 +6,7 @@ use Rattle.etherparse.specs.SpareBuffers.{HasSlots}
 
 -- where there are slots for so many, there are for fewer
 pub fewer_slots : (spare : SpareBuffers) (m n : ℕ) → n ≤ m → HasSlots spare m → HasSlots spare n
-fewer_slots spare m n le h =
-    record { bytes = omega (arith, h.bytes, le); sections = omega (arith, h.sections, le) }
+fewer_slots spare m n le h = grind arith
 
 -- the same where the number is stated otherwise
 pub same_slots : (spare : SpareBuffers) (m n : ℕ) → n ≡ m → HasSlots spare m → HasSlots spare n

@@ -1,10 +1,8 @@
 -- The class of an Ethernet II frame whose IP packet was built.
-use Rattle.std.proofs.Common.{◌≡◌, ◌∙◌, sym, ap, refl, ℕ, zero, suc, ◌+◌, ◌≤◌, ◌==◌, ◌||◌, Bool}
-use Rattle.std.proofs.Common.{true, false, cond, not, List, ◌++◌, length, Option, Some, None, Ok}
-use Rattle.std.proofs.Common.{Err, arith, append_assoc, length-append}
+use Rattle.std.proofs.Common.{◌≡◌, ◌∙◌, sym, ap, refl, ℕ, ◌+◌, ◌≤◌, ◌==◌, ◌||◌, Bool, true, false, cond, not, List}
+use Rattle.std.proofs.Common.{◌++◌, length, Option, Some, None, Ok, Err, arith, append_assoc, length-append}
 use Rattle.std.specs.Prelude.{nat_lt}
 use Rattle.std.specs.Option.{option_map, option_map_or, option_or}
-use Rattle.std.proofs.lemmas.Bool.{ltb-false, lt-ltb, ne_eqb}
 use Rattle.ep_base.specs.declared.err.value_too_big_error.ValueTooBigError.{ValueTooBigError}
 use Rattle.ep_base.specs.declared.len_source.LenSource.{LenSource}
 use Rattle.ep_base.specs.declared.len_source.LenSource.TheVariants.{Ipv4HeaderTotalLen}
@@ -22,10 +20,9 @@ use Rattle.ep_ip.specs.declared.net.ipv4_header.Ipv4Header.{Ipv4Header}
 use Rattle.ep_ip.specs.declared.net.ipv6_header.Ipv6Header.{Ipv6Header}
 use Rattle.ep_ipslice.specs.Ipv6Exts.{is_any_fragmenting, is_fragmenting_header}
 use Rattle.ep_ipslice.specs.Ipv6Packet.{fragment_fields_in, ipv6_packet_at}
-use Rattle.ep_ipslice.specs.Packet.{FragmentFields, IpPayload, Ipv6Packet, header_fragment_fields}
-use Rattle.ep_ipslice.specs.Packet.{ipv6_fragment_fields}
+use Rattle.ep_ipslice.specs.Packet.{FragmentFields, IpPayload, Ipv6Packet, header_fragment_fields, ipv6_fragment_fields}
 use Rattle.ep_link.specs.declared.link.ethernet2_header.Ethernet2Header.{Ethernet2Header}
-use Rattle.ep_packet.specs.Class.{class_of, ipv4_class_at, ipv6_class, ipv6_class_at}
+use Rattle.ep_packet.specs.Class.{class_of, ipv4_class_at, ipv6_class}
 use Rattle.ep_packet.specs.Class.Class.{Refused, Whole}
 use Rattle.ep_packet.specs.IpHeaders.{is_fragmenting, with_exts}
 use Rattle.ep_packet.specs.Readable.{ReadMessage, message_at}
@@ -34,61 +31,33 @@ use Rattle.ep_packet.specs.declared.err.packet.slice_error.SliceError.{SliceErro
 use Rattle.ep_packet.specs.declared.net.ip_headers.IpHeaders.{IpHeaders}
 use Rattle.ep_packet.specs.declared.net.ip_headers.IpHeaders.TheVariants.{Ipv4, Ipv6}
 use Rattle.ep_tag.specs.declared.link.vlan_header.VlanHeader.{VlanHeader}
-use Rattle.etherparse.proofs.FrameClass.{class_with, fragment_class, refused_with, whole_with}
+use Rattle.etherparse.proofs.FrameClass.{class_with}
 use Rattle.etherparse.proofs.FrameTags.{class_framed}
 use Rattle.etherparse.proofs.FramedIpv4 as v4
 use Rattle.etherparse.proofs.FramedIpv6 as v6
 use Rattle.etherparse.proofs.LinkedExts.{linked_len, pieces_len}
 use Rattle.etherparse.proofs.ViewedRows.{bytes_viewed, row_viewed, stated_by, viewed}
 use Rattle.etherparse.specs.Built.{packet_with_number, too_long}
-use Rattle.etherparse.specs.BuiltFrames.{FragmentFits, Frames, addresses_in, fields_in}
-use Rattle.etherparse.specs.BuiltFrames.{ethernet_packet}
-use Rattle.etherparse.specs.BuiltFrames.{ids_in, ipv6_fields, fragment_with}
+use Rattle.etherparse.specs.BuiltFrames.{FragmentFits, Frames, addresses_in, fields_in, ethernet_packet, ids_in}
+use Rattle.etherparse.specs.BuiltFrames.{ipv6_fields, fragment_with}
 use Rattle.etherparse.specs.declared.err.packet.build_write_error.BuildWriteError.{BuildWriteError}
 
 -- a length that is not refused fits its field
 taken : (b : Bool) (e : ValueTooBigError ℕ) (headers : IpHeaders)
     → ◌≡◌ {A = Option BuildWriteError}
     (option_or (too_long (cond b (Err e) (Ok headers))) None) None → b ≡ false
-taken true e headers is = cc
-taken false e headers is = refl
+taken b e headers is = grind arith
 
 uncapped : (b : Bool) (n : ℕ) → cond b 18446744073709551615 n ≤ 65535
     → cond b 18446744073709551615 n ≡ n
-uncapped true n short = absurd (too_great short)
-  where
-    too_great : 18446744073709551615 ≤ 65535 → ⊥
-    too_great short = omega arith
-uncapped false n short = refl
+uncapped b n short = grind arith
 
 summed : (n m : ℕ) → with_exts n m ≤ 65535 → with_exts n m ≡ n + m
 summed n m short = uncapped (nat_lt 18446744073709551615 (n + m)) (n + m) short
 
-sums_fit : (k x len a b : ℕ) → (b ≤ 65535 → b ≡ a + x) → (a ≤ 65535 → a ≡ len + 0) → k + b ≤ 65535
-    → k + (x + (0 + len)) ≤ 65535
-sums_fit k x len a b outer inner short =
-    let o : b ≡ a + x = outer (omega arith) in
-    let i : a ≡ len + 0 = inner (omega arith) in
-    omega arith
-
-lens_fit : (k x len : ℕ) → nat_lt 65535 (k + with_exts (with_exts len 0) x) ≡ false
-    → k + (x + (0 + len)) ≤ 65535
-lens_fit k x len short =
-    sums_fit k x len (with_exts len 0) (with_exts (with_exts len 0) x) (summed (with_exts len 0) x)
-    (summed len 0) (ltb-false 65535 (k + with_exts (with_exts len 0) x) short)
-
 len_fits : (x len : ℕ) → nat_lt 65535 (with_exts (with_exts len 0) x) ≡ false
     → x + (0 + len) ≤ 65535
-len_fits x len short =
-    plain (sums_fit 0 x len (with_exts len 0) (with_exts (with_exts len 0) x)
-    (summed (with_exts len 0) x) (summed len 0)
-    (below (ltb-false 65535 (with_exts (with_exts len 0) x) short)))
-  where
-    below : {n : ℕ} → n ≤ 65535 → 0 + n ≤ 65535
-    below short = omega arith
-
-    plain : {n : ℕ} → 0 + n ≤ 65535 → n ≤ 65535
-    plain short = omega arith
+len_fits x len short = grind arith
 
 -- an IP payload of this number, whatever its length came from
 abbrev pub payload_with : IpHeaders → (number : ℕ) → (payload : List ℕ) → LenSource → IpPayload
@@ -111,8 +80,7 @@ module _ (found : v4.Found) (link : Ethernet2Header) (vlan : Option VlanHeader) 
     (e : Ipv4Extensions) (number : ℕ) (payload : List ℕ)
     (frames : Frames link vlan (Ipv4 h e) number (length payload)) where
   ipv4_short : ipv4.header_len h + (length (ipv4_exts_encoding e) + (0 + length payload)) ≤ 65535
-  ipv4_short = lens_fit (ipv4.header_len h) (length (ipv4_exts_encoding e)) (length payload)
-      (taken _ _ _ frames.written)
+  ipv4_short = grind arith
 
   ipv4_class_is : ClassIs link vlan (Ipv4 h e) number payload
   ipv4_class_is = (
@@ -132,8 +100,7 @@ fields_are : (o : Option Ipv6FragmentHeader) (n : ℕ) → FragmentFits o
     (option_map fragment_encoding
     (option_map {T = Ipv6FragmentHeader} (λ h. record h { next_header = record { 0 = n } }) o))
     ≡ option_map ipv6_fields o
-fields_are None n fits = refl
-fields_are (Some h) n fits = ap (λ (x : Ipv6FragmentHeader). Some (ipv6_fields x)) fits
+fields_are o n fits = grind arith
 
 fragments_are : (o : Option Ipv6FragmentHeader) (n : ℕ) → FragmentFits o
     → option_map_or is_fragmenting_header
@@ -141,8 +108,7 @@ fragments_are : (o : Option Ipv6FragmentHeader) (n : ℕ) → FragmentFits o
     (option_map {T = Ipv6FragmentHeader} (λ h. record h { next_header = record { 0 = n } }) o))
     false
     ≡ option_map_or fragments o false
-fragments_are None n fits = refl
-fragments_are (Some h) n fits = ap (λ (x : Ipv6FragmentHeader). fragments x) fits
+fragments_are o n fits = grind arith
 
 module _ (rows : v6.RowsFound) (ends : v6.RowEnds) (link : Ethernet2Header)
     (vlan : Option VlanHeader) (h : Ipv6Header) (e : Ipv6Extensions) (number : ℕ) (payload : List ℕ)
@@ -175,17 +141,7 @@ module _ (rows : v6.RowsFound) (ends : v6.RowEnds) (link : Ethernet2Header)
   packet = v6.packet_with_row head (viewed pieces) number payload
 
   size : ipv6.payload_length_of head ≡ length (bytes_of (viewed pieces) ++ payload)
-  size =
-      let exts : length (bytes_of (viewed pieces)) ≡ header_len e =
-      ap length (bytes_viewed pieces) ∙ pieces_len (with_links e number)
-      ∙ linked_len e number in
-      omega (
-        arith,
-        v6.payload_length_is whole whole_fits,
-        exts,
-        length-append
-            (bytes_of (viewed pieces)) payload,
-      )
+  size = grind (arith, viewed, bytes_viewed, pieces_len, linked_len, whole_fits, length-append)
 
   found_is : ipv6_packet_at ((head ++ bytes_of pieces) ++ payload) ≡ Ok packet
   found_is =
@@ -224,18 +180,12 @@ module _ (rows : v6.RowsFound) (ends : v6.RowEnds) (link : Ethernet2Header)
   ipv6_class_is : ClassIs link vlan (Ipv6 h e) number payload
   ipv6_class_is = (
     packet.payload.len_source,
-    class_framed link vlan 0x86dd _ frames.link_fits frames.tags_fit
-        (record { vlan = refl; macsec = refl; short = omega arith })
-        ∙ ap (ipv6_class_at (ids_in vlan)) found_is
-        ∙ class_is,
+    grind (arith, class_framed, found_is, class_is),
   )
 
 -- offset and flag mark a fragment alike in both versions
 not_zero : (more : Bool) (offset : ℕ) → (more || nat_lt 0 offset) ≡ (more || not (offset == 0))
-not_zero true offset = refl
-not_zero false zero = refl
-not_zero false (suc n) = lt-ltb 0 (suc n) (omega arith)
-    ∙ sym (ap not (ne_eqb (suc n) 0 (λ e. omega (arith, e))))
+not_zero more offset = grind arith
 
 some_same : (x y : FragmentFields) → ◌≡◌ {A = Option FragmentFields} (Some x) (Some y) → x ≡ y
 some_same x y is = cc
@@ -243,19 +193,9 @@ some_same x y is = cc
 abbrev fragments_by : FragmentFields → Bool
 fragments_by stated = ipv4.is_fragmenting stated.more stated.offset
 
-ipv6_agree : (o : Option Ipv6FragmentHeader) (stated : FragmentFields)
-    → option_map ipv6_fields o ≡ Some stated → fragments_by stated ≡ option_map_or fragments o false
-ipv6_agree None stated is = absurd (none_some stated is)
-  where
-    none_some : (x : FragmentFields) → ◌≡◌ {A = Option FragmentFields} None (Some x) → ⊥
-    none_some x is = cc
-ipv6_agree (Some h) stated is = ap fragments_by (sym (some_same (ipv6_fields h) stated is))
-    ∙ not_zero h.more_fragments h.fragment_offset
-
 agree : (ip : IpHeaders) (stated : FragmentFields) → fields_in ip ≡ Some stated
     → fragments_by stated ≡ is_fragmenting ip
-agree (Ipv4 h e) stated is = ap fragments_by (sym (some_same _ stated is))
-agree (Ipv6 h e) stated is = ipv6_agree e.fragment stated is
+agree ip stated is = grind arith
 
 module _ (found : v4.Found) (rows : v6.RowsFound) (ends : v6.RowEnds) where
   class_built : (link : Ethernet2Header) (vlan : Option VlanHeader) (ip : IpHeaders) (number : ℕ)
@@ -274,21 +214,18 @@ module _ (found : v4.Found) (rows : v6.RowsFound) (ends : v6.RowEnds) where
         ≡ Whole (addresses_in ip) number payload read
     built_whole read uncut is =
         let class = class_built link vlan ip number payload frames in
-        class.1 ∙ whole_with (ids_in vlan) (addresses_in ip)
-        (payload_with ip number payload class.0) (fields_in ip) read uncut is
+        grind arith
 
     pub built_refused : (e : SliceError) → is_fragmenting ip ≡ false
         → message_at number payload ≡ Err e
         → class_of (packet_with_number (ethernet_packet link vlan ip) number payload) ≡ Refused
     built_refused e uncut is =
         let class = class_built link vlan ip number payload frames in
-        class.1 ∙ refused_with (ids_in vlan) (addresses_in ip)
-        (payload_with ip number payload class.0) (fields_in ip) e uncut is
+        grind arith
 
     pub built_fragment : (stated : FragmentFields) → is_fragmenting ip ≡ true → fields_in ip ≡ Some stated
         → class_of (packet_with_number (ethernet_packet link vlan ip) number payload)
         ≡ fragment_with vlan ip number payload stated
     built_fragment stated cut is =
         let class = class_built link vlan ip number payload frames in
-        class.1 ∙ fragment_class (ids_in vlan) (addresses_in ip) (payload_with ip number payload class.0)
-        (fields_in ip) stated is cut (agree ip stated is ∙ cut)
+        grind arith

@@ -1,12 +1,12 @@
 -- What an IP packet that was built is sliced to with no link header, and after the header of a
 -- cooked capture.
-use Rattle.std.proofs.Common.{◌≡◌, ◌∙◌, sym, ap, refl, ℕ, ◌+◌, ◌/◌, ◌%◌, ◌≤◌, ◌==◌, Bool, true}
-use Rattle.std.proofs.Common.{false, List, [], ◌∷◌, ◌++◌, length, drop, get_or, Option, Some, None}
-use Rattle.std.proofs.Common.{Result, Ok, Err, arith, append_assoc, length-append, if◌then◌else◌}
+use Rattle.std.proofs.lemmas.Bool.Decides.{nat_tests}
+use Rattle.std.proofs.Common.{◌≡◌, ◌∙◌, sym, ap, refl, ℕ, ◌+◌, ◌/◌, ◌%◌, ◌≤◌, ◌==◌, Bool, true, false, List, [], ◌∷◌}
+use Rattle.std.proofs.Common.{◌++◌, length, drop, Option, Some, None, Result, Ok, Err, arith, append_assoc}
+use Rattle.std.proofs.Common.{length-append, if◌then◌else◌}
 use Rattle.std.specs.Int.{w16, to_be_bytes}
 use Rattle.std.proofs.lemmas.List.{drop_at, get_or_at, get_or-append_right, drop-drop}
 use Rattle.std.proofs.lemmas.Bool.{eq-eqb, le-leb, le-ltb, ne_eqb}
-use Rattle.std.specs.Prelude.{nat_le}
 use Rattle.ep_base.specs.Bytes.{num}
 use Rattle.ep_ip.specs.Ipv4 as ipv4
 use Rattle.ep_ipslice.specs.IpSlice.{ip_packet_at, with_ipv4, with_ipv6}
@@ -16,34 +16,29 @@ use Rattle.ep_ipslice.specs.Packet.{Ipv4Packet, Ipv6Packet}
 use Rattle.ep_ipslice.specs.declared.err.ipv4.slice_error.SliceError.{SliceError as Ipv4Fault}
 use Rattle.ep_ipslice.specs.declared.err.ipv6.slice_error.SliceError.{SliceError as Ipv6Fault}
 use Rattle.ep_link.specs.Ethernet.{Fits}
-use Rattle.ep_link.specs.Sll.{ether_protocol, number_of, packet_type_of, sll_len}
+use Rattle.ep_link.specs.Sll.{number_of}
 use Rattle.ep_link.specs.SllFault.{whole_at}
-use Rattle.ep_link.specs.SllPayload.{ether_payload_of, named_payload, payload_of}
+use Rattle.ep_link.specs.SllPayload.{named_payload, payload_of}
 use Rattle.ep_link.specs.declared.link.link_slice.LinkSlice.{LinkSlice}
-use Rattle.ep_link.specs.declared.link.link_slice.LinkSlice.TheVariants.{LinuxSll}
 use Rattle.ep_link.specs.declared.link.linux_sll_protocol_type.LinuxSllProtocolType.TheVariants.{EtherType}
 use Rattle.ep_link.specs.declared.link.linux_sll_protocol_type.LinuxSllProtocolType.TheVariants.{LinuxNonstandardEtherType}
-use Rattle.ep_packet.proofs.ClassLemmas.{ipv4_agrees, ipv6_agrees, layers_class, tagged_agrees}
-use Rattle.ep_packet.specs.Class.{Class, class_of, sliced_class, ipv4_class_at, ipv6_class_at}
-use Rattle.ep_packet.specs.Class.{payload_class, tagged_class}
+use Rattle.ep_packet.proofs.ClassLemmas.{ipv6_agrees, layers_class, tagged_agrees}
+use Rattle.ep_packet.specs.Class.{Class, class_of, sliced_class, ipv4_class_at, ipv6_class_at, payload_class}
+use Rattle.ep_packet.specs.Class.{tagged_class}
 use Rattle.ep_packet.specs.IpHeaders.{ether_type_of}
-use Rattle.ep_packet.specs.Sliced.{Layers, in_cooked, in_ipv4, in_ipv6, in_linux_sll, ip_layers}
-use Rattle.ep_packet.specs.Sliced.{packet_with, sliced_ip, sliced_linux_sll}
+use Rattle.ep_packet.specs.Sliced.{Layers, in_ipv6, ip_layers, packet_with, sliced_ip, sliced_linux_sll}
 use Rattle.ep_packet.specs.Tags.{tags_in, vlan_ids_of}
 use Rattle.ep_packet.specs.declared.err.packet.slice_error.SliceError.{SliceError}
 use Rattle.ep_packet.specs.declared.net.ip_headers.IpHeaders.{IpHeaders}
 use Rattle.ep_packet.specs.declared.net.ip_headers.IpHeaders.TheVariants.{Ipv4, Ipv6}
 use Rattle.ep_tag.specs.declared.link.link_ext_slice.LinkExtSlice.{LinkExtSlice}
 use Rattle.ep_tag.specs.declared.link.vlan_header.VlanHeader.{VlanHeader}
-use Rattle.ep_tag.specs.declared.link.vlan_header.VlanHeader.TheVariants.{Single, Double}
-use Rattle.etherparse.proofs.FrameTags.{NamesNoTag, class_after, class_framed, named, short_first}
-use Rattle.etherparse.proofs.FrameTags.{two_bytes}
-use Rattle.etherparse.specs.Built.{packet_with_number, first_type, ip_bytes, link_bytes}
-use Rattle.etherparse.specs.Built.{with_last_number, with_lengths}
+use Rattle.etherparse.proofs.FrameTags.{NamesNoTag, class_after, class_framed, named, short_first, two_bytes}
+use Rattle.etherparse.specs.Built.{packet_with_number, first_type, ip_bytes, link_bytes, with_last_number, with_lengths}
 use Rattle.etherparse.specs.Built.{message_len, vlan_bytes}
 use Rattle.etherparse.specs.BuiltFrameExamples.{link_at_literals}
-use Rattle.etherparse.specs.BuiltFrames.{CookedPackets, Frames, IpFits, Packets, TagsFit}
-use Rattle.etherparse.specs.BuiltFrames.{after_cooked, ethernet_packet, ids_in, without_link}
+use Rattle.etherparse.specs.BuiltFrames.{CookedPackets, Frames, IpFits, Packets, TagsFit, after_cooked, ethernet_packet}
+use Rattle.etherparse.specs.BuiltFrames.{ids_in, without_link}
 use Rattle.etherparse.specs.BuiltSteps.{cooked_link_header}
 
 -- IP headers and payload, with nothing before them
@@ -84,13 +79,11 @@ payload_is vlan ip number payload class tags is =
 layers_are_stated : (header : Option LinkSlice) (tags : List LinkExtSlice)
     (r : Result Layers SliceError) → sliced_class (packet_with header tags r)
     ≡ layers_class (vlan_ids_of tags) r
-layers_are_stated header tags (Ok layers) = refl
-layers_are_stated header tags (Err e) = refl
+layers_are_stated header tags r = grind arith
 
 with_ipv4_stated : (r : Result Ipv4Packet Ipv4Fault)
     → sliced_class (packet_with None [] (ip_layers (with_ipv4 r))) ≡ ipv4_class_at [] r
-with_ipv4_stated (Ok packet) = layers_are_stated None [] (in_ipv4 packet) ∙ ipv4_agrees [] (Ok packet)
-with_ipv4_stated (Err e) = refl
+with_ipv4_stated r = grind (arith, nat_tests)
 
 with_ipv6_stated : (r : Result Ipv6Packet Ipv6Fault)
     → sliced_class (packet_with None [] (ip_layers (with_ipv6 r))) ≡ ipv6_class_at [] r
@@ -108,22 +101,8 @@ ipv6_alone bytes some other six = rw (some, other, six) refl
 alone_stated : (ip : IpHeaders) (number : ℕ) (payload : List ℕ) → IpFits ip number
     → sliced_class (sliced_ip (packet_bytes ip number payload))
     ≡ payload_class [] (named (ether_type_of ip) (packet_bytes ip number payload))
-alone_stated (Ipv4 h e) number payload fits =
-    let bytes = packet_bytes (Ipv4 h e) number payload in
-    let version : ipv4.version_of bytes ≡ 4 = omega (arith, fits.0.options.fits) in
-    ap (λ r. sliced_class (packet_with None [] (ip_layers r)))
-    (ipv4_alone bytes (ne_eqb (length bytes) 0 (λ none. absurd (omega (arith, none))))
-    (eq-eqb (ipv4.version_of bytes) 4 version))
-    ∙ with_ipv4_stated (ipv4_packet_at bytes)
-alone_stated (Ipv6 h e) number payload fits =
-    let bytes = packet_bytes (Ipv6 h e) number payload in
-    let version : ipv4.version_of bytes ≡ 6 =
-    omega (arith, fits.0.traffic_class, fits.0.flow_label) in
-    ap (λ r. sliced_class (packet_with None [] (ip_layers r)))
-    (ipv6_alone bytes (ne_eqb (length bytes) 0 (λ none. absurd (omega (arith, none))))
-    (ne_eqb (ipv4.version_of bytes) 4 (λ four. absurd (omega (arith, version, four))))
-    (eq-eqb (ipv4.version_of bytes) 6 version))
-    ∙ with_ipv6_stated (ipv6_packet_at bytes)
+alone_stated ip number payload fits =
+    grind (arith, ipv4_alone, ne_eqb, eq-eqb, with_ipv4_stated, ipv6_alone, with_ipv6_stated)
 
 pub alone_is : (ip : IpHeaders) (number : ℕ) (payload : List ℕ) (class : Class)
     → Packets ip number (length payload)
@@ -136,8 +115,7 @@ alone_is ip number payload class packet is =
 
 number_again : (b : Bool) (n : ℕ)
     → number_of (if b then EtherType (record { 0 = n }) else LinuxNonstandardEtherType n) ≡ n
-number_again true n = refl
-number_again false n = refl
+number_again b n = grind arith
 
 module _ (packet_type address_len : ℕ) (address : List ℕ) (small : packet_type ≤ 4)
     (eight : length address ≡ 8) where
@@ -162,41 +140,25 @@ module _ (packet_type address_len : ℕ) (address : List ℕ) (small : packet_ty
     size = omega (arith, length-append prefix (high ∷ low ∷ rest), prefix_len)
 
     type_is : num bytes 14 2 ≡ ether_type
-    type_is =
-        let first : get_or bytes 14 0 ≡ high = get_or_at prefix high (low ∷ rest) 0 14 prefix_len in
-        let second : get_or bytes 15 0 ≡ low =
-        get_or-append_right prefix (high ∷ low ∷ rest) 14 15 0 prefix_len (omega arith) in
-        rw (first, second) (two_bytes ether_type short)
+    type_is = grind (arith, get_or_at, prefix_len, get_or-append_right, two_bytes)
 
     following_is : drop 16 bytes ≡ rest
     following_is = sym (drop-drop 2 14 bytes) ∙ ap (drop 2)
         (drop_at prefix (high ∷ low ∷ rest) 14 prefix_len)
 
     whole : whole_at bytes ≡ Ok bytes
-    whole =
-        let type : packet_type_of bytes ≤ 4 = omega (arith, small) in
-        rw (
-          le-ltb (length bytes) 16 (omega (arith, size)),
-          le-ltb 4
-              (packet_type_of bytes) type,
-        ) refl
+    whole = grind (arith, le-ltb, size)
 
     named_is : named_payload (payload_of bytes) ≡ Some (named ether_type rest)
-    named_is = (λ i. ether_payload_of (ether_protocol (type_is i)) (following_is i))
-        ∙ rw (le-leb 1536 ether_type great) refl
+    named_is = grind (arith, type_is, following_is, le-leb)
 
     headed_stated : sliced_class (sliced_linux_sll bytes)
         ≡ tagged_class (tags_in 3 (named ether_type rest))
-    headed_stated =
-        ap (λ r. sliced_class (in_cooked r)) whole
-        ∙ ap (λ o. sliced_class (in_linux_sll bytes o)) named_is
-        ∙ tagged_agrees (Some (LinuxSll bytes)) sll_len (tags_in 3 (named ether_type rest))
+    headed_stated = grind (arith, whole, named_is, tagged_agrees, named)
 
   great_first : (v : Option VlanHeader) (ether_type : ℕ) → 1536 ≤ ether_type
       → 1536 ≤ first_type v ether_type
-  great_first None ether_type great = great
-  great_first (Some (Single t)) ether_type great = omega arith
-  great_first (Some (Double t)) ether_type great = omega arith
+  great_first v ether_type great = grind arith
 
   cooked_stated : (v : Option VlanHeader) (ether_type : ℕ) (packet : List ℕ) → 1536 ≤ ether_type
       → TagsFit v → NamesNoTag ether_type
@@ -206,20 +168,18 @@ module _ (packet_type address_len : ℕ) (address : List ℕ) (small : packet_ty
       ++ (vlan_bytes v ether_type ++ packet)))
       ≡ payload_class (ids_in v) (named ether_type packet)
   cooked_stated v ether_type packet great tags plain =
-      let rest : List ℕ = vlan_bytes v ether_type ++ packet in
-      let first = first_type v ether_type in
-      (λ i. sliced_class
-      (sliced_linux_sll
-      ((prefix ++ to_be_bytes w16 (number_again (nat_le 1536 first) first i)) ++ rest)))
-      ∙ ap (λ xs. sliced_class (sliced_linux_sll xs))
-      (append_assoc prefix (to_be_bytes w16 first) rest)
-      ∙ headed_stated first (great_first v ether_type great)
-      (short_first v ether_type plain.short) rest
-      ∙ class_after v ether_type packet tags plain
+      grind (
+        arith,
+        number_again,
+        append_assoc,
+        headed_stated,
+        great_first,
+        short_first,
+        class_after,
+      )
 
 great_type : (ip : IpHeaders) → 1536 ≤ ether_type_of ip
-great_type (Ipv4 h e) = omega arith
-great_type (Ipv6 h e) = omega arith
+great_type ip = grind arith
 
 pub cooked_is : (packet_type address_len : ℕ) (address : List ℕ) (vlan : Option VlanHeader)
     (ip : IpHeaders) (number : ℕ) (payload : List ℕ) (class : Class)
@@ -230,7 +190,4 @@ pub cooked_is : (packet_type address_len : ℕ) (address : List ℕ) (vlan : Opt
     (packet_with_number (after_cooked packet_type address_len address vlan ip) number payload))
     ≡ class
 cooked_is packet_type address_len address vlan ip number payload class packet is =
-    cooked_stated packet_type address_len address packet.packet_type_fits packet.address_len vlan
-    (ether_type_of ip) (packet_bytes ip number payload)
-    (great_type ip) packet.tags_fit (names_no_tag ip)
-    ∙ payload_is vlan ip number payload class packet.tags_fit is
+    grind (arith, cooked_stated, great_type, names_no_tag, payload_is)

@@ -1,7 +1,5 @@
 -- A sealed message sums to all ones, by the laws of each protocol.
-use Rattle.std.proofs.Common.{◌≡◌, ℕ, ◌+◌, ◌%◌, IsTrue, List, ◌∷◌, ◌++◌, [], length, length-append}
-use Rattle.std.proofs.Common.{Option, Some, None, arith}
-use Rattle.std.specs.Int.{w16, w32, to_be_bytes}
+use Rattle.std.proofs.Common.{◌≡◌, ℕ, ◌+◌, ◌%◌, IsTrue, List, ◌++◌, length, length-append, Option, Some, None, arith}
 use Rattle.ep_base.specs.Sum.{all_ones}
 use Rattle.ep_icmp.specs.Icmpv4 as icmpv4
 use Rattle.ep_icmp.specs.Icmpv6 as icmpv6
@@ -11,10 +9,7 @@ use Rattle.ep_ip.specs.Pseudo.{pseudo_v4, pseudo_v6}
 use Rattle.ep_packet.specs.declared.net.ip_headers.IpHeaders.{IpHeaders}
 use Rattle.ep_packet.specs.declared.net.ip_headers.IpHeaders.TheVariants.{Ipv4, Ipv6}
 use Rattle.ep_packet.specs.declared.transport.transport_header.TransportHeader.{TransportHeader}
-use Rattle.ep_packet.specs.declared.transport.transport_header.TransportHeader.TheVariants.{Udp}
-use Rattle.ep_packet.specs.declared.transport.transport_header.TransportHeader.TheVariants.{Tcp}
-use Rattle.ep_packet.specs.declared.transport.transport_header.TransportHeader.TheVariants.{Icmpv4}
-use Rattle.ep_packet.specs.declared.transport.transport_header.TransportHeader.TheVariants.{Icmpv6}
+use Rattle.ep_packet.specs.declared.transport.transport_header.TransportHeader.TheVariants.{Udp, Tcp, Icmpv4, Icmpv6}
 use Rattle.ep_tcpudp.specs.TcpChecksum.{SealedTcpSumsToAllOnes}
 use Rattle.ep_tcpudp.specs.UdpChecksum.{SealedUdpSumsToAllOnes}
 use Rattle.etherparse.specs.BuiltLaws.{HasAddresses, HasWholeOptions, SumsToAllOnes, pseudo_between}
@@ -22,27 +17,16 @@ use Rattle.etherparse.specs.BuiltLaws.{HasAddresses, HasWholeOptions, SumsToAllO
 even_v4 : (source destination : List ℕ) (number len : ℕ) → length source ≡ 4
     → length destination ≡ 4
     → length (pseudo_v4 source destination number len) % 2 ≡ 0
-even_v4 source destination number len s d =
-    let addresses = length-append source destination in
-    let all = length-append (source ++ destination) (0 ∷ number ∷ to_be_bytes w16 len) in
-    omega (arith, s, d, addresses, all)
+even_v4 source destination number len s d = grind (arith, length-append)
 
 even_v6 : (source destination : List ℕ) (number len : ℕ) → length source ≡ 16
     → length destination ≡ 16
     → length (pseudo_v6 source destination number len) % 2 ≡ 0
-even_v6 source destination number len s d =
-    let addresses = length-append source destination in
-    let prefix = length-append (source ++ destination) (to_be_bytes w32 len) in
-    let all = length-append (source ++ destination ++ to_be_bytes w32 len)
-    (0 ∷ 0 ∷ 0 ∷ number ∷ []) in
-    omega (arith, s, d, addresses, prefix, all)
+even_v6 source destination number len s d = grind (arith, length-append)
 
 even_pseudo : (ip : IpHeaders) (number len : ℕ) → HasAddresses ip
     → length (pseudo_between ip number len) % 2 ≡ 0
-even_pseudo (Ipv4 h e) number len addresses =
-    even_v4 h.source h.destination number len addresses.0 addresses.1
-even_pseudo (Ipv6 h e) number len addresses =
-    even_v6 h.source h.destination number len addresses.0 addresses.1
+even_pseudo ip number len addresses = grind (arith, even_v4, even_v6)
 
 abbrev pub Icmpv4Law : Type 0
 Icmpv4Law = (kind : Icmpv4Type) (payload : List ℕ)

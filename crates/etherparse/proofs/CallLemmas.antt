@@ -1,35 +1,30 @@
 -- What a packet makes of the lists that a pool shows, and what is answered to it.
-use Rattle.std.proofs.Common.{◌≡◌, ◌≢◌, ◌∙◌, ◌⊎◌, sym, ap, subst, refl, arith, ℕ, Bool, true, false}
-use Rattle.std.proofs.Common.{cond, ◌&&◌, inl, inr, Option, Some, None, Result, Ok, Err, List, []}
-use Rattle.std.proofs.Common.{◌∷◌, ◌++◌, length, length-append, IsTrue, ◌↔◌}
-use Rattle.std.proofs.lemmas.Bool.{and_parts, cases_Bool, eqb-true}
+use Rattle.std.proofs.Common.{◌≡◌, ◌≢◌, ◌⊎◌, sym, ap, subst, refl, arith, ℕ, Bool, true, false, cond, ◌&&◌, inl, inr}
+use Rattle.std.proofs.Common.{Option, Some, None, Result, Ok, Err, List, [], ◌∷◌, ◌++◌, length, length-append, IsTrue}
+use Rattle.std.proofs.Common.{◌↔◌}
+use Rattle.std.proofs.lemmas.Bool.{cases_Bool}
 use Rattle.std.specs.Option.{IsSomeAnd, option_map}
-use Rattle.std.specs.Prelude.{◌==◌, nat_eq, IfErr, IfSome}
+use Rattle.std.specs.Prelude.{◌==◌, nat_eq, IfErr}
 use Rattle.ep_packet.specs.Class.{Class, FragmentName}
-use Rattle.ep_packet.specs.Class.Class.{Whole, Cut, Other, Refused as Faulty}
+use Rattle.ep_packet.specs.Class.Class.{Cut, Refused as Faulty}
 use Rattle.ep_packet.specs.declared.addresses.Addresses.{Addresses}
-use Rattle.ep_packet.specs.declared.addresses.Addresses.TheVariants.{V4, V6}
 use Rattle.ep_packet.specs.declared.err.packet.slice_error.SliceError.{SliceError}
 use Rattle.etherparse.specs.declared.defrag.ip_defrag_error.IpDefragError.{IpDefragError}
 use Rattle.etherparse.specs.declared.defrag.ip_defrag_payload_vec.IpDefragPayloadVec.{IpDefragPayloadVec}
 use Rattle.etherparse.specs.declared.defrag.ip_frag_id.IpFragId.{IpFragId}
 use Rattle.etherparse.specs.declared.defrag.overlap_rule.OverlapRule.{OverlapRule}
 use Rattle.etherparse.specs.declared.defrag.reassembly.Reassembly.{Reassembly}
-use Rattle.etherparse.specs.Fragments.{Fragment, fragment, named_end, overlap_of}
+use Rattle.etherparse.specs.Fragments.{Fragment, fragment, overlap_of}
 use Rattle.etherparse.specs.IpDefragError.{is_overlap}
-use Rattle.etherparse.specs.IpDefragPool.{Accepts, Refuses, payload_of, payload_parsed}
-use Rattle.etherparse.specs.IpDefragPool.{same_id as same_by}
+use Rattle.etherparse.specs.IpDefragPool.{Accepts, Refuses, payload_of, payload_parsed, same_id as same_by}
 use Rattle.etherparse.specs.IpFragId.{id_named, overlap_rule_of, rule_over, same_name, spec_id}
 use Rattle.etherparse.specs.Outcome.{Held, Outcome, error_of, held_after, memory_error, outcome}
-use Rattle.etherparse.specs.Outcome.Outcome.{Clash, Completed, Refusal, Waiting}
-use Rattle.etherparse.specs.PoolCalls.{FrameAnswered, Lists, ShowsHeld, ShowsLists, CallResult}
-use Rattle.etherparse.specs.PoolCalls.{outcome_at, result_of_outcome, as_call_result}
-use Rattle.etherparse.specs.PoolCalls.CallResult.{Delivered, Nothing, Refused}
+use Rattle.etherparse.specs.PoolCalls.{FrameAnswered, Lists, ShowsHeld, ShowsLists, CallResult, outcome_at}
+use Rattle.etherparse.specs.PoolCalls.{result_of_outcome, as_call_result}
+use Rattle.etherparse.specs.PoolCalls.CallResult.{Nothing, Refused}
 use Rattle.etherparse.specs.Processed.{Processed}
 use Rattle.etherparse.specs.ReassemblyTable.{Becomes, IsErrorOf, IsReassemblyOf, OthersStay, Pool, ShowsReassembly}
 use Rattle.etherparse.specs.ReassemblyTable.{IsLeft, Stays, StaysButRoom, reassembly_at}
-use Rattle.etherparse.specs.IpDefragBuf.{rule_of}
-use Rattle.etherparse.proofs.Found.{no_overlap_at}
 use Rattle.etherparse.proofs.Rooms.{still_shows}
 use Rattle.etherparse.proofs.OutcomeLemmas.{by_outcome}
 use Rattle.etherparse.proofs.Retaining.{some_same}
@@ -45,13 +40,7 @@ result_is : (rule : OverlapRule) (id : IpFragId ℕ) (o : Outcome) (time : ℕ) 
     (payload : Option IpDefragPayloadVec)
     → Becomes rule (payload_of id) o time s (option_map payload_parsed payload)
     → as_call_result (Ok payload) ≡ result_of_outcome id o
-result_is rule id (Refusal error) time s payload h = absurd h
-result_is rule id (Clash error) time s payload h = absurd h
-result_is rule id (Waiting fs) time s None h = refl
-result_is rule id (Waiting fs) time s (Some payload) h = let none = h.0 in cc
-result_is rule id (Completed text) time s None h = let some = h.0 in cc
-result_is rule id (Completed text) time s (Some payload) h =
-    ap Delivered (some_same (payload_parsed payload) (payload_of id text) h.0)
+result_is rule id o time s payload h = grind arith
 
 -- and what its reassembly shows then
 shows_after : (rule : OverlapRule) (s : Option (Reassembly ℕ)) (h : Held) (f : Fragment) (time : ℕ)
@@ -85,10 +74,10 @@ still_held rule (Some s) None h is shows = absurd is
 still_held rule (Some s) (Some t) h is shows = (
   (
     still_shows s.buf t.buf h.fragments (ap (λ (u : Reassembly ℕ). u.buf) is) shows.0.0,
-    ap (λ (u : Reassembly ℕ). rule_of u.buf) is ∙ shows.0.1,
+    grind arith,
     shows.0.2,
   ),
-  ap (λ (u : Reassembly ℕ). u.timestamp) is ∙ shows.1,
+  grind arith,
 )
 
 -- and after an error, by the reassembly that is left
@@ -102,16 +91,13 @@ left_after rule f h old new time e is left shows =
     (λ error refused reported.
     let same : error ≡ e = some_same error e reported in
     let stays : is_overlap e ≡ false =
-    subst (λ (x : IpDefragError). is_overlap x ≡ false) same
-    (subst (λ (o : Option IpDefragError). IfSome o (λ x. is_overlap x ≡ false)) refused
-    (no_overlap_at (named_end h.fragments) f)) in
-    still_held rule old new h (subst (λ (b : Bool). IsLeft b old new) stays left) shows)
+    grind arith in
+    grind (arith, still_held))
     (λ none clash reported.
     let same : overlap_of f ≡ e = some_same (overlap_of f) e reported in
     let gone : new ≡ None =
-    subst (λ (x : IpDefragError). IsLeft (is_overlap x) old new) (sym same) left in
-    subst (λ (s : Option (Reassembly ℕ)). ShowsHeld rule s (record { fragments = []; time = time }))
-    (sym gone) (refl, tt))
+    grind arith in
+    grind arith)
     (λ taken open_end reported. cc)
     (λ taken whole reported. cc)
     is
@@ -119,24 +105,17 @@ left_after rule f h old new time e is left shows =
 -- one for which there is no memory leaves the reassembly
 memory_error_stays : (f : Fragment) (o : Outcome) (e : IpDefragError) → memory_error f o ≡ Some e
     → is_overlap e ≡ false
-memory_error_stays f (Refusal error) e is = cc
-memory_error_stays f (Clash error) e is = cc
-memory_error_stays f (Waiting fs) e is = ap is_overlap (sym (some_same _ _ is))
-memory_error_stays f (Completed text) e is = ap is_overlap (sym (some_same _ _ is))
+memory_error_stays f o e is = grind arith
 
 -- the rule of a name is that of its addresses
 rule_named : (addresses : Addresses) (identification : ℕ)
     → overlap_rule_of (spec_id addresses identification) ≡ rule_over addresses
-rule_named (V4 source destination) identification = refl
-rule_named (V6 source destination) identification = refl
+rule_named addresses identification = grind arith
 
 -- what is answered to a refused fragment
 refused_reported : (id : IpFragId ℕ) (o : Outcome) (e : IpDefragError) → error_of o ≡ Some e
     → as_call_result (Err e) ≡ result_of_outcome id o
-refused_reported id (Refusal error) e is = ap Refused (sym (some_same error e is))
-refused_reported id (Clash error) e is = ap Refused (sym (some_same error e is))
-refused_reported id (Waiting fs) e is = cc
-refused_reported id (Completed text) e is = cc
+refused_reported id o e is = grind arith
 
 by_rule : (name : FragmentName) (channel : ℕ) (P : OverlapRule → Type 0)
     → P (overlap_rule_of (id_named name channel).ip) → P (rule_over name.addresses)
@@ -159,19 +138,9 @@ module _ (components : (a b : FragmentName) (x y : ℕ)
   one_changes name channel made others one n c =
       elim (cases_Bool (same_name name n && (channel == c))) [
         | inl t ↦
-            let both = and_parts (same_name name n) (channel == c) t in
-            subst (λ (b : Bool). ShowsHeld (rule_over n.addresses)
-            (reassembly_at same_id new (id_named n c)) (cond b (made n c) (lists n c))) (sym t)
-            (subst (λ (m : FragmentName). ShowsHeld (rule_over m.addresses)
-            (reassembly_at same_id new (id_named m c)) (made m c)) ((same name n).0 both.0)
-            (subst (λ (k : ℕ). ShowsHeld (rule_over name.addresses)
-            (reassembly_at same_id new (id_named name k)) (made name k))
-            (eqb-true channel c both.1) one))
+            grind arith
         | inr t ↦
-            subst (λ (b : Bool). ShowsHeld (rule_over n.addresses)
-            (reassembly_at same_id new (id_named n c)) (cond b (made n c) (lists n c))) (sym t)
-            (subst (λ (s : Option (Reassembly ℕ)). ShowsHeld (rule_over n.addresses) s (lists n c))
-            (sym (others (id_named n c) (components name n channel c ∙ t))) (shows n c))
+            grind arith
       ]
 
   -- where one name's reassembly stays and every other one's, all do
@@ -240,21 +209,11 @@ module _ (components : (a b : FragmentName) (x y : ℕ)
     passed : (result : Result (Option IpDefragPayloadVec) IpDefragError)
         → (result ≡ Ok None) × (new ≡ old) → (as_call_result result ≡ Nothing) × ShowsLists new lists
         ⊎ (None ≡ Some (as_call_result result)) × ShowsLists new lists
-    passed result is =
-        inl (
-          ap as_call_result is.0,
-          subst (λ (pool : Pool (IpFragId ℕ) ℕ). ShowsLists pool lists)
-              (sym is.1) shows,
-        )
+    passed result is = grind arith
 
     -- whatever class a packet has
     pub packet_answered : (class : Class)
         (result : Result (Option IpDefragPayloadVec) IpDefragError)
         → Processed old class time channel result new → (class ≡ Faulty → ⊥)
         → IsAnswered class (as_call_result result)
-    packet_answered (Cut name offset more bytes) result p sound =
-        fragment_answered name offset more bytes result p.accepted p.refused p.others p.err
-    packet_answered (Whole addresses number bytes message) result p sound =
-        passed result (p.passed refl)
-    packet_answered Other result p sound = passed result (p.passed refl)
-    packet_answered Faulty result p sound = absurd (sound refl)
+    packet_answered class result p sound = grind (arith, fragment_answered, passed)

@@ -1,17 +1,16 @@
 -- Whether a fragment is a repeat, and whether it clashes: the tests decide the propositions.
-use Rattle.std.proofs.Common.{◌≡◌, ℕ, ◌<◌, ◌≤◌, Bool, true, false, not, ◌&&◌, ◌||◌, ltb, ◌⊎◌, inl, inr}
-use Rattle.std.proofs.Common.{List, max, arith, sym, ◌∙◌, refl, subst}
+use Rattle.std.proofs.Common.{◌≡◌, ℕ, ◌<◌, ◌≤◌, Bool, true, false, not, ◌&&◌, ◌||◌, ltb, ◌⊎◌, inl, inr, List, max}
+use Rattle.std.proofs.Common.{arith, sym, ◌∙◌, refl}
 use Rattle.std.proofs.lemmas.Bool.{false≢true}
 use Rattle.std.proofs.lemmas.Bool.Decides.{nat_tests, Decides-eqb}
 use Rattle.std.proofs.lemmas.List.Folds.{Any-from_list_any, list_any-from_Any}
 use Rattle.std.specs.Bool.{Decides}
 use Rattle.std.specs.Cmp.{booleans_Decides}
 use Rattle.std.specs.Cmp.Lexicographic.{bytes_decides}
-use Rattle.std.specs.List.{Contains, list_any}
+use Rattle.std.specs.List.{list_any}
 use Rattle.ep_base.proofs.Same.{field, last_field, record_same}
-use Rattle.etherparse.specs.Fragments.{Fragment, start_of, end_of, Covered, IsRepeat, SharesOffset}
-use Rattle.etherparse.specs.Fragments.{EndsBelow, Clashes, same_fragment, is_repeat, holds_within}
-use Rattle.etherparse.specs.Fragments.{clashes}
+use Rattle.etherparse.specs.Fragments.{Fragment, start_of, end_of, Covered, IsRepeat, SharesOffset, EndsBelow, Clashes}
+use Rattle.etherparse.specs.Fragments.{same_fragment, is_repeat, holds_within, clashes}
 
 same_fragment_Decides : (f g : Fragment) → Decides (same_fragment f g) (f ≡ g)
 same_fragment_Decides f g = record_same
@@ -23,9 +22,8 @@ pub repeat_Decides : (fs : List Fragment) (f : Fragment) → Decides (is_repeat 
 repeat_Decides fs f = (
   (λ h. let k = Any-from_list_any (λ g. same_fragment g f) fs h in
       let same : k.1 ≡ f = (same_fragment_Decides k.1 f).0 k.4 in
-      subst (λ g. Contains fs g) same (k.0, k.2, k.3)),
-  (λ h. list_any-from_Any (λ g. same_fragment g f) fs
-      (h.0, f, h.1, h.2, (same_fragment_Decides f f).1 refl)),
+      grind arith),
+  grind (arith, list_any-from_Any, same_fragment_Decides),
 )
 
 -- some fragment covers one of the offsets from a number on, up to another
@@ -41,9 +39,7 @@ within_Decides fs low high = (
       let here : (start_of k.1 ≤ p) × (p < end_of k.1) × (low ≤ p) × (p < high) =
       grind (arith, nat_tests) in
       (p, here.2, here.3, (k.0, k.1, k.2, k.3, (here.0, here.1)))),
-  (λ h. let c = h.3 in
-      list_any-from_Any (λ g. holds_within g low high) fs
-      (c.0, c.1, c.2, c.3, grind (arith, nat_tests))),
+  grind (arith, list_any-from_Any),
 )
 
 after_Decides : (fs : List Fragment) (f : Fragment)
@@ -55,18 +51,13 @@ after_Decides fs f = (
       let here : (start_of k.1 ≤ p) × (p < end_of k.1) × (end_of f ≤ p) =
       grind (arith, nat_tests) in
       (p, here.2, (k.0, k.1, k.2, k.3, (here.0, here.1)))),
-  (λ h. let c = h.2 in
-      list_any-from_Any (λ g. ltb (max (start_of g) (end_of f)) (end_of g)) fs
-      (c.0, c.1, c.2, c.3, grind (arith, nat_tests))),
+  grind (arith, list_any-from_Any),
 )
 
 shares_Decides : (fs : List Fragment) (f : Fragment)
     → Decides (list_any (λ g. holds_within g (start_of f) (end_of f)) fs) (SharesOffset fs f)
 shares_Decides fs f =
-    let test = within_Decides fs (start_of f) (end_of f) in (
-      (λ h. let k = test.0 h in (k.0, (k.1, k.2), k.3)),
-      (λ h. test.1 (h.0, h.1.0, h.1.1, h.2)),
-    )
+    let test = within_Decides fs (start_of f) (end_of f) in grind arith
 
 -- from two tests to the test of the one without the other
 without : {P Q : Type 0} (s t : Bool) → Decides s P → Decides t Q

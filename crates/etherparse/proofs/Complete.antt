@@ -1,15 +1,15 @@
 -- When a datagram is complete: an end and one section from 0 on.
-use Rattle.std.proofs.Common.{◌≡◌, ℕ, ◌-◌, ◌<◌, ◌≤◌, true, ◌↔◌, inl, inr, Option, is_some, IsSome}
-use Rattle.std.proofs.Common.{List, [], ◌∷◌, arith, refl, sym, subst}
-use Rattle.std.proofs.lemmas.Bool.{cases_lt, eq-eqb, eqb-true, false≢true, and_parts, and_from}
+use Rattle.std.proofs.Common.{◌≡◌, ℕ, ◌-◌, ◌<◌, ◌≤◌, true, ◌↔◌, inl, inr, Option, IsSome, List, [], ◌∷◌, arith, refl}
+use Rattle.std.proofs.Common.{sym, subst}
+use Rattle.std.proofs.lemmas.Bool.{cases_lt, eq-eqb, false≢true, and_parts, and_from}
 use Rattle.std.proofs.lemmas.Bool.Decides.{nat_tests, Decides-below_and}
 use Rattle.std.proofs.lemmas.List.Folds.{Any-from_list_any, list_any-from_Any}
 use Rattle.std.specs.Bool.{Decides}
 use Rattle.std.specs.List.{Any, AllByRecursion, list_any}
 use Rattle.etherparse.specs.declared.defrag.ip_frag_range.IpFragRange.{IpFragRange}
 use Rattle.etherparse.specs.IpFragRange.{HasNumber, HasOffset, Apart, AreApart, is_one_from_zero}
-use Rattle.etherparse.specs.Fragments.{Fragment, start_of, end_of, named_end, greatest_end, Holds}
-use Rattle.etherparse.specs.Fragments.{holds, Covered, Complete, all_below, is_complete}
+use Rattle.etherparse.specs.Fragments.{Fragment, start_of, end_of, named_end, greatest_end, Holds, holds, Covered}
+use Rattle.etherparse.specs.Fragments.{Complete, all_below, is_complete}
 use Rattle.etherparse.specs.IpDefragBuf.{Contents, Shows, is_whole}
 use Rattle.etherparse.proofs.ListElements.{AnyOf, AnyOf-from_Any, Any-from_AnyOf}
 
@@ -28,7 +28,7 @@ greatest_touched : (f : Fragment) (fs : List Fragment) → TouchedBy (f ∷ fs) 
 greatest_touched f [] = inl (omega arith, omega arith)
 greatest_touched f (g ∷ fs) =
     elim (cases_lt (end_of f) (greatest_end (g ∷ fs))) [
-      | inl h ↦ inr (subst (λ (n : ℕ). TouchedBy (g ∷ fs) n) (omega arith) (greatest_touched g fs))
+      | inl h ↦ grind (arith, greatest_touched g fs)
       | inr h ↦ inl (omega arith, omega arith)
     ]
 
@@ -62,28 +62,16 @@ one_section (r ∷ s ∷ rs) top all at below covered =
     absurd (elim all.1.0 [
       | inl h ↦
           let top_s = below s.start (inr (inl (omega arith, all.2.0))) in
-          elim (covered r.end (omega arith)) [
-            | inl k ↦ omega arith
-            | inr k ↦
-                no_gap r (s ∷ rs) all.0 all.1 k
-          ]
+          grind (arith, no_gap)
       | inr h ↦
           let top_r = below r.start (inl (omega arith, all.0)) in
-          elim (covered s.end (omega arith)) [
-            | inl k ↦ omega arith
-            | inr k ↦
-                elim k [ inl m ↦ omega arith | inr m ↦ no_gap s rs all.2.0 all.2.1 m ]
-          ]
+          grind (arith, no_gap)
     ])
 
 -- a range from 0 on has each offset below a number that it has
 from_zero : (rs : List IpFragRange) (n p : ℕ) → is_one_from_zero rs ≡ true
     → NumberOf rs n → p < n → OffsetOf rs p
-from_zero [] n p one h lt = absurd h
-from_zero (r ∷ []) n p one (inl h) lt = let zero : r.start ≡ 0 = eqb-true r.start 0 one in
-    inl (omega arith, omega arith)
-from_zero (r ∷ []) n p one (inr h) lt = absurd h
-from_zero (r ∷ s ∷ rs) n p one h lt = cc
+from_zero rs n p one h lt = grind arith
 
 greatest_number : (fs : List Fragment) → IsSome (named_end fs) → TouchedBy fs (greatest_end fs)
 greatest_number [] h = absurd (false≢true h)
@@ -142,8 +130,7 @@ covered_Decides : (fs : List Fragment) (p : ℕ)
 covered_Decides fs p = (
   (λ h. any_weaker (λ f. holds f p ≡ true) (λ f. Holds f p) fs (λ f. (holds_Decides f p).0)
       (Any-from_list_any (λ f. holds f p) fs h)),
-  (λ h. list_any-from_Any (λ f. holds f p) fs
-      (any_weaker (λ f. Holds f p) (λ f. holds f p ≡ true) fs (λ f. (holds_Decides f p).1) h)),
+  grind (arith, list_any-from_Any, any_weaker, holds_Decides),
 )
 
 -- the test decides the proposition
@@ -151,8 +138,4 @@ pub complete_Decides : (fs : List Fragment) → Decides (is_complete fs) (Comple
 complete_Decides fs =
     let below = Decides-below_and (λ p. list_any (λ f. holds f p) fs) (λ p. Covered fs p)
     (all_below (λ p. list_any (λ f. holds f p) fs)) (covered_Decides fs) refl
-    (λ _. refl) (greatest_end fs) in (
-      (λ h. let both = and_parts (is_some (named_end fs)) _ h in
-          record { ended = both.0; covered = below.0 both.1 }),
-      (λ h. and_from (is_some (named_end fs)) _ h.ended (below.1 h.covered)),
-    )
+    (λ _. refl) (greatest_end fs) in grind arith

@@ -1,17 +1,15 @@
 -- Accepted fragments that are disjoint, with one more of them.
-use Rattle.std.proofs.Common.{◌≡◌, ℕ, zero, suc, ◌<◌, ◌≤◌, Bool, true, false, ◌⊎◌, inl, inr}
-use Rattle.std.proofs.Common.{Option, Some, None, IsSome, List, [], ◌∷◌, ◌++◌, max, arith}
-use Rattle.std.proofs.Common.{sym, ap, ◌∙◌, refl, subst, cond}
+use Rattle.std.proofs.Common.{◌≡◌, ℕ, zero, suc, ◌<◌, ◌≤◌, Bool, true, false, ◌⊎◌, inl, inr, Option, Some, None, IsSome}
+use Rattle.std.proofs.Common.{List, [], ◌∷◌, ◌++◌, max, arith, sym, ◌∙◌, refl, subst, cond}
 use Rattle.std.proofs.lemmas.Bool.{cases_Bool, cases_lt, false≢true}
-use Rattle.std.proofs.lemmas.Bool.Decides.{nat_tests}
 use Rattle.std.proofs.lemmas.List.Elements.{Contains-push_cases}
 use Rattle.std.specs.List.{Contains}
 use Rattle.std.specs.Option.{option_or}
-use Rattle.etherparse.specs.Fragments.{Fragment, end_of, named_end, greatest_end, holds, Holds}
-use Rattle.etherparse.specs.Fragments.{Covered, IsRepeat, Clashes, AreDisjoint, is_repeat, refusal_at}
+use Rattle.etherparse.specs.Fragments.{Fragment, end_of, named_end, greatest_end, Holds, Covered, IsRepeat, Clashes}
+use Rattle.etherparse.specs.Fragments.{AreDisjoint, is_repeat, refusal_at}
 use Rattle.etherparse.specs.FragmentBytes.{byte_of, byte_at}
 use Rattle.etherparse.proofs.Clash.{repeat_Decides}
-use Rattle.etherparse.proofs.Push.{Agrees, agrees, byte_of-here, named_end-push, own_end}
+use Rattle.etherparse.proofs.Push.{named_end-push, own_end}
 
 -- ---- fragments of the list
 
@@ -25,27 +23,20 @@ pub covered_push : (fs : List Fragment) (f : Fragment) (p : ℕ) → Covered (fs
 covered_push fs f p c =
     elim (Contains-push_cases fs f c.1 (c.0, c.2, c.3)) [
       | inl at ↦ inl (covered_by fs c.1 p at c.4)
-      | inr is ↦ inr (subst (λ g. Holds g p) (sym is) c.4)
+      | inr is ↦ grind arith
     ]
 
 -- one after which no more follows names an end
 pub named_by : (fs : List Fragment) (f : Fragment) → Contains fs f → f.more ≡ false
     → IsSome (named_end fs)
 named_by [] f at last = let below = at.1 in absurd (omega arith)
-named_by (g ∷ fs) f (zero, lt, is) last =
-    let same : g.more ≡ false = ap (λ (h : Fragment). h.more) is ∙ last in rw same refl
-named_by (g ∷ fs) f (suc k, lt, is) last =
-    elim g.more as (λ (b : Bool). IsSome (cond b (named_end fs) (Some (end_of g)))) [
-      | true ↦ named_by fs f (k, omega arith, is) last
-      | false ↦ refl
-    ]
+named_by (g ∷ fs) f (zero, lt, is) last = grind arith
+named_by (g ∷ fs) f (suc k, lt, is) last = grind (arith, named_by fs f (k, omega arith, is) last)
 
 pub greatest_of : (fs : List Fragment) (f : Fragment) → Contains fs f → end_of f ≤ greatest_end fs
 greatest_of [] f at = let below = at.1 in absurd (omega arith)
-greatest_of (g ∷ fs) f (zero, lt, is) =
-    let same : end_of g ≡ end_of f = ap end_of is in omega (arith, same)
-greatest_of (g ∷ fs) f (suc k, lt, is) =
-    let rest = greatest_of fs f (k, omega arith, is) in omega (arith, rest)
+greatest_of (g ∷ fs) f (zero, lt, is) = grind arith
+greatest_of (g ∷ fs) f (suc k, lt, is) = grind (arith, greatest_of fs f (k, omega arith, is))
 
 -- the end of the datagram is that of a fragment
 pub greatest_named : (fs : List Fragment) (end : ℕ) → named_end fs ≡ Some end
@@ -68,10 +59,7 @@ record HasByte (fs : List Fragment) (p : ℕ) : Type 0 where
   byte : byte_at fs p ≡ byte_of stored_fragment p
 
 holds_is : (f : Fragment) (p : ℕ) → (Holds f p) ⊎ (byte_of f p ≡ None)
-holds_is f p = elim (cases_Bool (holds f p)) [
-  | inl t ↦ inl (grind (arith, nat_tests))
-  | inr t ↦ inr (rw t refl)
-]
+holds_is f p = grind arith
 
 byte_from : (fs : List Fragment) (p : ℕ) → HasByte fs p ⊎ (byte_at fs p ≡ None)
 byte_from [] p = inr refl
@@ -80,19 +68,9 @@ byte_from (f ∷ fs) p = elim (byte_from fs p) [
     stored_fragment = h.stored_fragment;
     among = (suc h.among.0, omega (arith, h.among.1), h.among.2);
     here = h.here;
-    byte = ap (λ (o : Option ℕ). option_or o (byte_of f p)) (h.byte
-        ∙ byte_of-here h.stored_fragment p h.here.0 h.here.1)
-        ∙ sym (byte_of-here h.stored_fragment p h.here.0 h.here.1);
+    byte = grind arith;
   }
-  | inr none ↦ elim (holds_is f p) [
-    | inl here ↦ inl record {
-      stored_fragment = f;
-      among = (0, omega arith, refl);
-      here = here;
-      byte = ap (λ (o : Option ℕ). option_or o (byte_of f p)) none;
-    }
-    | inr out ↦ inr (ap (λ (o : Option ℕ). option_or o (byte_of f p)) none ∙ out)
-  ]
+  | inr none ↦ grind arith
 ]
 
 none_or : {X : Type 0} (o n : Option X) → option_or o n ≡ None → (o ≡ None) × (n ≡ None)
@@ -108,10 +86,7 @@ some_same x y h = cc
 
 none_covered : (fs : List Fragment) (p : ℕ) → byte_at fs p ≡ None → Covered fs p → ⊥
 none_covered [] p none c = let below = c.2 in absurd (omega arith)
-none_covered (f ∷ fs) p none (zero, g, lt, is, here) =
-    let parts = none_or (byte_at fs p) (byte_of f p) none in
-    let own = subst (λ h. Holds h p) (sym is) here in
-    none_of_some (byte_of f p) _ parts.1 (byte_of-here f p own.0 own.1)
+none_covered (f ∷ fs) p none (zero, g, lt, is, here) = grind arith
 none_covered (f ∷ fs) p none (suc k, g, lt, is, here) =
     let parts = none_or (byte_at fs p) (byte_of f p) none in
     none_covered fs p parts.0 (k, g, omega arith, is, here)
@@ -120,24 +95,16 @@ none_covered (f ∷ fs) p none (suc k, g, lt, is, here) =
 pub byte_of_holder : (fs : List Fragment) (g : Fragment) (p : ℕ) → AreDisjoint fs → Contains fs g
     → Holds g p → byte_at fs p ≡ byte_of g p
 byte_of_holder fs g p disjoint at here = elim (byte_from fs p) [
-  | inl h ↦ h.byte ∙ ap (λ (f : Fragment). byte_of f p)
-      (disjoint.apart h.stored_fragment g p h.among at h.here here)
+  | inl h ↦ cc (h.byte, disjoint.apart h.stored_fragment g p h.among at h.here here)
   | inr none ↦ absurd (none_covered fs p none (covered_by fs g p at here))
 ]
 
 -- ---- one more
 
--- the end, where it is named, is one that the fragment agrees with
-end_agrees : (o : Option ℕ) (f : Fragment) (end : ℕ) → Agrees o f → o ≡ Some end
-    → (end_of f ≤ end) × (f.more ≡ false → end_of f ≡ end)
-end_agrees None f end a is = cc
-end_agrees (Some e) f end a is = let same : e ≡ end = cc in rw (← same) a
-
 pub agrees_with : (fs : List Fragment) (f : Fragment) (end : ℕ)
     → refusal_at (named_end fs) f ≡ None → named_end fs ≡ Some end
     → (end_of f ≤ end) × (f.more ≡ false → end_of f ≡ end)
-agrees_with fs f end none is =
-    end_agrees (named_end fs) f end (agrees (named_end fs) f none) is
+agrees_with fs f end none is = grind arith
 
 within_push : (fs : List Fragment) (f : Fragment) (end p : ℕ) → AreDisjoint fs
     → refusal_at (named_end fs) f ≡ None → (Clashes fs f → ⊥)
@@ -154,7 +121,7 @@ within_push fs f end p disjoint none alone None named is c =
     elim (cases_Bool f.more) [
       | inl t ↦ absurd (none_of_some _ end (rw t refl) is)
       | inr t ↦
-          let same : end_of f ≡ end = some_same _ _ (sym (rw t refl) ∙ is) in
+          let same : end_of f ≡ end = grind arith in
           elim c [
             | inl k ↦ elim (cases_lt p (end_of f)) [
               | inl m ↦ omega (arith, m, same)
@@ -182,8 +149,7 @@ apart_new fs f g h p disjoint alone new (inr a) (inr b) i j = sym a ∙ b
 
 among_repeat : (fs : List Fragment) (f g : Fragment) → Contains fs f
     → Contains fs g ⊎ (f ≡ g) → Contains fs g
-among_repeat fs f g at (inl h) = h
-among_repeat fs f g at (inr h) = subst (λ k. Contains fs k) h at
+among_repeat fs f g at h = grind arith
 
 pub disjoint_push : (fs : List Fragment) (f : Fragment) → AreDisjoint fs
     → refusal_at (named_end fs) f ≡ None → (Clashes fs f → ⊥) → AreDisjoint (fs ++ f ∷ [])

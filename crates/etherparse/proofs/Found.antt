@@ -1,14 +1,13 @@
 -- The outcome of a fragment, by where it is found among the stored ones.
-use Rattle.std.proofs.Common.{◌≡◌, ℕ, ◌%◌, Bool, true, false, cond, not, ◌&&◌, ◌||◌, ltb, ◌⊎◌, inl, inr}
-use Rattle.std.proofs.Common.{Option, Some, None, is_some, option_map, Result, Ok, Err, List, [], ◌∷◌, ◌++◌}
-use Rattle.std.proofs.Common.{length, take, ap, refl, sym, subst, ◌∙◌}
+use Rattle.std.proofs.Common.{arith, ◌≡◌, ℕ, ◌%◌, Bool, true, false, cond, not, ◌&&◌, ◌||◌, ltb, ◌⊎◌, inr, Option, Some}
+use Rattle.std.proofs.Common.{None, is_some, option_map, Result, Ok, Err, List, [], ◌∷◌, ◌++◌, length, take, ap, refl}
+use Rattle.std.proofs.Common.{sym, subst, ◌∙◌}
 use Rattle.std.specs.List.{insert}
 use Rattle.std.specs.Option.{option_or}
 use Rattle.std.specs.Prelude.{◌==◌, IfErr, IfOk, IfSome, OnErr, OnOk}
 use Rattle.etherparse.specs.declared.defrag.ip_defrag_error.IpDefragError.{IpDefragError}
 use Rattle.etherparse.specs.declared.defrag.ip_defrag_error.IpDefragError.TheVariants.{AllocationFailure}
-use Rattle.etherparse.specs.declared.defrag.ip_defrag_error.IpDefragError.TheVariants.{ConflictingEnd}
-use Rattle.etherparse.specs.declared.defrag.ip_defrag_error.IpDefragError.TheVariants.{SegmentTooBig}
+use Rattle.etherparse.specs.declared.defrag.ip_defrag_error.IpDefragError.TheVariants.{ConflictingEnd, SegmentTooBig}
 use Rattle.etherparse.specs.declared.defrag.ip_defrag_error.IpDefragError.TheVariants.{UnalignedFragmentPayloadLen}
 use Rattle.etherparse.specs.declared.defrag.ip_frag_range.IpFragRange.{IpFragRange}
 use Rattle.etherparse.specs.declared.defrag.stored_fragment.StoredFragment.{StoredFragment}
@@ -16,19 +15,17 @@ use Rattle.etherparse.specs.declared.defrag.stored_fragment.Location.{Location}
 use Rattle.etherparse.specs.declared.defrag.stored_fragment.Location.TheVariants.{At, Clash, Repeat}
 use Rattle.etherparse.specs.declared.defrag.overlap_rule.OverlapRule.{OverlapRule}
 use Rattle.etherparse.specs.declared.defrag.overlap_rule.OverlapRule.TheVariants.{Refuses}
-use Rattle.etherparse.specs.Fragments.{Fragment, named_end, refusal_at, refusal_of, overlaps, overlap_of}
-use Rattle.etherparse.specs.Fragments.{IsRepeat, start_of, end_of, end_conflict, with_accepted}
+use Rattle.etherparse.specs.Fragments.{Fragment, named_end, refusal_at, refusal_of, overlaps, overlap_of, IsRepeat}
+use Rattle.etherparse.specs.Fragments.{start_of, end_of, end_conflict, with_accepted}
 use Rattle.etherparse.specs.IpDefragBuf.{AnswersAdd, Contents, FindsAmong, FindsLocation, ShowsAccepted, Shows}
-use Rattle.etherparse.specs.IpDefragBuf.{SameButRoom, Writes, empty_of, left_after, rule_by, rule_of}
-use Rattle.etherparse.specs.IpDefragBuf.{unless_refused}
+use Rattle.etherparse.specs.IpDefragBuf.{SameButRoom, Writes, empty_of, left_after, rule_by, rule_of, unless_refused}
 use Rattle.etherparse.specs.IpDefragError.{is_overlap, is_out_of_memory}
 use Rattle.etherparse.specs.IpFragRange.{AddsRange}
 use Rattle.etherparse.specs.StoredFragment.{Keeps, stored_of}
 use Rattle.etherparse.proofs.Rooms.{still_shows}
 use Rattle.etherparse.proofs.Clash.{clashes_Decides, no_clash}
 use Rattle.etherparse.proofs.Disjoint.{repeat_is_no_clash}
-use Rattle.etherparse.proofs.Kept.{clash_found, gap_found, keeps_push, repeat_found, repeat_is_listed}
-use Rattle.etherparse.proofs.Kept.{shows_again}
+use Rattle.etherparse.proofs.Kept.{clash_found, gap_found, keeps_push, repeat_found, repeat_is_listed, shows_again}
 use Rattle.etherparse.proofs.Lengths.{offsets_short}
 use Rattle.etherparse.proofs.StoredOrder.{gap_without}
 use Rattle.etherparse.proofs.Push.{Goes, shows_none}
@@ -40,10 +37,7 @@ module _ {N : Type 0} (buf : Contents N) (fs : List Fragment) (f : Fragment) (sh
 
   by_overlap : (rule : OverlapRule) (b : Bool) → overlaps rule fs f ≡ b
       → refusal_of rule fs f ≡ cond b (Some (overlap_of f)) None
-  by_overlap rule b is =
-      ap (λ (o : Option IpDefragError). option_or o
-      (cond (overlaps rule fs f) (Some (overlap_of f)) None)) unrefused
-      ∙ ap (λ (b : Bool). cond b (Some (overlap_of f)) None) is
+  by_overlap rule b is = grind arith
 
   -- to an index
   alone_by : (o : Option (List StoredFragment)) (i : ℕ) → ShowsAccepted buf → Keeps o fs
@@ -56,8 +50,7 @@ module _ {N : Type 0} (buf : Contents N) (fs : List Fragment) (f : Fragment) (sh
   keeps_by : (o new : Option (List StoredFragment)) (i : ℕ) → ShowsAccepted buf → Keeps o fs
       → FindsAmong o buf (stored_of f) f.bytes (At i)
       → new ≡ option_map (λ ms. insert ms i (stored_of f)) o → Keeps new (fs ++ f ∷ [])
-  keeps_by None new i shows_accepted keeps location is =
-      subst (λ (n : Option (List StoredFragment)). Keeps n (fs ++ f ∷ [])) (sym is) tt
+  keeps_by None new i shows_accepted keeps location is = grind arith
   keeps_by (Some ms) new i shows_accepted keeps location is =
       subst (λ (n : Option (List StoredFragment)). Keeps n (fs ++ f ∷ [])) (sym is)
       (keeps_push buf ms fs f shows keeps unrefused i
@@ -65,8 +58,7 @@ module _ {N : Type 0} (buf : Contents N) (fs : List Fragment) (f : Fragment) (sh
 
   pub accepted_at : (i : ℕ) → ShowsAccepted buf → FindsLocation buf (stored_of f) f.bytes (At i)
       → refusal_of (rule_of buf) fs f ≡ None
-  accepted_at i shows_accepted location = by_overlap (rule_of buf) false
-      (alone_by buf.stored_fragments i shows_accepted shows.stored_fragments location)
+  accepted_at i shows_accepted location = grind (arith, by_overlap, alone_by)
 
   -- a clash
   clash_by : (o : Option (List StoredFragment)) → Keeps o fs
@@ -89,8 +81,7 @@ module _ {N : Type 0} (buf : Contents N) (fs : List Fragment) (f : Fragment) (sh
 
   pub accepted_again : FindsLocation buf (stored_of f) f.bytes Repeat
       → refusal_of (rule_of buf) fs f ≡ None
-  accepted_again location = by_overlap (rule_of buf) false
-      (repeat_by buf.stored_fragments shows.stored_fragments location)
+  accepted_again location = grind (arith, by_overlap, repeat_by)
 
   again_by : (o : Option (List StoredFragment)) → buf.stored_fragments ≡ o → Keeps o fs
       → FindsAmong o buf (stored_of f) f.bytes Repeat → Shows buf (fs ++ f ∷ [])
@@ -120,8 +111,7 @@ module _ {N : Type 0} (buf : Contents N) (fs : List Fragment) (f : Fragment) (sh
 
 same_rule : (old new : Option (List StoredFragment)) (i : ℕ) (m : StoredFragment)
     → new ≡ option_map (λ ms. insert ms i m) old → rule_by new ≡ rule_by old
-same_rule None new i m is = ap rule_by is
-same_rule (Some ms) new i m is = ap rule_by is
+same_rule old new i m is = grind arith
 
 -- what `insert` does, by what each step ensures
 pub goes : {N : Type 0} (seen old : Contents N) (f : Fragment) (stored_fragment : StoredFragment) (i : ℕ)
@@ -215,11 +205,7 @@ no_overlap false x h = refl
 
 pub accepted_is : (rule : OverlapRule) (fs : List Fragment) (f : Fragment)
     → refusal_of rule fs f ≡ None → with_accepted rule fs f ≡ fs ++ f ∷ []
-accepted_is rule fs f none =
-    let parts = none_or (refusal_at (named_end fs) f) _ none in
-    ap (λ (o : Option IpDefragError). cond (is_some o) fs
-    (cond (overlaps rule fs f) [] (fs ++ f ∷ []))) parts.0
-    ∙ ap (λ (b : Bool). cond b [] (fs ++ f ∷ [])) (no_overlap _ _ parts.1)
+accepted_is rule fs f none = grind arith
 
 -- what holds of each of the first three refusals
 module _ (P : IpDefragError → Type 0) (f : Fragment)
@@ -240,9 +226,7 @@ module _ (P : IpDefragError → Type 0) (f : Fragment)
       (f.more && not (length f.bytes % 8 == 0))
       (Some (UnalignedFragmentPayloadLen f.offset (length f.bytes))) (end_conflict o f))) P) [
         | true ↦ long
-        | false ↦ elim (f.more && not (length f.bytes % 8 == 0)) as (λ (b : Bool). IfSome (cond b
-            (Some (UnalignedFragmentPayloadLen f.offset (length f.bytes))) (end_conflict o f)) P)
-            [ true ↦ unaligned | false ↦ at_end o ]
+        | false ↦ grind arith
       ]
 
 pub no_overlap_at : (o : Option ℕ) (f : Fragment)
@@ -251,17 +235,7 @@ no_overlap_at o f = each_refusal (λ e. is_overlap e ≡ false) f refl refl (λ 
 
 pub no_memory_error : (rule : OverlapRule) (fs : List Fragment) (f : Fragment)
     → IfSome (refusal_of rule fs f) (λ e. is_out_of_memory e ≡ false)
-no_memory_error rule fs f =
-    let first = each_refusal (λ e. is_out_of_memory e ≡ false) f refl refl (λ end. refl) (named_end fs) in
-    elim (refusal_at (named_end fs) f) as (λ (o : Option IpDefragError).
-    IfSome o (λ e. is_out_of_memory e ≡ false)
-    → IfSome (option_or o (cond (overlaps rule fs f) (Some (overlap_of f)) None))
-    (λ e. is_out_of_memory e ≡ false)) [
-      | Some e ↦ λ h. h
-      | None ↦ λ h. elim (overlaps rule fs f) as (λ (b : Bool). IfSome
-          (cond b (Some (overlap_of f)) None) (λ e. is_out_of_memory e ≡ false))
-          [ true ↦ refl | false ↦ tt ]
-    ] first
+no_memory_error rule fs f = grind arith
 
 -- what is left after a refusal shows the fragments that are left
 pub left_shows : {N : Type 0} (old new : Contents N) (fs : List Fragment) (f : Fragment)
@@ -301,27 +275,8 @@ pub record PassedOver (refusal : Option IpDefragError) (end : ℕ) (e : IpDefrag
   pub stays : OnErr result (is_overlap e ≡ false)
   pub memory : IfErr result (λ reported. (refusal ≡ None) × (reported ≡ AllocationFailure end))
 
-pass_refused : (refusal : Option IpDefragError) (end : ℕ) (e : IpDefragError)
-    → IfSome refusal (λ r. is_out_of_memory r ≡ false) → refusal ≡ Some e
-    → PassedOver refusal end e (cond (is_out_of_memory e) (Err e) (Ok false))
-pass_refused refusal end e none is =
-    let own : is_out_of_memory e ≡ false =
-    subst (λ (o : Option IpDefragError). IfSome o (λ r. is_out_of_memory r ≡ false)) is none in
-    rw own record { refused = is; taken = refl; stays = tt; memory = tt }
-
 pub passed_over : (refusal : Option IpDefragError) (end : ℕ) (e : IpDefragError)
     (result : Result Bool IpDefragError) → IfSome refusal (λ r. is_out_of_memory r ≡ false)
     → (refusal ≡ Some e) ⊎ (refusal ≡ None) × (e ≡ AllocationFailure end)
     → result ≡ cond (is_out_of_memory e) (Err e) (Ok false) → PassedOver refusal end e result
-passed_over refusal end e result none (inl h) is =
-    subst (λ (r : Result Bool IpDefragError). PassedOver refusal end e r) (sym is)
-    (pass_refused refusal end e none h)
-passed_over refusal end e result none (inr h) is =
-    subst (λ (r : Result Bool IpDefragError). PassedOver refusal end e r)
-    (sym (is ∙ ap (λ (x : IpDefragError). cond (is_out_of_memory x) (Err x) (Ok false)) h.1))
-    record {
-      refused = tt;
-      taken = tt;
-      stays = ap is_overlap h.1;
-      memory = (h.0, refl);
-    }
+passed_over refusal end e result none h is = grind arith

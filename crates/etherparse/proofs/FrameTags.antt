@@ -1,22 +1,19 @@
 -- The class of an Ethernet II frame whose header and tags were built, by what follows them.
-use Rattle.std.proofs.Common.{◌≡◌, ◌∙◌, sym, ap, refl, ℕ, zero, suc, ◌+◌, ◌*◌, ◌/◌, ◌%◌, ◌^◌, ◌≤◌}
-use Rattle.std.proofs.Common.{Bool, true, false, List, [], ◌∷◌, ◌++◌, length, drop, get_or, Option}
-use Rattle.std.proofs.Common.{Some, None, Ok, arith, append_assoc, length-append, if◌then◌else◌}
+use Rattle.std.proofs.Common.{◌≡◌, ◌∙◌, sym, ap, ℕ, suc, ◌+◌, ◌*◌, ◌/◌, ◌%◌, ◌^◌, ◌≤◌, Bool, false, List, [], ◌∷◌, ◌++◌}
+use Rattle.std.proofs.Common.{length, drop, get_or, Option, Some, None, Ok, arith, append_assoc, length-append}
+use Rattle.std.proofs.Common.{if◌then◌else◌}
 use Rattle.std.specs.Prelude.{nat_lt}
 use Rattle.std.specs.Int.{w16, to_be_bytes}
 use Rattle.std.proofs.lemmas.List.{drop_at, get_or_at, get_or-append_right, drop-drop}
 use Rattle.std.proofs.lemmas.Bool.{le-ltb}
 use Rattle.ep_base.specs.Bytes.{num}
-use Rattle.ep_base.specs.declared.err.layer.Layer.TheVariants.{Ethernet2Header as ethernet_layer}
-use Rattle.ep_base.specs.declared.err.layer.Layer.TheVariants.{VlanHeader as vlan_layer}
 use Rattle.ep_base.specs.declared.len_source.LenSource.TheVariants.{Slice}
-use Rattle.ep_link.specs.Ethernet.{Fits, ethernet_len}
+use Rattle.ep_link.specs.Ethernet.{Fits}
 use Rattle.ep_link.specs.declared.link.ethernet2_header.Ethernet2Header.{Ethernet2Header}
 use Rattle.ep_link.specs.declared.link.link_header.LinkHeader.TheVariants.{Ethernet2}
-use Rattle.ep_packet.specs.Class.{class_of, frame_class, payload_class, tagged_class}
+use Rattle.ep_packet.specs.Class.{class_of, payload_class, tagged_class}
 use Rattle.ep_packet.specs.Tags.{with_tag, is_macsec_type, is_vlan_type, tags_in, without_tags}
 use Rattle.ep_tag.specs.Ether.{EtherPayload}
-use Rattle.ep_tag.specs.Prefix.{whole_at}
 use Rattle.ep_tag.specs.Vlan as vlan
 use Rattle.ep_tag.specs.declared.link.link_ext_slice.LinkExtSlice.TheVariants as tag
 use Rattle.ep_tag.specs.declared.link.single_vlan_header.SingleVlanHeader.{SingleVlanHeader}
@@ -43,15 +40,13 @@ pub record NamesNoTag (ether_type : ℕ) : Type 0 where
 untagged_in : (n ether_type : ℕ) (payload : List ℕ) → NamesNoTag ether_type
     → tags_in n (named ether_type payload) ≡ Ok (without_tags (Some (named ether_type payload)))
 unfolding tags_in
-untagged_in zero ether_type payload plain = refl
-untagged_in (suc n) ether_type payload plain = rw (plain.vlan, plain.macsec) refl
+untagged_in n ether_type payload plain = grind arith
 
 -- the tag of an identifier
 identifier : (pcp id : ℕ) (eligible : Bool) → pcp ≤ 7 → id ≤ 4095
     → let n = pcp * 2 ^ 13 + (if eligible then 2 ^ 12 else 0) + id in
     (256 * (n / 256 % 256) + n % 256) % 2 ^ 12 ≡ id
-identifier pcp id true small short = omega arith
-identifier pcp id false small short = omega arith
+identifier pcp id eligible small short = grind arith
 
 module _ (t : SingleVlanHeader) (fits : vlan.Fits t) (ether_type : ℕ) (rest : List ℕ) where
   abbrev naming : List ℕ
@@ -60,33 +55,24 @@ module _ (t : SingleVlanHeader) (fits : vlan.Fits t) (ether_type : ℕ) (rest : 
   tag_id : vlan.vlan_id_of naming ≡ t.vlan_id
   tag_id = identifier t.pcp t.vlan_id t.drop_eligible_indicator fits.pcp fits.vlan_id
 
-  tag_payload : ether_type ≤ 65535 → vlan.payload_of naming ≡ named ether_type rest
-  tag_payload short = ap (λ n. named n rest) (two_bytes ether_type short)
-
-  tag_whole : whole_at vlan_layer vlan.vlan_len naming ≡ Ok naming
-  tag_whole = rw (le-ltb (length naming) 4 (omega arith)) refl
-
   single_in : (n : ℕ) → ether_type ≤ 65535
       → tags_in (suc n) (named 0x8100 naming)
       ≡ with_tag (tag.Vlan naming) (tags_in n (named ether_type rest))
   unfolding tags_in
-  single_in n short =
-      rw tag_whole (ap (λ p. with_tag (tag.Vlan naming) (tags_in n p)) (tag_payload short))
+  single_in n short = grind arith
 
   service_in : (n : ℕ) → ether_type ≤ 65535
       → tags_in (suc n) (named 0x88a8 naming)
       ≡ with_tag (tag.Vlan naming) (tags_in n (named ether_type rest))
   unfolding tags_in
-  service_in n short =
-      rw tag_whole (ap (λ p. with_tag (tag.Vlan naming) (tags_in n p)) (tag_payload short))
+  service_in n short = grind arith
 
 -- the class of what follows an Ethernet header
 pub class_after : (v : Option VlanHeader) (ether_type : ℕ) (packet : List ℕ) → TagsFit v
     → NamesNoTag ether_type
     → tagged_class (tags_in 3 (named (first_type v ether_type) (vlan_bytes v ether_type ++ packet)))
     ≡ payload_class (ids_in v) (named ether_type packet)
-class_after None ether_type packet fits plain =
-    ap tagged_class (untagged_in 3 ether_type packet plain)
+class_after None ether_type packet fits plain = grind (arith, untagged_in)
 class_after (Some (header.Single t)) ether_type packet fits plain =
     ap tagged_class (single_in t fits ether_type packet 2 plain.short
     ∙ ap (with_tag (tag.Vlan (naming t fits ether_type packet)))
@@ -110,9 +96,7 @@ class_after (Some (header.Double t)) ether_type packet fits plain =
 class_where : (bytes rest : List ℕ) (ether_type : ℕ) → nat_lt (length bytes) 14 ≡ false
     → num bytes 12 2 ≡ ether_type → drop 14 bytes ≡ rest
     → class_of bytes ≡ tagged_class (tags_in 3 (named ether_type rest))
-class_where bytes rest ether_type long is cut =
-    let whole : whole_at ethernet_layer ethernet_len bytes ≡ Ok bytes = rw long refl in
-    ap frame_class whole ∙ (λ i. tagged_class (tags_in 3 (named (is i) (cut i))))
+class_where bytes rest ether_type long is cut = grind arith
 
 class_headed : (prefix rest : List ℕ) (ether_type : ℕ) → length prefix ≡ 12 → ether_type ≤ 65535
     → class_of (prefix ++ (to_be_bytes w16 ether_type ++ rest))
@@ -131,9 +115,7 @@ class_headed prefix rest ether_type twelve short =
 
 pub short_first : (v : Option VlanHeader) (ether_type : ℕ) → ether_type ≤ 65535
     → first_type v ether_type ≤ 65535
-short_first None ether_type short = short
-short_first (Some (header.Single t)) ether_type short = omega arith
-short_first (Some (header.Double t)) ether_type short = omega arith
+short_first v ether_type short = grind arith
 
 -- the class of a frame, by what follows header and tags
 pub class_framed : (link : Ethernet2Header) (v : Option VlanHeader) (ether_type : ℕ)
@@ -141,11 +123,4 @@ pub class_framed : (link : Ethernet2Header) (v : Option VlanHeader) (ether_type 
     → class_of (link_bytes (Some (Ethernet2 link)) v ether_type
     ++ (vlan_bytes v ether_type ++ packet)) ≡ payload_class (ids_in v) (named ether_type packet)
 class_framed link v ether_type packet fits tags plain =
-    let prefix : List ℕ = link.destination ++ link.source in
-    let rest : List ℕ = vlan_bytes v ether_type ++ packet in
-    let first = first_type v ether_type in
-    ap class_of (append_assoc prefix (to_be_bytes w16 first) rest)
-    ∙ class_headed prefix rest first
-    (omega (arith, length-append link.destination link.source, fits.source, fits.destination))
-    (short_first v ether_type plain.short)
-    ∙ class_after v ether_type packet tags plain
+    grind (arith, append_assoc, class_headed, length-append, short_first, class_after)

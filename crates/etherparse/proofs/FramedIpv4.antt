@@ -1,7 +1,6 @@
 -- The IPv4 packet whose headers and payload were built, as it is found.
-use Rattle.std.proofs.Common.{◌≡◌, ◌≢◌, ◌∙◌, sym, ap, refl, ℕ, ◌+◌, ◌*◌, ◌/◌, ◌%◌, ◌^◌, ◌≤◌, ◌<◌}
-use Rattle.std.proofs.Common.{◌==◌, Bool, true, false, is_some, List, ◌++◌, length, take, drop}
-use Rattle.std.proofs.Common.{get_or, Option, Some, None, Result, Ok, Err, arith, append_assoc}
+use Rattle.std.proofs.Common.{◌≡◌, ◌≢◌, ◌∙◌, ap, refl, ℕ, ◌+◌, ◌*◌, ◌/◌, ◌%◌, ◌^◌, ◌≤◌, ◌<◌, ◌==◌, Bool, is_some, List}
+use Rattle.std.proofs.Common.{◌++◌, length, take, drop, Option, Some, None, Result, Ok, arith, append_assoc}
 use Rattle.std.proofs.Common.{length-append, if◌then◌else◌}
 use Rattle.std.specs.Int.{bit_at}
 use Rattle.std.proofs.lemmas.List.{drop_at, take_all, take_at, get_or_append_left}
@@ -9,23 +8,19 @@ use Rattle.std.proofs.lemmas.Bool.{le-ltb, eq-eqb, ne_eqb}
 use Rattle.ep_base.specs.declared.len_source.LenSource.TheVariants.{Ipv4HeaderTotalLen}
 use Rattle.ep_ext.specs.Auth.{auth_at, auth_encoding}
 use Rattle.ep_ext.specs.Chain.{IsPiece, prefix_of, of_auth}
-use Rattle.ep_ext.specs.Ipv4Exts.{auth_after, auth_bytes, ipv4_exts_encoding, ipv4_with_link}
-use Rattle.ep_ext.specs.Ipv4Exts.{number_after, some_auth}
+use Rattle.ep_ext.specs.Ipv4Exts.{auth_after, auth_bytes, ipv4_exts_encoding, ipv4_with_link, number_after, some_auth}
 use Rattle.ep_base.specs.declared.err.slice_error.SliceError.{SliceError}
 use Rattle.ep_base.specs.declared.err.slice_error.SliceError.TheVariants as slice_error
 use Rattle.ep_ext.specs.declared.err.ip_auth.header_error.HeaderError.{HeaderError as AuthFault}
-use Rattle.ep_ext.specs.declared.err.ipv6_exts.header_error.HeaderError.{HeaderError as ExtsFault}
 use Rattle.ep_ext.specs.declared.net.ip_auth_header.IpAuthHeader.{IpAuthHeader}
 use Rattle.ep_ext.specs.declared.net.ipv4_extensions.Ipv4Extensions.{Ipv4Extensions}
 use Rattle.ep_ext.specs.declared.net.ipv6_ext_slot.Ipv6ExtSlot.{Ipv6ExtSlot}
 use Rattle.ep_ext.specs.declared.net.ipv6_ext_slot.Ipv6ExtSlot.TheVariants.{Authentication}
-use Rattle.ep_ip.specs.Ipv4.{Fits, IsIpv4Header, destination_of, fragment_offset_of, header_len}
-use Rattle.ep_ip.specs.Ipv4.{identification_of, ihl_of, is_fragmenting, more_fragments_of}
-use Rattle.ep_ip.specs.Ipv4.{protocol_of, source_of, encoding, total_len_of, version_of}
+use Rattle.ep_ip.specs.Ipv4.{Fits, IsIpv4Header, destination_of, fragment_offset_of, header_len, identification_of}
+use Rattle.ep_ip.specs.Ipv4.{is_fragmenting, more_fragments_of, protocol_of, source_of, encoding, total_len_of}
 use Rattle.ep_ip.specs.Ipv4Checksum.{right_checksum}
-use Rattle.ep_ip.specs.Ipv4Fault.{header_at}
 use Rattle.ep_ip.specs.declared.net.ipv4_header.Ipv4Header.{Ipv4Header}
-use Rattle.ep_ipslice.specs.Ipv4Packet.{body_of, ipv4_packet_at, packet_after, packet_with}
+use Rattle.ep_ipslice.specs.Ipv4Packet.{ipv4_packet_at}
 use Rattle.ep_ipslice.specs.Packet.{Ipv4Packet}
 use Rattle.ep_packet.specs.Class.{ipv4_class}
 use Rattle.ep_packet.specs.declared.addresses.Addresses.TheVariants.{V4}
@@ -36,22 +31,12 @@ use Rattle.etherparse.specs.BuiltFrames.{AuthFits}
 flag_bits : (dont more : Bool) (offset : ℕ) → offset < 2 ^ 13
     → let n = (if dont then 2 ^ 14 else 0) + (if more then 2 ^ 13 else 0) + offset in
     ((bit_at (n / 256 % 256) 5 == 1) ≡ more) × ((256 * (n / 256 % 256) + n % 256) % 2 ^ 13 ≡ offset)
-flag_bits true true offset small = (eq-eqb _ 1 (omega arith), omega arith)
-flag_bits true false offset small = (ne_eqb _ 1 (omega arith), omega arith)
-flag_bits false true offset small = (eq-eqb _ 1 (omega arith), omega arith)
-flag_bits false false offset small = (ne_eqb _ 1 (omega arith), omega arith)
+flag_bits dont more offset small = grind arith
 
 -- the fields of a header, read from its bytes
 module _ (h : Ipv4Header) (fits : Fits h) where
   head_len : length (encoding h) ≡ header_len h
-  head_len = omega (
-    arith,
-    length-append (h.source ++ h.destination) h.options,
-    length-append
-        h.source h.destination,
-    fits.source,
-    fits.destination,
-  )
+  head_len = grind (arith, length-append)
 
   is_header : IsIpv4Header (encoding h)
   is_header = record {
@@ -90,38 +75,7 @@ packet_is : (head exts message : List ℕ) (auth : Option (List ℕ)) → IsIpv4
     → ipv4_packet_at (head ++ (exts ++ message))
     ≡ Ok (record { header = head; auth = auth; payload = message })
 packet_is head exts message auth is total following same =
-    let rest : List ℕ = exts ++ message in
-    let bytes : List ℕ = head ++ rest in
-    let all : length bytes ≡ length head + (length exts + length message) =
-    omega (arith, length-append head rest, length-append exts message) in
-    let least : 20 ≤ length head = omega (arith, is.whole, is.minimum) in
-    let first : get_or bytes 0 0 ≡ get_or head 0 0 =
-    get_or_append_left head rest 0 0 (omega arith) in
-    let version : version_of bytes ≡ 4 = rw first is.version in
-    let minimum : 5 ≤ ihl_of bytes = rw first is.minimum in
-    let words : 4 * ihl_of bytes ≡ length head = rw first (sym is.whole) in
-    let header : header_at bytes ≡ Ok head =
-    rw (
-      le-ltb (length bytes) 20 (omega arith),
-      eq-eqb (version_of bytes) 4 version,
-      le-ltb
-          (ihl_of bytes) 5 minimum,
-      le-ltb (length bytes) (4 * ihl_of bytes) (omega arith),
-    )
-    (ap Ok (ap (λ (n : ℕ). take n bytes) words ∙ take_at head rest (length head) refl)) in
-    let body : body_of head bytes ≡ rest =
-    ap (drop (length head)) (take_all (total_len_of head) bytes (omega arith))
-    ∙ drop_at head rest (length head) refl in
-    ap (packet_with bytes) header
-    ∙ rw (
-      le-ltb (total_len_of head) (length head) (omega arith),
-      le-ltb (length bytes)
-          (total_len_of head) (omega arith),
-    )
-    (ap (λ (xs : List ℕ). packet_after head xs (auth_after (protocol_of head) xs)) body
-    ∙ ap (packet_after head rest) following
-    ∙ ap (λ (xs : List ℕ). Ok (record { header = head; auth = auth; payload = xs }))
-    (drop_at exts message (length (auth_bytes auth)) (sym same)))
+    grind (arith, length-append, get_or_append_left, le-ltb, eq-eqb, take_at, take_all, drop_at)
 
 -- what a whole header is found by
 abbrev pub Found : Type 0
@@ -130,17 +84,7 @@ Found = (slot : Ipv6ExtSlot) (header rest : List ℕ) → IsPiece slot header
 
 auth_found : (found : Result (List ℕ) (SliceError AuthFault)) (header : List ℕ)
     → of_auth found ≡ Ok header → found ≡ Ok header
-auth_found (Ok bytes) header is = cc
-auth_found (Err (slice_error.Len e)) header is = absurd (err_ok _ header is)
-  where
-    err_ok : (e : SliceError ExtsFault) (header : List ℕ)
-        → ◌≡◌ {A = Result (List ℕ) (SliceError ExtsFault)} (Err e) (Ok header) → ⊥
-    err_ok e header is = cc
-auth_found (Err (slice_error.Content e)) header is = absurd (err_ok _ header is)
-  where
-    err_ok : (e : SliceError ExtsFault) (header : List ℕ)
-        → ◌≡◌ {A = Result (List ℕ) (SliceError ExtsFault)} (Err e) (Ok header) → ⊥
-    err_ok e header is = cc
+auth_found found header is = grind arith
 
 -- the authentication header of a packet, naming what follows it
 abbrev pub auth_in : Option IpAuthHeader → ℕ → Option (List ℕ)
@@ -150,14 +94,12 @@ auth_in (Some h) number = Some (auth_encoding (record h { next_header = record {
 exts_are : (auth : Option IpAuthHeader) (number : ℕ)
     → ipv4_exts_encoding (ipv4_with_link (record { auth = auth }) number)
     ≡ auth_bytes (auth_in auth number)
-exts_are None number = refl
-exts_are (Some h) number = refl
+exts_are auth number = grind arith
 
 exts_len : (auth : Option IpAuthHeader) (number : ℕ)
     → length (auth_bytes (auth_in auth number))
     ≡ length (ipv4_exts_encoding (record { auth = auth }))
-exts_len None number = refl
-exts_len (Some h) number = refl
+exts_len auth number = grind arith
 
 -- the number by which the IPv4 header names what follows it
 abbrev pub first_in : Option IpAuthHeader → ℕ → ℕ
@@ -176,8 +118,7 @@ after_first found (Some h) number message fits other =
 -- the number after it
 pub number_is : (auth : Option IpAuthHeader) (number : ℕ)
     → number_after (first_in auth number) (auth_in auth number) ≡ number
-number_is None number = refl
-number_is (Some h) number = refl
+number_is auth number = grind arith
 
 -- the header as it is built, for a payload of so many bytes
 abbrev pub header_for : Ipv4Header → Ipv4Extensions → (number len : ℕ) → Ipv4Header

@@ -1,26 +1,23 @@
 -- The IPv6 packet whose headers and payload were built, as it is found.
-use Rattle.std.proofs.Common.{◌≡◌, ◌∙◌, sym, ap, refl, ℕ, ◌+◌, ◌-◌, ◌==◌, Bool, true, false, cond}
-use Rattle.std.proofs.Common.{List, [], ◌∷◌, ◌++◌, length, take, drop, get_or, Option, None, Ok}
-use Rattle.std.proofs.Common.{arith, length-append}
+use Rattle.std.proofs.Common.{◌≡◌, ◌∙◌, sym, ap, refl, ℕ, ◌+◌, ◌-◌, ◌==◌, false, List, [], ◌∷◌, ◌++◌, length, take}
+use Rattle.std.proofs.Common.{get_or, None, Ok, arith, length-append}
 use Rattle.std.proofs.lemmas.List.{append-nil, drop_at, take_all, take_at, get_or_append_left}
-use Rattle.std.proofs.lemmas.Bool.{le-ltb, eq-eqb, ne_eqb}
+use Rattle.std.proofs.lemmas.Bool.{le-ltb, eq-eqb}
 use Rattle.ep_base.specs.Bytes.{num}
-use Rattle.ep_ext.specs.Chain.{Chain, IsEnd, Row, fault_at, fault_of}
+use Rattle.ep_ext.specs.Chain.{Chain, IsEnd, Row, fault_of}
 use Rattle.ep_ext.specs.Follow.{has_slot}
 use Rattle.ep_ext.specs.Slot.{Order}
 use Rattle.ep_ext.specs.Value.{Piece, bytes_of, slots}
 use Rattle.ep_ext.specs.declared.net.ipv6_ext_slot.Ipv6ExtSlot.{Ipv6ExtSlot}
-use Rattle.ep_ip.specs.Ipv6.{Fits, IsIpv6Header, destination_of, next_header_of, payload_length_of}
-use Rattle.ep_ip.specs.Ipv6.{source_of, encoding, version_of}
+use Rattle.ep_ip.specs.Ipv6.{Fits, IsIpv6Header, destination_of, next_header_of, payload_length_of, source_of, encoding}
+use Rattle.ep_ip.specs.Ipv6.{version_of}
 use Rattle.ep_ip.specs.Ipv6Fault.{header_at}
 use Rattle.ep_ip.specs.declared.net.ipv6_header.Ipv6Header.{Ipv6Header}
 use Rattle.ep_ipslice.specs.Ipv6Exts.{exts_of, is_any_fragmenting, view_order}
-use Rattle.ep_ipslice.specs.Ipv6Packet.{body_of, extensions_in, extensions_of, fault_after}
-use Rattle.ep_ipslice.specs.Ipv6Packet.{ipv6_packet_at, number_after, packet_after, packet_of}
-use Rattle.ep_ipslice.specs.Ipv6Packet.{packet_unless, packet_with, rest_after}
+use Rattle.ep_ipslice.specs.Ipv6Packet.{body_of, extensions_in, extensions_of, fault_after, ipv6_packet_at}
+use Rattle.ep_ipslice.specs.Ipv6Packet.{number_after, packet_of, rest_after}
 use Rattle.ep_ipslice.specs.Ipv6Walk.{pieces_within}
-use Rattle.ep_ipslice.specs.Packet.{Ipv6Packet, body_len, body_source, is_open}
-use Rattle.etherparse.proofs.FrameTags.{two_bytes}
+use Rattle.ep_ipslice.specs.Packet.{Ipv6Packet, body_len, body_source}
 
 -- the fields of a header, read from its bytes
 module _ (h : Ipv6Header) (fits : Fits h) where
@@ -32,9 +29,6 @@ module _ (h : Ipv6Header) (fits : Fits h) where
 
   pub is_header : IsIpv6Header (encoding h)
   is_header = record { version = version_is; whole = head_len }
-
-  pub payload_length_is : payload_length_of (encoding h) ≡ h.payload_length
-  payload_length_is = two_bytes h.payload_length (omega (arith, fits.payload_length))
 
   pub source_is : source_of (encoding h) ≡ h.source
   source_is = take_at h.source h.destination 16 fits.source
@@ -57,19 +51,7 @@ RowEnds = (order : Order) (passed : List Ipv6ExtSlot) (last : ℕ) (rest : List 
 -- a number that names no extension header has no slot
 no_slot : (passed : List Ipv6ExtSlot) (last : ℕ) → has_slot last ≡ false
     → (view_order passed last ≡ None) × ((last == 0) ≡ false)
-no_slot passed last none =
-    let hop : (last == 0) ≡ false = ne_eqb last 0 (λ e. named 0 e refl) in
-    let routing : (last == 43) ≡ false = ne_eqb last 43 (λ e. named 43 e refl) in
-    let fragment : (last == 44) ≡ false = ne_eqb last 44 (λ e. named 44 e refl) in
-    let auth : (last == 51) ≡ false = ne_eqb last 51 (λ e. named 51 e refl) in
-    let destination : (last == 60) ≡ false = ne_eqb last 60 (λ e. named 60 e refl) in
-    (rw (hop, routing, fragment, auth, destination) refl, hop)
-  where
-    true_false : ◌≡◌ {A = Bool} true false → ⊥
-    true_false e = cc
-
-    named : (n : ℕ) → last ≡ n → has_slot n ≡ true → ⊥
-    named n is slot = true_false (sym slot ∙ ap has_slot (sym is) ∙ none)
+no_slot passed last none = grind arith
 
 number_is : (order : Order) (passed : List Ipv6ExtSlot) (first : ℕ) (pieces : List Piece)
     (last : ℕ) → Row order passed first pieces last → number_after first pieces ≡ last
@@ -80,15 +62,11 @@ number_is order passed first (piece ∷ pieces) last row =
 -- no fault where the row ends at such a number
 no_fault : (pieces : List Piece) (last : ℕ) (rest : List ℕ) → has_slot last ≡ false
     → fault_of view_order pieces last rest ≡ None
-no_fault pieces last rest none =
-    let is = no_slot (slots pieces) last none in
-    ap (λ (slot : Option Ipv6ExtSlot). fault_at (length (bytes_of pieces)) slot last rest) is.0
-    ∙ rw is.1 refl
+no_fault pieces last rest none = grind arith
 
 -- the body extends to the end of the bytes, also where the payload length is 0
 body_len_is : (head : List ℕ) (len : ℕ) → payload_length_of head ≡ len → body_len head len ≡ len
-body_len_is head len is = elim (is_open head len) as
-    (λ (b : Bool). cond b len (payload_length_of head) ≡ len) [ true ↦ refl | false ↦ is ]
+body_len_is head len is = grind arith
 
 -- the packet with this header, extension headers in a row and a message that extends to the end
 abbrev pub packet_with_row : (head : List ℕ) → List Piece → (last : ℕ)
@@ -157,41 +135,25 @@ module _ (rows : RowsFound) (ends : RowEnds) (head : List ℕ) (pieces : List Pi
         ∙ take_all (length body) body (omega arith)
 
     pieces_are : extensions_of (next_header_of head) (body_of bytes head) ≡ pieces
-    pieces_are = ap (extensions_of (next_header_of head)) body_is
-        ∙ rows view_order (next_header_of head) body pieces last message (chain message)
+    pieces_are = grind (arith, body_is, chain)
 
     rest_is : rest_after bytes head pieces ≡ message
-    rest_is = ap (drop (length (bytes_of pieces))) body_is
-        ∙ drop_at (bytes_of pieces) message (length (bytes_of pieces)) refl
+    rest_is = grind (arith, body_is, drop_at)
 
     last_is : number_after (next_header_of head) pieces ≡ last
     last_is = number_is view_order [] (next_header_of head) pieces last row
 
     no_fault_after : fault_after bytes head pieces ≡ None
-    no_fault_after = (λ i. fault_of view_order pieces (last_is i) (rest_is i))
-        ∙ no_fault pieces last message none
+    no_fault_after = grind (arith, last_is, rest_is, no_fault)
 
     source_after : body_source head (length bytes - 40)
         ≡ body_source head (length (bytes_of pieces) + length message)
     source_after = ap (body_source head) (following ∙ body_size)
 
     found_is : packet_of bytes head pieces ≡ packet_with_row head pieces last message
-    found_is = λ i. record {
-      header = head;
-      exts = exts_of (next_header_of head) pieces;
-      payload = record {
-        ip_number = record { 0 = last_is i };
-        fragmented = is_any_fragmenting pieces;
-        len_source = source_after i;
-        payload = rest_is i;
-      };
-    }
+    found_is = grind (arith, last_is, source_after, rest_is)
 
     -- it is found at the start of its bytes
     pub packet_is : ipv6_packet_at bytes ≡ Ok (packet_with_row head pieces last message)
     packet_is =
-        ap (packet_after bytes) head_is
-        ∙ ap (packet_with bytes head) pieces_are
-        ∙ rw (le-ltb (length bytes - 40) (body_len head (length bytes - 40))
-        (omega (arith, following, len_is)))
-        (ap (packet_unless bytes head pieces) no_fault_after ∙ ap Ok found_is)
+        grind (arith, head_is, pieces_are, le-ltb, following, len_is, no_fault_after, found_is)

@@ -1,6 +1,6 @@
 -- A search by halves for the sections that end before a number.
-use Rattle.std.proofs.Common.{◌≡◌, ℕ, ◌+◌, ◌-◌, ◌*◌, ◌%◌, ◌^◌, ◌<◌, ◌≤◌, Bool, true, false, List}
-use Rattle.std.proofs.Common.{length, get_or, ltb, arith, ap, refl, sym, subst, ◌∙◌}
+use Rattle.std.proofs.Common.{◌≡◌, ℕ, ◌+◌, ◌-◌, ◌*◌, ◌%◌, ◌^◌, ◌<◌, ◌≤◌, Bool, true, false, List, length, get_or, ltb}
+use Rattle.std.proofs.Common.{arith, refl, subst}
 use Rattle.std.proofs.lemmas.Bool.{ltb-true, ltb-false}
 use Rattle.std.proofs.lemmas.Nat.{pow_pos, pow_below}
 use Rattle.std.proofs.lemmas.Grind.{pow_more}
@@ -22,47 +22,22 @@ pub first_above : (rs : List IpFragRange) (n width i count : ℕ) (d : IpFragRan
     → count + width ≡ length rs → Found rs n count width
 first_above rs n width i count d h test i_is within wide count_is =
     let location = up_to_index rs i n d h (omega arith) test in
-    record {
-      within = omega arith;
-      prefix = λ k e low high. location k e low (omega arith);
-      back = λ k e low high. absurd (omega arith);
-    }
+    grind arith
 
 pub first_below : (rs : List IpFragRange) (n width i count : ℕ) (d : IpFragRange)
     → AreOrdered rs → n ≤ (get_or rs i d).end → i + 1 ≡ width → width ≤ length rs → count ≡ 0
     → Found rs n count width
-first_below rs n width i count d h test i_is within count_is =
-    let location = from_offset rs i n d h (omega arith) test in
-    record {
-      within = omega arith;
-      prefix = λ k e low high. absurd (omega arith);
-      back = λ k e low high. location k e (omega arith) high;
-    }
+first_below rs n width i count d h test i_is within count_is = grind (arith, from_offset)
 
 half_of : (rs : List IpFragRange) (n count half i : ℕ) (d : IpFragRange) (b : Bool)
     → AreOrdered rs → i + 1 ≡ count + half → 0 < half → Found rs n count (half + half)
     → ltb (get_or rs i d).end n ≡ b → Found rs n (count + from_bool b * half) half
-half_of rs n count half i d true h i_is some found test =
-    let within = found.within in
-    let location = up_to_index rs i n d h (omega (arith, within)) (ltb-true _ _ test) in
-    record {
-      within = omega (arith, within);
-      prefix = λ k e low high. location k e low (omega arith);
-      back = λ k e low high. found.back k e (omega arith) high;
-    }
-half_of rs n count half i d false h i_is some found test =
-    let within = found.within in
-    let location = from_offset rs i n d h (omega (arith, within)) (ltb-false _ _ test) in
-    record {
-      within = omega (arith, within);
-      prefix = λ k e low high. found.prefix k e low (omega arith);
-      back = λ k e low high. location k e (omega arith) high;
-    }
+half_of rs n count half i d b h i_is some found test =
+    grind (arith, up_to_index, ltb-true, from_offset, ltb-false)
 
 shifted_bool : (b : Bool) (half : ℕ) → half < 18446744073709551616
     → from_bool b * half % 18446744073709551616 ≡ from_bool b * half
-shifted_bool true half low = omega arith
-shifted_bool false half low = omega arith
+shifted_bool b half low = grind arith
 
 -- each test leaves half of them
 pub half_found : (rs : List IpFragRange) (n count bits i r : ℕ) (d : IpFragRange)
@@ -73,14 +48,13 @@ half_found rs n count bits i r d h r_is some few i_is found =
     let half = 2 ^ (bits - 1) in
     let back : bits - 1 + 1 ≡ bits = omega arith in
     let twice : 2 ^ bits ≡ half + half =
-    ap (λ (k : ℕ). 2 ^ k) (sym back) ∙ pow_more 2 (bits - 1) ∙ omega arith in
+    grind (arith, pow_more) in
     let found = subst (λ (w : ℕ). Found rs n count w) twice found in
     let step = half_of rs n count half i d (ltb (get_or rs i d).end n) h i_is (pow_pos (bits - 1))
     found refl in
     let low = pow_below (bits - 1) 64 (omega arith) in
     let product = shifted_bool (ltb (get_or rs i d).end n) half low in
-    subst (λ (k : ℕ). Found rs n (count + k) half)
-    (sym (ap (λ (q : ℕ). q * half % 18446744073709551616) r_is ∙ product)) step
+    grind arith
 
 -- the last test leaves none
 pub last_found : (rs : List IpFragRange) (n count r : ℕ) (d : IpFragRange) (b : Bool)

@@ -1,30 +1,27 @@
 -- Lists of accepted fragments, and the datagrams that are joined from them.
-use Rattle.std.proofs.Common.{◌≡◌, ◌∙◌, ap, sym, subst, refl, ℕ, Bool, true, false, cond, ◌⊎◌}
-use Rattle.std.proofs.Common.{inl, inr, Option, Some, None, Result, List, [], ◌∷◌, ◌++◌}
-use Rattle.std.specs.Option.{option_map}
+use Rattle.std.proofs.Common.{arith, ◌≡◌, ◌∙◌, sym, subst, refl, ℕ, Bool, true, false, cond, inl, inr, Option, Some}
+use Rattle.std.proofs.Common.{None, List, [], ◌∷◌, ◌++◌}
 use Rattle.std.specs.Prelude.{◌==◌, ◌&&◌, nat_lt}
 use Rattle.ep_packet.specs.Class.{Class, FragmentName, class_of}
 use Rattle.ep_packet.specs.Class.Class.{Whole, Cut, Other, Refused as Faulty}
 use Rattle.ep_packet.specs.declared.err.packet.slice_error.SliceError.{SliceError}
-use Rattle.etherparse.specs.declared.defrag.ip_defrag_error.IpDefragError.{IpDefragError}
 use Rattle.etherparse.specs.declared.defrag.overlap_rule.OverlapRule.{OverlapRule}
 use Rattle.etherparse.specs.declared.defrag.overlap_rule.OverlapRule.TheVariants.{Refuses}
 use Rattle.etherparse.specs.Fragments.{Fragment, IsAccepted, fragment}
-use Rattle.etherparse.specs.Joined.{IsJoined}
-use Rattle.etherparse.specs.Outcome.{Held, Outcome, memory_error, outcome}
-use Rattle.etherparse.specs.Outcome.Outcome.{Clash, Completed, Refusal, Waiting}
+use Rattle.etherparse.specs.Outcome.{Held, Outcome}
+use Rattle.etherparse.specs.Outcome.Outcome.{Completed}
 use Rattle.etherparse.proofs.AcceptedOutcomes.{completed_accepted, completed_joined, held_accepted}
 use Rattle.etherparse.specs.declared.defrag.ip_frag_id.IpFragId.{IpFragId}
 use Rattle.etherparse.specs.declared.defrag.pool_calls.PoolCall.{PoolCall}
 use Rattle.etherparse.specs.declared.defrag.pool_calls.PoolCall.TheVariants.{Frame, RetainFrom}
-use Rattle.etherparse.specs.IpDefragPool.{Payload, payload_of}
+use Rattle.etherparse.specs.IpDefragPool.{Payload}
 use Rattle.etherparse.specs.IpFragId.{fragment_in, id_named, rule_over, same_name}
 use Rattle.etherparse.specs.JoinedCalls.{AreAccepted, IsJoinedFrom, JoinAnswers, JoinsCall, JoinsFrame}
 use Rattle.ep_packet.specs.Sliced.{sliced_ethernet}
 use Rattle.etherparse.specs.PoolCalls.{Answered, GoesOn, Lists, CallsAnswered, CallResult, after_fragment, fault_in}
-use Rattle.etherparse.specs.PoolCalls.{answer_to_frame, lists_after, lists_with, lists_with_frame}
-use Rattle.etherparse.specs.PoolCalls.{outcome_at, result_of_outcome, memory_error_at_fragment}
-use Rattle.etherparse.specs.PoolCalls.CallResult.{Delivered, Refused}
+use Rattle.etherparse.specs.PoolCalls.{answer_to_frame, lists_after, lists_with, lists_with_frame, outcome_at}
+use Rattle.etherparse.specs.PoolCalls.{result_of_outcome, memory_error_at_fragment}
+use Rattle.etherparse.specs.PoolCalls.CallResult.{Delivered}
 
 -- ---- lists of accepted fragments
 
@@ -65,25 +62,13 @@ calls_accepted lists (call ∷ calls) all =
 
 -- ---- datagrams that are joined from them
 
-one_payload : (a b : Payload) → Delivered a ≡ Delivered b → a ≡ b
-one_payload a b is = cc
-
 one_part : (a b : FragmentName × Fragment) → Some a ≡ Some b → a ≡ b
 one_part a b is = cc
 
 completed_if : (id : IpFragId ℕ) (o : Outcome) (payload : Payload)
     → result_of_outcome id o ≡ Delivered payload
     → (text : List ℕ) × (o ≡ Completed text) × (payload.bytes ≡ text)
-completed_if id (Refusal error) payload is = cc
-completed_if id (Clash error) payload is = cc
-completed_if id (Waiting fs) payload is = cc
-completed_if id (Completed text) payload is =
-    (text, refl, ap (λ (p : Payload). p.bytes) (sym (one_payload (payload_of id text) payload is)))
-
-no_datagram : (memory_result : Option IpDefragError) (payload : Payload)
-    → option_map Refused memory_result ≡ Some (Delivered payload) → ⊥
-no_datagram None payload is = cc
-no_datagram (Some error) payload is = cc
+completed_if id o payload is = grind arith
 
 module _ (lists : Lists) (accepted : AreAccepted lists) where
   from_list : (name : FragmentName) (channel : ℕ) (f : Fragment) (payload : Payload)
@@ -91,17 +76,7 @@ module _ (lists : Lists) (accepted : AreAccepted lists) where
       → result_of_outcome (id_named name channel) (outcome_at lists name channel f) ≡ Delivered payload
       → IsJoinedFrom ((lists name channel).fragments ++ f ∷ []) payload
   from_list name channel f payload over is =
-      let fs = (lists name channel).fragments in
-      let whole = completed_if (id_named name channel) (outcome_at lists name channel f) payload is in
-      let done : outcome Refuses fs f ≡ Completed whole.0 =
-      subst (λ (r : OverlapRule). outcome r fs f ≡ Completed whole.0) over whole.1 in
-      let all : IsAccepted Refuses fs =
-      subst (λ (r : OverlapRule). IsAccepted r fs) over (accepted name channel) in
-      record {
-        accepted = completed_accepted fs f whole.0 Refuses all done;
-        joined = subst (IsJoined (fs ++ f ∷ [])) (sym whole.2)
-            (completed_joined fs f whole.0 all done);
-      }
+      grind (arith, completed_if, completed_accepted, completed_joined)
 
   answer_joins : (class : Class) (channel : ℕ) (fault : Option SliceError) (reported : CallResult)
       → reported ≡ answer_to_frame lists class channel fault → JoinsFrame lists class channel reported
@@ -119,9 +94,7 @@ module _ (lists : Lists) (accepted : AreAccepted lists) where
       → memory_error_at_fragment lists (fragment_in class) channel ≡ Some reported
       → JoinsFrame lists class channel reported
   memory_error_joins class channel reported memory_result name f payload taken over given =
-      absurd (no_datagram (memory_error f (outcome_at lists name channel f)) payload
-      (ap (λ (o : Option (FragmentName × Fragment)). memory_error_at_fragment lists o channel) (sym taken)
-      ∙ memory_result ∙ ap Some given))
+      grind arith
 
   pub frame_joins : (ends : Lists → Type 0) (next : Lists) (class : Class) (channel : ℕ)
       (fault : Option SliceError) (reported : CallResult)

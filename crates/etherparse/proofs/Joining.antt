@@ -1,16 +1,13 @@
 -- A datagram that is complete, fragment by fragment.
-use Rattle.std.proofs.Common.{◌≡◌, ℕ, zero, suc, ◌+◌, ◌-◌, ◌<◌, ◌≤◌, inl, inr, Option, Some, None}
-use Rattle.std.proofs.Common.{IsSome, List, [], ◌∷◌, ◌++◌, length, get_or, unwrap_or, arith, sym, ap}
-use Rattle.std.proofs.Common.{◌∙◌, refl, drop}
+use Rattle.std.proofs.Common.{◌≡◌, ℕ, zero, suc, ◌+◌, ◌-◌, ◌<◌, ◌≤◌, inl, inr, Option, Some, None, IsSome, List, []}
+use Rattle.std.proofs.Common.{◌∷◌, ◌++◌, length, get_or, unwrap_or, arith, ap, ◌∙◌, refl, drop}
 use Rattle.std.proofs.lemmas.Bool.{cases_lt, false≢true}
 use Rattle.std.proofs.lemmas.Grind.{same_number_lists}
-use Rattle.std.proofs.lemmas.List.{get_or-drop, get_or_append_left, get_or-append_right, length-append}
-use Rattle.std.proofs.lemmas.List.{length-drop}
+use Rattle.std.proofs.lemmas.List.{get_or-drop, get_or_append_left, get_or-append_right, length-append, length-drop}
 use Rattle.std.proofs.lemmas.List.Elements.{All-cons, All-nil}
 use Rattle.std.proofs.lemmas.List.FromFn.{get_or-map-range_with_len, length-map-range_with_len}
 use Rattle.std.specs.List.{All, AllByRecursion, AllPairs, Contains}
-use Rattle.etherparse.specs.Fragments.{Fragment, start_of, end_of, named_end, Holds, Covered}
-use Rattle.etherparse.specs.Fragments.{AreDisjoint}
+use Rattle.etherparse.specs.Fragments.{Fragment, start_of, end_of, named_end, Holds, Covered, AreDisjoint}
 use Rattle.etherparse.specs.Joined.{AreInRow, IsJoined, NoOverlap, joined_bytes}
 use Rattle.etherparse.specs.FragmentBytes.{byte_at, bytes_below}
 use Rattle.etherparse.proofs.AcceptedLists.{accepted_are_disjoint}
@@ -31,10 +28,7 @@ all_weaker high low le (f ∷ parts) h = (omega (arith, h.0, le), all_weaker hig
 all_after : (location : ℕ) (parts : List Fragment) → AreInRow location parts
     → AllByRecursion (λ f. location ≤ start_of f) parts
 all_after location [] row = tt
-all_after location (f ∷ parts) row = (
-  omega (arith, row.0),
-  all_weaker (end_of f) location (omega (arith, row.0)) parts (all_after (end_of f) parts row.1),
-)
+all_after location (f ∷ parts) row = grind (arith, all_after (end_of f) parts row.1, all_weaker)
 
 all_at : (location : ℕ) (parts : List Fragment) (i : ℕ) (d : Fragment)
     → AllByRecursion (λ f. location ≤ start_of f) parts → i < length parts
@@ -118,10 +112,8 @@ module _ (fs : List Fragment) (disjoint : AreDisjoint fs) (end : ℕ) (named : n
       (λ k low.
       get_or-drop (start_of g) text k 0
       ∙ elim (cases_lt k (length g.bytes)) [
-        | inl own ↦ byte_is g k at own fits ∙ sym (get_or_append_left g.bytes back 0 k own)
-        | inr far ↦ sym (get_or-append_right g.bytes back (length g.bytes) k 0 refl far
-            ∙ get_or-drop (end_of g) text (k - length g.bytes) 0
-            ∙ ap (λ (n : ℕ). get_or text n 0) (omega (arith, far)))
+        | inl own ↦ grind (arith, byte_is, get_or_append_left)
+        | inr far ↦ grind (arith, get_or-append_right, get_or-drop)
       ])
 
   one_more : (g : Fragment) (location : ℕ) → Contains fs g → start_of g ≡ location → end_of g ≤ end
@@ -130,8 +122,7 @@ module _ (fs : List Fragment) (disjoint : AreDisjoint fs) (end : ℕ) (named : n
     parts = g ∷ rest.parts;
     among = All-cons (Contains fs) g rest.parts at rest.among;
     in_row = (start, rest.in_row);
-    text_is = ap (λ (n : ℕ). drop n text) (sym start) ∙ text_from_fragment g at fits
-        ∙ ap (λ (xs : List ℕ). g.bytes ++ xs) rest.text_is;
+    text_is = grind (arith, text_from_fragment);
   }
 
   following : (more location : ℕ) → end ≤ location + more → IsSeam location → AllBefore location
@@ -142,11 +133,7 @@ module _ (fs : List Fragment) (disjoint : AreDisjoint fs) (end : ℕ) (named : n
             let c = covered location low in
             let g = c.1 in
             let at : Contains fs g = (c.0, c.2, c.3) in
-            let start : start_of g ≡ location = elim (cases_lt (start_of g) location) [
-              | inl before ↦
-                  let over = seam g at before in absurd (omega (arith, over, c.4.1))
-              | inr from ↦ omega (arith, from, c.4.0)
-            ] in
+            let start : start_of g ≡ location = grind arith in
             let some : start_of g < end_of g = omega (arith, c.4.0, c.4.1) in
             let last = disjoint.within end (end_of g - 1) named
             (c.0, g, c.2, c.3, (omega (arith, some), omega (arith, some))) in

@@ -1,75 +1,49 @@
 -- What a buffer that refuses overlaps stores of its fragments, and what it finds by it.
-use Rattle.std.proofs.Common.{◌≡◌, ℕ, ◌+◌, ◌-◌, ◌<◌, ◌≤◌, Bool, true, false, cond, ltb, ◌⊎◌, ◌↔◌, inl}
-use Rattle.std.proofs.Common.{inr, zero, suc, Option, Some, None, is_some, List, [], ◌∷◌, ◌++◌, length, map, get_or}
-use Rattle.std.proofs.Common.{unwrap_or, arith, sym, ap, ◌∙◌, refl, subst}
-use Rattle.std.proofs.lemmas.Bool.{cases_Bool, cases_lt, ltb-false, false≢true}
-use Rattle.std.proofs.lemmas.Bool.Decides.{nat_tests}
+use Rattle.std.proofs.Common.{◌≡◌, ℕ, ◌+◌, ◌<◌, ◌≤◌, true, ◌⊎◌, ◌↔◌, inl, inr, zero, suc, Option, Some, None, is_some}
+use Rattle.std.proofs.Common.{List, [], ◌∷◌, ◌++◌, length, get_or, unwrap_or, arith, sym, ap, ◌∙◌, refl, subst}
+use Rattle.std.proofs.lemmas.Bool.{cases_Bool, cases_lt, false≢true}
 use Rattle.std.proofs.lemmas.Grind.{same_number_lists}
 use Rattle.std.proofs.lemmas.List.Elements.{Contains-append_left, Contains-push, Contains-push_cases}
 use Rattle.std.proofs.lemmas.List.FromFn.{get_or-map-range_with_len, length-map-range_with_len}
 use Rattle.std.proofs.lemmas.List.Sorted.{Contains-permutation, IsPermutation-insert, IsPermutation-sym}
-use Rattle.std.specs.List.{Any, Contains, insert, range_with_len}
+use Rattle.std.specs.List.{Any, Contains, insert}
 use Rattle.std.specs.Option.{option_or}
-use Rattle.etherparse.specs.declared.defrag.ip_defrag_error.IpDefragError.TheVariants.{SegmentTooBig}
 use Rattle.etherparse.specs.declared.defrag.stored_fragment.StoredFragment.{StoredFragment}
 use Rattle.etherparse.specs.declared.defrag.stored_fragment.Location.TheVariants.{At, Clash, Repeat}
-use Rattle.etherparse.specs.Fragments.{Fragment, start_of, end_of, named_end, greatest_end, Holds}
-use Rattle.etherparse.specs.Fragments.{Covered, Clashes, IsRepeat, holds, refusal_at}
+use Rattle.etherparse.specs.Fragments.{Fragment, start_of, end_of, named_end, greatest_end, Holds, Covered, Clashes}
+use Rattle.etherparse.specs.Fragments.{IsRepeat, refusal_at}
 use Rattle.etherparse.specs.IpDefragBuf.{Contents, Shows}
 use Rattle.etherparse.specs.IpFragRange.{HasNumber, HasOffset, SharesWith}
 use Rattle.etherparse.specs.StoredFragment.{HasBytes, IsLocation, KeepsAll, stored_of, reach_of}
 use Rattle.etherparse.specs.FragmentBytes.{byte_at, byte_of, kept_bytes}
-use Rattle.etherparse.proofs.Disjoint.{agrees_with, byte_of_holder, covered_by, disjoint_push}
-use Rattle.etherparse.proofs.Disjoint.{greatest_of, named_by, repeat_is_no_clash}
+use Rattle.etherparse.proofs.Disjoint.{agrees_with, byte_of_holder, covered_by, disjoint_push, greatest_of, named_by}
+use Rattle.etherparse.proofs.Disjoint.{repeat_is_no_clash}
 use Rattle.etherparse.proofs.StoredOrder.{listed_insert}
-use Rattle.etherparse.proofs.Push.{byte_at-push, byte_of-here, cond_none, greatest_end-push}
-use Rattle.etherparse.proofs.Push.{named_end-push, own_end, range_of}
+use Rattle.etherparse.proofs.Push.{byte_at-push, byte_of-here, greatest_end-push, named_end-push, own_end, range_of}
 
 -- one that isn't refused is short
 pub end_short : (fs : List Fragment) (f : Fragment) → refusal_at (named_end fs) f ≡ None
     → end_of f ≤ 65535
-end_short fs f none =
-    let long = cond_none (ltb 65535 (end_of f))
-    (SegmentTooBig f.offset (length f.bytes) 65535) _ none in
-    ltb-false 65535 (end_of f) long.0
+end_short fs f none = grind arith
 
 -- a stored fragment and its bytes determine the fragment
 same_from_stored : (f g : Fragment) → stored_of g ≡ stored_of f
     → ((k : ℕ) → k < length g.bytes → get_or g.bytes k 0 ≡ get_or f.bytes k 0) → g ≡ f
 same_from_stored f g e same =
-    let start : start_of g ≡ start_of f = ap (λ (m : StoredFragment). m.start) e in
-    let end : end_of g ≡ end_of f = ap (λ (m : StoredFragment). m.end) e in
+    let start : start_of g ≡ start_of f = grind arith in
+    let end : end_of g ≡ end_of f = grind arith in
     let offset : g.offset ≡ f.offset = omega (arith, start) in
-    let more : g.more ≡ f.more = ap (λ (m : StoredFragment). m.more_fragments) e in
+    let more : g.more ≡ f.more = grind arith in
     let long : length g.bytes ≡ length f.bytes = omega (arith, start, end) in
     let bytes = same_number_lists g.bytes f.bytes long same in
     λ i. record { offset = offset i; more = more i; bytes = bytes i }
 
 within_reach : (f : Fragment) (p : ℕ) → end_of f ≤ 65535 → p < 65535 → start_of f ≤ p
     → (f.more ≡ true → p < end_of f) → HasOffset (reach_of (stored_of f)) p
-within_reach f p short low from before =
-    elim (cases_Bool f.more) [
-      | inl t ↦ (from, rw t (before t))
-      | inr t ↦ (from, rw t low)
-    ]
-
-reach_end : (f : Fragment) (p : ℕ) → HasOffset (reach_of (stored_of f)) p
-    → (p < end_of f) ⊎ (f.more ≡ false)
-reach_end f p h =
-    elim f.more as (λ (b : Bool). f.more ≡ b → p < cond b (end_of f) 65535
-    → (p < end_of f) ⊎ (f.more ≡ false))
-    [ true ↦ λ t low. inl low | false ↦ λ t low. inr t ] refl h.1
-
-none_is_some : {X : Type 0} (x : X) → None ≡ Some x → ⊥
-none_is_some x h = cc
+within_reach f p short low from before = grind arith
 
 holds_from : (f : Fragment) (p b : ℕ) → byte_of f p ≡ Some b → Holds f p
-holds_from f p b is =
-    elim (holds f p) as (λ (t : Bool). holds f p ≡ t
-    → cond t (Some (get_or f.bytes (p - start_of f) 0)) None ≡ Some b → Holds f p) [
-      | true ↦ λ t e. grind (arith, nat_tests)
-      | false ↦ λ t e. absurd (none_is_some b e)
-    ] refl is
+holds_from f p b is = grind arith
 
 joined : {P Q R : Type 0} → P ↔ Q → Q ↔ R → P ↔ R
 joined a b = ((λ h. b.0 (a.0 h)), (λ h. a.1 (b.1 h)))
@@ -82,27 +56,17 @@ contains_cons xs y x (suc k, lt, is) = inr (k, omega arith, is)
 contains_more : {X : Type 0} (xs : List X) (y x : X) → Contains xs x → Contains (y ∷ xs) x
 contains_more xs y x h = (suc h.0, omega (arith, h.1), h.2)
 
-contains_first : {X : Type 0} (xs : List X) (y x : X) → y ≡ x → Contains (y ∷ xs) x
-contains_first xs y x is = (0, omega arith, is)
-
 module _ {N : Type 0} (buf : Contents N) (ms : List StoredFragment) (fs : List Fragment) (f : Fragment)
     (shows : Shows buf fs) (keeps : KeepsAll ms fs) (none : refusal_at (named_end fs) f ≡ None) where
   abbrev m : StoredFragment
   m = stored_of f
 
   long : length buf.bytes ≡ unwrap_or (named_end fs) (greatest_end fs)
-  long = ap (λ (xs : List ℕ). length xs) shows.kept
-      ∙ length-map-range_with_len (λ p. unwrap_or (byte_at fs p) 0) 0
-      (unwrap_or (named_end fs) (greatest_end fs))
+  long = grind (arith, length-map-range_with_len)
 
   -- bytes of a fragment that ends where the new one does are kept
   end_within : (g : Fragment) → Contains fs g → end_of g ≡ end_of f → end_of f ≤ length buf.bytes
-  end_within g at same =
-      elim (named_end fs) as (λ (o : Option ℕ). named_end fs ≡ o
-      → length buf.bytes ≡ unwrap_or o (greatest_end fs) → end_of f ≤ length buf.bytes) [
-        | Some e ↦ λ named len. let fits = agrees_with fs f e none named in omega (arith, fits.0, len)
-        | None ↦ λ named len. omega (arith, greatest_of fs g at, same, len)
-      ] refl long
+  end_within g at same = grind (arith, agrees_with, greatest_of, long)
 
   byte_is : (g : Fragment) (k : ℕ) → Contains fs g → k < length g.bytes
       → start_of g + k < length buf.bytes → get_or buf.bytes (start_of g + k) 0 ≡ get_or g.bytes k 0
@@ -122,14 +86,10 @@ module _ {N : Type 0} (buf : Contents N) (ms : List StoredFragment) (fs : List F
       let any = (keeps.stored_fragments m).0 at in
       let g = any.1 in
       let among : Contains fs g = (any.0, any.2, any.3) in
-      let start : start_of g ≡ start_of f = ap (λ (m : StoredFragment). m.start) any.4 in
-      let end : end_of g ≡ end_of f = ap (λ (m : StoredFragment). m.end) any.4 in
+      let start : start_of g ≡ start_of f = grind arith in
+      let end : end_of g ≡ end_of f = grind arith in
       let fits = has.fits in
-      subst (λ (h : Fragment). Contains fs h)
-      (same_from_stored f g any.4 (λ k low.
-      sym (byte_is g k among low (omega (arith, fits, low, start, end)))
-      ∙ ap (λ (n : ℕ). get_or buf.bytes (n + k) 0) start
-      ∙ has.same k (omega (arith, low, start, end)))) among
+      grind (arith, same_from_stored, byte_is)
 
   pub repeat_is_listed : IsRepeat fs f → Contains ms m
   repeat_is_listed at = (keeps.stored_fragments m).1 (at.0, f, at.1, at.2, refl)
@@ -145,8 +105,8 @@ module _ {N : Type 0} (buf : Contents N) (ms : List StoredFragment) (fs : List F
       let any = (keeps.stored_fragments m).0 at in
       let g = any.1 in
       let among : Contains fs g = (any.0, any.2, any.3) in
-      let start : start_of g ≡ start_of f = ap (λ (m : StoredFragment). m.start) any.4 in
-      let end : end_of g ≡ end_of f = ap (λ (m : StoredFragment). m.end) any.4 in
+      let start : start_of g ≡ start_of f = grind arith in
+      let end : end_of g ≡ end_of f = grind arith in
       let fits = end_within g among end in
       elim (cases_lt (start_of f) (end_of f)) [
         | inl some ↦ inl (
@@ -157,10 +117,7 @@ module _ {N : Type 0} (buf : Contents N) (ms : List StoredFragment) (fs : List F
             covered_by fs g (start_of f) among (omega (arith, start), omega (arith, some, end)),
           ),
         )
-        | inr empty ↦ absurd (other record {
-          fits = fits;
-          same = λ k low. absurd (omega (arith, low, empty));
-        })
+        | inr empty ↦ grind arith
       ]
 
   shared_clash : (Contains ms m → ⊥) → SharesWith buf.sections (reach_of m) → Clashes fs f
@@ -169,10 +126,7 @@ module _ {N : Type 0} (buf : Contents N) (ms : List StoredFragment) (fs : List F
       let covered : Covered fs p = (shows.offsets p).0 shared.2 in
       elim (cases_lt p (end_of f)) [
         | inl low ↦ inl ((λ h. new (repeat_is_listed h)), (p, (shared.1.0, low), covered))
-        | inr high ↦ elim (reach_end f p shared.1) [
-          | inl low ↦ absurd (omega (arith, low, high))
-          | inr last ↦ inr (last, (p, high, covered))
-        ]
+        | inr high ↦ grind arith
       ]
 
   pub clash_found : IsLocation ms buf.sections buf.bytes m f.bytes Clash → Clashes fs f
@@ -222,8 +176,7 @@ module _ {N : Type 0} (buf : Contents N) (ms : List StoredFragment) (fs : List F
               let old = (keeps.stored_fragments x).1 (at.0, h.1, at.1, at.2, h.4) in
               contains_more ms m x old
           | inr is ↦
-              let same : m ≡ x = ap stored_of is ∙ h.4 in
-              contains_first ms m x same
+              grind arith
         ])),
   )
 
@@ -254,21 +207,10 @@ module _ {N : Type 0} (buf : Contents N) (ms : List StoredFragment) (fs : List F
   greatest_again at = omega (arith, greatest_end-push fs f, greatest_of fs f at)
 
   byte_again : IsRepeat fs f → (p : ℕ) → byte_at (fs ++ f ∷ []) p ≡ byte_at fs p
-  byte_again at p =
-      byte_at-push fs f p
-      ∙ elim (byte_of f p) as (λ (o : Option ℕ). byte_of f p ≡ o
-      → option_or o (byte_at fs p) ≡ byte_at fs p) [
-        | Some b ↦ λ is. sym is ∙ sym (byte_of_holder fs f p keeps.disjoint at (holds_from f p b is))
-        | None ↦ λ is. refl
-      ] refl
+  byte_again at p = grind (arith, byte_at-push, byte_of_holder, holds_from)
 
   kept_again : IsRepeat fs f → kept_bytes (fs ++ f ∷ []) ≡ kept_bytes fs
-  kept_again at =
-      let bytes = byte_again at in
-      let end : unwrap_or (named_end (fs ++ f ∷ [])) (greatest_end (fs ++ f ∷ []))
-      ≡ unwrap_or (named_end fs) (greatest_end fs) =
-      (λ i. unwrap_or (named_again at i) (greatest_again at i)) in
-      (λ i. map (λ p. unwrap_or (bytes p i) 0) (range_with_len 0 (end i)))
+  kept_again at = grind (arith, byte_again, named_again, greatest_again)
 
   any_again : (Q : Fragment → Type 0) → IsRepeat fs f → Any Q fs ↔ Any Q (fs ++ f ∷ [])
   any_again Q at = (

@@ -1,14 +1,12 @@
 -- How long the bytes of accepted fragments are.
-use Rattle.std.proofs.Common.{ℕ, ◌<◌, ◌≤◌, true, false, cond, Some, List, [], ◌∷◌, length, arith, ap}
-use Rattle.std.proofs.Common.{◌∙◌}
+use Rattle.std.proofs.Common.{ℕ, ◌<◌, ◌≤◌, List, [], ◌∷◌, length, arith, ap, ◌∙◌}
 use Rattle.std.proofs.Math.Bridge.{le_prop}
 use Rattle.std.proofs.Math.Logic.{∥∥₁_elim}
 use Rattle.std.proofs.lemmas.List.Elements.{All-from_recursion}
 use Rattle.std.proofs.lemmas.List.FromFn.{length-map-range_with_len}
 use Rattle.std.specs.List.{AllByRecursion}
 use Rattle.std.specs.Prelude.{unwrap_or}
-use Rattle.etherparse.specs.Fragments.{Fragment, end_of, greatest_end, named_end, AgreesWith}
-use Rattle.etherparse.specs.Fragments.{Covered, IsAccepted}
+use Rattle.etherparse.specs.Fragments.{Fragment, end_of, greatest_end, named_end, AgreesWith, Covered, IsAccepted}
 use Rattle.etherparse.specs.IpDefragBuf.{Contents, ShowsAccepted, Shows, rule_of}
 use Rattle.etherparse.specs.FragmentBytes.{byte_at}
 use Rattle.etherparse.proofs.AcceptedLists.{stored_fragments}
@@ -21,11 +19,7 @@ greatest_short fs (g ∷ gs) h = omega (arith, h.0.short, greatest_short fs gs h
 named_short : (fs gs : List Fragment) (other : ℕ) → AllByRecursion (AgreesWith fs) gs
     → other ≤ 65535 → unwrap_or (named_end gs) other ≤ 65535
 named_short fs [] other h short = short
-named_short fs (g ∷ gs) other h short =
-    elim g.more as (λ (b : _). unwrap_or (cond b (named_end gs) (Some (end_of g))) other ≤ 65535) [
-      | true ↦ named_short fs gs other h.1 short
-      | false ↦ h.0.short
-    ]
+named_short fs (g ∷ gs) other h short = grind (arith, named_short fs gs other h.1 short)
 
 kept_short : {N : Type 0} (buf : Contents N) (fs : List Fragment) → IsAccepted (rule_of buf) fs
     → Shows buf fs → length buf.bytes ≤ 65535

@@ -1,6 +1,5 @@
 -- Elements of lists, by recursion.
-use Rattle.std.proofs.Common.{zero, suc, ◌⊎◌, inl, inr, List, [], ◌∷◌, ◌++◌, arith, refl, sym}
-use Rattle.std.proofs.Common.{subst}
+use Rattle.std.proofs.Common.{zero, suc, ◌⊎◌, inl, inr, List, [], ◌∷◌, ◌++◌, arith, refl, sym, subst}
 use Rattle.std.specs.List.{Any, AllByRecursion}
 
 -- P holds of an element

@@ -1,30 +1,26 @@
 -- What can't hold of two fragments, and of the first fragment of a joined text, for the laws at
 -- literals.
-use Rattle.std.proofs.Common.{◌≡◌, ◌∙◌, ap, refl, sym, arith, ℕ, zero, suc, ◌<◌, ◌⊎◌, inl, inr, List, Some}
-use Rattle.std.proofs.Common.{[], ◌∷◌, ◌++◌, length, get_or}
-use Rattle.std.proofs.Common.{None, length-append}
+use Rattle.std.proofs.Common.{◌≡◌, ap, refl, arith, ℕ, ◌<◌, ◌⊎◌, List, Some, [], ◌∷◌, ◌++◌, length, get_or, None}
+use Rattle.std.proofs.Common.{length-append}
 use Rattle.std.specs.Prelude.{All, Contains}
 use Rattle.etherparse.specs.declared.defrag.ip_defrag_error.IpDefragError.{IpDefragError}
 use Rattle.etherparse.specs.declared.defrag.ip_defrag_error.IpDefragError.TheVariants.{AllocationFailure}
 use Rattle.etherparse.specs.declared.defrag.overlap_rule.OverlapRule.{OverlapRule}
-use Rattle.etherparse.specs.Fragments.{end_of, refusal_of, with_all_accepted}
+use Rattle.etherparse.specs.Fragments.{end_of, refusal_of, with_all_accepted, AreDisjoint, Fragment, Holds, named_end}
+use Rattle.etherparse.specs.Fragments.{start_of}
 use Rattle.etherparse.specs.IpDefragBuf.{Contents, Shows, Stops}
-use Rattle.etherparse.specs.Fragments.{AreDisjoint, Fragment, Holds, named_end, start_of}
 use Rattle.etherparse.specs.Joined.{IsJoined, AreInRow, joined_bytes}
 
 module _ {X : Type 0} where
   at_index_of_two : (a b x : X) (i : ℕ) → i < 2 → get_or (a ∷ b ∷ []) i x ≡ x
       → (a ≡ x) ⊎ (b ≡ x)
-  at_index_of_two a b x zero lt at = inl at
-  at_index_of_two a b x (suc zero) lt at = inr at
-  at_index_of_two a b x (suc (suc i)) lt at = absurd (omega arith)
+  at_index_of_two a b x i lt at = grind arith
 
   pub one_of_two : (a b x : X) → Contains (a ∷ b ∷ []) x → (a ≡ x) ⊎ (b ≡ x)
   one_of_two a b x h = at_index_of_two a b x h.0 h.1 h.2
 
   at_index_of_one : (a x : X) (i : ℕ) → i < 1 → get_or (a ∷ []) i x ≡ x → a ≡ x
-  at_index_of_one a x zero lt at = at
-  at_index_of_one a x (suc i) lt at = absurd (omega arith)
+  at_index_of_one a x i lt at = grind arith
 
   pub only_one : (a x : X) → Contains (a ∷ []) x → a ≡ x
   only_one a x h = at_index_of_one a x h.0 h.1 h.2

@@ -1,18 +1,14 @@
 -- Counts of reassemblies at literal lists.
-use Rattle.std.proofs.Common.{◌≡◌, ◌≢◌, ◌∙◌, ◌&&◌, ◌↔◌, ◌<◌, ◌≤◌, sym, ap, refl, arith, ℕ, zero}
-use Rattle.std.proofs.Common.{suc, Bool, true, cond, inl, inr, List, [], ◌∷◌, length, replicate, take}
-use Rattle.std.proofs.Common.{get_or}
-use Rattle.std.proofs.lemmas.Bool.{and_parts, cases_Bool, eqb-true}
-use Rattle.std.proofs.lemmas.List.Elements.{All-cons, All-nil}
+use Rattle.std.proofs.Common.{◌≡◌, ◌≢◌, ◌∙◌, ◌&&◌, ◌↔◌, ◌≤◌, sym, ap, refl, arith, ℕ, zero, suc, true, cond, List, []}
+use Rattle.std.proofs.Common.{◌∷◌, length, replicate, take}
 use Rattle.std.specs.Prelude.{◌==◌, IsTrue}
 use Rattle.ep_packet.specs.Class.{Class, FragmentName}
 use Rattle.ep_packet.specs.Class.Class.{Cut}
 use Rattle.etherparse.specs.declared.defrag.overlap_rule.OverlapRule.{OverlapRule}
-use Rattle.etherparse.specs.declared.defrag.overlap_rule.OverlapRule.TheVariants.{Overwrites, Refuses}
 use Rattle.etherparse.specs.Fragments.{Fragment, fragment}
 use Rattle.etherparse.specs.Outcome.{Held, held_after, outcome}
 use Rattle.etherparse.specs.declared.defrag.pool_calls.PoolCall.TheVariants.{RetainFrom}
-use Rattle.etherparse.specs.IpFragId.{rule_over, same_name}
+use Rattle.etherparse.specs.IpFragId.{same_name}
 use Rattle.etherparse.specs.OpenReassemblies.{AreOpen, NeverMore}
 use Rattle.etherparse.specs.PoolCalls.{Lists, after_frame, lists_after, no_lists}
 
@@ -52,25 +48,12 @@ none_dropped (suc k) datagrams are = none_after _ (λ name channel. refl) k data
 
 -- ---- there are two, of one name on two channels
 
-in_pairs : (name : FragmentName) (d : FragmentName × ℕ) (i j : ℕ) → i < j → j < 2
-    → get_or ((name, 3) ∷ (name, 4) ∷ []) i d ≢ get_or ((name, 3) ∷ (name, 4) ∷ []) j d
-in_pairs name d zero zero low high = absurd (omega arith)
-in_pairs name d zero (suc zero) low high =
-    λ is. let channels = ap (λ (m : FragmentName × ℕ). m.1) is in omega arith
-in_pairs name d zero (suc (suc j)) low high = absurd (omega arith)
-in_pairs name d (suc i) zero low high = absurd (omega arith)
-in_pairs name d (suc i) (suc j) low high = absurd (omega arith)
-
 abbrev pub IsOpen : Lists → FragmentName × ℕ → Type 0
 IsOpen lists m = (lists m.0 m.1).fragments ≢ []
 
 pub open_on_two : (lists : Lists) (name : FragmentName) → (lists name 3).fragments ≢ []
     → (lists name 4).fragments ≢ [] → AreOpen lists ((name, 3) ∷ (name, 4) ∷ [])
-open_on_two lists name one other = record {
-  differ = λ i j d low high. in_pairs name d i j low high;
-  each = All-cons (IsOpen lists) (name, 3) ((name, 4) ∷ []) one
-      (All-cons (IsOpen lists) (name, 4) [] other (All-nil (IsOpen lists)));
-}
+open_on_two lists name one other = grind arith
 
 -- ---- there is one
 
@@ -80,13 +63,7 @@ one_list only name channel = cond (same_name name only && (channel == 3)) starte
 module _ (same : (a b : FragmentName) → IsTrue (same_name a b) ↔ (a ≡ b)) where
   is_only : (only name : FragmentName) (channel : ℕ) → (one_list only name channel).fragments ≢ []
       → (name ≡ only) × (channel ≡ 3)
-  is_only only name channel filled =
-      elim (cases_Bool (same_name name only && (channel == 3))) [
-        | inl t ↦
-            let both = and_parts (same_name name only) (channel == 3) t in
-            ((same name only).0 both.0, eqb-true channel 3 both.1)
-        | inr t ↦ absurd (filled (ap (λ (b : Bool). (cond b started empty).fragments) t))
-      ]
+  is_only only name channel filled = grind arith
 
   one_open : (only : FragmentName) (datagrams : List (FragmentName × ℕ))
       → AreOpen (one_list only) datagrams → length datagrams ≤ 1
@@ -106,19 +83,17 @@ module _ (same : (a b : FragmentName) → IsTrue (same_name a b) ↔ (a ≡ b)) 
 
   pub two_before : (name : FragmentName) → NeverMore (λ n c. started) (RetainFrom 5 ∷ []) 1 → ⊥
   two_before name h =
-      let most = h 0 ((name, 3) ∷ (name, 4) ∷ [])
-      (open_on_two (λ n c. started) name (some first) (some first)) in
-      omega arith
+      omega (
+        arith,
+        h 0 ((name, 3) ∷ (
+          name,
+          4,
+        ) ∷ []) (open_on_two (λ n c. started) name (some first) (some first)),
+      )
 
   began : (rule : OverlapRule) → (held_after empty 4 (outcome rule [] first)).fragments ≡ first ∷ []
-  began Overwrites = refl
-  began Refuses = refl
+  began rule = grind arith
 
   pub started_by : (name : FragmentName) (class : Class) → class ≡ Cut name 0 true (replicate 8 1)
       → (after_frame name 3 class 4 3 empty).fragments ≡ first ∷ []
-  started_by name class is =
-      ap (λ (c : Class). (after_frame name 3 c 4 3 empty).fragments) is
-      ∙ ap (λ (b : Bool). (cond (b && true)
-      (held_after empty 4 (outcome (rule_over name.addresses) [] first)) empty).fragments)
-      ((same name name).1 refl)
-      ∙ began (rule_over name.addresses)
+  started_by name class is = grind arith

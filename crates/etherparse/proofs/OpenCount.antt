@@ -1,7 +1,6 @@
 -- A pool's reassemblies, counted by the lists that it shows.
-use Rattle.std.proofs.Common.{◌≡◌, ◌≢◌, ◌∙◌, ap, refl, subst, sym, inl, inr, ◌↔◌, ℕ, ◌<◌}
-use Rattle.std.proofs.Common.{◌≤◌, ◌&&◌, ◌||◌, Bool, true, Option, Some, None, List, [], ◌∷◌}
-use Rattle.std.proofs.Common.{length, map, get_or, arith, IsTrue}
+use Rattle.std.proofs.Common.{◌≡◌, ◌≢◌, ◌∙◌, refl, subst, sym, inl, inr, ◌↔◌, ℕ, ◌<◌, ◌≤◌, ◌&&◌, ◌||◌, Bool, true}
+use Rattle.std.proofs.Common.{Option, List, [], ◌∷◌, length, map, get_or, arith, IsTrue}
 use Rattle.std.proofs.lemmas.Bool.{and_parts, cases_Bool, eq-eqb, eqb-true, true≢false}
 use Rattle.std.proofs.lemmas.Bool.Decides.{same_from_decides}
 use Rattle.std.proofs.lemmas.List.{get_or-map, length-map}
@@ -21,13 +20,12 @@ use Rattle.ep_packet.specs.declared.addresses.Addresses.{Addresses}
 use Rattle.ep_packet.specs.declared.addresses.Addresses.TheVariants.{V4, V6}
 use Rattle.etherparse.specs.declared.defrag.ip_frag_id.IpFragId.{IpFragId}
 use Rattle.etherparse.specs.declared.defrag.ip_frag_version_spec_id.IpFragVersionSpecId.{IpFragVersionSpecId}
-use Rattle.etherparse.specs.declared.defrag.ip_frag_version_spec_id.IpFragVersionSpecId.TheVariants.{Ipv4}
-use Rattle.etherparse.specs.declared.defrag.ip_frag_version_spec_id.IpFragVersionSpecId.TheVariants.{Ipv6}
+use Rattle.etherparse.specs.declared.defrag.ip_frag_version_spec_id.IpFragVersionSpecId.TheVariants.{Ipv4, Ipv6}
 use Rattle.etherparse.specs.declared.defrag.overlap_rule.OverlapRule.{OverlapRule}
 use Rattle.etherparse.specs.declared.defrag.reassembly.Reassembly.{Reassembly}
 use Rattle.etherparse.specs.Counts.{open_in}
 use Rattle.etherparse.specs.IpDefragPool.{same_id as same_by}
-use Rattle.etherparse.specs.IpFragId.{id_named, rule_over, same_name, spec_id}
+use Rattle.etherparse.specs.IpFragId.{id_named, rule_over, same_name}
 use Rattle.etherparse.specs.OpenReassemblies.{AreOpen, IsOpenCount}
 use Rattle.etherparse.specs.Outcome.{Held}
 use Rattle.etherparse.specs.PoolCalls.{Lists, ShowsHeld, ShowsLists}
@@ -45,10 +43,6 @@ abbrev identified : IpFragVersionSpecId → ℕ
 identified (Ipv4 source destination identification) = identification
 identified (Ipv6 source destination identification) = identification
 
-spec_again : (ip : IpFragVersionSpecId) → spec_id (between ip) (identified ip) ≡ ip
-spec_again (Ipv4 source destination identification) = refl
-spec_again (Ipv6 source destination identification) = refl
-
 abbrev datagram_of : IpFragId ℕ → FragmentName × ℕ
 datagram_of id = (
   record {
@@ -64,42 +58,11 @@ abbrev id_of : FragmentName × ℕ → IpFragId ℕ
 id_of message = id_named message.0 message.1
 
 id_again : (id : IpFragId ℕ) → id_of (datagram_of id) ≡ id
-id_again id = λ i. record {
-  vlan_ids = id.vlan_ids;
-  ip = spec_again id.ip i;
-  payload_ip_number = id.payload_ip_number;
-  channel_id = id.channel_id;
-}
-
-between_again : (a : Addresses) (n : ℕ) → between (spec_id a n) ≡ a
-between_again (V4 source destination) n = refl
-between_again (V6 source destination) n = refl
-
-identified_again : (a : Addresses) (n : ℕ) → identified (spec_id a n) ≡ n
-identified_again (V4 source destination) n = refl
-identified_again (V6 source destination) n = refl
-
-datagram_again : (message : FragmentName × ℕ) → datagram_of (id_of message) ≡ message
-datagram_again message = λ i. (
-  record {
-    vlan_ids = message.0.vlan_ids;
-    addresses = between_again message.0.addresses message.0.identification i;
-    identification = identified_again message.0.addresses message.0.identification i;
-    number = message.0.number;
-  },
-  message.1,
-)
-
--- a reassembly is there where a list isn't empty
-list_held : (rule : OverlapRule) (o : Option (Reassembly ℕ)) (h : Held) → IsSome o
-    → ShowsHeld rule o h → h.fragments ≢ []
-list_held rule None h some shows = cc
-list_held rule (Some s) h some shows = shows.0.2
+id_again id = grind arith
 
 reassembly_held : (rule : OverlapRule) (o : Option (Reassembly ℕ)) (h : Held) → ShowsHeld rule o h
     → h.fragments ≢ [] → IsSome o
-reassembly_held rule None h shows held = absurd (held shows.0)
-reassembly_held rule (Some s) h shows held = refl
+reassembly_held rule o h shows held = grind arith
 
 -- what holds of all elements holds of one that equals an element
 any_has : {K : Type 0} (same : K → K → Bool) (exact : (a b : K) → same a b ≡ true → a ≡ b)
@@ -117,11 +80,7 @@ module _ (components : (a b : FragmentName) (x y : ℕ)
     (same : (a b : FragmentName) → IsTrue (same_name a b) ↔ (a ≡ b)) where
   kept_apart : (a b : IpFragId ℕ) → same_id a b
       ≡ (same_name (datagram_of a).0 (datagram_of b).0 && (a.channel_id == b.channel_id))
-  kept_apart a b =
-      let test = same_name (datagram_of a).0 (datagram_of b).0 && (a.channel_id == b.channel_id) in
-      subst (λ (k : IpFragId ℕ). same_id k b ≡ test) (id_again a)
-      (subst (λ (k : IpFragId ℕ). same_id (id_of (datagram_of a)) k ≡ test) (id_again b)
-      (components (datagram_of a).0 (datagram_of b).0 a.channel_id b.channel_id))
+  kept_apart a b = grind arith
 
   ids : (a b : IpFragId ℕ) → Decides (same_id a b) (a ≡ b)
   ids a b = (
@@ -131,7 +90,7 @@ module _ (components : (a b : FragmentName) (x y : ℕ)
         let name : (datagram_of a).0 ≡ (datagram_of b).0 =
         (same (datagram_of a).0 (datagram_of b).0).0 both.0 in
         let channel = eqb-true a.channel_id b.channel_id both.1 in
-        sym (id_again a) ∙ (λ i. id_named (name i) (channel i)) ∙ id_again b,
+        grind arith,
     λ e. subst (λ (k : IpFragId ℕ). same_id a k ≡ true) e
         (kept_apart a a
         ∙ rw ((same (datagram_of a).0 (datagram_of a).0).1 refl)
@@ -143,7 +102,7 @@ module _ (components : (a b : FragmentName) (x y : ℕ)
     refl = λ a. (ids a a).1 refl;
     symm = λ a b. same_from_decides (same_id a b) (same_id b a) (ids a b)
         (λ t. sym ((ids b a).0 t), λ e. (ids b a).1 (sym e));
-    congr = λ a b c t. ap (λ (k : IpFragId ℕ). same_id k c) ((ids a b).0 t);
+    congr = grind (arith, ids);
   }
 
   module _ (pool : Pool (IpFragId ℕ) ℕ) (lists : Lists)
@@ -162,8 +121,7 @@ module _ (components : (a b : FragmentName) (x y : ℕ)
         let at_i = get_or-map datagram_of here i (id_of d) d first in
         let at_j = get_or-map datagram_of here j (id_of d) d second in
         let e : get_or here i (id_of d) ≡ get_or here j (id_of d) =
-        sym (id_again (get_or here i (id_of d)))
-        ∙ ap id_of (sym at_i ∙ is ∙ at_j) ∙ id_again (get_or here j (id_of d)) in
+        grind arith in
         true≢false (sym ((ids (get_or here i (id_of d)) (get_or here j (id_of d))).1 e)
         ∙ apart_from_distinct same_id here i j (id_of d) distinct below second)
 
@@ -173,9 +131,7 @@ module _ (components : (a b : FragmentName) (x y : ℕ)
     held_at : (k : IpFragId ℕ) → IsSome (lookup (same_id k) pool.reassemblies) → IsHeld (datagram_of k)
     held_at k some =
         let m = datagram_of k in
-        list_held (rule_over m.0.addresses) (lookup (same_id k) pool.reassemblies) (lists m.0 m.1) some
-        (subst (λ (q : IpFragId ℕ). ShowsHeld (rule_over m.0.addresses) (lookup (same_id q) pool.reassemblies)
-        (lists m.0 m.1)) (id_again k) (shows m.0 m.1))
+        grind arith
 
     each : All IsHeld all_open
     each i d within =
@@ -196,8 +152,7 @@ module _ (components : (a b : FragmentName) (x y : ℕ)
           let at_i = get_or-map id_of others i (datagram_of d) d first in
           let at_j = get_or-map id_of others j (datagram_of d) d second in
           let e : get_or others i (datagram_of d) ≡ get_or others j (datagram_of d) =
-          sym (datagram_again (get_or others i (datagram_of d)))
-          ∙ ap datagram_of (sym at_i ∙ is ∙ at_j) ∙ datagram_again (get_or others j (datagram_of d)) in
+          grind arith in
           are_open.differ i j (datagram_of d) below second e
 
       abbrev IsHere : IpFragId ℕ → Type 0
@@ -214,16 +169,16 @@ module _ (components : (a b : FragmentName) (x y : ℕ)
 
       no_more : length others ≤ open_in pool
       no_more =
-          let longest : length there ≤ length pool.reassemblies = length-le_from_keys laws there
-          pool.reassemblies (IsDistinct-from_AllPairs ids there others_differ)
-          (λ q any. any_has same_id (λ a b t. (ids a b).0 t) IsHere q there
-          (recursion_from_All IsHere there are_here) any) in
-          omega (arith, longest, length-map others id_of)
+          omega (
+            arith,
+            length-le_from_keys laws there pool.reassemblies (IsDistinct-from_AllPairs ids there others_differ) (λ q any. any_has same_id (λ a b t. (ids a b).0 t) IsHere q there (recursion_from_All IsHere there are_here) any),
+            length-map others id_of,
+          )
 
     pub counted : IsOpenCount lists (open_in pool)
     counted = record {
       datagrams = all_open;
       are_open = record { differ = differ; each = each };
-      counted = length-map here datagram_of ∙ length-keys_of pool.reassemblies;
+      counted = grind (arith, length-map, length-keys_of);
       most = no_more;
     }

@@ -1,15 +1,13 @@
 -- Sections in order, as a range is added to them.
-use Rattle.std.proofs.Common.{◌≡◌, ℕ, zero, suc, ◌+◌, ◌<◌, ◌≤◌, ◌⊎◌, ◌↔◌, inl, inr, List, []}
-use Rattle.std.proofs.Common.{◌∷◌, ◌++◌, length, take, drop, get_or, arith, ap, refl}
+use Rattle.std.proofs.Common.{◌≡◌, ℕ, zero, suc, ◌+◌, ◌<◌, ◌≤◌, ◌⊎◌, ◌↔◌, inl, inr, List, [], ◌∷◌, ◌++◌, length, take}
+use Rattle.std.proofs.Common.{drop, get_or, arith, ap, refl}
 use Rattle.std.proofs.lemmas.Bool.{cases_lt}
 use Rattle.std.proofs.lemmas.List.{get_or_default}
 use Rattle.std.specs.List.{Any, AllByRecursion, AllWithin}
 use Rattle.std.specs.List.Sorted.{IsNonDecreasingBy}
 use Rattle.etherparse.specs.declared.defrag.ip_frag_range.IpFragRange.{IpFragRange}
-use Rattle.etherparse.specs.IpFragRange.{HasNumber, HasOffset, Apart, AreApart, AddsRange, AreOrdered}
-use Rattle.etherparse.specs.IpFragRange.{hull}
-use Rattle.etherparse.proofs.ListElements.{AnyOf, AnyOf-from_Any, Any-from_AnyOf, AnyOf-append}
-use Rattle.etherparse.proofs.ListElements.{AnyOf-left, AnyOf-right}
+use Rattle.etherparse.specs.IpFragRange.{HasNumber, HasOffset, AreApart, AddsRange, AreOrdered, hull}
+use Rattle.etherparse.proofs.ListElements.{AnyOf, AnyOf-from_Any, Any-from_AnyOf, AnyOf-append, AnyOf-left, AnyOf-right}
 
 -- ---- facts of all elements
 
@@ -61,8 +59,7 @@ pub apart_of : (rs : List IpFragRange) → AreOrdered rs → AreApart rs
 apart_of [] h = tt
 apart_of (r ∷ rs) h = (
   h.0,
-  all_with (λ s. r.end < s.start) (λ s. r.end < s.start) (Apart r) (λ s a b. inl a) rs h.1
-      h.1,
+  grind (arith, all_with),
   apart_of rs h.2,
 )
 
@@ -76,11 +73,7 @@ ordered_split [] back h = record { first = tt; second = h; between = tt }
 ordered_split (s ∷ prefix) back h =
     let rest = ordered_split prefix back h.2 in
     let parts = all_split (λ t. s.end < t.start) prefix back h.1 in
-    record {
-      first = (h.0, parts.0, rest.first);
-      second = rest.second;
-      between = (parts.1, rest.between);
-    }
+    grind arith
 
 ordered_join : (prefix : List IpFragRange) (j : IpFragRange) (back : List IpFragRange)
     → AreOrdered prefix → j.start ≤ j.end → AreOrdered back
@@ -88,12 +81,7 @@ ordered_join : (prefix : List IpFragRange) (j : IpFragRange) (back : List IpFrag
     → AreOrdered (prefix ++ j ∷ back)
 ordered_join [] j back f o b h k = (o, k, b)
 ordered_join (s ∷ prefix) j back f o b h k =
-    let following = all_with (λ t. j.end < t.start) (λ t. j.end < t.start) (λ t. s.end < t.start)
-    (λ t m n. omega (arith, m, o, h.0)) back k k in (
-      f.0,
-      all_join (λ t. s.end < t.start) prefix (j ∷ back) f.1 (h.0, following),
-      ordered_join prefix j back f.2 o b h.1 k,
-    )
+    grind (arith, ordered_join prefix j back f.2 o b h.1 k, all_with, all_join)
 
 all_own : (rs : List IpFragRange) → AreOrdered rs → AllByRecursion (λ s. s.start ≤ s.end) rs
 all_own [] h = tt
@@ -125,8 +113,7 @@ pub ends_below : (rs : List IpFragRange) → AreOrdered rs → (i j : ℕ) (d e 
     → j < length rs → (get_or rs i d).end < (get_or rs j e).start
 ends_below [] h i j d e below within = absurd (omega arith)
 ends_below (r ∷ rs) h i zero d e below within = absurd (omega arith)
-ends_below (r ∷ rs) h zero (suc j) d e below within =
-    all_at (λ s. r.end < s.start) rs j e (omega arith) h.1
+ends_below (r ∷ rs) h zero (suc j) d e below within = grind (arith, all_at)
 ends_below (r ∷ rs) h (suc i) (suc j) d e below within =
     ends_below rs h.2 i j d e (omega arith) (omega arith)
 
@@ -154,14 +141,7 @@ at_last a (b ∷ rest) d = at_last b rest d
 within : (a : IpFragRange) (rest : List IpFragRange) → AreOrdered (a ∷ rest)
     → AllByRecursion (λ s. (a.start ≤ s.start) × (s.end ≤ (last_of a rest).end)) (a ∷ rest)
 within a [] h = ((omega arith, omega arith), tt)
-within a (b ∷ rest) h =
-    let inner = within b rest h.2 in (
-      (omega arith, omega (arith, h.0, h.1.0, h.2.0, inner.0.1)),
-      all_with (λ s. (b.start ≤ s.start) × (s.end ≤ (last_of b rest).end))
-          (λ s. a.end < s.start)
-          (λ s. (a.start ≤ s.start) × (s.end ≤ (last_of b rest).end))
-          (λ s k m. (omega (arith, h.0, m), k.1)) (b ∷ rest) inner h.1,
-    )
+within a (b ∷ rest) h = grind (arith, within b rest h.2, all_with)
 
 -- j has the numbers and offsets of r and of the sections
 pub record IsJoined (r : IpFragRange) (middle : List IpFragRange) (j : IpFragRange) : Type 0 where
@@ -170,12 +150,7 @@ pub record IsJoined (r : IpFragRange) (middle : List IpFragRange) (j : IpFragRan
   pub offsets : (p : ℕ) → HasOffset j p ↔ (AnyOf (λ s. HasOffset s p) middle ⊎ HasOffset r p)
 
 pub joined_none : (r : IpFragRange) → r.start ≤ r.end → IsJoined r [] r
-joined_none r o =
-    record {
-      ordered = o;
-      numbers = λ n. ((λ h. inr h), (λ h. elim h [ inl k ↦ absurd k | inr k ↦ k ]));
-      offsets = λ p. ((λ h. inr h), (λ h. elim h [ inl k ↦ absurd k | inr k ↦ k ]));
-    }
+joined_none r o = grind arith
 
 any_within : (P Q : IpFragRange → Type 0) (W : Type 0) → ((s : IpFragRange) → P s → Q s → W)
     → (rs : List IpFragRange) → AllByRecursion P rs → AnyOf Q rs → W
@@ -199,11 +174,7 @@ joined_some r a rest o h low high =
       numbers = λ n. (
         (λ k. elim (cases_lt n r.start) [
           | inl m ↦ inl (inl (omega (arith, k.0, k.1, at_end.0, m), omega (arith, low.0, m)))
-          | inr m ↦ elim (cases_lt r.end n) [
-            | inl b ↦ inl (any_last (λ s. HasNumber s n) a rest
-                (omega (arith, z_high, b), omega (arith, k.1, inside.0.1, b)))
-            | inr b ↦ inr (m, b)
-          ]
+          | inr m ↦ grind (arith, any_last)
         ]),
         (λ k. elim k [
           | inl m ↦ any_within (λ s. (a.start ≤ s.start) × (s.end ≤ z.end)) (λ s. HasNumber s n)
@@ -216,11 +187,7 @@ joined_some r a rest o h low high =
       offsets = λ p. (
         (λ k. elim (cases_lt p r.start) [
           | inl m ↦ inl (inl (omega (arith, k.0, k.1, at_end.0, m), omega (arith, low.0, m)))
-          | inr m ↦ elim (cases_lt p r.end) [
-            | inl b ↦ inr (m, b)
-            | inr b ↦ inl (any_last (λ s. HasOffset s p) a rest
-                (omega (arith, z_high, b), omega (arith, k.1, inside.0.1, b)))
-          ]
+          | inr m ↦ grind (arith, any_last)
         ]),
         (λ k. elim k [
           | inl m ↦ any_within (λ s. (a.start ≤ s.start) × (s.end ≤ z.end)) (λ s. HasOffset s p)
@@ -324,24 +291,33 @@ added_joined prefix a rest back r o h low from to high =
 pub up_to_index : (rs : List IpFragRange) (i n : ℕ) (d : IpFragRange) → AreOrdered rs
     → i < length rs → (get_or rs i d).end < n → AllWithin (λ s. s.end < n) rs 0 (i + 1)
 up_to_index rs i n d h within below k e low high =
-    let rise = ends_rise rs h k i e (omega arith) within in
-    let same = ap (λ (s : IpFragRange). s.end) (get_or_default rs i e d within) in
-    omega (arith, rise, below, same)
+    omega (
+      arith,
+      ends_rise rs h k i e (omega arith) within,
+      ap (λ (s : IpFragRange). s.end) (get_or_default rs i e d within),
+      below,
+    )
 
 pub from_offset : (rs : List IpFragRange) (i n : ℕ) (d : IpFragRange) → AreOrdered rs
     → i < length rs → n ≤ (get_or rs i d).end → AllWithin (λ s. n ≤ s.end) rs i (length rs)
 from_offset rs i n d h within above k e low high =
-    let rise = ends_rise rs h i k e low high in
-    let same = ap (λ (s : IpFragRange). s.end) (get_or_default rs i e d within) in
-    omega (arith, rise, above, same)
+    omega (
+      arith,
+      ends_rise rs h i k e low high,
+      ap (λ (s : IpFragRange). s.end) (get_or_default rs i e d within),
+      above,
+    )
 
 -- from a section on that starts after a number all do
 pub starts_from : (rs : List IpFragRange) (i n : ℕ) (d : IpFragRange) → AreOrdered rs
     → i < length rs → n < (get_or rs i d).start → AllWithin (λ s. n < s.start) rs i (length rs)
 starts_from rs i n d h within above k e low high =
-    let rise = starts_rise rs h i k e low high in
-    let same = ap (λ (s : IpFragRange). s.start) (get_or_default rs i e d within) in
-    omega (arith, rise, above, same)
+    omega (
+      arith,
+      starts_rise rs h i k e low high,
+      ap (λ (s : IpFragRange). s.start) (get_or_default rs i e d within),
+      above,
+    )
 
 -- those that end before a range start by its end
 pub starts_before : (rs : List IpFragRange) (low high first : ℕ) → AreOrdered rs → low ≤ high
@@ -349,7 +325,6 @@ pub starts_before : (rs : List IpFragRange) (low high first : ℕ) → AreOrdere
     → AllWithin (λ s. s.start ≤ high) rs 0 first
 starts_before rs low high zero h o within prefix k d from to = absurd (omega arith)
 starts_before [] low high (suc first) h o within prefix k d from to = absurd (omega arith)
-starts_before (r ∷ rs) low high (suc first) h o within prefix zero d from to =
-    omega (arith, h.0, o, prefix.0)
+starts_before (r ∷ rs) low high (suc first) h o within prefix zero d from to = grind arith
 starts_before (r ∷ rs) low high (suc first) h o within prefix (suc k) d from to =
     starts_before rs low high first h.2 o (omega arith) prefix.1 k d (omega arith) (omega arith)

@@ -1,7 +1,6 @@
 -- Spare buffers, by the capacity that they have, and the memory of a pool after a fragment.
-use Rattle.std.proofs.Common.{◌≡◌, ℕ, ◌+◌, ◌≤◌, Bool, true, false, cond, Option, Some, None, Result, Ok}
-use Rattle.std.proofs.Common.{Err, List, [], ◌∷◌, ◌++◌, arith, refl, subst, sym, ap, ◌∙◌, ◌-◌, Vec}
-use Rattle.std.proofs.Common.{vec_capacity, vec_len}
+use Rattle.std.proofs.Common.{◌≡◌, ℕ, ◌+◌, ◌≤◌, Bool, false, cond, Option, Some, None, Ok, Err, List, [], ◌∷◌, ◌++◌}
+use Rattle.std.proofs.Common.{arith, refl, ap, ◌-◌, Vec, vec_capacity, vec_len}
 use Rattle.etherparse.specs.declared.defrag.ip_frag_range.IpFragRange.{IpFragRange}
 use Rattle.etherparse.specs.declared.defrag.ip_defrag_error.IpDefragError.{IpDefragError}
 use Rattle.etherparse.specs.declared.defrag.overlap_rule.OverlapRule.{OverlapRule}
@@ -12,8 +11,8 @@ use Rattle.etherparse.specs.Room.{NoLessRoom, new_room}
 use Rattle.etherparse.specs.declared.defrag.spare_buffers.SpareBuffers.{SpareBuffers}
 use Rattle.etherparse.specs.declared.defrag.reassembly.Reassembly.{Reassembly}
 use Rattle.etherparse.specs.SpareBuffers.{HasSlots}
-use Rattle.etherparse.specs.Memory.{CanBegin, EachNoLess, FindsRoom, KeepsMemory, Memory}
-use Rattle.etherparse.specs.Memory.{ReassemblyAfter, capacities, next_room, without_next}
+use Rattle.etherparse.specs.Memory.{CanBegin, EachNoLess, FindsRoom, KeepsMemory, Memory, capacities, next_room}
+use Rattle.etherparse.specs.Memory.{without_next}
 
 next_after : (rs : List ℕ) (r : ℕ) → next_room (rs ++ r ∷ []) ≡ r
 next_after [] r = refl
@@ -51,14 +50,7 @@ pub record TakenNext (old rest : List ℕ) (room : ℕ) : Type 0 where
 
 taken_by : (taken : Bool) (old rest : List ℕ) (room : ℕ) → old ≡ rest ++ cond taken (room ∷ []) []
     → (taken ≡ false → old ≡ []) → TakenNext old rest room
-taken_by true old rest room is none = record {
-  remain = rw is (sym (without_after rest room));
-  fits = rw (is, next_after rest room) (omega arith);
-}
-taken_by false old rest room is none =
-    let empty = none refl in
-    let gone : rest ≡ [] = no_prefix rest (sym is ∙ empty) in
-    record { remain = rw (empty, gone) refl; fits = rw empty (omega arith) }
+taken_by taken old rest room is none = grind (arith, without_after, next_after, no_prefix)
 
 pub taken_next : {X Z : Type 0} (taken : Bool) (old made rest : List (Vec X Z)) (room : ℕ)
     → made ≡ old → capacities made ≡ capacities rest ++ cond taken (room ∷ []) []
@@ -71,8 +63,7 @@ taken_next taken old made rest room same is none =
 given_by : (taken : Bool) (old rest new : List ℕ) (room grown : ℕ) → room ≤ grown
     → old ≡ rest ++ cond taken (room ∷ []) [] → new ≡ rest ++ cond taken (grown ∷ []) []
     → EachNoLess old new
-given_by true old rest new room grown le was is = rw (was, is) (each_after rest room grown le)
-given_by false old rest new room grown le was is = rw (was, is) (each_same (rest ++ []))
+given_by taken old rest new room grown le was is = grind (arith, each_after, each_same)
 
 -- it is given back, and may have grown
 pub given_back : {X Z : Type 0} (taken : Bool) (old made rest new : List (Vec X Z))
@@ -115,48 +106,28 @@ slot_left taken left n same h = rw same (omega (arith, h.bytes))
 
 -- ---- the memory after a fragment
 
-gone_after : {T : Type 0} (old : Option (Reassembly T)) (m : Memory) → ReassemblyAfter old m None
-gone_after None m = tt
-gone_after (Some s) m = tt
-
 module _ {T X : Type 0} (old new : Option (Reassembly T)) (m m' : Memory) (n : ℕ) where
   -- it was refused, and its reassembly has ended, or did not start
   pub keeps_gone : (e : IpDefragError) → EachNoLess m.bytes m'.bytes
       → EachNoLess m.sections m'.sections → new ≡ None → KeepsMemory {X = X} (Err e) old new m m' n
-  keeps_gone e bytes sections gone = record {
-    bytes = bytes;
-    sections = sections;
-    reassembly = subst (λ (t : Option (Reassembly T)). ReassemblyAfter old m t) (sym gone) (gone_after old m);
-    slot = tt;
-  }
+  keeps_gone e bytes sections gone = grind arith
 
   -- it was refused, and its reassembly goes on
   pub keeps_going : (e : IpDefragError) (s t : Reassembly T) → EachNoLess m.bytes m'.bytes
       → EachNoLess m.sections m'.sections → old ≡ Some s → new ≡ Some t
       → NoLessRoom s.buf.room t.buf.room → KeepsMemory {X = X} (Err e) old new m m' n
-  keeps_going e s t bytes sections was is more = rw (was, is)
-      record { bytes = bytes; sections = sections; reassembly = more; slot = tt }
+  keeps_going e s t bytes sections was is more = grind arith
 
   -- it started its reassembly, which waits for more
   pub keeps_started : (t : Reassembly T) (b s : ℕ) → old ≡ None → new ≡ Some t
       → TakenNext m.bytes m'.bytes b → TakenNext m.sections m'.sections s
       → b ≤ t.buf.room.for_bytes → s ≤ t.buf.room.for_sections
       → KeepsMemory {X = X} (Ok None) old new m m' n
-  keeps_started t b s none is bytes sections more more_sections = rw (none, is) record {
-    bytes = bytes.remain;
-    sections = sections.remain;
-    reassembly = (omega (arith, bytes.fits, more), omega (arith, sections.fits, more_sections));
-    slot = λ some. cc;
-  }
+  keeps_started t b s none is bytes sections more more_sections = grind arith
 
   -- it was the whole datagram
   pub keeps_whole : (whole : X) (rest : List ℕ) (b s r h : ℕ) → old ≡ None → new ≡ None
       → TakenNext m.bytes m'.bytes b → TakenNext m.sections rest s
       → m'.sections ≡ rest ++ r ∷ [] → s ≤ r → n ≡ h → h + 1 ≤ m'.bytes_slots
       → KeepsMemory (Ok (Some whole)) old new m m' n
-  keeps_whole whole rest b s r h none gone bytes sections given more is slot = rw (none, gone) record {
-    bytes = bytes.remain;
-    sections = (r, omega (arith, sections.fits, more), rw (given, sections.remain) refl);
-    reassembly = tt;
-    slot = λ some. rw is slot;
-  }
+  keeps_whole whole rest b s r h none gone bytes sections given more is slot = grind arith

@@ -1,14 +1,12 @@
 -- Reassemblies that are tested one by one, where the last one takes the index of one that is
 -- removed.
-use Rattle.std.proofs.Common.{◌≡◌, ℕ, ◌+◌, ◌-◌, ◌<◌, ◌⊎◌, Bool, true, false, cond, inl, inr, Option}
-use Rattle.std.proofs.Common.{Some, None, List, length, get_or, set, arith, sym, ◌∙◌, refl, subst}
-use Rattle.std.proofs.lemmas.Bool.{cases_lt, cases_Bool}
+use Rattle.std.proofs.Common.{◌≡◌, ℕ, ◌+◌, ◌<◌, ◌⊎◌, Bool, true, false, cond, inl, inr, Option, Some, None, List}
+use Rattle.std.proofs.Common.{length, get_or, arith, refl}
 use Rattle.std.proofs.lemmas.List.{get_or-take, get_or-set_other}
 use Rattle.std.proofs.lemmas.Option.{get_or_from_slice_get, slice_get_within}
 use Rattle.std.proofs.lemmas.Map.Entries.{place_from_lookup}
 use Rattle.std.specs.Cmp.{IsEquivalence}
 use Rattle.std.specs.List.{slice_get, swap_remove}
-use Rattle.std.specs.HashMap.Eq.{lookup_congr}
 use Rattle.std.specs.Map.{lookup}
 use Rattle.etherparse.specs.declared.defrag.reassembly.Reassembly.{Reassembly}
 use Rattle.etherparse.specs.ReassemblyTable.{Retained}
@@ -24,23 +22,13 @@ module _ {E : Type 0} (P : E → Type 0) where
   pub tested_more : (es : List E) (i : ℕ) (e : E) → slice_get es i ≡ Some e → P e
       → ((k : ℕ) (d : E) → k < i → P (get_or es k d)) → (k : ℕ) (d : E)
       → k < i + 1 → P (get_or es k d)
-  tested_more es i e at here below k d h =
-      elim (cases_lt k i) [
-        | inl m ↦ below k d m
-        | inr m ↦ subst P
-            (sym (get_or_from_slice_get es k e d
-            (subst (λ (j : ℕ). slice_get es j ≡ Some e) (omega arith) at))) here
-      ]
+  tested_more es i e at here below k d h = grind (arith, get_or_from_slice_get)
 
   -- the entries below the one that is removed stay
   pub tested_same : (es : List E) (i : ℕ) (e : E) → i < length es
       → ((k : ℕ) (d : E) → k < i → P (get_or es k d)) → (k : ℕ) (d : E) → k < i
       → P (get_or (swap_remove es i e) k d)
-  tested_same es i e within below k d h =
-      let taken = get_or-take (length es - 1)
-      (set es i (get_or es (length es - 1) e)) k d (omega arith) in
-      let kept = get_or-set_other es i k (get_or es (length es - 1) e) d (λ s. omega arith) in
-      subst P (sym (taken ∙ kept)) (below k d h)
+  tested_same es i e within below k d h = grind (arith, get_or-take, get_or-set_other)
 
 module _ {K T : Type 0} {eq : K → K → Bool} (laws : IsEquivalence eq)
     (answers : T → Bool → Type 0) where
@@ -48,7 +36,7 @@ module _ {K T : Type 0} {eq : K → K → Bool} (laws : IsEquivalence eq)
       → MayStay answers old (Some s) → MayStay answers old None
   goes s None denied h = cc
   goes s (Some t) denied (inl h) = let same : s ≡ t = cc in
-      inr (refl, subst (λ (u : Reassembly T). answers u.timestamp false) same denied)
+      grind arith
   goes s (Some t) denied (inr h) = inr (refl, h.1)
 
   -- a reassembly is removed for whose timestamp the test returned `false`
@@ -57,24 +45,12 @@ module _ {K T : Type 0} {eq : K → K → Bool} (laws : IsEquivalence eq)
       → ((q : K) → lookup (eq q) new ≡ cond (eq a q) None (lookup (eq q) old))
       → ((q : K) → MayStay answers (lookup (eq q) first) (lookup (eq q) old)) → (q : K)
       → MayStay answers (lookup (eq q) first) (lookup (eq q) new)
-  one_goes first old new a s denied at gone before q =
-      subst (λ (o : Option (Reassembly T)). MayStay answers (lookup (eq q) first) o) (sym (gone q))
-      (elim (cases_Bool (eq a q)) [
-        | inl t ↦ subst (λ (c : Bool). MayStay answers (lookup (eq q) first)
-            (cond c None (lookup (eq q) old))) (sym t)
-            (goes s (lookup (eq q) first) denied
-            (subst (λ (o : Option (Reassembly T)). MayStay answers (lookup (eq q) first) o)
-            (sym (lookup_congr eq laws.congr old a q t) ∙ at) (before q)))
-        | inr t ↦ subst (λ (c : Bool). MayStay answers (lookup (eq q) first)
-            (cond c None (lookup (eq q) old))) (sym t) (before q)
-      ])
+  one_goes first old new a s denied at gone before q = grind arith
 
   stays : (old : Option (Reassembly T)) (new : Option (Reassembly T))
       → ((s : Reassembly T) → new ≡ Some s → answers s.timestamp true) → MayStay answers old new
       → Retained answers old new
-  stays None new held h = h
-  stays (Some s) new held (inl h) = inl (h, held s h)
-  stays (Some s) new held (inr h) = inr h
+  stays old new held h = grind arith
 
   -- once each reassembly that is left was tested
   pub all_tested : (first left : List (K × Reassembly T))
@@ -85,8 +61,7 @@ module _ {K T : Type 0} {eq : K → K → Bool} (laws : IsEquivalence eq)
       stays (lookup (eq q) first) (lookup (eq q) left) (λ s h.
       let slot = place_from_lookup (eq q) left s h in
       let at = get_or_from_slice_get left slot.0 (slot.1, s) (slot.1, s) slot.2 in
-      subst (λ (e : K × Reassembly T). answers e.1.timestamp true) at
-      (tested slot.0 (slot.1, s) (slice_get_within left slot.0 (slot.1, s) slot.2)))
+      grind (arith, slice_get_within))
       (before q)
 
 pub some_same : {E : Type 0} (a b : E) → Some a ≡ Some b → a ≡ b

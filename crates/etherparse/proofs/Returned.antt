@@ -1,5 +1,5 @@
 -- A datagram that is returned, beside its protocol and where its lengths came from.
-use Rattle.std.proofs.Common.{◌≡◌, ◌∙◌, ap, refl, ℕ, Option, Some, None, List}
+use Rattle.std.proofs.Common.{arith, ◌≡◌, refl, ℕ, Option, Some, None, List}
 use Rattle.etherparse.specs.declared.defrag.ip_frag_id.IpFragId.{IpFragId}
 use Rattle.etherparse.specs.declared.defrag.overlap_rule.OverlapRule.{OverlapRule}
 use Rattle.etherparse.specs.declared.defrag.reassembly.Reassembly.{Reassembly}
@@ -18,7 +18,7 @@ module _ {C T : Type 0} (rule : OverlapRule) (id : IpFragId C) (time : T) (s : O
   whole_reported (Waiting fs) bytes whole h is = let none = h.0 in cc
   whole_reported (Completed text) bytes whole h is =
       let same : bytes ≡ text = some_same bytes text h.0 in
-      (ap Some (is ∙ ap (payload_of id) same), h.1)
+      grind arith
 
   pub none_reported : (o : Outcome) → Becomes rule (λ (text : List ℕ). text) o time s None
       → Becomes rule (payload_of id) o time s None

@@ -1,7 +1,6 @@
 -- Calls that are answered one by one.
-use Rattle.std.proofs.Common.{◌≡◌, ℕ, ◌+◌, ◌<◌, ◌≤◌, Bool, true, false, cond, inl, inr, Option, Some}
-use Rattle.std.proofs.Common.{None, List, [], ◌∷◌, ◌++◌, map, take, length, get_or, sym, ap, ◌∙◌}
-use Rattle.std.proofs.Common.{refl, subst, arith}
+use Rattle.std.proofs.Common.{◌≡◌, ℕ, ◌+◌, ◌<◌, ◌≤◌, inl, inr, Option, Some, None, List, [], ◌∷◌, ◌++◌, map, take}
+use Rattle.std.proofs.Common.{length, get_or, sym, refl, subst, arith}
 use Rattle.std.proofs.lemmas.Grind.{common_steps}
 use Rattle.std.proofs.lemmas.List.{take_more, map-append}
 use Rattle.std.specs.List.{AllByRecursion}
@@ -10,31 +9,23 @@ use Rattle.ep_packet.specs.Class.{Class, FragmentName, class_of}
 use Rattle.ep_packet.specs.Class.Class.{Whole, Cut, Other, Refused as Faulty}
 use Rattle.ep_packet.specs.declared.err.packet.slice_error.SliceError.{SliceError}
 use Rattle.etherparse.specs.declared.defrag.ip_defrag_error.IpDefragError.{IpDefragError}
-use Rattle.etherparse.specs.declared.defrag.ip_defrag_error.IpDefragError.TheVariants.{AllocationFailure}
-use Rattle.etherparse.specs.declared.defrag.ip_defrag_error.IpDefragError.TheVariants.{ConflictingEnd}
-use Rattle.etherparse.specs.declared.defrag.ip_defrag_error.IpDefragError.TheVariants.{SegmentTooBig}
-use Rattle.etherparse.specs.declared.defrag.ip_defrag_error.IpDefragError.TheVariants.{UnalignedFragmentPayloadLen}
 use Rattle.etherparse.specs.declared.defrag.overlap_rule.OverlapRule.{OverlapRule}
 use Rattle.etherparse.specs.declared.defrag.pool_calls.PoolCall.{PoolCall}
 use Rattle.etherparse.specs.declared.defrag.pool_calls.PoolCall.TheVariants.{Frame, RetainFrom}
 use Rattle.etherparse.specs.declared.defrag.pool_calls.PoolAnswer.{PoolAnswer}
 use Rattle.etherparse.specs.declared.defrag.ip_frag_id.IpFragId.{IpFragId}
 use Rattle.etherparse.specs.Counts.{Bounded, open_in}
-use Rattle.etherparse.specs.Fragments.{Fragment, end_conflict, end_of, fragment, named_end}
-use Rattle.etherparse.specs.Fragments.{refusal_at}
+use Rattle.etherparse.specs.Fragments.{Fragment, fragment, named_end, refusal_at}
 use Rattle.etherparse.specs.IpFragId.{fragment_in, id_named, rule_over}
 use Rattle.etherparse.specs.OpenReassemblies.{IsOpenCount, NeverMore}
 use Rattle.etherparse.specs.Outcome.{Outcome, memory_error, outcome}
-use Rattle.etherparse.specs.Outcome.Outcome.{Clash, Completed, Refusal, Waiting}
-use Rattle.etherparse.specs.PoolCalls.{Answered, HasMemory, Lists, CallsAnswered, CallResult, answer_to}
-use Rattle.etherparse.specs.PoolCalls.{answer_to_frame, answers, lists_after, lists_with}
-use Rattle.etherparse.specs.PoolCalls.{outcome_at, answer_result, result_of_outcome, memory_error_at, memory_error_at_fragment}
-use Rattle.etherparse.specs.PoolCalls.{memory_error_at_frame}
+use Rattle.etherparse.specs.PoolCalls.{Answered, HasMemory, Lists, CallsAnswered, CallResult, answer_to_frame, answers}
+use Rattle.etherparse.specs.PoolCalls.{lists_after, lists_with, outcome_at, answer_result, result_of_outcome}
+use Rattle.etherparse.specs.PoolCalls.{memory_error_at, memory_error_at_fragment, memory_error_at_frame}
 use Rattle.etherparse.specs.PoolCalls.CallResult.{Refused}
 use Rattle.etherparse.specs.Processed.{MemoryErrorsAreReported}
 use Rattle.etherparse.specs.ReassemblyTable.{Pool}
 use Rattle.etherparse.proofs.OutcomeLemmas.{by_outcome}
-use Rattle.etherparse.proofs.Retaining.{some_same}
 
 -- one answer more, where each list of names at which the ones before may end is continued by it
 pub CallsAnswered-push : (ends more : Lists → Type 0) (lists : Lists) (calls : List PoolCall)
@@ -53,8 +44,7 @@ CallsAnswered-push ends more lists (c ∷ calls) (t ∷ tolds) call reported goe
 -- the calls that were answered, with the next one
 one_more : (calls : List PoolCall) (i : ℕ) (call : PoolCall) → i < length calls
     → call ≡ get_or calls i call → take (i + 1) calls ≡ take i calls ++ call ∷ []
-one_more calls i call below at = take_more calls i call below
-    ∙ ap (λ (c : PoolCall). take i calls ++ c ∷ []) (sym at)
+one_more calls i call below at = grind (arith, take_more)
 
 -- the answers with that to one call more
 pub answers_more : (ends more : Lists → Type 0) (lists : Lists) (calls : List PoolCall) (i : ℕ)
@@ -75,12 +65,7 @@ answers_more ends more lists calls i call pool_answers pool_answer below at goes
 
 lacks_memory : (f : Fragment) (o : Outcome) (t : CallResult)
     → option_map Refused (memory_error f o) ≡ Some t → HasMemory t → ⊥
-lacks_memory f (Refusal error) t is has = cc
-lacks_memory f (Clash error) t is has = cc
-lacks_memory f (Waiting fs) t is has =
-    subst HasMemory (sym (some_same (Refused (AllocationFailure (end_of f))) t is)) has
-lacks_memory f (Completed text) t is has =
-    subst HasMemory (sym (some_same (Refused (AllocationFailure (end_of f))) t is)) has
+lacks_memory f o t is has = grind arith
 
 fragment_memory_error : (lists : Lists) (reported : Option (FragmentName × Fragment)) (channel : ℕ) (t :
     CallResult)
@@ -93,28 +78,12 @@ frame_memory_error : (lists : Lists) (class : Class) (channel : ℕ) (t : CallRe
     → memory_error_at_frame lists class channel ≡ Some t → HasMemory t → ⊥
 frame_memory_error lists class channel t is has = fragment_memory_error lists (fragment_in class) channel t is has
 
--- a refusal never reports out of memory
-has_if : (b : Bool) (x e : IpDefragError) (rest : Option IpDefragError) → HasMemory (Refused x)
-    → (rest ≡ Some e → HasMemory (Refused e)) → cond b (Some x) rest ≡ Some e
-    → HasMemory (Refused e)
-has_if true x e rest has following is = let same : x ≡ e = cc in
-    subst (λ (k : IpDefragError). HasMemory (Refused k)) same has
-has_if false x e rest has following is = following is
-
 none_reported : (e : IpDefragError) → None ≡ Some e → HasMemory (Refused e)
 none_reported e is = cc
 
-conflict_has : (named : Option ℕ) (f : Fragment) (e : IpDefragError) → end_conflict named f ≡ Some e
-    → HasMemory (Refused e)
-conflict_has None f e is = none_reported e is
-conflict_has (Some end) f e is = has_if _ (ConflictingEnd end (end_of f)) e None tt (none_reported e) is
-
 refusal_has : (named : Option ℕ) (f : Fragment) (e : IpDefragError) → refusal_at named f ≡ Some e
     → HasMemory (Refused e)
-refusal_has named f e is =
-    has_if _ (SegmentTooBig f.offset (length f.bytes) 65535) e _ tt
-    (has_if _ (UnalignedFragmentPayloadLen f.offset (length f.bytes)) e _ tt
-    (conflict_has named f e)) is
+refusal_has named f e is = grind arith
 
 -- so no answer reports it
 fragment_has : (rule : OverlapRule) (id : IpFragId ℕ) (fs : List Fragment) (f : Fragment)
@@ -148,11 +117,7 @@ answers_with_memory ends lists [] [] h has = (refl, h)
 answers_with_memory ends lists [] (t ∷ tolds) h has = absurd h
 answers_with_memory ends lists (call ∷ calls) [] h has = absurd h
 answers_with_memory ends lists (call ∷ calls) (t ∷ tolds) (inl h) has =
-    let rest = answers_with_memory ends (lists_with lists call) calls tolds h.1 has.1 in (
-      ap (λ (u : CallResult). u ∷ tolds) h.0
-          ∙ ap (λ (us : List CallResult). answer_to lists call ∷ us) rest.0,
-      rest.1,
-    )
+    grind (arith, answers_with_memory ends (lists_with lists call) calls tolds h.1 has.1)
 answers_with_memory ends lists (call ∷ calls) (t ∷ tolds) (inr h) has =
     absurd (memory_errors lists call t h.0 has.0)
 

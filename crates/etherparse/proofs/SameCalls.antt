@@ -1,6 +1,6 @@
 -- Calls and answers of a pool that compare as equal describe the same.
-use Rattle.std.proofs.Common.{◌≡◌, ◌↔◌, IsTrue, Some, ap, refl}
-use Rattle.std.proofs.lemmas.Bool.Decides.{Decides-eqb}
+use Rattle.std.proofs.Common.{arith, ◌≡◌, ◌↔◌, IsTrue, ap}
+use Rattle.std.proofs.lemmas.Bool.Decides.{nat_tests, Decides-eqb}
 use Rattle.std.specs.Cmp.Lexicographic.{bytes_decides}
 use Rattle.ep_base.specs.Traits.{EqualIsSame}
 use Rattle.ep_base.proofs.Same.{one_part, two_parts}
@@ -8,7 +8,6 @@ use Rattle.ep_packet.specs.contracts.err.packet.slice_error.SliceErrorPartialEq.
 use Rattle.etherparse.specs.IpDefragPool.{payload_parsed}
 use Rattle.etherparse.specs.PoolCalls.{answer_result, request_of_call}
 use Rattle.etherparse.specs.PoolCalls.PoolRequest.{Came, Stays}
-use Rattle.etherparse.specs.PoolCalls.CallResult.{Delivered, Refused, NotSliced}
 use Rattle.etherparse.specs.contracts.defrag.ip_defrag_error.IpDefragErrorPartialEq.TheImpl as refusals
 use Rattle.etherparse.specs.contracts.defrag.ip_defrag_payload_vec.IpDefragPayloadVecPartialEq.TheImpl as payloads
 use Rattle.etherparse.specs.contracts.defrag.pool_calls.PoolCallPartialEq.TheImpl as calls
@@ -31,13 +30,4 @@ pub answers_same : ((a b : IpDefragPayloadVec) → IsTrue (payloads.ghosts.eq a 
     ↔ (payload_parsed a ≡ payload_parsed b))
     → EqualIsSame refusals.ghosts.eq → EqualIsSame faults.ghosts.eq →
     (a b : PoolAnswer) → IsTrue (pool_answers.ghosts.eq a b) ↔ (answer_result a ≡ answer_result b)
-answers_same same refused faulty (pool_answer.Payload p) (pool_answer.Payload q) =
-    one_part (same p q) (ap Delivered) (λ is. cc)
-answers_same same refused faulty (pool_answer.Refused e) (pool_answer.Refused f) =
-    one_part (refused e f) (ap Refused) (λ is. cc)
-answers_same same refused faulty (pool_answer.NotSliced e) (pool_answer.NotSliced f) =
-    one_part (faulty e f) (ap (λ x. NotSliced (Some x))) (λ is. cc)
-answers_same same refused faulty pool_answer.Nothing pool_answer.Nothing = (λ is. refl, λ is. refl)
-answers_same same refused faulty pool_answer.Retained pool_answer.Retained = (λ is. refl, λ is. refl)
-answers_same same refused faulty pool_answer.NoMemory pool_answer.NoMemory = (λ is. refl, λ is. refl)
-answers_same same refused faulty a b = (λ is. cc, λ is. cc)
+answers_same same refused faulty a b = grind (arith, nat_tests)

@@ -1,6 +1,6 @@
 -- Offsets that a range shares with sections in order.
-use Rattle.std.proofs.Common.{◌≡◌, ℕ, zero, suc, ◌+◌, ◌-◌, ◌<◌, ◌≤◌, List, [], ◌∷◌, length, take, get_or, max, min}
-use Rattle.std.proofs.Common.{inl, inr, arith, ap, sym, subst}
+use Rattle.std.proofs.Common.{◌≡◌, ℕ, zero, suc, ◌+◌, ◌-◌, ◌<◌, ◌≤◌, List, [], ◌∷◌, length, take, get_or, max, min, inl}
+use Rattle.std.proofs.Common.{inr, arith, ap, sym, subst}
 use Rattle.std.proofs.lemmas.Bool.{cases_lt}
 use Rattle.std.proofs.lemmas.List.{get_or_default}
 use Rattle.std.specs.List.{AllByRecursion, AllWithin}
@@ -16,8 +16,7 @@ pub none_before : (rs : List IpFragRange) (r : IpFragRange) (count : ℕ) → co
     → AllByRecursion (λ s. s.end < r.start) (take count rs) → AllWithin (NoneShared r) rs 0 count
 none_before rs r zero within h k d low high = absurd (omega arith)
 none_before [] r (suc count) within h k d low high = absurd (omega arith)
-none_before (s ∷ rs) r (suc count) within h zero d low high =
-    λ p here own. omega (arith, h.0, here.1, own.0)
+none_before (s ∷ rs) r (suc count) within h zero d low high = grind arith
 none_before (s ∷ rs) r (suc count) within h (suc k) d low high =
     none_before rs r count (omega arith) h.1 k d (omega arith) (omega arith)
 
@@ -30,11 +29,7 @@ none_more rs r at d from to within from_is to_is none before k e low high p here
     elim (cases_lt k at) [
       | inl b ↦ before k e low b p here own
       | inr b ↦
-          let same : k ≡ at = omega arith in
-          let there : HasOffset (get_or rs at d) p =
-          subst (λ t. HasOffset t p) (get_or_default rs at e d within)
-          (subst (λ n. HasOffset (get_or rs n e) p) same here) in
-          omega (arith, from_is, to_is, none, there.0, there.1, own.0, own.1)
+          grind (arith, get_or_default)
     ]
 
 pub shared_at : (rs : List IpFragRange) (r : IpFragRange) (at : ℕ) (d : IpFragRange)

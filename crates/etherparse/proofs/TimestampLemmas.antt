@@ -1,6 +1,6 @@
 -- Pools with what is read of their timestamps.
-use Rattle.std.proofs.Common.{◌≡◌, ◌↔◌, ◌∙◌, refl, sym, ap, ℕ, Bool, true, false, cond, nat_eq, nat_lt, nat_le}
-use Rattle.std.proofs.Common.{Option, Some, None, Result, Ok, Err, List, [], ◌∷◌, map, inl, inr, arith}
+use Rattle.std.proofs.Common.{◌≡◌, ◌↔◌, ◌∙◌, refl, sym, ap, ℕ, Bool, true, false, nat_eq, nat_lt, nat_le, Option, Some}
+use Rattle.std.proofs.Common.{None, Result, Ok, Err, List, [], ◌∷◌, map, inl, inr, arith}
 use Rattle.std.proofs.lemmas.Bool.Decides.{nat_tests}
 use Rattle.std.proofs.lemmas.List.{length-map}
 use Rattle.std.specs.List.{IsDistinct}
@@ -15,7 +15,8 @@ use Rattle.etherparse.specs.declared.defrag.ip_defrag_error.IpDefragError.{IpDef
 use Rattle.etherparse.specs.declared.defrag.overlap_rule.OverlapRule.{OverlapRule}
 use Rattle.ep_packet.specs.Class.{Class}
 use Rattle.etherparse.specs.Counts.{open_in}
-use Rattle.etherparse.specs.ReassemblyTable.{Becomes, IsLeft, OthersStay, Pool, Retained, ShowsReassembly, Stays, reassembly_at}
+use Rattle.etherparse.specs.ReassemblyTable.{Becomes, IsLeft, OthersStay, Pool, Retained, ShowsReassembly, Stays}
+use Rattle.etherparse.specs.ReassemblyTable.{reassembly_at}
 use Rattle.etherparse.specs.Timestamps.{pool_by, reassembly_by, timestamp_at}
 use Rattle.etherparse.specs.declared.defrag.reassembly.Reassembly.{Reassembly}
 use Rattle.etherparse.specs.IpDefragPool.{Accepts, Refuses, same_id}
@@ -62,8 +63,7 @@ module _ {T U : Type 0} (read : T → U) where
   timestamp_read : (s : Option (Reassembly T))
       → option_map (λ (s : Reassembly U). s.timestamp) (option_map (reassembly_by read) s)
       ≡ option_map read (option_map (λ (s : Reassembly T). s.timestamp) s)
-  timestamp_read None = refl
-  timestamp_read (Some s) = refl
+  timestamp_read s = grind arith
 
 module _ {K T U : Type 0} (read : T → U) where
   abbrev same_by : K × Reassembly T → K × Reassembly U
@@ -72,12 +72,7 @@ module _ {K T U : Type 0} (read : T → U) where
   lookup_by : (test : K → Bool) (es : List (K × Reassembly T))
       → lookup test (map same_by es) ≡ option_map (reassembly_by read) (lookup test es)
   lookup_by test [] = refl
-  lookup_by test (e ∷ es) = elim (test e.0) as (λ b.
-      cond b (Some (reassembly_by read e.1)) (lookup test (map same_by es))
-      ≡ option_map (reassembly_by read) (cond b (Some e.1) (lookup test es))) [
-        | true ↦ refl
-        | false ↦ lookup_by test es
-      ]
+  lookup_by test (e ∷ es) = grind (arith, lookup_by test es)
 
   pub open_by : (pool : Pool K T) → open_in (pool_by read pool) ≡ open_in pool
   open_by pool = length-map pool.reassemblies same_by
@@ -97,16 +92,12 @@ module _ {K T U : Type 0} (read : T → U) where
 
     pub at_by : (pool : Pool K T) (name : K) → timestamp_at same (pool_by read pool) name
         ≡ option_map read (timestamp_at same pool name)
-    at_by pool name = ap (option_map (λ (s : Reassembly U). s.timestamp)) (reassembly_read pool name)
-        ∙ timestamp_read read (reassembly_at same pool name)
+    at_by pool name = grind (arith, reassembly_read, timestamp_read)
 
     pub reassembly_shows_by : (rule : OverlapRule) (pool : Pool K T) (name : K) (fs : List Fragment)
         → ShowsReassembly rule (reassembly_at same (pool_by read pool) name) fs
         ↔ ShowsReassembly rule (reassembly_at same pool name) fs
-    reassembly_shows_by rule pool name fs = (
-      λ h. shows_read read rule (reassembly_at same pool name) fs (rw (reassembly_read pool name) at h),
-      λ h. rw (reassembly_read pool name) (shows_by read rule (reassembly_at same pool name) fs h),
-    )
+    reassembly_shows_by rule pool name fs = grind (arith, shows_read, reassembly_read, shows_by)
 
     others_by : (name : K) (old new : Pool K T) → OthersStay same name old new
         → OthersStay same name (pool_by read old) (pool_by read new)
@@ -151,24 +142,18 @@ module _ {T : Type 0} (read : T → ℕ) where
       → Processed (pool_by read old) class (read time) channel result (pool_by read new)
   processed_by old new class time channel result p = record {
     passed = λ none. ((p.passed none).0, ap (pool_by read) (p.passed none).1);
-    accepted = if_some _ _ (fragment_in class)
-        (λ reported h. accepts_by old new (id_named reported.0 channel) reported.1 time result h) p.accepted;
+    accepted = grind (arith, if_some, accepts_by);
     refused = if_some _ _ (fragment_in class)
         (λ reported h. refuses_by old (id_named reported.0 channel) reported.1 result h) p.refused;
     others = if_some _ _ (fragment_in class)
         (λ reported h. others_by read same (id_named reported.0 channel) old new h) p.others;
-    err = if_some _ _ (fragment_in class)
-        (λ reported h. if_err (id_named reported.0 channel) old new result h) p.err;
+    err = grind (arith, if_some, if_err);
   }
 
   -- a list of which what came before a time is dropped
   none_held : (rule : OverlapRule) (from : ℕ) (h : Held) → h.fragments ≡ []
       → ShowsHeld rule None (retained_from from h)
-  none_held rule from h none = elim (nat_lt h.time from) as (λ b. ShowsHeld rule None
-      (cond {A = Held} b (record { fragments = []; time = h.time }) h)) [
-        | true ↦ (refl, tt)
-        | false ↦ (none, tt)
-      ]
+  none_held rule from h none = grind arith
 
   late : (from time : ℕ) → true ≡ nat_le from time → nat_lt time from ≡ false
   late from time is = grind (arith, nat_tests)

@@ -1,18 +1,16 @@
 -- The linked extension headers of a value, as a view reads them.
-use Rattle.std.proofs.Common.{◌≡◌, ◌∙◌, ℕ, ◌==◌, ◌||◌, Bool, true, false, cond, List, [], ◌∷◌, ◌++◌}
-use Rattle.std.proofs.Common.{Option, Some, None, refl, ap, subst}
+use Rattle.std.proofs.Common.{arith, ◌≡◌, ◌∙◌, ℕ, ◌||◌, Bool, true, false, cond, List, [], ◌∷◌, ◌++◌, Option, Some}
+use Rattle.std.proofs.Common.{None, refl, ap, subst}
 use Rattle.std.specs.Option.{option_map_or}
 use Rattle.ep_base.specs.Bytes.{num}
 use Rattle.ep_ext.specs.Chain.{IsPiece, Row}
 use Rattle.ep_ext.specs.Follow.{header_in}
 use Rattle.ep_ext.specs.Link.{all_slots, piece_if, pieces_in}
-use Rattle.ep_ext.specs.Slot.{at_start, is_passed, slot_of}
+use Rattle.ep_ext.specs.Slot.{at_start, slot_of}
 use Rattle.ep_ext.specs.Value.{Piece, bytes_of, piece_at}
 use Rattle.ep_ext.specs.declared.net.ipv6_ext_slot.Ipv6ExtSlot.{Ipv6ExtSlot}
-use Rattle.ep_ext.specs.declared.net.ipv6_ext_slot.Ipv6ExtSlot.TheVariants.{HopByHop, Destination}
-use Rattle.ep_ext.specs.declared.net.ipv6_ext_slot.Ipv6ExtSlot.TheVariants.{Routing, Fragment}
-use Rattle.ep_ext.specs.declared.net.ipv6_ext_slot.Ipv6ExtSlot.TheVariants.{Authentication}
-use Rattle.ep_ext.specs.declared.net.ipv6_ext_slot.Ipv6ExtSlot.TheVariants.{FinalDestination}
+use Rattle.ep_ext.specs.declared.net.ipv6_ext_slot.Ipv6ExtSlot.TheVariants.{HopByHop, Destination, Routing, Fragment}
+use Rattle.ep_ext.specs.declared.net.ipv6_ext_slot.Ipv6ExtSlot.TheVariants.{Authentication, FinalDestination}
 use Rattle.ep_ext.specs.declared.net.ipv6_extensions.Ipv6Extensions.{Ipv6Extensions}
 use Rattle.ep_ipslice.specs.Ipv6Exts.{is_any_fragmenting, is_fragmenting_header, view_order}
 
@@ -45,55 +43,20 @@ viewed_piece FinalDestination header is = is
 viewed_more : (passed : List Ipv6ExtSlot) (slot : Ipv6ExtSlot)
     → viewed_slots (passed ++ slot ∷ []) ≡ viewed_slots passed ++ viewed_at slot ∷ []
 viewed_more [] slot = refl
-viewed_more (p ∷ ps) slot = ap (λ (xs : List Ipv6ExtSlot). viewed_at p ∷ xs)
-    (viewed_more ps slot)
+viewed_more (p ∷ ps) slot = grind (arith, viewed_more ps slot)
 
 once_is : (taken : Bool) (slot found : Ipv6ExtSlot)
     → cond taken None (Some slot) ≡ Some found → slot ≡ found
-once_is true slot found is = cc
-once_is false slot found is = cc
+once_is taken slot found is = grind arith
 
 prefix_is : (passed : List Ipv6ExtSlot) (found : Ipv6ExtSlot) → at_start passed ≡ Some found
     → at_start (viewed_slots passed) ≡ Some (viewed_at found)
-prefix_is [] found is = let same : HopByHop ≡ found = cc in
-    ap (λ (p : Ipv6ExtSlot). Some (viewed_at p)) same
-prefix_is (p ∷ ps) found is = cc
-
--- a slot that a value has for a number is one that a view has
-slot_viewed_at : (zero routing fragment auth destination following : Bool) (r f a fd d : Bool)
-    (passed : List Ipv6ExtSlot) (found : Ipv6ExtSlot)
-    → cond zero (at_start passed)
-    (cond routing (cond r None (Some Routing))
-    (cond fragment (cond f None (Some Fragment)) (cond auth (cond a None (Some Authentication))
-    (cond destination (cond following (cond fd None (Some FinalDestination))
-    (cond d None (Some Destination))) None)))) ≡ Some found
-    → cond zero (at_start (viewed_slots passed))
-    (cond routing (Some Routing)
-    (cond fragment (Some Fragment)
-    (cond auth (Some Authentication) (cond destination (Some Destination) None))))
-    ≡ Some (viewed_at found)
-slot_viewed_at true routing fragment auth destination following r f a fd d passed found is =
-    prefix_is passed found is
-slot_viewed_at false true fragment auth destination following r f a fd d passed found is =
-    ap (λ (p : Ipv6ExtSlot). Some (viewed_at p)) (once_is r Routing found is)
-slot_viewed_at false false true auth destination following r f a fd d passed found is =
-    ap (λ (p : Ipv6ExtSlot). Some (viewed_at p)) (once_is f Fragment found is)
-slot_viewed_at false false false true destination following r f a fd d passed found is =
-    ap (λ (p : Ipv6ExtSlot). Some (viewed_at p)) (once_is a Authentication found is)
-slot_viewed_at false false false false true true r f a fd d passed found is =
-    ap (λ (p : Ipv6ExtSlot). Some (viewed_at p)) (once_is fd FinalDestination found is)
-slot_viewed_at false false false false true false r f a fd d passed found is =
-    ap (λ (p : Ipv6ExtSlot). Some (viewed_at p)) (once_is d Destination found is)
-slot_viewed_at false false false false false following r f a fd d passed found is = cc
+prefix_is passed found is = grind arith
 
 slot_viewed : (passed : List Ipv6ExtSlot) (number : ℕ) (found : Ipv6ExtSlot)
     → slot_of passed number ≡ Some found
     → view_order (viewed_slots passed) number ≡ Some (viewed_at found)
-slot_viewed passed number found is =
-    slot_viewed_at (number == 0) (number == 43) (number == 44) (number == 51) (number == 60)
-    (is_passed passed Routing) (is_passed passed Routing) (is_passed passed Fragment)
-    (is_passed passed Authentication) (is_passed passed FinalDestination)
-    (is_passed passed Destination) passed found is
+slot_viewed passed number found is = grind arith
 
 row_after : (passed : List Ipv6ExtSlot) (number : ℕ) (pieces : List Piece) (last : ℕ)
     → Row slot_of passed number pieces last

@@ -1,6 +1,5 @@
 -- A packet whose payload is a whole message is no fragment.
-use Rattle.std.proofs.Common.{◌≡◌, false, Bool, true, cond, ℕ, List, Option, Some, None, refl}
-use Rattle.ep_ipslice.specs.Packet.{ipv4_payload}
+use Rattle.std.proofs.Common.{arith, ◌≡◌, false, Bool, cond, ℕ, List, Option, None}
 use Rattle.ep_packet.specs.Class.{Class, net_class}
 use Rattle.ep_packet.specs.PacketView.{ip_payload_of, is_fragment}
 use Rattle.ep_packet.specs.declared.net.net_slice.NetSlice.{NetSlice}
@@ -10,14 +9,8 @@ use Rattle.etherparse.specs.IpFragId.{fragment_in}
 
 whole_is : (fragmented : Bool) (fragment whole : Class) → fragmented ≡ false → fragment_in whole ≡ None
     → fragment_in (cond fragmented fragment whole) ≡ None
-whole_is true fragment whole is none = cc
-whole_is false fragment whole is none = none
+whole_is fragmented fragment whole is none = grind arith
 
 pub whole_is_no_fragment : (ids : List ℕ) (o : Option NetSlice) (message : Option TransportSlice)
     → is_fragment (ip_payload_of o) ≡ false → fragment_in (net_class ids o message) ≡ None
-whole_is_no_fragment ids None message is = refl
-whole_is_no_fragment ids (Some (net.Ipv4 packet)) message is =
-    whole_is (ipv4_payload packet).fragmented _ _ is refl
-whole_is_no_fragment ids (Some (net.Ipv6 packet)) message is =
-    whole_is packet.payload.fragmented _ _ is refl
-whole_is_no_fragment ids (Some (net.Arp packet)) message is = refl
+whole_is_no_fragment ids o message is = grind arith

@@ -1,6 +1,5 @@
 -- Bytes written at an index.
-use Rattle.std.proofs.Common.{◌≡◌, ℕ, ◌+◌, ◌-◌, ◌≤◌, List, ◌++◌, length, take, drop, replicate, max}
-use Rattle.std.proofs.Common.{get_or, arith, ap, sym, ◌∙◌, subst}
+use Rattle.std.proofs.Common.{◌≡◌, ℕ, ◌+◌, ◌-◌, ◌≤◌, List, ◌++◌, length, take, drop, replicate, max, get_or, arith}
 use Rattle.std.proofs.lemmas.List.{take_at, take_all, get_or_past, length-append, length-replicate}
 use Rattle.std.proofs.lemmas.Grind.{elements}
 use Rattle.etherparse.specs.IpDefragBuf.{Writes}
@@ -25,18 +24,4 @@ pub written : (old d b items : List ℕ) (n start k : ℕ) → n ≡ max (length
     → let whole = take start d ++ (b ++ drop k (drop start d)) in
     Writes old (take n (whole ++ drop (length whole) items)) start b
 written old d b items n start k size is same e =
-    let whole = take start d ++ (b ++ drop k (drop start d)) in
-    let le : length old ≤ n = omega arith in
-    let pad : d ≡ old ++ replicate (n - length old) 0 =
-    same ∙ is ∙ ap (λ xs. xs ++ replicate (n - length old) 0) (take_all n old le) in
-    let long : length d ≡ n = ap length pad ∙ rw (length-append, length-replicate) (omega arith) in
-    let fits : start + k ≤ length d = omega arith in
-    let w = copied d b start k e fits in
-    let zeros = padded old d n le (same ∙ is) in
-    let all : take n (whole ++ drop (length whole) items) ≡ whole =
-    take_at whole _ n (w.size ∙ omega arith) in
-    subst (λ (xs : List ℕ). Writes old xs start b) (sym all) record {
-      size = w.size ∙ omega arith;
-      written = w.written;
-      kept = λ p h. w.kept p h ∙ zeros p;
-    }
+    grind (arith, take_all, length-append, length-replicate, copied, padded, take_at)

@@ -1,32 +1,23 @@
 -- A packet over IP headers, from the parts that were appended.
-use Rattle.std.proofs.Common.{◌≡◌, ◌∙◌, ap, refl, ℕ, List, ◌++◌, length, append_assoc, Option, Some}
-use Rattle.std.proofs.Common.{None}
+use Rattle.std.proofs.Common.{arith, ◌≡◌, ◌∙◌, ap, ℕ, List, ◌++◌, length, append_assoc, Option}
 use Rattle.std.specs.Option.{option_map}
 use Rattle.ep_packet.specs.IpHeaders.{ether_type_of}
 use Rattle.ep_packet.specs.Transport.{transport_encoding}
 use Rattle.ep_packet.specs.declared.net.ip_headers.IpHeaders.{IpHeaders}
-use Rattle.ep_packet.specs.declared.net.ip_headers.IpHeaders.TheVariants.{Ipv4, Ipv6}
 use Rattle.ep_packet.specs.declared.transport.transport_header.TransportHeader.{TransportHeader}
-use Rattle.etherparse.specs.Built.{bytes_if, ip_bytes, ip_packet, link_bytes, message_len, vlan_bytes}
-use Rattle.etherparse.specs.Built.{with_last_number, with_lengths, with_message_checksum}
+use Rattle.etherparse.specs.Built.{bytes_if, ip_bytes, ip_packet, link_bytes, message_len, vlan_bytes, with_last_number}
+use Rattle.etherparse.specs.Built.{with_lengths, with_message_checksum}
 use Rattle.etherparse.specs.PacketState.{packet_over}
 use Rattle.etherparse.specs.declared.packet_builder.prefix.Prefix.{Prefix}
 
 same_type : (h : IpHeaders) (n : ℕ) → ether_type_of (with_lengths h n) ≡ ether_type_of h
-same_type (Ipv4 h e) n = refl
-same_type (Ipv6 h e) n = refl
-
-same_seal : (h : IpHeaders) (n : ℕ) (payload : List ℕ) (t : TransportHeader)
-    → with_message_checksum (with_lengths h n) payload t ≡ with_message_checksum h payload t
-same_seal (Ipv4 h e) n payload t = refl
-same_seal (Ipv6 h e) n payload t = refl
+same_type h n = grind arith
 
 sealed_bytes : (h : IpHeaders) (n : ℕ) (payload : List ℕ) (transport : Option TransportHeader)
     → bytes_if transport_encoding
     (option_map (with_message_checksum (with_lengths h n) payload) transport)
     ≡ bytes_if (λ t. transport_encoding (with_message_checksum h payload t)) transport
-sealed_bytes h n payload None = refl
-sealed_bytes h n payload (Some t) = ap transport_encoding (same_seal h n payload t)
+sealed_bytes h n payload transport = grind arith
 
 -- six parts one after another
 in_a_row : (old link vlan ip transport payload a b c d e f : List ℕ)
@@ -34,15 +25,7 @@ in_a_row : (old link vlan ip transport payload a b c d e f : List ℕ)
     → f ≡ e ++ payload
     → f ≡ old ++ (link ++ (vlan ++ (ip ++ (transport ++ payload))))
 in_a_row old link vlan ip transport payload a b c d e f one two three four five six =
-    six
-    ∙ ap (λ (xs : List ℕ). xs ++ payload) (five
-    ∙ ap (λ (xs : List ℕ). xs ++ transport) (four
-    ∙ ap (λ (xs : List ℕ). xs ++ ip) (three
-    ∙ ap (λ (xs : List ℕ). xs ++ vlan) (two ∙ ap (λ (xs : List ℕ). xs ++ link) one))))
-    ∙ append_assoc (((old ++ link) ++ vlan) ++ ip) transport payload
-    ∙ append_assoc ((old ++ link) ++ vlan) ip (transport ++ payload)
-    ∙ append_assoc (old ++ link) vlan (ip ++ (transport ++ payload))
-    ∙ append_assoc old link (vlan ++ (ip ++ (transport ++ payload)))
+    grind (arith, append_assoc)
 
 pub written_over : (prefix : Prefix) (h measured : IpHeaders)
     (transport sealed : Option TransportHeader) (number ether_type : ℕ)
@@ -63,7 +46,4 @@ written_over prefix h measured transport sealed number ether_type payload old a 
     let bytes = ap (bytes_if transport_encoding) (seal
     ∙ ap (λ (m : IpHeaders). option_map (with_message_checksum m payload) transport) lengths)
     ∙ sealed_bytes h n payload transport in
-    in_a_row old _ _ _ _ payload a b c d e f one two three four five six
-    ∙ (λ i. old ++ (link_bytes prefix.link_header prefix.vlan_header (of_h i)
-    ++ (vlan_bytes prefix.vlan_header (of_h i)
-    ++ (ip_bytes (with_last_number (lengths i) number) ++ (bytes i ++ payload)))))
+    grind (arith, in_a_row)

@@ -5,10 +5,8 @@ use Rattle.ep_ext.specs.declared.err.ipv4_exts.exts_walk_error.ExtsWalkError as 
 use Rattle.ep_ext.specs.declared.err.ipv6_exts.exts_walk_error.ExtsWalkError as ipv6
 use Rattle.etherparse.specs.declared.err.packet.build_write_error.BuildWriteError.{BuildWriteError}
 use Rattle.etherparse.specs.declared.err.packet.build_write_error.BuildWriteError.TheVariants.{ArpHeaderNotMatch}
-use Rattle.etherparse.specs.declared.err.packet.build_write_error.BuildWriteError.TheVariants.{Icmpv6InIpv4}
-use Rattle.etherparse.specs.declared.err.packet.build_write_error.BuildWriteError.TheVariants.{Ipv4Exts}
-use Rattle.etherparse.specs.declared.err.packet.build_write_error.BuildWriteError.TheVariants.{Ipv6Exts}
-use Rattle.etherparse.specs.declared.err.packet.build_write_error.BuildWriteError.TheVariants.{Memory}
+use Rattle.etherparse.specs.declared.err.packet.build_write_error.BuildWriteError.TheVariants.{Icmpv6InIpv4, Ipv4Exts}
+use Rattle.etherparse.specs.declared.err.packet.build_write_error.BuildWriteError.TheVariants.{Ipv6Exts, Memory}
 use Rattle.etherparse.specs.declared.err.packet.build_write_error.BuildWriteError.TheVariants.{PayloadLen}
 
 -- memory was missing

@@ -1,7 +1,7 @@
 -- What a packet's builder writes of the headers that were chosen: each with the ether type, number,
 -- length and checksum that belong to what follows it.
-use Rattle.std.specs.Prelude.{ℕ, ◌+◌, is_some, if◌then◌else◌, List, [], ◌++◌, length, Option, Some}
-use Rattle.std.specs.Prelude.{None, Result, Ok, Err}
+use Rattle.std.specs.Prelude.{ℕ, ◌+◌, is_some, if◌then◌else◌, List, [], ◌++◌, length, Option, Some, None, Result, Ok}
+use Rattle.std.specs.Prelude.{Err}
 use Rattle.std.specs.Option.{option_and_then, option_map_or, option_or}
 use Rattle.ep_base.specs.declared.err.value_too_big_error.ValueTooBigError.{ValueTooBigError}
 use Rattle.ep_ext.specs.Follow as exts
@@ -23,18 +23,14 @@ use Rattle.ep_packet.specs.Transport.{transport_len, transport_encoding}
 use Rattle.ep_packet.specs.declared.net.ip_headers.IpHeaders.{IpHeaders}
 use Rattle.ep_packet.specs.declared.net.ip_headers.IpHeaders.TheVariants.{Ipv4, Ipv6}
 use Rattle.ep_packet.specs.declared.transport.transport_header.TransportHeader.{TransportHeader}
-use Rattle.ep_packet.specs.declared.transport.transport_header.TransportHeader.TheVariants.{Udp}
-use Rattle.ep_packet.specs.declared.transport.transport_header.TransportHeader.TheVariants.{Tcp}
-use Rattle.ep_packet.specs.declared.transport.transport_header.TransportHeader.TheVariants.{Icmpv4}
-use Rattle.ep_packet.specs.declared.transport.transport_header.TransportHeader.TheVariants.{Icmpv6}
+use Rattle.ep_packet.specs.declared.transport.transport_header.TransportHeader.TheVariants.{Udp, Tcp, Icmpv4, Icmpv6}
 use Rattle.ep_tag.specs.VlanForms.{tags_encoding}
 use Rattle.ep_tag.specs.declared.link.vlan_header.VlanHeader.{VlanHeader}
 use Rattle.ep_tag.specs.declared.link.vlan_header.VlanHeader.TheVariants as tag
 use Rattle.ep_tcpudp.specs.TcpChecksum as tcp
 use Rattle.ep_tcpudp.specs.UdpChecksum as udp
 use Rattle.etherparse.specs.declared.err.packet.build_write_error.BuildWriteError.{BuildWriteError}
-use Rattle.etherparse.specs.declared.err.packet.build_write_error.BuildWriteError.TheVariants.{Icmpv6InIpv4}
-use Rattle.etherparse.specs.declared.err.packet.build_write_error.BuildWriteError.TheVariants.{PayloadLen}
+use Rattle.etherparse.specs.declared.err.packet.build_write_error.BuildWriteError.TheVariants.{Icmpv6InIpv4, PayloadLen}
 use Rattle.etherparse.specs.PacketImpl.{PacketImpl}
 
 -- the ether type that a link header names: that of a customer's tag, or of a provider's where

@@ -6,10 +6,7 @@ use Rattle.ep_packet.specs.Transport.{transport_len, transport_encoding}
 use Rattle.ep_packet.specs.declared.net.ip_headers.IpHeaders.{IpHeaders}
 use Rattle.ep_packet.specs.declared.net.ip_headers.IpHeaders.TheVariants.{Ipv4, Ipv6}
 use Rattle.ep_packet.specs.declared.transport.transport_header.TransportHeader.{TransportHeader}
-use Rattle.ep_packet.specs.declared.transport.transport_header.TransportHeader.TheVariants.{Udp}
-use Rattle.ep_packet.specs.declared.transport.transport_header.TransportHeader.TheVariants.{Tcp}
-use Rattle.ep_packet.specs.declared.transport.transport_header.TransportHeader.TheVariants.{Icmpv4}
-use Rattle.ep_packet.specs.declared.transport.transport_header.TransportHeader.TheVariants.{Icmpv6}
+use Rattle.ep_packet.specs.declared.transport.transport_header.TransportHeader.TheVariants.{Udp, Tcp, Icmpv4, Icmpv6}
 use Rattle.ep_tcpudp.specs.TcpOptions.{IsTcpOptions}
 use Rattle.etherparse.specs.Built.{seal_refusal, with_message_checksum}
 

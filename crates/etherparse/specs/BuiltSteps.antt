@@ -12,10 +12,7 @@ use Rattle.ep_link.specs.declared.link.linux_sll_protocol_type.LinuxSllProtocolT
 use Rattle.ep_packet.specs.declared.net.ip_headers.IpHeaders.{IpHeaders}
 use Rattle.ep_packet.specs.declared.net.ip_headers.IpHeaders.TheVariants as ip
 use Rattle.ep_packet.specs.declared.transport.transport_header.TransportHeader.{TransportHeader}
-use Rattle.ep_packet.specs.declared.transport.transport_header.TransportHeader.TheVariants.{Udp}
-use Rattle.ep_packet.specs.declared.transport.transport_header.TransportHeader.TheVariants.{Tcp}
-use Rattle.ep_packet.specs.declared.transport.transport_header.TransportHeader.TheVariants.{Icmpv4}
-use Rattle.ep_packet.specs.declared.transport.transport_header.TransportHeader.TheVariants.{Icmpv6}
+use Rattle.ep_packet.specs.declared.transport.transport_header.TransportHeader.TheVariants.{Udp, Tcp, Icmpv4, Icmpv6}
 use Rattle.ep_tag.specs.Vlan as vlan
 use Rattle.ep_tag.specs.declared.link.single_vlan_header.SingleVlanHeader.{SingleVlanHeader}
 use Rattle.ep_tcpudp.specs.declared.transport.tcp_header.TcpHeader.{TcpHeader}

@@ -1,6 +1,6 @@
 -- How many reassemblies a pool holds, and how many buffers are spare.
-use Rattle.std.specs.Prelude.{◌≡◌, ◌+◌, ◌-◌, ◌≤◌, ◌⊎◌, ℕ, Bool, Option, Some, None, Result, Ok, Err}
-use Rattle.std.specs.Prelude.{false, length, if◌then◌else◌, IfErr}
+use Rattle.std.specs.Prelude.{◌≡◌, ◌+◌, ◌-◌, ◌≤◌, ◌⊎◌, ℕ, Bool, Option, Some, None, Result, Ok, Err, false, length}
+use Rattle.std.specs.Prelude.{if◌then◌else◌, IfErr}
 use Rattle.etherparse.specs.declared.defrag.ip_defrag_error.IpDefragError.{IpDefragError}
 use Rattle.etherparse.specs.Fragments.{Fragment}
 use Rattle.etherparse.specs.IpDefragError.{is_overlap, is_out_of_memory}

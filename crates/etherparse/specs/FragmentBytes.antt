@@ -1,11 +1,10 @@
 -- The bytes of the datagram that accepted fragments give, the oldest first: each byte is that of
 -- the last one that covers its offset.
-use Rattle.std.specs.Prelude.{◌≡◌, ℕ, ◌-◌, ◌≤◌, if◌then◌else◌, Option, Some, None, unwrap_or, List}
-use Rattle.std.specs.Prelude.{[], ◌∷◌, ◌++◌, map, slice_index, Any}
+use Rattle.std.specs.Prelude.{◌≡◌, ℕ, ◌-◌, ◌≤◌, if◌then◌else◌, Option, Some, None, unwrap_or, List, [], ◌∷◌, ◌++◌, map}
+use Rattle.std.specs.Prelude.{slice_index, Any}
 use Rattle.std.specs.Option.{option_or}
 use Rattle.std.specs.List.{range_with_len}
-use Rattle.etherparse.specs.Fragments.{Fragment, start_of, end_of, named_end, greatest_end, holds}
-use Rattle.etherparse.specs.Fragments.{Holds, Covered}
+use Rattle.etherparse.specs.Fragments.{Fragment, start_of, end_of, named_end, greatest_end, holds, Holds, Covered}
 
 -- the byte that a fragment holds at an offset
 abbrev pub byte_of : Fragment → ℕ → Option ℕ

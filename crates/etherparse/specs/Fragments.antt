@@ -1,9 +1,8 @@
 -- The fragments of one datagram, the oldest first (RFC 791, section 3.2; RFC 8200, section 4.5):
 -- where each ends, which of them are accepted, and when the datagram is complete.
-use Rattle.std.specs.Prelude.{◌≡◌, zero, suc, is_some, ℕ, ◌+◌, ◌*◌, ◌%◌, ◌<◌, ◌≤◌, ◌==◌, nat_lt}
-use Rattle.std.specs.Prelude.{nat_le, nat_eq, Bool, true, false, not, ◌&&◌, ◌||◌, if◌then◌else◌}
-use Rattle.std.specs.Prelude.{max, min, Option, Some, None, IsSome, List, [], ◌∷◌, ◌++◌, length, All}
-use Rattle.std.specs.Prelude.{Any, Contains, ◌⊎◌}
+use Rattle.std.specs.Prelude.{◌≡◌, zero, suc, is_some, ℕ, ◌+◌, ◌*◌, ◌%◌, ◌<◌, ◌≤◌, ◌==◌, nat_lt, nat_le, nat_eq, Bool}
+use Rattle.std.specs.Prelude.{true, false, not, ◌&&◌, ◌||◌, if◌then◌else◌, max, min, Option, Some, None, IsSome, List}
+use Rattle.std.specs.Prelude.{[], ◌∷◌, ◌++◌, length, All, Any, Contains, ◌⊎◌}
 use Rattle.std.specs.Bool.{beq}
 use Rattle.std.specs.Cmp.Lexicographic.{pointwise}
 use Rattle.std.specs.List.{list_any}

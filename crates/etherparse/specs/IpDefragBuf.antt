@@ -1,7 +1,7 @@
 -- What a reassembly buffer holds, and which fragments it shows.
-use Rattle.std.specs.Prelude.{◌≡◌, ℕ, ◌+◌, ◌-◌, ◌<◌, ◌≤◌, ◌⊎◌, ◌↔◌, max, Bool, ◌&&◌, is_some}
-use Rattle.std.specs.Prelude.{if◌then◌else◌, Option, Some, None, Result, Ok, Err, MatchResult, IsTrue}
-use Rattle.std.specs.Prelude.{List, [], ◌∷◌, ◌++◌, length, slice_index, Any}
+use Rattle.std.specs.Prelude.{◌≡◌, ℕ, ◌+◌, ◌-◌, ◌<◌, ◌≤◌, ◌⊎◌, ◌↔◌, max, Bool, ◌&&◌, is_some, if◌then◌else◌, Option}
+use Rattle.std.specs.Prelude.{Some, None, Result, Ok, Err, MatchResult, IsTrue, List, [], ◌∷◌, ◌++◌, length}
+use Rattle.std.specs.Prelude.{slice_index, Any}
 use Rattle.ep_base.specs.declared.net.ip_number.IpNumber.{IpNumber}
 use Rattle.etherparse.specs.declared.defrag.ip_defrag_error.IpDefragError.{IpDefragError}
 use Rattle.etherparse.specs.declared.defrag.ip_defrag_error.IpDefragError.TheVariants.{AllocationFailure}
@@ -11,11 +11,10 @@ use Rattle.etherparse.specs.declared.defrag.stored_fragment.Location.{Location}
 use Rattle.etherparse.specs.declared.defrag.stored_fragment.Location.TheVariants.{At}
 use Rattle.etherparse.specs.declared.defrag.overlap_rule.OverlapRule.{OverlapRule}
 use Rattle.etherparse.specs.declared.defrag.overlap_rule.OverlapRule.TheVariants.{Overwrites, Refuses}
-use Rattle.etherparse.specs.Fragments.{Fragment, end_of, named_end, refusal_of, with_all_accepted}
-use Rattle.etherparse.specs.Fragments.{IsAccepted, Covered, Complete}
+use Rattle.etherparse.specs.Fragments.{Fragment, end_of, named_end, refusal_of, with_all_accepted, IsAccepted, Covered}
+use Rattle.etherparse.specs.Fragments.{Complete}
 use Rattle.etherparse.specs.IpDefragError.{is_overlap}
-use Rattle.etherparse.specs.IpFragRange.{AreApart, AreOrdered, HasNumber, HasOffset}
-use Rattle.etherparse.specs.IpFragRange.{is_one_from_zero}
+use Rattle.etherparse.specs.IpFragRange.{AreApart, AreOrdered, HasNumber, HasOffset, is_one_from_zero}
 use Rattle.etherparse.specs.StoredFragment.{Keeps, IsLocation, stored_of}
 use Rattle.etherparse.specs.FragmentBytes.{kept_bytes, Touched}
 use Rattle.etherparse.specs.Room.{HasStoredRoom, Room, wanted_end}

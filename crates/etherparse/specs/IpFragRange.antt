@@ -1,7 +1,6 @@
 -- Ranges of numbers, which describe the sections of a datagram.
-use Rattle.std.specs.Prelude.{ℕ, ◌<◌, ◌≤◌, ◌==◌, Bool, false, ◌||◌, ◌&&◌, if◌then◌else◌, min, max}
-use Rattle.std.specs.Prelude.{nat_eq, nat_le, Option, Some, None, List, [], ◌∷◌, ◌⊎◌, ⊤, ◌↔◌, Any}
-use Rattle.std.specs.Prelude.{take, drop}
+use Rattle.std.specs.Prelude.{ℕ, ◌<◌, ◌≤◌, ◌==◌, Bool, false, ◌||◌, ◌&&◌, if◌then◌else◌, min, max, nat_eq, nat_le}
+use Rattle.std.specs.Prelude.{Option, Some, None, List, [], ◌∷◌, ◌⊎◌, ⊤, ◌↔◌, Any, take, drop}
 use Rattle.std.specs.Ordering.{on, eq_of_both}
 use Rattle.std.specs.List.{AllByRecursion}
 use Rattle.etherparse.specs.declared.defrag.ip_frag_range.IpFragRange.{IpFragRange}

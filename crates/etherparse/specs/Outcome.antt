@@ -6,8 +6,7 @@ use Rattle.std.specs.Prelude.{ℕ, Bool, if◌then◌else◌, Option, Some, None
 use Rattle.etherparse.specs.declared.defrag.ip_defrag_error.IpDefragError.{IpDefragError}
 use Rattle.etherparse.specs.declared.defrag.ip_defrag_error.IpDefragError.TheVariants.{AllocationFailure}
 use Rattle.etherparse.specs.declared.defrag.overlap_rule.OverlapRule.{OverlapRule}
-use Rattle.etherparse.specs.Fragments.{Fragment, end_of, is_complete, named_end, overlap_of, overlaps}
-use Rattle.etherparse.specs.Fragments.{refusal_at}
+use Rattle.etherparse.specs.Fragments.{Fragment, end_of, is_complete, named_end, overlap_of, overlaps, refusal_at}
 use Rattle.etherparse.specs.FragmentBytes.{text_of}
 
 -- it is refused with an error; or it is refused since it overlaps, and its reassembly starts anew,

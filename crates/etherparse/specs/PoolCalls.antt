@@ -1,7 +1,7 @@
 -- Lists of calls of a pool, and what is answered to each, by recursion: the list of a name is that
 -- of its datagram alone.
-use Rattle.std.specs.Prelude.{◌≡◌, ◌⊎◌, ℕ, ◌==◌, ◌&&◌, nat_eq, nat_lt, if◌then◌else◌, Option}
-use Rattle.std.specs.Prelude.{Some, None, IfSome, option_map, Result, Ok, Err, List, [], ◌∷◌}
+use Rattle.std.specs.Prelude.{◌≡◌, ◌⊎◌, ℕ, ◌==◌, ◌&&◌, nat_eq, nat_lt, if◌then◌else◌, Option, Some, None, IfSome}
+use Rattle.std.specs.Prelude.{option_map, Result, Ok, Err, List, [], ◌∷◌}
 use Rattle.ep_packet.specs.Class.{Class, FragmentName, class_of}
 use Rattle.ep_packet.specs.Class.Class.{Whole, Cut, Other, Refused as Faulty}
 use Rattle.ep_packet.specs.Sliced.{sliced_ethernet}

@@ -8,8 +8,8 @@ use Rattle.etherparse.specs.declared.defrag.ip_defrag_payload_vec.IpDefragPayloa
 use Rattle.etherparse.specs.declared.defrag.ip_frag_id.IpFragId.{IpFragId}
 use Rattle.etherparse.specs.IpDefragPool.{Accepts, Refuses, same_id}
 use Rattle.etherparse.specs.IpFragId.{fragment_in, id_named}
-use Rattle.etherparse.specs.PoolCalls.{FrameAnswered, HasMemory, Lists, ShowsLists, CallResult}
-use Rattle.etherparse.specs.PoolCalls.{answer_to_frame, as_call_result, memory_error_at_frame}
+use Rattle.etherparse.specs.PoolCalls.{FrameAnswered, HasMemory, Lists, ShowsLists, CallResult, answer_to_frame}
+use Rattle.etherparse.specs.PoolCalls.{as_call_result, memory_error_at_frame}
 use Rattle.etherparse.specs.ReassemblyTable.{OthersStay, Pool, Stays}
 
 -- a packet of this class was processed, which came at this time on this channel: the clauses of

@@ -1,10 +1,10 @@
 -- The reassemblies of datagrams, each under its name: which fragments of each were accepted, and
 -- when the last of them.
 use denote.Ref.{Bor}
-use Rattle.std.specs.Prelude.{◌≡◌, ◌≢◌, ◌⊎◌, ℕ, Bool, true, false, Option, Some, None}
-use Rattle.std.specs.Prelude.{Result, List, [], IfErr, IsSomeAnd}
+use Rattle.std.specs.Prelude.{◌≡◌, ◌≢◌, ◌⊎◌, ℕ, Bool, true, false, Option, Some, None, Result, List, [], IfErr}
+use Rattle.std.specs.Prelude.{IsSomeAnd}
 use Rattle.std.specs.Map.{lookup}
-use Rattle.etherparse.specs.declared.defrag.received.ReceivedFragment.{ReceivedFragment}
+use Rattle.ep_packet.specs.declared.sliced_fragment.SlicedFragment.{SlicedFragment}
 use Rattle.etherparse.specs.declared.defrag.ip_defrag_error.IpDefragError.{IpDefragError}
 use Rattle.etherparse.specs.declared.defrag.overlap_rule.OverlapRule.{OverlapRule}
 use Rattle.etherparse.specs.declared.defrag.reassembly.Reassembly.{Reassembly}
@@ -16,7 +16,7 @@ use Rattle.etherparse.specs.Outcome.Outcome.{Clash, Completed, Refusal, Waiting}
 use Rattle.etherparse.specs.Memory.{Memory}
 
 -- the values of a fragment that was received
-abbrev pub fragment_of : ReceivedFragment → Fragment
+abbrev pub fragment_of : SlicedFragment → Fragment
 fragment_of received = fragment received.offset received.more_fragments received.bytes.now
 
 -- what a pool holds: reassemblies in no order that means anything, each beside its name; no name is

@@ -1,7 +1,6 @@
 -- What is stored of the fragments of a datagram whose fragments may not overlap.
-use Rattle.std.specs.Prelude.{◌≡◌, ℕ, ◌+◌, ◌≤◌, ◌<◌, ◌⊎◌, ◌↔◌, Bool, if◌then◌else◌, Option, Some, None}
-use Rattle.std.specs.Prelude.{List, [], length, nat_eq, slice_index, Any}
-use Rattle.std.specs.Prelude.{AllPairs, Contains}
+use Rattle.std.specs.Prelude.{◌≡◌, ℕ, ◌+◌, ◌≤◌, ◌<◌, ◌⊎◌, ◌↔◌, Bool, if◌then◌else◌, Option, Some, None, List, []}
+use Rattle.std.specs.Prelude.{length, nat_eq, slice_index, Any, AllPairs, Contains}
 use Rattle.std.specs.Bool.{beq}
 use Rattle.std.specs.List.Sorted.{IsPartitionPoint}
 use Rattle.std.specs.Ordering.{bool_cmp, eq_of_both, nat_cmp, on, ordering_then}

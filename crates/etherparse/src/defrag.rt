@@ -12,7 +12,6 @@ mod overlap_rule;
 mod pool_calls;
 mod reassemblies;
 mod reassembly;
-mod received;
 mod renewed_timestamps;
 mod retain_reassemblies;
 mod sections;
@@ -30,7 +29,6 @@ pub use overlap_rule::OverlapRule;
 pub use pool_calls::{PoolAnswer, PoolCall, run_calls};
 pub use reassemblies::ReassemblyTable;
 pub use reassembly::Reassembly;
-pub use received::ReceivedFragment;
 
 /// The greatest length of a datagram's payload, in bytes.
 pub const MAX_IP_DEFRAG_LEN: usize = 65535;

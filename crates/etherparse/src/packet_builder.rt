@@ -3,7 +3,7 @@
 mod append;
 mod begin;
 mod chosen_ip;
-mod ip_part;
+mod ip_layer;
 mod last_step;
 mod link_steps;
 mod over;

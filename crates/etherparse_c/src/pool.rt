@@ -4,8 +4,7 @@ ghost use Rattle.etherparse.specs.OpenReassemblies.{IsOpenCount};
 ghost use Rattle.etherparse.specs.PoolCalls.{Lists, fault_in, no_lists, retained_from};
 ghost use Rattle.etherparse.specs.packet.Class.{class_of};
 ghost use Rattle.etherparse.specs.packet.Sliced.{sliced_ethernet};
-ghost use Rattle.etherparse_structs.specs.FramePool.{IsAnswered, Kept, added, completed, kept_of};
-ghost use Rattle.etherparse_structs.specs.FramePool.{written};
+ghost use Rattle.etherparse_structs.specs.FramePool.{IsAnswered, Kept, added, completed, kept_of, written};
 ghost use Rattle.etherparse_structs.specs.Pool.{IsPool, Keeps};
 
 use etherparse_structs::{EpAdded, EpPool};

@@ -1,12 +1,11 @@
 -- The machine values of a handle. Assumes `Logic`.
-use Rattle.std.proofs.Common.{◌≡◌, ℕ, List, [], ◌∷◌, ◌++◌, refl, subst, Option, Some, None, IsSome}
+use Rattle.std.proofs.Common.{arith, ◌≡◌, ℕ, List, [], ◌∷◌, ◌++◌, refl, subst, Option, Some, IsSome}
 use seplogic.Ra.Ura.{Ura}
 use mir.Raw.{raw as bare}
 use mir.Val.{Val, vstruct, vcons, vnil, of_list}
 use base.Logic.{never, fst∗}
 use types.Logic.{Logic, sem}
-use types.Kit.{Item, Goal, Seq, Step, step, ‵, ◌$◌, drop, fsplit, fjoin, fpick, fpack, rewrite}
-use types.Kit.{feq_i, feq_l}
+use types.Kit.{Item, Goal, Seq, Step, step, ‵, ◌$◌, drop, fsplit, fjoin, fpick, fpack, rewrite, feq_i, feq_l}
 use denote.RattleType.{Valss}
 use denote.Builtin.{RawPtr}
 use denote.Memory.{lone}
@@ -21,8 +20,7 @@ use Rattle.etherparse_structs.specs.contracts.frame_pool.FramePool.{the_row as R
 use Rattle.etherparse_structs.specs.contracts.held.Held as held
 
 pub value_of : (m : Option R.Denot) → IsSome m → (x : R.Denot) × (m ≡ Some x)
-value_of None some = absurd (cc)
-value_of (Some x) some = (x, refl)
+value_of m some = grind arith
 
 -- the machine value of a handle
 abbrev pub word : Ptr → Val

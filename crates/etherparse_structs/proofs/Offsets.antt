@@ -1,10 +1,9 @@
 -- The offsets of the layers of a packet, and that the layers lie within its bytes.
-use Rattle.std.proofs.Common.{◌≡◌, ℕ, ◌+◌, ◌≤◌, ◌<◌, List, [], ◌∷◌, ◌++◌, length, Option, Some}
-use Rattle.std.proofs.Common.{None, IfSome, arith, refl, ap, subst, sym, length-append}
+use Rattle.std.proofs.Common.{◌≡◌, ℕ, ◌+◌, ◌≤◌, ◌<◌, List, [], ◌∷◌, length, Option, Some, IfSome, arith, refl, subst}
+use Rattle.std.proofs.Common.{sym, length-append}
 use Rattle.std.specs.List.{slice_get}
 use Rattle.etherparse.specs.ext.Ipv4Exts.{auth_bytes}
-use Rattle.etherparse.specs.packet.Parts.{ArePartsOf, IsAt, IsNetAt, headers_len, tags_len}
-use Rattle.etherparse.specs.packet.Parts.{transport_bytes}
+use Rattle.etherparse.specs.packet.Parts.{ArePartsOf, IsAt, IsNetAt, headers_len, tags_len, transport_bytes}
 use Rattle.etherparse.specs.packet.declared.net.net_slice.NetSlice.{NetSlice}
 use Rattle.etherparse.specs.packet.declared.net.net_slice.NetSlice.TheVariants as net
 use Rattle.etherparse.specs.packet.declared.sliced_packet.SlicedPacket.{SlicedPacket}
@@ -24,14 +23,7 @@ three_tags (a ∷ b ∷ c ∷ []) few = omega arith
 three_tags (a ∷ b ∷ c ∷ d ∷ tags) few = omega (arith, few)
 
 at_fits : (bytes part : List ℕ) (p : ℕ) → IsAt bytes p part → p + length part ≤ length bytes
-at_fits bytes part p at =
-    omega (
-      arith,
-      ap length at.parts,
-      length-append (at.before ++ part) at.after,
-      length-append at.before part,
-      at.here,
-    )
+at_fits bytes part p at = grind (arith, length-append)
 
 -- a packet of the network layer ends within the bytes, as far as its headers go
 net_fits : (bytes : List ℕ) (place : ℕ) (packet : NetSlice) → IsNetAt bytes place packet
@@ -54,18 +46,14 @@ net_fits bytes place (net.Arp packet) at = at_fits bytes packet place at
 pub headers_fit : (bytes : List ℕ) (place bound : ℕ) (packet : Option NetSlice)
     → IfSome packet (IsNetAt bytes place) → length bytes < bound → place < bound
     → place + headers_len packet < bound
-headers_fit bytes place bound None here short low = omega (arith, low)
-headers_fit bytes place bound (Some packet) here short low =
-    omega (arith, net_fits bytes place packet here, short)
+headers_fit bytes place bound packet here short low = grind (arith, net_fits)
 
 -- and that of the message
 pub message_fits : (bytes : List ℕ) (place bound : ℕ) (message : Option TransportSlice)
     → IfSome message (λ m. IsAt bytes place (transport_bytes m)) → length bytes < bound
     → place < bound
     → place + message_len message < bound
-message_fits bytes place bound None here short low = omega (arith, low)
-message_fits bytes place bound (Some m) here short low =
-    omega (arith, at_fits bytes (transport_bytes m) place here, short)
+message_fits bytes place bound message here short low = grind (arith, at_fits)
 
 -- the same of a packet whose parts are in the bytes
 pub net_ends : (bytes : List ℕ) (link_len n bound : ℕ) (packet : SlicedPacket)

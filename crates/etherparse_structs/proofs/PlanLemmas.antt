@@ -1,6 +1,5 @@
 -- Which field of a plan is reported to be at fault.
-use Rattle.std.proofs.Common.{◌≡◌, subst, Option, Some, None, MatchOption, IfSome, IsOkUnless}
-use Rattle.std.proofs.Common.{Result, Ok, Err}
+use Rattle.std.proofs.Common.{arith, ◌≡◌, Option, Some, None, MatchOption, IfSome, IsOkUnless, Result, Ok, Err}
 use Rattle.std.specs.Option.{option_or}
 use Rattle.etherparse_structs.specs.Build.{refused}
 use Rattle.etherparse_structs.specs.Plan.{unless}
@@ -20,6 +19,4 @@ at_fault_after (Some f) rest x y right wrong is reported = absurd (cc)
 pub at_fault_is : (at_fault : Option PlanField) (r : Result (Unit {0}) BuildError) (f : PlanField)
     (b : EpBuilt) → MatchOption at_fault (IsOkUnless r Memory) (λ g. r ≡ Err (Field g))
     → r ≡ Err (Field f) → b ≡ refused f → IfSome at_fault (λ g. b ≡ refused g)
-at_fault_is None r f b reported is same = tt
-at_fault_is (Some g) r f b reported is same =
-    let f_is : f ≡ g = cc in subst (λ (h : PlanField). b ≡ refused h) f_is same
+at_fault_is at_fault r f b reported is same = grind arith

@@ -1,18 +1,16 @@
 -- What is known of the reassemblies of a pool when they are taken, and when they are put back.
-use Rattle.std.proofs.Common.{inl, inr, ◌≡◌, ◌∙◌, sym, ap, subst, refl, ℕ, List, Option, Some, None}
-use Rattle.std.proofs.Common.{IsSome, true, length}
-use Rattle.std.specs.Prelude.{unwrap_or}
+use Rattle.std.proofs.Common.{arith, inl, inr, ◌≡◌, ◌∙◌, sym, ap, subst, ℕ, List, Option, Some, None, IsSome, true}
+use Rattle.std.proofs.Common.{length}
 use Rattle.etherparse.specs.IpDefragPool.{payload_parsed}
-use Rattle.etherparse.specs.PoolCalls.{FrameAnswered, GoesOn, Lists, ShowsLists, CallResult}
-use Rattle.etherparse.specs.PoolCalls.{answer_to_frame, lists_with_frame, memory_error_at_frame}
+use Rattle.etherparse.specs.PoolCalls.{FrameAnswered, GoesOn, Lists, ShowsLists, CallResult, answer_to_frame}
+use Rattle.etherparse.specs.PoolCalls.{lists_with_frame, memory_error_at_frame}
 use Rattle.etherparse.specs.PoolCalls.CallResult.{Delivered}
 use Rattle.etherparse.specs.packet.Class.{Class}
 use Rattle.etherparse.specs.packet.declared.addresses.Addresses.{Addresses}
 use Rattle.etherparse.specs.packet.declared.err.packet.slice_error.SliceError.{SliceError}
-use Rattle.etherparse_structs.specs.FramePool.{HasAddresses, IsAnswered, Kept, call_result_of}
-use Rattle.etherparse_structs.specs.FramePool.{addresses_in, completed, completed_if, kept_after}
-use Rattle.etherparse_structs.specs.FramePool.{kept_of, kept_of_message, numbers_of, output_after}
-use Rattle.etherparse_structs.specs.FramePool.{written}
+use Rattle.etherparse_structs.specs.FramePool.{HasAddresses, IsAnswered, Kept, call_result_of, addresses_in, completed}
+use Rattle.etherparse_structs.specs.FramePool.{completed_if, kept_after, kept_of, kept_of_message, numbers_of}
+use Rattle.etherparse_structs.specs.FramePool.{output_after, written}
 use Rattle.etherparse_structs.specs.Pool.{Keeps}
 use Rattle.etherparse_structs.specs.declared.added.EpAdded.{EpAdded}
 use Rattle.etherparse_structs.specs.declared.frame_pool.Added.{Added}
@@ -20,9 +18,6 @@ use Rattle.etherparse_structs.specs.declared.frame_pool.Added.TheVariants as mad
 use Rattle.etherparse_structs.specs.declared.frame_pool.Completed.{Completed}
 use Rattle.etherparse_structs.specs.declared.frame_pool.FramePool.{FramePool}
 use Rattle.etherparse_structs.specs.declared.pool.EpPool.{EpPool}
-
-same_frames : (x y : FramePool) (m : Option FramePool) → m ≡ Some x → m ≡ Some y → x ≡ y
-same_frames x y m is this = ap (λ (n : Option FramePool). unwrap_or n x) (sym is ∙ this)
 
 -- the reassemblies show these lists, and this message is kept
 pub record Show (frames : FramePool) (lists : Lists) (kept : Option Kept) : Type 0 where
@@ -36,15 +31,12 @@ show_of x y lists kept same s = subst (λ (z : FramePool). Show z lists kept) (s
 -- the reassemblies that are taken, and are read as these
 pub taken_show : (p : EpPool) (x y : FramePool) (lists : Lists) (kept : Option Kept)
     → Keeps p lists kept → p.held.value ≡ Some y → x ≡ y → Show x lists kept
-taken_show p x y lists kept k held same =
-    show_of x k.frames lists kept (same ∙ same_frames y k.frames p.held.value held k.held)
-    (record { shows = k.shows; is_kept = k.is_kept })
+taken_show p x y lists kept k held same = grind arith
 
 -- the reassemblies that are put back
 pub put_keeps : (p : EpPool) (x : FramePool) (lists : Lists) (kept : Option Kept)
     → p.held.value ≡ Some x → p.is_open ≡ true → Show x lists kept → Keeps p lists kept
-put_keeps p x lists kept held is_open s =
-    record { frames = x; is_open = is_open; held = held; shows = s.shows; is_kept = s.is_kept }
+put_keeps p x lists kept held is_open s = grind arith
 
 -- what goes on with one proposition goes on with one that follows from it
 goes_on : (ends after : Lists → Type 0) (old new : Lists) (reported answer : CallResult)
@@ -78,12 +70,10 @@ answered_then ends after lists class time channel fault old new result then a =
 
 -- no message is kept, or one is
 pub kept_none : (m : Option Completed) → kept_of_message m ≡ None → m ≡ None
-kept_none None is = refl
-kept_none (Some x) is = absurd (cc)
+kept_none m is = grind arith
 
 pub kept_some : (m : Option Completed) (kept : Kept) → kept_of_message m ≡ Some kept → IsSome m
-kept_some None kept is = absurd (cc)
-kept_some (Some x) kept is = refl
+kept_some m kept is = grind arith
 
 -- a frame with which no message is complete
 pub none_completed : (was now : Added) (shows : Lists → Type 0) (lists : Lists) (class : Class)

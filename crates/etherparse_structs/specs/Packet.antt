@@ -6,12 +6,12 @@ use Rattle.etherparse.specs.packet.declared.err.packet.slice_error.SliceError.{S
 use Rattle.etherparse.specs.packet.declared.sliced_packet.SlicedPacket.{SlicedPacket}
 use Rattle.etherparse.specs.tag.Ether.{EtherPayload}
 use Rattle.etherparse_structs.specs.Link.{link_struct, no_link, no_tag, tags_struct}
-use Rattle.etherparse_structs.specs.Net.{arp_struct_in, ipv4_struct_in, ipv6_struct_in, net_number}
-use Rattle.etherparse_structs.specs.Net.{no_arp, no_ipv4, no_ipv6}
+use Rattle.etherparse_structs.specs.Net.{arp_struct_in, ipv4_struct_in, ipv6_struct_in, net_number, no_arp, no_ipv4}
+use Rattle.etherparse_structs.specs.Net.{no_ipv6}
 use Rattle.etherparse_structs.specs.Part.{no_part, part_at}
 use Rattle.etherparse_structs.specs.Refusal.{no_refusal, refusal_of}
-use Rattle.etherparse_structs.specs.Transport.{icmp_struct_in, no_icmp, no_tcp, no_udp, tcp_struct_in}
-use Rattle.etherparse_structs.specs.Transport.{transport_number, udp_struct_in}
+use Rattle.etherparse_structs.specs.Transport.{icmp_struct_in, no_icmp, no_tcp, no_udp, tcp_struct_in, transport_number}
+use Rattle.etherparse_structs.specs.Transport.{udp_struct_in}
 use Rattle.etherparse_structs.specs.declared.packet.EpPacket.{EpPacket}
 use Rattle.etherparse_structs.specs.declared.part.EpPart.{EpPart}
 

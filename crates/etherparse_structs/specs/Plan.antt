@@ -1,13 +1,11 @@
 -- The packet that a plan describes: the headers by the builder's definitions, and the first field
 -- that describes what no packet has.
-use Rattle.std.specs.Prelude.{ℕ, ◌==◌, nat_lt, if◌then◌else◌, List, take, Option, Some, None}
-use Rattle.std.specs.Prelude.{Result, Ok, Err}
+use Rattle.std.specs.Prelude.{ℕ, ◌==◌, nat_lt, if◌then◌else◌, List, take, Option, Some, None, Result, Ok, Err}
 use Rattle.std.specs.Option.{option_map, option_map_or, option_or}
 use Rattle.etherparse.specs.BuildWriteError.{is_icmpv6_in_ipv4}
 use Rattle.etherparse.specs.Built.{number_of, packet_with_number, refusal_of}
-use Rattle.etherparse.specs.BuiltSteps.{cooked_link_header, echo, ethernet_between, icmpv4_of}
-use Rattle.etherparse.specs.BuiltSteps.{icmpv6_of, ipv4_between, ipv6_between, no_headers}
-use Rattle.etherparse.specs.BuiltSteps.{tag_of, udp_between}
+use Rattle.etherparse.specs.BuiltSteps.{cooked_link_header, echo, ethernet_between, icmpv4_of, icmpv6_of, ipv4_between}
+use Rattle.etherparse.specs.BuiltSteps.{ipv6_between, no_headers, tag_of, udp_between}
 use Rattle.etherparse.specs.PacketImpl.{PacketImpl}
 use Rattle.etherparse.specs.declared.err.packet.build_write_error.BuildWriteError.{BuildWriteError}
 use Rattle.etherparse.specs.icmp.declared.transport.icmpv4_type.Icmpv4Type.{Icmpv4Type}

@@ -1,6 +1,5 @@
 -- A message of a transport protocol, as fields and numbers.
-use Rattle.std.specs.Prelude.{ℕ, ◌+◌, ◌*◌, false, List, length, drop, replicate, slice_range}
-use Rattle.std.specs.Prelude.{Option, Some, None}
+use Rattle.std.specs.Prelude.{ℕ, ◌+◌, ◌*◌, false, List, length, drop, replicate, slice_range, Option, Some, None}
 use Rattle.etherparse.specs.base.Bytes.{num}
 use Rattle.etherparse.specs.icmp.Icmpv4 as icmpv4
 use Rattle.etherparse.specs.packet.Parts.{transport_bytes}

@@ -1,7 +1,6 @@
 //! What became of a frame that a pool was given, as numbers.
 ghost use Rattle.std.specs.Prelude.{◌≡◌};
-ghost use Rattle.etherparse_structs.specs.FramePool.{added, error_status, frame_refused};
-ghost use Rattle.etherparse_structs.specs.FramePool.{fragment_refused};
+ghost use Rattle.etherparse_structs.specs.FramePool.{added, error_status, frame_refused, fragment_refused};
 
 use crate::message::no_message;
 use crate::part_refusal::{no_part_refusal, part_refusal_of};

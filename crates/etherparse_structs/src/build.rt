@@ -1,6 +1,6 @@
 //! Packets, built.
-ghost use Rattle.std.specs.Prelude.{◌≡◌, ◌≤◌, ◌<◌, ◌++◌, [], length, drop, IfSome, None, Err};
-ghost use Rattle.std.specs.Prelude.{IsOkUnless, MatchOption, MatchResult, Ok, OnOk};
+ghost use Rattle.std.specs.Prelude.{◌≡◌, ◌≤◌, ◌<◌, ◌++◌, [], length, drop, IfSome, None, Err, IsOkUnless, MatchOption};
+ghost use Rattle.std.specs.Prelude.{MatchResult, Ok, OnOk};
 ghost use Rattle.std.specs.Option.{option_map, option_or};
 ghost use Rattle.etherparse.specs.Built.{number_in, packet_with_number, refusal_of};
 ghost use Rattle.etherparse_structs.specs.Build.{built, error_of, has_no_room, not_built, refused};

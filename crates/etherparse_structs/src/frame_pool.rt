@@ -1,18 +1,15 @@
 //! A pool of reassemblies, and one message that is complete.
 ghost use Rattle.std.specs.Prelude.{◌≡◌, Option, Some, None, IsSome, length};
 ghost use Rattle.etherparse.specs.IpDefragPool.{payload_parsed};
-ghost use Rattle.etherparse.specs.PoolCalls.{FrameAnswered, Lists, ShowsLists, fault_in};
+ghost use Rattle.etherparse.specs.PoolCalls.{FrameAnswered, Lists, ShowsLists, fault_in, retained_from, as_call_result};
 ghost use Rattle.etherparse.specs.OpenReassemblies.{IsOpenCount};
-ghost use Rattle.etherparse.specs.PoolCalls.{retained_from, as_call_result};
-ghost use Rattle.etherparse.specs.packet.Class.{IdentificationFits, as_class, class_of};
-ghost use Rattle.etherparse.specs.packet.Class.{packet_parsed};
+ghost use Rattle.etherparse.specs.packet.Class.{IdentificationFits, as_class, class_of, packet_parsed};
 ghost use Rattle.etherparse.specs.packet.Class.Class.{Refused as Faulty};
 ghost use Rattle.etherparse.specs.packet.Sliced.{sliced_ethernet};
 ghost use Rattle.etherparse.specs.packet.declared.class.Class.TheVariants as class;
 ghost use Rattle.etherparse.specs.packet.declared.err.packet.slice_error.SliceError.{SliceError as Fault};
-ghost use Rattle.etherparse_structs.specs.FramePool.{HasAddresses, IsAnswered, Kept, added};
-ghost use Rattle.etherparse_structs.specs.FramePool.{call_result_of, addresses_in, completed, kept_of};
-ghost use Rattle.etherparse_structs.specs.FramePool.{kept_of_message, written};
+ghost use Rattle.etherparse_structs.specs.FramePool.{HasAddresses, IsAnswered, Kept, added, call_result_of};
+ghost use Rattle.etherparse_structs.specs.FramePool.{addresses_in, completed, kept_of, kept_of_message, written};
 
 use crate::message::message_of;
 use crate::{COMPLETED, DONE, EpAdded, NO_ROOM, WRONG_STATE};

@@ -1,8 +1,8 @@
 //! A link header and the tags after it, as fields and numbers.
 ghost use Rattle.std.specs.Prelude.{◌≡◌, ◌≤◌};
 ghost use Rattle.std.specs.List.{slice_get};
-ghost use Rattle.etherparse_structs.specs.Link.{ethernet_struct, len_of, link_struct, macsec_struct};
-ghost use Rattle.etherparse_structs.specs.Link.{no_link, no_tag, sll_struct, tag_struct, vlan_struct};
+ghost use Rattle.etherparse_structs.specs.Link.{ethernet_struct, len_of, link_struct, macsec_struct, no_link, no_tag};
+ghost use Rattle.etherparse_structs.specs.Link.{sll_struct, tag_struct, vlan_struct};
 
 use crate::EpPart;
 use etherparse::{

@@ -5,9 +5,8 @@ ghost use Rattle.std.specs.Option.{option_map};
 ghost use Rattle.etherparse.specs.ipslice.Ipv6Packet.{fragment_fields_in};
 ghost use Rattle.etherparse.specs.ipslice.Packet.{fragment_fields};
 ghost use Rattle.etherparse.specs.packet.Parts.{headers_len};
-ghost use Rattle.etherparse_structs.specs.Net.{arp_struct_in, arp_struct, ipv4_struct_in, ipv4_struct};
-ghost use Rattle.etherparse_structs.specs.Net.{ipv6_fields, ipv6_struct_in, ipv6_struct, net_number};
-ghost use Rattle.etherparse_structs.specs.Net.{no_arp, no_ipv4, no_ipv6};
+ghost use Rattle.etherparse_structs.specs.Net.{arp_struct_in, arp_struct, ipv4_struct_in, ipv4_struct, ipv6_fields};
+ghost use Rattle.etherparse_structs.specs.Net.{ipv6_struct_in, ipv6_struct, net_number, no_arp, no_ipv4, no_ipv6};
 
 use crate::EpPart;
 use etherparse::laws::ipslice::{extensions_of_a_packet, ipv6_fragment_fields};

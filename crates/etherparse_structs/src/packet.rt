@@ -3,8 +3,8 @@ ghost use Rattle.std.specs.Prelude.{◌≡◌, ◌+◌, ◌≤◌, ◌<◌, ◌^
 ghost use Rattle.etherparse.specs.packet.PacketView.{ether_payload_in};
 ghost use Rattle.etherparse.specs.packet.Parts.{ArePartsOf, headers_len, tags_len};
 ghost use Rattle.etherparse_structs.specs.Link.{tags_struct};
-ghost use Rattle.etherparse_structs.specs.Packet.{ether_part, net_offset, packet_struct, refused};
-ghost use Rattle.etherparse_structs.specs.Packet.{reported, transport_offset};
+ghost use Rattle.etherparse_structs.specs.Packet.{ether_part, net_offset, packet_struct, refused, reported};
+ghost use Rattle.etherparse_structs.specs.Packet.{transport_offset};
 ghost use Rattle.etherparse_structs.specs.Transport.{message_len};
 
 use crate::link::{link_struct, no_tag, tag_len, tag_struct};

@@ -1,9 +1,8 @@
 //! The headers that a plan describes.
 ghost use Rattle.std.specs.Prelude.{◌≡◌, ◌==◌, Some, false};
 ghost use Rattle.etherparse.specs.BuiltSteps.{echo};
-ghost use Rattle.etherparse_structs.specs.Plan.{lower_headers_in, icmpv4_in, icmpv6_in, ip_in, tcp_in};
-ghost use Rattle.etherparse_structs.specs.Plan.{unless, wrong_lower_headers, wrong_id, wrong_ip};
-ghost use Rattle.etherparse_structs.specs.Plan.{wrong_options, wrong_tags};
+ghost use Rattle.etherparse_structs.specs.Plan.{lower_headers_in, icmpv4_in, icmpv6_in, ip_in, tcp_in, unless};
+ghost use Rattle.etherparse_structs.specs.Plan.{wrong_lower_headers, wrong_id, wrong_ip, wrong_options, wrong_tags};
 
 use crate::plan::{EpPlan, PlanField};
 use etherparse::{

@@ -1,13 +1,10 @@
 //! The reassembly of datagrams from their fragments.
-ghost use Rattle.std.specs.Prelude.{◌≡◌, ◌<◌, ◌⊎◌, true, false, Option, Some, None, IfOk, IsSome};
-ghost use Rattle.std.specs.Prelude.{length};
+ghost use Rattle.std.specs.Prelude.{◌≡◌, ◌<◌, ◌⊎◌, true, false, Option, Some, None, IfOk, IsSome, length};
 ghost use Rattle.etherparse.specs.OpenReassemblies.{IsOpenCount};
-ghost use Rattle.etherparse.specs.PoolCalls.{Lists, ShowsLists, fault_in, no_lists};
-ghost use Rattle.etherparse.specs.PoolCalls.{retained_from};
+ghost use Rattle.etherparse.specs.PoolCalls.{Lists, ShowsLists, fault_in, no_lists, retained_from};
 ghost use Rattle.etherparse.specs.packet.Class.{class_of};
 ghost use Rattle.etherparse.specs.packet.Sliced.{sliced_ethernet};
-ghost use Rattle.etherparse_structs.specs.FramePool.{IsAnswered, Kept, added, completed, kept_of};
-ghost use Rattle.etherparse_structs.specs.FramePool.{written};
+ghost use Rattle.etherparse_structs.specs.FramePool.{IsAnswered, Kept, added, completed, kept_of, written};
 ghost use Rattle.etherparse_structs.specs.Pool.{IsPool, Keeps};
 
 use crate::frame_pool::FramePool;

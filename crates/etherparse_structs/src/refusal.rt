@@ -1,7 +1,7 @@
 //! Why a packet is refused, as numbers.
 ghost use Rattle.std.specs.Prelude.{◌≡◌};
-ghost use Rattle.etherparse_structs.specs.Refusal.{content_refusal, layer_number, no_refusal};
-ghost use Rattle.etherparse_structs.specs.Refusal.{refusal_of, source_number};
+ghost use Rattle.etherparse_structs.specs.Refusal.{content_refusal, layer_number, no_refusal, refusal_of};
+ghost use Rattle.etherparse_structs.specs.Refusal.{source_number};
 
 use etherparse::LenSource;
 use etherparse::err::packet::SliceError;

@@ -1,10 +1,9 @@
 //! A message of a transport protocol, as fields and numbers.
 ghost use Rattle.std.specs.Prelude.{◌≡◌, ◌+◌, ◌^◌, ◌<◌, length};
 ghost use Rattle.etherparse.specs.icmp.Icmpv4.{header_len, type_of};
-ghost use Rattle.etherparse_structs.specs.Transport.{icmp_struct_in, icmp_struct, message_len, no_icmp};
-ghost use Rattle.etherparse_structs.specs.Transport.{no_tcp, no_udp};
-ghost use Rattle.etherparse_structs.specs.Transport.{tcp_struct_in, tcp_struct, transport_number};
-ghost use Rattle.etherparse_structs.specs.Transport.{udp_struct_in, udp_struct};
+ghost use Rattle.etherparse_structs.specs.Transport.{icmp_struct_in, icmp_struct, message_len, no_icmp, no_tcp, no_udp};
+ghost use Rattle.etherparse_structs.specs.Transport.{tcp_struct_in, tcp_struct, transport_number, udp_struct_in};
+ghost use Rattle.etherparse_structs.specs.Transport.{udp_struct};
 
 use crate::EpPart;
 use etherparse::{Icmpv4Slice, Icmpv6Slice, TcpSlice, TransportSlice, UdpSlice};

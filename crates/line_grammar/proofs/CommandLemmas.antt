@@ -1,7 +1,5 @@
 -- What a line requests, case by case.
-use Rattle.std.proofs.Common.{◌≡◌, refl, ℕ, ◌<◌, ◌≤◌, Bool, true}
-use Rattle.std.proofs.Common.{false, List, [], length, drop}
-use Rattle.std.proofs.Common.{Ok, nat_eq}
+use Rattle.std.proofs.Common.{arith, ◌≡◌, refl, ℕ, ◌<◌, ◌≤◌, Bool, true, false, List, length, drop, Ok, nat_eq, []}
 use Rattle.std.specs.Prelude.{if◌then◌else◌, codes}
 use Rattle.std.specs.List.{starts_with}
 use Rattle.std.proofs.lemmas.Bool.{le-leb, lt-leb}
@@ -31,5 +29,4 @@ unfolding decode_pairs
 decode_of-nil = refl
 
 pub none_on : (b : Bool) (channel : ℕ) → (if b then frame_on channel (Ok []) else Bad) ≡ Bad
-none_on true channel = refl
-none_on false channel = refl
+none_on b channel = grind arith

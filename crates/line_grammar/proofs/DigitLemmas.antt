@@ -1,8 +1,7 @@
 -- Digits of a frame that are read in turn.
-use Rattle.std.proofs.Common.{◌≡◌, ◌∙◌, sym, ap, refl, subst, ℕ, ◌+◌, ◌/◌, ◌%◌, ◌<◌, ◌≤◌, Bool}
-use Rattle.std.proofs.Common.{true, false, zero, suc, List, [], ◌∷◌, ◌++◌, length, take, arith, inl, inr}
-use Rattle.std.proofs.Common.{Option, Some, None, Result, Ok, Err, length-append, append_assoc}
-use Rattle.std.proofs.Common.{append-nil, length-take, drop, take-append-drop}
+use Rattle.std.proofs.Common.{◌≡◌, ◌∙◌, sym, ap, refl, subst, ℕ, ◌+◌, ◌/◌, ◌%◌, ◌<◌, ◌≤◌, Bool, [], true, false, List}
+use Rattle.std.proofs.Common.{◌∷◌, ◌++◌, length, take, arith, inl, inr, Option, Some, None, Result, Ok, Err}
+use Rattle.std.proofs.Common.{length-append, append_assoc, append-nil, length-take, drop, take-append-drop}
 use Rattle.std.specs.Prelude.{MatchResult, slice_get}
 use Rattle.std.specs.List.{AllPass, list_all}
 use Rattle.std.proofs.lemmas.Bool.{and_parts, cases_lt}
@@ -14,8 +13,7 @@ use Rattle.hex.proofs.HexLemmas.{decode_of-digits, decode_of-odd, decode_of-ok}
 use Rattle.digits.proofs.Joined.{texts_are_joined}
 use Rattle.line_grammar.specs.Commands.{command_of, frame_on}
 use Rattle.line_grammar.specs.Commands.Command.{Frame, Bad}
-use Rattle.line_grammar.specs.Prefixes.{DigitsFit, IsFramePrefix, IsWrong, ReadsAt, ReadsDigits}
-use Rattle.line_grammar.specs.Prefixes.{half_digit}
+use Rattle.line_grammar.specs.Prefixes.{DigitsFit, IsFramePrefix, IsWrong, ReadsAt, ReadsDigits, half_digit}
 use Rattle.line_grammar.specs.declared.hex_digits.HexDigits.{HexDigits}
 use Rattle.line_grammar.specs.declared.state.State.{State}
 use Rattle.lines.specs.declared.limits.TheConstants.{LINE_LIMIT}
@@ -50,9 +48,7 @@ no_hex prefix channel a b c e f even bad rest =
       | inl long ↦ command_of-long (prefix ++ rest) long
       | inr short ↦
           (let f : IsFramePrefix (prefix ++ rest) channel (a ++ (b ++ (c ++ rest))) =
-          subst (IsFramePrefix (prefix ++ rest) channel)
-          (append_assoc a (b ++ c) rest ∙ ap (λ l. a ++ l) (append_assoc b c rest))
-          (more_prefix prefix channel (a ++ (b ++ c)) rest f) in
+          grind (arith, append_assoc, more_prefix) in
           prefix_command (prefix ++ rest) channel (a ++ (b ++ (c ++ rest))) f (omega arith)
           ∙ no_frame channel a b (c ++ rest) e (decode_of (a ++ (b ++ (c ++ rest)))) even bad refl)
     ]
@@ -62,14 +58,12 @@ no_hex prefix channel a b c e f even bad rest =
 is_err : (d : Result (List ℕ) FromHexError) (prefix all : List ℕ) (result : Bool)
     → MatchResult d (λ value. (result ≡ true) × (all ≡ prefix ++ value)) (λ e. result ≡ false)
     → result ≡ false → (e : FromHexError) × (d ≡ Err e)
-is_err (Ok value) prefix all result ensured failed = let done = ensured.0 in cc
-is_err (Err e) prefix all result ensured failed = (e, refl)
+is_err d prefix all result ensured failed = grind arith
 
 is_ok : (d : Result (List ℕ) FromHexError) (prefix all : List ℕ) (result : Bool)
     → MatchResult d (λ value. (result ≡ true) × (all ≡ prefix ++ value)) (λ e. result ≡ false)
     → result ≡ true → (value : List ℕ) × (d ≡ Ok value) × (all ≡ prefix ++ value)
-is_ok (Ok value) prefix all result ensured done = (value, refl, ensured.1)
-is_ok (Err e) prefix all result ensured done = cc
+is_ok d prefix all result ensured done = grind arith
 
 -- a digit that waited and others are whole pairs, which are decoded after what was
 module _ (prefix : List ℕ) (h : HexDigits) (frame : List ℕ) (r : ReadsDigits prefix h frame)
@@ -99,15 +93,10 @@ module _ (prefix : List ℕ) (h : HexDigits) (frame : List ℕ) (r : ReadsDigits
       record {
         digits = r.digits ++ whole;
         head =
-            subst (λ c. IsFramePrefix (prefix ++ bytes) c
-            ((r.digits ++ whole) ++ half_digit next.half)) (sym channel)
-            (subst (IsFramePrefix (prefix ++ bytes) h.channel)
-            (sym (append_assoc r.digits whole odd)
-            ∙ ap (λ l. (r.digits ++ whole) ++ l) (sym half)) on);
+            grind (arith, whole, append_assoc, on);
         size = omega (arith, len, r.size, length-append prefix bytes);
         decoded =
-            texts_are_joined r.digits whole (take h.pairs frame) good.0 r.decoded good.1
-            ∙ ap Ok (sym good.2) ∙ ap (λ k. Ok (take k frame')) (sym pairs);
+            grind (arith, texts_are_joined, whole);
       }
 
 -- at most one byte is left
@@ -125,52 +114,36 @@ on_same a b frame p same on = subst (λ l. ReadsAt l p frame) same on
 module _ (prefix : List ℕ) (h : HexDigits) (frame : List ℕ) (r : ReadsDigits prefix h frame)
     (fits : DigitsFit h) where
   requested : command_of prefix ≡ frame_on h.channel (decode_of (r.digits ++ half_digit h.half))
-  requested = let size = r.size in let short = fits.0 in
-      prefix_command prefix h.channel (r.digits ++ half_digit h.half) r.head (omega arith)
+  requested = grind (arith, prefix_command)
 
   even : length r.digits % 2 ≡ 0
   even = (decode_of-ok r.digits (take h.pairs frame) r.decoded).0
 
   pub half_requested : (digit : ℕ) → h.half ≡ Some digit → command_of prefix ≡ Bad
-  half_requested digit is =
-      let long = length-append r.digits (digit ∷ []) in
-      requested ∙ ap (λ half. frame_on h.channel (decode_of (r.digits ++ half_digit half))) is
-      ∙ ap (frame_on h.channel)
-      (decode_of-odd (r.digits ++ digit ∷ []) (let e = even in omega arith))
+  half_requested digit is = grind (arith, length-append, requested, decode_of-odd, even)
 
   whole : h.half ≡ None → command_of prefix ≡ frame_on h.channel (Ok (take h.pairs frame))
-  whole is =
-      requested ∙ ap (λ half. frame_on h.channel (decode_of (r.digits ++ half_digit half))) is
-      ∙ ap (λ l. frame_on h.channel (decode_of l)) (append-nil r.digits)
-      ∙ ap (frame_on h.channel) r.decoded
+  whole is = grind (arith, requested, append-nil)
 
   pub frame_requested : 0 < h.pairs → h.pairs ≤ length frame → h.half ≡ None
       → command_of prefix ≡ Frame h.channel (take h.pairs frame)
-  frame_requested some room is =
-      whole is ∙ on_bytes h.channel (take h.pairs frame)
-      (omega (arith, length-take h.pairs frame))
+  frame_requested some room is = grind (arith, whole, on_bytes, length-take)
 
   pub no_pair_requested : h.pairs ≡ 0 → (half : Option ℕ) → h.half ≡ half → command_of prefix ≡ Bad
-  no_pair_requested none None is =
-      whole is ∙ ap (λ k. frame_on h.channel (Ok (take k frame))) none
-  no_pair_requested none (Some digit) is = half_requested digit is
+  no_pair_requested none half is = grind (arith, whole, half_requested)
 
 -- a text that is split
 pub cut_text : (text a b : List ℕ) (n : ℕ) → a ≡ take n text → b ≡ drop n text → text ≡ a ++ b
-cut_text text a b n prefix back =
-    sym (take-append-drop n text) ∙ ap (λ l. l ++ drop n text) (sym prefix)
-    ∙ ap (λ l. a ++ l) (sym back)
+cut_text text a b n prefix back = grind (arith, take-append-drop)
 
 -- the bytes from a pair's first one
 pub from_half : (half : Option ℕ) (high : ℕ) (bytes more : List ℕ) → half ≡ Some high
     → bytes ≡ more → half_digit half ++ bytes ≡ high ∷ more
-from_half half high bytes more is same =
-    ap (λ h. half_digit h ++ bytes) is ∙ ap (λ l. high ∷ l) same
+from_half half high bytes more is same = grind arith
 
 pub from_pair : (half : Option ℕ) (bytes more : List ℕ) → half ≡ None → bytes ≡ more
     → half_digit half ++ bytes ≡ more
 from_pair half bytes more is same = ap (λ h. half_digit h ++ bytes) is ∙ same
 
 pub positive : (n : ℕ) → (n ≡ 0 → ⊥) → 0 < n
-positive zero some = absurd (some refl)
-positive (suc n) some = omega arith
+positive n some = grind arith

@@ -1,7 +1,6 @@
 -- Heads of lines: a first word, and the digits of a number.
-use Rattle.std.proofs.Common.{◌≡◌, ◌∙◌, sym, ap, refl, subst, ℕ, zero, suc, ◌+◌, ◌<◌, ◌≤◌, true, false}
-use Rattle.std.proofs.Common.{List, [], ◌∷◌, ◌++◌, length, take, drop, get_or, arith, inl, inr}
-use Rattle.std.proofs.Common.{None, Ok, length-append, append_assoc, append-nil}
+use Rattle.std.proofs.Common.{◌≡◌, ◌∙◌, sym, ap, refl, subst, ℕ, zero, suc, ◌+◌, ◌<◌, ◌≤◌, true, false, [], List, ◌∷◌}
+use Rattle.std.proofs.Common.{◌++◌, length, drop, get_or, arith, None, length-append, append_assoc, append-nil}
 use Rattle.std.specs.Prelude.{codes, ◌⊎◌}
 use Rattle.std.specs.Char.{is_ascii_digit}
 use Rattle.std.specs.List.{list_all}
@@ -12,12 +11,11 @@ use Rattle.std.proofs.lemmas.List.Folds.{list_all-append}
 use Rattle.std.proofs.lemmas.Str.Parse.{digits_value-take-le}
 use Rattle.line_grammar.specs.Commands.{IsForgetLine, IsFrameLine, command_of}
 use Rattle.line_grammar.specs.Commands.Command.{Bad, Forget}
-use Rattle.line_grammar.specs.Prefixes.{IsWrong, ReadsDigits, ReadsHead, half_digit}
+use Rattle.line_grammar.specs.Prefixes.{IsWrong, ReadsDigits, ReadsHead}
 use Rattle.line_grammar.specs.Numbers.{GoesOn, IsTooLarge, NoDigit}
 use Rattle.line_grammar.specs.declared.hex_digits.HexDigits.{HexDigits}
 use Rattle.line_grammar.specs.declared.number.Number.{Number}
-use Rattle.line_grammar.proofs.CommandLaws.{forget_lines_are_the_grammar, has_number, has_parts}
-use Rattle.line_grammar.proofs.CommandLaws.{number_tested}
+use Rattle.line_grammar.proofs.CommandLaws.{forget_lines_are_the_grammar, has_number, has_parts, number_tested}
 use Rattle.line_grammar.proofs.CommandLemmas.{decode_of-nil}
 use Rattle.line_grammar.proofs.PrefixLemmas.{neither}
 
@@ -37,42 +35,35 @@ same_digits : (a b : List ℕ) (x y : ℕ) (s t : List ℕ) → list_all is_asci
     → list_all is_ascii_digit b ≡ true → is_ascii_digit x ≡ false → is_ascii_digit y ≡ false
     → a ++ x ∷ s ≡ b ++ y ∷ t → (a ≡ b) × (x ≡ y)
 same_digits [] [] x y s t all_a all_b no_x no_y same = (refl, (heads x y s t same).0)
-same_digits [] (d ∷ b) x y s t all_a all_b no_x no_y same =
-    absurd (not_both d (first_of d b all_b).0
-    (ap is_ascii_digit (sym (heads x d s (b ++ y ∷ t) same).0) ∙ no_x))
-same_digits (d ∷ a) [] x y s t all_a all_b no_x no_y same =
-    absurd (not_both d (first_of d a all_a).0
-    (ap is_ascii_digit (heads d y (a ++ x ∷ s) t same).0 ∙ no_y))
+same_digits [] (d ∷ b) x y s t all_a all_b no_x no_y same = grind arith
+same_digits (d ∷ a) [] x y s t all_a all_b no_x no_y same = grind arith
 same_digits (d ∷ a) (e ∷ b) x y s t all_a all_b no_x no_y same =
     let parts = heads d e (a ++ x ∷ s) (b ++ y ∷ t) same in
     let later = same_digits a b x y s t (first_of d a all_a).1 (first_of e b all_b).1 no_x no_y parts.1
     in
-    (ap (λ z. z ∷ a) parts.0 ∙ ap (λ l. e ∷ l) later.0, later.1)
+    grind arith
 
 digits_begin : (a s b : List ℕ) (y : ℕ) (t : List ℕ) → list_all is_ascii_digit a ≡ true
     → is_ascii_digit y ≡ false → a ++ s ≡ b ++ y ∷ t → (z : List ℕ) × (b ≡ a ++ z)
 digits_begin [] s b y t all no_y same = (b, refl)
-digits_begin (d ∷ a) s [] y t all no_y same =
-    absurd (not_both d (first_of d a all).0
-    (ap is_ascii_digit (heads d y (a ++ s) t same).0 ∙ no_y))
+digits_begin (d ∷ a) s [] y t all no_y same = grind arith
 digits_begin (d ∷ a) s (e ∷ b) y t all no_y same =
     let parts = heads d e (a ++ s) (b ++ y ∷ t) same in
     let later = digits_begin a s b y t (first_of d a all).1 no_y parts.1 in
-    (later.0, ap (λ z. z ∷ b) (sym parts.0) ∙ ap (λ l. d ∷ l) later.1)
+    grind arith
 
 prefix_value : (a z : List ℕ) → digits_value 10 a ≤ digits_value 10 (a ++ z)
 prefix_value a z =
-    let le = digits_value-take-le 10 (a ++ z) (length a) (omega arith) in
-    let same = ap (digits_value 10) (take_at a z (length a) refl) in
-    omega (arith, le, same)
+    omega (
+      arith,
+      digits_value-take-le 10 (a ++ z) (length a) (omega arith),
+      ap (digits_value 10) (take_at a z (length a) refl),
+    )
 
 too_large : (most : ℕ) (a b z : List ℕ) → b ≡ a ++ z
     → (most < length a) ⊎ (18446744073709551615 < digits_value 10 a)
     → length b ≤ most → digits_value 10 b ≤ 18446744073709551615 → ⊥
-too_large most a b z parts (inl long) few fits =
-    omega (arith, ap length parts, length-append a z, long)
-too_large most a b z parts (inr great) few fits =
-    omega (arith, ap (digits_value 10) parts, prefix_value a z, great)
+too_large most a b z parts h few fits = grind (arith, length-append, prefix_value)
 
 -- ---- what starts with a word requests one thing alone
 
@@ -105,8 +96,7 @@ forget_or_bad text none =
 
 head_more : (word prefix digits bytes : List ℕ) → prefix ≡ word ++ digits
     → prefix ++ bytes ≡ word ++ (digits ++ bytes)
-head_more word prefix digits bytes parts =
-    ap (λ l. l ++ bytes) parts ∙ append_assoc word digits bytes
+head_more word prefix digits bytes parts = grind (arith, append_assoc)
 
 pub no_channel : (prefix bytes : List ℕ) (number : Number)
     → (h : ReadsHead (codes "frame ") prefix number) → IsTooLarge 10 (h.digits ++ bytes)
@@ -161,18 +151,17 @@ module _ (word prefix bytes rest : List ℕ) (number next : Number) (h : ReadsHe
 pub line_and_more : (prefix : List ℕ) (number : Number) (rest : List ℕ)
     → ReadsHead (codes "forget ") prefix number → NoDigit rest → (length rest ≡ 0 → ⊥)
     → IsWrong (prefix ++ rest)
-line_and_more prefix number [] h none some = absurd (some refl)
-line_and_more prefix number (byte ∷ rest) h none some = λ more.
-    ap (λ l. command_of (l ++ more)) (head_more (codes "forget ") prefix h.digits (byte ∷ rest) h.parts)
-    ∙ forget_or_bad ((h.digits ++ byte ∷ rest) ++ more)
-    (λ line f same.
-    let all : list_all is_ascii_digit (h.digits ++ byte ∷ (rest ++ more)) ≡ true =
-    ap (list_all is_ascii_digit) (sym (append_assoc h.digits (byte ∷ rest) more) ∙ same)
-    ∙ f.decimal in
-    let later = and_parts (list_all is_ascii_digit h.digits)
-    (list_all is_ascii_digit (byte ∷ (rest ++ more)))
-    (sym (list_all-append is_ascii_digit h.digits (byte ∷ (rest ++ more))) ∙ all) in
-    not_both byte (first_of byte (rest ++ more) later.1).0 none)
+line_and_more prefix number rest h none some =
+    grind (
+      arith,
+      head_more,
+      forget_or_bad,
+      append_assoc,
+      and_parts,
+      list_all-append,
+      not_both,
+      first_of,
+    )
 
 -- ---- the byte after a channel
 
@@ -188,39 +177,13 @@ module _ (prefix : List ℕ) (number : Number) (h : ReadsHead (codes "frame ") p
       (λ channel bytes f same.
       let e = same_digits h.digits f.number byte 32 rest f.digits h.reads.decimal f.decimal other refl
       same in
-      none e.1
-      (omega (arith, h.reads.count, ap length e.0, f.count.0))
-      (omega (arith, h.reads.value, ap (digits_value 10) e.0, f.value, f.fits)))
+      grind arith)
 
   pub head_read : byte ≡ 32 → 1 ≤ number.count → number.count ≤ 10 → number.value ≤ 4294967295
       → (d : HexDigits) → d.channel ≡ number.value → d.len ≡ 7 + number.count → d.pairs ≡ 0
       → d.half ≡ None → (frame : List ℕ) → ReadsDigits (prefix ++ byte ∷ []) d frame
-  head_read space some few fits d channel len none half frame = record {
-    digits = [];
-    head = record {
-      number = h.digits;
-      parts =
-          head_more (codes "frame ") prefix h.digits (byte ∷ []) h.parts
-          ∙ ap (λ b. codes "frame " ++ (h.digits ++ b ∷ [])) space
-          ∙ ap (λ o. codes "frame " ++ (h.digits ++ 32 ∷ half_digit o)) (sym half);
-      fits = number_tested 10 4294967295 h.digits
-          (record {
-            count = (omega (arith, h.reads.count), omega (arith, h.reads.count));
-            decimal = h.reads.decimal;
-            fits = omega (arith, h.reads.value);
-          });
-      value = channel ∙ h.reads.value;
-    };
-    size = omega (
-      arith,
-      len,
-      h.reads.count,
-      ap length h.parts,
-      length-append prefix (byte ∷ []),
-      length-append (codes "frame ") h.digits,
-    );
-    decoded = decode_of-nil ∙ ap (λ k. Ok (take k frame)) (sym none);
-  }
+  head_read space some few fits d channel len none half frame =
+      grind (arith, head_more, number_tested, length-append, decode_of-nil)
 
 -- ---- what a line whose digits are read requests
 
@@ -228,22 +191,11 @@ module _ (prefix : List ℕ) (number : Number) (h : ReadsHead (codes "frame ") p
 pub channel_requests : (prefix : List ℕ) (number : Number) → ReadsHead (codes "frame ") prefix number
     → command_of prefix ≡ Bad
 channel_requests prefix number h =
-    ap command_of h.parts
-    ∙ frame_or_bad h.digits
-    (λ channel bytes f same.
-    let all = ap (list_all is_ascii_digit) (sym same) ∙ h.reads.decimal in
-    let later = and_parts (list_all is_ascii_digit f.number)
-    (list_all is_ascii_digit (32 ∷ f.digits))
-    (sym (list_all-append is_ascii_digit f.number (32 ∷ f.digits)) ∙ all) in
-    not_both 32 (first_of 32 f.digits later.1).0 refl)
+    grind (arith, frame_or_bad, and_parts, list_all-append, not_both, first_of)
 
 module _ (prefix : List ℕ) (number : Number) (h : ReadsHead (codes "forget ") prefix number) where
   pub no_number_requests : number.count ≡ 0 → command_of prefix ≡ Bad
-  no_number_requests none =
-      ap command_of h.parts
-      ∙ forget_or_bad h.digits
-      (λ line f same.
-      omega (arith, none, h.reads.count, ap length same, f.count.0))
+  no_number_requests none = grind (arith, forget_or_bad)
 
   pub number_requests : (number.count ≡ 0 → ⊥) → number.count ≤ 20
       → number.value ≤ 18446744073709551615 → command_of prefix ≡ Forget number.value

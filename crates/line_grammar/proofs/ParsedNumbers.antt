@@ -1,6 +1,6 @@
 -- Decimal numbers in a line of a frame with its time.
-use Rattle.std.proofs.Common.{◌≡◌, ap, refl, ℕ, ◌<◌, ◌≤◌, ◌^◌, true, List, length, Some, Result}
-use Rattle.std.proofs.Common.{Ok, Err, arith, inl, inr}
+use Rattle.std.proofs.Common.{◌≡◌, ap, refl, ℕ, ◌<◌, ◌≤◌, ◌^◌, true, List, length, Some, Result, Ok, Err, arith, inl}
+use Rattle.std.proofs.Common.{inr}
 use Rattle.std.specs.Char.{is_ascii_digit}
 use Rattle.std.specs.List.{list_all}
 use Rattle.std.specs.Result.{result_ok}
@@ -8,12 +8,12 @@ use Rattle.std.specs.Str.Parse.{digits_value, ParsesUnsigned}
 use Rattle.std.proofs.lemmas.Bool.{le-leb, lt-leb, cases_lt}
 use Rattle.std.proofs.lemmas.Str.Parse.{parse_digits}
 use Rattle.digits.proofs.Numerals.{decimals}
-use Rattle.line_grammar.specs.TimedLines.{number_of}
+use Rattle.line_grammar.specs.TimedLines.{number_of_digits}
 
 -- what `parse` reads of at most ten digits
 pub number_parsed : {E : Type 0} (digits : List ℕ) (r : Result ℕ E) → 0 < length digits
     → length digits ≤ 10 → list_all is_ascii_digit digits ≡ true → ParsesUnsigned 32 10 digits r
-    → result_ok r ≡ number_of digits
+    → result_ok r ≡ number_of_digits digits
 number_parsed {E} digits (Ok n) some short all ensured =
     let is = parse_digits decimals {E = E} 32 digits (Ok n) ensured all in
     let value : n ≡ digits_value 10 digits = is.1 in

@@ -1,8 +1,6 @@
 -- Prefixes of lines.
-use Rattle.std.proofs.Common.{◌≡◌, ◌∙◌, sym, ap, refl, ℕ, ◌+◌, ◌<◌, ◌≤◌}
-use Rattle.std.proofs.Common.{List, [], ◌∷◌, ◌++◌, length, arith}
-use Rattle.std.proofs.Common.{length-append, append_assoc, append-nil}
-use Rattle.std.specs.Prelude.{codes}
+use Rattle.std.proofs.Common.{◌≡◌, ◌∙◌, sym, ap, ℕ, ◌+◌, ◌<◌, ◌≤◌, List, ◌++◌, length, arith, [], length-append}
+use Rattle.std.proofs.Common.{append_assoc, append-nil}
 use Rattle.hex.specs.Hex.{decode_of}
 use Rattle.line_grammar.specs.Commands.{Command, command_of, frame_on}
 use Rattle.line_grammar.specs.Commands.Command.{Frame, Forget, Bad}
@@ -17,8 +15,7 @@ pub more_prefix : (prefix : List ℕ) (channel : ℕ) (digits more : List ℕ)
     → IsFramePrefix prefix channel digits → IsFramePrefix (prefix ++ more) channel (digits ++ more)
 more_prefix prefix channel digits more f = record {
   number = f.number;
-  parts = ap (λ l. l ++ more) f.parts
-      ∙ ap (λ l. codes "frame " ++ l) (append_assoc f.number (32 ∷ digits) more);
+  parts = grind (arith, append_assoc);
   fits = f.fits;
   value = f.value;
 }
@@ -26,25 +23,19 @@ more_prefix prefix channel digits more f = record {
 pub prefix_command : (prefix : List ℕ) (channel : ℕ) (digits : List ℕ)
     → IsFramePrefix prefix channel digits → length prefix ≤ LINE_LIMIT
     → command_of prefix ≡ frame_on channel (decode_of digits)
-prefix_command prefix channel digits f short =
-    frame_text prefix f.number digits short f.parts f.fits
-    ∙ ap (λ n. frame_on n (decode_of digits)) (sym f.value)
+prefix_command prefix channel digits f short = grind (arith, frame_text)
 
 -- ---- what requests neither
 
 pub neither : (c : Command) → ((channel : ℕ) (bytes : List ℕ) → c ≡ Frame channel bytes → ⊥)
     → ((number : ℕ) → c ≡ Forget number → ⊥) → c ≡ Bad
-neither (Frame channel bytes) no_frame no_forget = absurd (no_frame channel bytes refl)
-neither (Forget number) no_frame no_forget = absurd (no_forget number refl)
-neither Bad no_frame no_forget = refl
+neither c no_frame no_forget = grind arith
 
 -- ---- a line that is too long, and one that goes on
 
 pub long_line : (prefix more : List ℕ) → LINE_LIMIT < length prefix + length more
     → IsWrong (prefix ++ more)
-long_line prefix more long rest =
-    command_of-long ((prefix ++ more) ++ rest)
-    (omega (arith, length-append (prefix ++ more) rest, length-append prefix more))
+long_line prefix more long rest = grind (arith, command_of-long, length-append)
 
 pub wrong_more : (prefix more : List ℕ) → IsWrong prefix → IsWrong (prefix ++ more)
 wrong_more prefix more wrong rest = ap command_of (append_assoc prefix more rest)

@@ -1,7 +1,6 @@
 -- The first words of lines.
-use Rattle.std.proofs.Common.{◌≡◌, ◌∙◌, sym, ap, refl, ℕ, ◌+◌, ◌<◌, ◌≤◌, true, false}
-use Rattle.std.proofs.Common.{List, [], ◌∷◌, ◌++◌, length, take, drop, get_or, nat_eq, arith, inl, inr}
-use Rattle.std.proofs.Common.{length-append, append_assoc, append-nil}
+use Rattle.std.proofs.Common.{◌≡◌, ◌∙◌, sym, ap, refl, ℕ, ◌+◌, ◌<◌, ◌≤◌, true, false, [], List, ◌∷◌, ◌++◌, length, take}
+use Rattle.std.proofs.Common.{drop, get_or, nat_eq, arith, inl, inr, length-append, append_assoc, append-nil}
 use Rattle.std.specs.Prelude.{codes}
 use Rattle.std.specs.List.{starts_with}
 use Rattle.std.proofs.lemmas.Bool.{cases_lt}
@@ -49,10 +48,7 @@ module _ (word prefix bytes missing : List ℕ) (begins : starts_with nat_eq wor
 
   pub whole_word : starts_with nat_eq bytes missing ≡ true
       → prefix ++ bytes ≡ word ++ drop (length missing) bytes
-  whole_word there =
-      ap (λ l. prefix ++ l) (starts bytes missing there)
-      ∙ sym (append_assoc prefix missing (drop (length missing) bytes))
-      ∙ ap (λ l. l ++ drop (length missing) bytes) (sym word_parts)
+  whole_word there = grind (arith, starts, append_assoc, word_parts)
 
   module _ (not : starts_with nat_eq bytes missing ≡ false) where
     pub prefix_of_word : starts_with nat_eq missing bytes ≡ true

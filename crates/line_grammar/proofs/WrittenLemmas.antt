@@ -1,10 +1,10 @@
 -- Lines as they are written: what they request, and that each is one line.
-use Rattle.std.proofs.Common.{◌≡◌, ◌∙◌, sym, ap, refl, ℕ, ◌+◌, ◌<◌, ◌≤◌, ◌^◌, ◌==◌, Bool, true, false}
-use Rattle.std.proofs.Common.{List, [], ◌∷◌, ◌++◌, length, arith}
-use Rattle.std.specs.Prelude.{nat_le, codes, decimal}
+use Rattle.std.proofs.Common.{[], ◌≡◌, sym, refl, ℕ, ◌<◌, ◌≤◌, ◌^◌, ◌==◌, Bool, true, false, List, ◌∷◌, ◌++◌, length}
+use Rattle.std.proofs.Common.{arith}
+use Rattle.std.specs.Prelude.{codes, decimal}
 use Rattle.std.specs.Char.{is_ascii_digit}
 use Rattle.std.specs.List.{list_all}
-use Rattle.std.proofs.lemmas.Bool.{and_parts, leb-true, le-leb, ne_eqb}
+use Rattle.std.proofs.lemmas.Bool.{and_parts, le-leb}
 use Rattle.std.proofs.lemmas.Fmt.{decimal_is_IsNumeral, length-decimal-le}
 use Rattle.std.proofs.lemmas.List.Sums.{list_all-from_AllPass}
 use Rattle.digits.proofs.Numerals.{decimals}
@@ -21,15 +21,11 @@ use Rattle.line_grammar.proofs.CommandLaws.{forget_lines_are_the_grammar, frame_
 -- ---- digits are no end of a line, and no space
 
 pub digit_other : (n digit : ℕ) → n < 48 → is_ascii_digit digit ≡ true → (digit == n) ≡ false
-digit_other n digit low is =
-    ne_eqb digit n (λ same. let least =
-    leb-true 48 digit (and_parts (nat_le 48 digit) (nat_le digit 57) is).0 in
-    absurd (omega arith))
+digit_other n digit low is = grind arith
 
 pub hex_other : (n digit : ℕ) → is_hex_digit n ≡ false
     → is_hex_digit digit ≡ true → (digit == n) ≡ false
-hex_other n digit not is = ne_eqb digit n (λ same. let e : true ≡ false =
-    sym is ∙ ap is_hex_digit same ∙ not in absurd (cc))
+hex_other n digit not is = grind arith
 
 pub hex_digits : (frame : List ℕ) → IsBytes frame
     → list_all is_hex_digit (encode_lower frame) ≡ true
@@ -73,11 +69,14 @@ pub written_frame-requests : (channel : ℕ) (frame : List ℕ) → channel < 2 
     → 1 ≤ length frame → length frame ≤ FRAME_LIMIT
     → command_of (written_frame channel frame) ≡ Frame channel frame
 written_frame-requests channel frame fits bytes some size =
-    let numeral = decimal_is_IsNumeral channel (omega arith) in
-    let short = length-decimal-le 10 channel (omega arith) (omega arith) (omega arith) in
-    frame_has_line (decimal channel) (encode_lower frame) frame (is_channel-decimal channel fits)
-    (decode_of-encode_lower frame bytes) some (omega (arith, short))
-    ∙ ap (λ n. Frame n frame) numeral.1
+    grind (
+      arith,
+      decimal_is_IsNumeral,
+      length-decimal-le,
+      frame_has_line,
+      is_channel-decimal,
+      decode_of-encode_lower,
+    )
 
 pub written_frame-one_line : (channel : ℕ) (frame : List ℕ) → channel < 2 ^ 32 → IsBytes frame
     → HasNoNewline (written_frame channel frame)
@@ -110,6 +109,4 @@ written_forget-requests number fits =
 
 pub written_forget-one_line : (number : ℕ) → number < 2 ^ 64
     → HasNoNewline (written_forget number)
-written_forget-one_line number fits =
-    HasNoNewline-append (codes "forget ") (decimal number)
-    (refl, (refl, (refl, (refl, (refl, (refl, (refl, tt))))))) (decimal_one_line number fits)
+written_forget-one_line number fits = grind (arith, decimal_one_line)

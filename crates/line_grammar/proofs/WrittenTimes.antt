@@ -1,7 +1,7 @@
 -- Lines of frames as they are written, read again with their times.
-use Rattle.std.proofs.Common.{◌≡◌, ◌∙◌, sym, ap, ap₂, refl, ℕ, ◌+◌, ◌*◌, ◌/◌, ◌%◌, ◌<◌, ◌≤◌, ◌==◌, ◌^◌}
-use Rattle.std.proofs.Common.{Bool, eqb-true, true, false, List, [], ◌∷◌, ◌++◌, length, take, drop}
-use Rattle.std.proofs.Common.{Some, None, append_assoc, append-nil, length-append, arith}
+use Rattle.std.proofs.Common.{◌≡◌, ◌∙◌, sym, ap, ap₂, refl, ℕ, ◌+◌, ◌*◌, ◌/◌, ◌%◌, ◌<◌, ◌≤◌, ◌==◌, ◌^◌, [], Bool}
+use Rattle.std.proofs.Common.{eqb-true, true, false, List, ◌∷◌, ◌++◌, length, take, drop, Some, None, append_assoc}
+use Rattle.std.proofs.Common.{append-nil, length-append, arith}
 use Rattle.std.specs.Prelude.{codes, decimal, position, if◌then◌else◌}
 use Rattle.std.specs.Char.{is_ascii_digit}
 use Rattle.std.specs.List.{list_all, position_or_len}
@@ -13,16 +13,15 @@ use Rattle.hex.proofs.HexLemmas.{decode_of-encode_lower}
 use Rattle.lines.specs.Lines.{HasNoNewline}
 use Rattle.lines.proofs.SplitLemmas.{HasNoNewline-append}
 use Rattle.line_grammar.specs.Commands.{frame_on, is_space}
-use Rattle.line_grammar.specs.TimedLines.{below, channel_frame, digits_before, digits_frame, frame_at}
-use Rattle.line_grammar.specs.TimedLines.{no_time, number_below, number_of, parts_at, parts_of, parts_with}
-use Rattle.line_grammar.specs.TimedLines.{text_before, text_frame, time_at, time_of, time_with}
-use Rattle.line_grammar.specs.TimedLines.{timed_frame_of}
+use Rattle.line_grammar.specs.TimedLines.{channel_frame, digits_before, digits_frame, frame_at, no_time, number_below}
+use Rattle.line_grammar.specs.TimedLines.{number_of_digits, parts_of, text_before, text_frame, time_at, time_of}
+use Rattle.line_grammar.specs.TimedLines.{time_with, timed_frame_of}
 use Rattle.line_grammar.specs.Written.{nanoseconds_text, time_text, written_frame, written_timed_frame}
 use Rattle.line_grammar.specs.declared.limits.TheConstants.{FRAME_LIMIT}
 use Rattle.line_grammar.specs.declared.timed_line.Time.{Time}
 use Rattle.line_grammar.proofs.TimedLemmas.{frame_text_read}
-use Rattle.line_grammar.proofs.WrittenLemmas.{decimal_digits, decimal_one_line, digit_other, hex_digits}
-use Rattle.line_grammar.proofs.WrittenLemmas.{hex_other, written_frame-one_line}
+use Rattle.line_grammar.proofs.WrittenLemmas.{decimal_digits, decimal_one_line, digit_other, hex_digits, hex_other}
+use Rattle.line_grammar.proofs.WrittenLemmas.{written_frame-one_line}
 
 -- ---- the first space after digits
 
@@ -51,16 +50,13 @@ space_none text all = rw (le-ltb (position_or_len is_space text) (length text) (
 
 space_some : (text : List ℕ) (n : ℕ) → position_or_len is_space text ≡ n → n < length text
     → position is_space text ≡ Some n
-space_some text n at lt =
-    rw (lt-ltb (position_or_len is_space text) (length text) (omega arith)) (ap Some at)
+space_some text n at lt = grind arith
 
 -- a text up to its first space, and after it
 module _ (q : ℕ → Bool) (other : (x : ℕ) → q x ≡ true → is_space x ≡ false)
     (prefix back : List ℕ) (all : list_all q prefix ≡ true) where
   first_space : position is_space (prefix ++ 32 ∷ back) ≡ Some (length prefix)
-  first_space = let size = length-append prefix (32 ∷ back) in
-      space_some (prefix ++ 32 ∷ back) (length prefix)
-      (first_pass is_space q other prefix 32 back all refl) (omega arith)
+  first_space = grind (arith, length-append, space_some, first_pass)
 
   no_space : position is_space prefix ≡ None
   no_space = space_none prefix (none_pass is_space q other prefix all)
@@ -81,23 +77,16 @@ hex_no_space x is = hex_other 32 x refl is
 
 -- ---- numbers
 
-number_of-decimal : (n : ℕ) → n < 2 ^ 32 → number_of (decimal n) ≡ Some n
-number_of-decimal n fits =
+number_of_digits-decimal : (n : ℕ) → n < 2 ^ 32 → number_of_digits (decimal n) ≡ Some n
+number_of_digits-decimal n fits =
     let numeral = decimal_is_IsNumeral n (omega arith) in
     let short = length-decimal-le 10 n (omega arith) (omega arith) (omega arith) in
     let some = numeral.0.0 in
-    rw (
-      le-leb 1 (length (decimal n)) (omega arith),
-      le-leb (length (decimal n)) 10 short,
-      decimal_digits n (omega arith),
-      numeral.1,
-      le-leb n 4294967295 (omega arith),
-    ) refl
+    grind (arith, le-leb, decimal_digits)
 
 number_below-decimal : (limit n : ℕ) → n < limit → n < 2 ^ 32
     → number_below limit (decimal n) ≡ Some n
-number_below-decimal limit n few fits =
-    ap (below limit) (number_of-decimal n fits) ∙ rw (lt-ltb n limit few) refl
+number_below-decimal limit n few fits = grind (arith, number_of_digits-decimal, lt-ltb)
 
 -- ---- a time
 
@@ -111,19 +100,10 @@ parts_by : (none : Bool) (micro nano : ℕ) → (nano == 0) ≡ none → micro <
 parts_by true micro nano none few few' =
     let zero' = eqb-true nano 0 none in
     let digits = decimal_digits micro (omega arith) in
-    ap parts_of (append-nil (decimal micro))
-    ∙ ap (λ o. parts_at o (decimal micro))
-    (no_space is_ascii_digit digit_no_space (decimal micro) [] digits)
-    ∙ ap (λ o. parts_with o (Some 0)) (number_below-decimal 1000000 micro few (omega arith))
-    ∙ ap Some (omega arith)
+    grind (arith, append-nil, no_space, digit_no_space, number_below-decimal)
 parts_by false micro nano none few few' =
     let digits = decimal_digits micro (omega arith) in
-    ap (λ o. parts_at o (decimal micro ++ 32 ∷ decimal nano))
-    (first_space is_ascii_digit digit_no_space (decimal micro) (decimal nano) digits)
-    ∙ ap₂ (λ (l r : List ℕ). parts_with (number_below 1000000 l) (number_below 1000 r))
-    (before_space (decimal micro) (decimal nano)) (after_space (decimal micro) (decimal nano))
-    ∙ ap₂ parts_with (number_below-decimal 1000000 micro few (omega arith))
-    (number_below-decimal 1000 nano few' (omega arith))
+    grind (arith, first_space, digit_no_space, before_space, after_space, number_below-decimal)
 
 parts_are : (micro nano : ℕ) → micro < 1000000 → nano < 1000
     → parts_of (parts_text micro nano) ≡ Some (1000 * micro + nano)
@@ -137,9 +117,9 @@ time_is seconds n parts fits is =
     ap (λ o. time_at o (decimal seconds ++ 32 ∷ parts))
     (first_space is_ascii_digit digit_no_space (decimal seconds) parts
     (decimal_digits seconds (omega arith)))
-    ∙ ap₂ (λ (l r : List ℕ). time_with (number_of l) (parts_of r))
+    ∙ ap₂ (λ (l r : List ℕ). time_with (number_of_digits l) (parts_of r))
     (before_space (decimal seconds) parts) (after_space (decimal seconds) parts)
-    ∙ ap₂ time_with (number_of-decimal seconds fits) is
+    ∙ ap₂ time_with (number_of_digits-decimal seconds fits) is
 
 -- ---- a channel, and a frame
 
@@ -149,18 +129,15 @@ channel_is channel digits fits =
     ap (λ o. text_before o (decimal channel ++ 32 ∷ digits))
     (first_space is_ascii_digit digit_no_space (decimal channel) digits
     (decimal_digits channel (omega arith)))
-    ∙ ap₂ (λ (l r : List ℕ). channel_frame (number_of l) r)
+    ∙ ap₂ (λ (l r : List ℕ). channel_frame (number_of_digits l) r)
     (before_space (decimal channel) digits) (after_space (decimal channel) digits)
-    ∙ ap (λ o. channel_frame o digits) (number_of-decimal channel fits)
+    ∙ ap (λ o. channel_frame o digits) (number_of_digits-decimal channel fits)
 
 frame_is : (time : Time) (channel : ℕ) (frame : List ℕ) → 1 ≤ length frame
     → length frame ≤ FRAME_LIMIT → IsBytes frame
     → frame_at (Some time) (frame_on channel (decode_of (encode_lower frame)))
     ≡ Some (record { seconds = time.seconds; nanoseconds = time.nanoseconds; frame = frame })
-frame_is time channel [] some short bytes = absurd (omega arith)
-frame_is time channel (byte ∷ frame) some short bytes =
-    ap (λ d. frame_at (Some time) (frame_on channel d)) (decode_of-encode_lower (byte ∷ frame) bytes)
-    ∙ rw (le-leb (length (byte ∷ frame)) FRAME_LIMIT short) refl
+frame_is time channel frame some short bytes = grind (arith, decode_of-encode_lower, le-leb)
 
 module _ (channel : ℕ) (frame : List ℕ) (fits : channel < 2 ^ 32) (bytes : IsBytes frame)
     (some : 1 ≤ length frame) (short : length frame ≤ FRAME_LIMIT) where
@@ -169,10 +146,7 @@ module _ (channel : ℕ) (frame : List ℕ) (fits : channel < 2 ^ 32) (bytes : I
 
   head : (rest : List ℕ) → written_frame channel frame ++ rest
       ≡ codes "frame " ++ (decimal channel ++ 32 ∷ (digits ++ rest))
-  head rest =
-      append_assoc ((codes "frame " ++ decimal channel) ++ codes " ") digits rest
-      ∙ append_assoc (codes "frame " ++ decimal channel) (codes " ") (digits ++ rest)
-      ∙ append_assoc (codes "frame ") (decimal channel) (codes " " ++ (digits ++ rest))
+  head rest = grind (arith, append_assoc)
 
   pub written_frame-timed : timed_frame_of (written_frame channel frame)
       ≡ Some (record { seconds = 0; nanoseconds = 0; frame = frame })
@@ -207,13 +181,7 @@ time_after time =
 
 time_text-is : (time : ℕ) → time_text time ≡ 32 ∷ time_after time
 unfolding time_after parts_text
-time_text-is time =
-    let s = decimal (time / 1000000000) in
-    let m = decimal (time / 1000 % 1000000) in
-    let n = nanoseconds_text (time % 1000) in
-    append_assoc ((codes " " ++ s) ++ codes " ") m n
-    ∙ append_assoc (codes " " ++ s) (codes " ") (m ++ n)
-    ∙ append_assoc (codes " ") s (codes " " ++ (m ++ n))
+time_text-is time = grind (arith, append_assoc)
 
 time_read : (time : ℕ) → time / 1000000000 < 2 ^ 32 → time_of (time_after time)
     ≡ Some (record { seconds = time / 1000000000; nanoseconds = time % 1000000000 })
@@ -221,8 +189,7 @@ unfolding time_after
 time_read time few =
     let parts = parts_are (time / 1000 % 1000000) (time % 1000) (omega arith) (omega arith) in
     let same : 1000 * (time / 1000 % 1000000) + time % 1000 ≡ time % 1000000000 = omega arith in
-    time_is (time / 1000000000) (time % 1000000000)
-    (parts_text (time / 1000 % 1000000) (time % 1000)) few (parts ∙ ap Some same)
+    grind (arith, time_is, parts_text)
 
 pub written_timed_frame-timed : (channel : ℕ) (frame : List ℕ) (time : ℕ) → channel < 2 ^ 32
     → IsBytes frame → 1 ≤ length frame → length frame ≤ FRAME_LIMIT → time / 1000000000 < 2 ^ 32
@@ -235,8 +202,7 @@ written_timed_frame-timed channel frame time fits bytes some short few =
 
 parts_one_line : (none : Bool) (nano : ℕ) → nano < 2 ^ 32
     → HasNoNewline (if none then [] else codes " " ++ decimal nano)
-parts_one_line true nano few = tt
-parts_one_line false nano few = (refl, decimal_one_line nano (omega arith))
+parts_one_line none nano few = grind (arith, decimal_one_line)
 
 pub written_timed_frame-one_line : (channel : ℕ) (frame : List ℕ) (time : ℕ) → channel < 2 ^ 32
     → IsBytes frame → time / 1000000000 < 2 ^ 32

@@ -1,8 +1,8 @@
 -- Lines of frames with the times at which they were captured: `frame CHANNEL HEX TIME`, where TIME
 -- is `SECONDS MICROSECONDS` or `SECONDS MICROSECONDS NANOSECONDS`. Up to its third space such a
 -- line gives a frame. One without a third space has time 0.
-use Rattle.std.specs.Prelude.{ℕ, ◌+◌, ◌-◌, ◌*◌, nat_le, nat_lt, if◌then◌else◌, List}
-use Rattle.std.specs.Prelude.{length, take, drop, position, Option, Some, None, option_map}
+use Rattle.std.specs.Prelude.{ℕ, ◌+◌, ◌-◌, ◌*◌, nat_le, nat_lt, if◌then◌else◌, List, length, take, drop, position}
+use Rattle.std.specs.Prelude.{Option, Some, None, option_map}
 use Rattle.std.specs.List.{after_first}
 use Rattle.std.specs.Str.Parse.{digits_value}
 use Rattle.hex.specs.Hex.{decode_of}
@@ -18,8 +18,8 @@ pub record TimedFrame : Type 0 where
   pub frame : List ℕ
 
 -- numbers of a time are digits as a channel's are
-abbrev pub number_of : List ℕ → Option ℕ
-number_of digits = if is_channel digits then Some (digits_value 10 digits) else None
+abbrev pub number_of_digits : List ℕ → Option ℕ
+number_of_digits digits = if is_channel digits then Some (digits_value 10 digits) else None
 
 abbrev pub below : ℕ → Option ℕ → Option ℕ
 below limit (Some n) = if nat_lt n limit then Some n else None
@@ -27,7 +27,7 @@ below limit None = None
 
 -- less than so many
 abbrev pub number_below : ℕ → List ℕ → Option ℕ
-number_below limit digits = below limit (number_of digits)
+number_below limit digits = below limit (number_of_digits digits)
 
 -- microseconds, and nanoseconds after them
 abbrev pub parts_with : Option ℕ → Option ℕ → Option ℕ
@@ -53,7 +53,7 @@ time_with None nanoseconds = None
 
 -- a time's seconds and their parts, with the first space here
 abbrev pub time_at : Option ℕ → List ℕ → Option Time
-time_at (Some space) text = time_with (number_of (take space text))
+time_at (Some space) text = time_with (number_of_digits (take space text))
     (parts_of (drop (space + 1) text))
 time_at None text = None
 
@@ -105,7 +105,7 @@ channel_frame None text = None
 
 -- a channel before the first space, and the rest
 abbrev pub text_before : Option ℕ → List ℕ → Option TimedFrame
-text_before (Some space) text = channel_frame (number_of (take space text)) (drop (space + 1) text)
+text_before (Some space) text = channel_frame (number_of_digits (take space text)) (drop (space + 1) text)
 text_before None text = None
 
 -- what follows `frame `

@@ -1,12 +1,12 @@
 //! Laws of what lines request.
-ghost use Rattle.std.specs.Prelude.{◌≡◌, ◌≤◌, ◌<◌, ◌+◌, ◌*◌, ◌/◌, ◌%◌, ◌^◌, List, ℕ, [], ◌∷◌, ◌++◌};
-ghost use Rattle.std.specs.Prelude.{IsTrue, Some, codes, length};
+ghost use Rattle.std.specs.Prelude.{◌≡◌, ◌≤◌, ◌<◌, ◌+◌, ◌*◌, ◌/◌, ◌%◌, ◌^◌, List, ℕ, [], ◌∷◌, ◌++◌, IsTrue, Some};
+ghost use Rattle.std.specs.Prelude.{codes, length};
 ghost use Rattle.std.specs.Str.Parse.{digits_value};
 ghost use Rattle.hex.specs.Hex.{IsBytes, encode_lower, encode_upper};
 ghost use Rattle.lines.specs.Lines.{HasNoNewline};
 ghost use Rattle.lines.specs.declared.limits.TheConstants.{LINE_LIMIT};
-ghost use Rattle.line_grammar.specs.Commands.{FrameLinesAreTheGrammar, ForgetLinesAreTheGrammar};
-ghost use Rattle.line_grammar.specs.Commands.{command_of, is_channel};
+ghost use Rattle.line_grammar.specs.Commands.{FrameLinesAreTheGrammar, ForgetLinesAreTheGrammar, command_of};
+ghost use Rattle.line_grammar.specs.Commands.{is_channel};
 ghost use Rattle.line_grammar.specs.Commands.Command.{Forget, Frame};
 ghost use Rattle.line_grammar.specs.TimedLines.{timed_frame_of};
 ghost use Rattle.line_grammar.specs.Written.{written_forget, written_frame, written_timed_frame};

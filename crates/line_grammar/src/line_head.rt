@@ -1,12 +1,9 @@
 //! The head of a line: its first word, and the number after it.
-ghost use Rattle.std.specs.Prelude.{◌≡◌, ◌≤◌, ◌++◌, ◌∷◌, ℕ, List, [], false, codes, length, IfSome};
-ghost use Rattle.std.specs.Prelude.{MatchOption};
+ghost use Rattle.std.specs.Prelude.{◌≡◌, ◌≤◌, ◌++◌, ◌∷◌, ℕ, List, [], false, codes, length, IfSome, MatchOption};
 ghost use Rattle.std.specs.Char.{is_ascii_digit};
-ghost use Rattle.line_grammar.specs.Prefixes.{Begins, DigitsFit, IsWrong, StateFits, ReadsAt, ReadsDigits};
-ghost use Rattle.line_grammar.specs.Prefixes.{ReadsHead};
+ghost use Rattle.line_grammar.specs.Prefixes.{Begins, DigitsFit, IsWrong, StateFits, ReadsAt, ReadsDigits, ReadsHead};
 ghost use Rattle.line_grammar.specs.declared.hex_digits.TheConstants.{FRAME_CAPACITY};
-ghost use Rattle.line_grammar.specs.declared.line_head.TheConstants.{CHANNEL_DIGITS, LINE_DIGITS};
-ghost use Rattle.line_grammar.specs.declared.line_head.TheConstants.{WORD_LIMIT};
+ghost use Rattle.line_grammar.specs.declared.line_head.TheConstants.{CHANNEL_DIGITS, LINE_DIGITS, WORD_LIMIT};
 
 use crate::hex_digits::HexDigits;
 use crate::number::Number;

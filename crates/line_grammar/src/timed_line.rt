@@ -1,11 +1,10 @@
 //! A line of a frame that may have the time at which it was captured.
-ghost use Rattle.std.specs.Prelude.{◌≡◌, ◌+◌, ◌<◌, ◌≤◌, ◌++◌, codes, length, position, Some, None};
-ghost use Rattle.std.specs.Prelude.{IfSome, MatchOption};
+ghost use Rattle.std.specs.Prelude.{◌≡◌, ◌+◌, ◌<◌, ◌≤◌, ◌++◌, codes, length, position, Some, None, IfSome, MatchOption};
 ghost use Rattle.std.specs.Char.{is_ascii_digit};
 ghost use Rattle.std.specs.List.{list_all};
 ghost use Rattle.hex.specs.Hex.{decode_of};
 ghost use Rattle.line_grammar.specs.Commands.{frame_on, is_space};
-ghost use Rattle.line_grammar.specs.TimedLines.{digits_frame, frame_at, number_below, number_of, parts_of};
+ghost use Rattle.line_grammar.specs.TimedLines.{digits_frame, frame_at, number_below, number_of_digits, parts_of};
 ghost use Rattle.line_grammar.specs.TimedLines.{text_frame, time_of, timed_frame_of};
 
 use crate::line_head::FRAME;
@@ -114,7 +113,7 @@ fn space_in(text: &[u8]) -> Option<usize>
 
 // The number of one to ten decimal digits, if it fits.
 fn number(digits: &[u8]) -> Option<u32>
-    ensures { result ≡ number_of digits.now }
+    ensures { result ≡ number_of_digits digits.now }
 {
     if digits.is_empty() || digits.len() > 10 || !is_decimal(digits) {
         return None;

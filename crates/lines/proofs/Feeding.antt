@@ -1,24 +1,21 @@
 -- A chunk of the input, line by line.
-use Rattle.std.proofs.Common.{◌≡◌, ◌∙◌, sym, ap, refl, subst, ℕ, zero, suc, ◌+◌, ◌-◌, ◌<◌, Bool}
-use Rattle.std.proofs.Common.{true, false, ◌==◌, List, [], ◌∷◌, ◌++◌, length, take, drop, get_or}
-use Rattle.std.proofs.Common.{arith, append_assoc, append-nil, length-append, take-append-drop}
+use Rattle.std.proofs.Common.{◌≡◌, ◌∙◌, sym, ap, refl, subst, ℕ, zero, suc, ◌+◌, ◌-◌, ◌<◌, Bool, [], true, false, ◌==◌}
+use Rattle.std.proofs.Common.{List, ◌∷◌, ◌++◌, length, take, drop, get_or, arith, append_assoc, append-nil}
+use Rattle.std.proofs.Common.{length-append, take-append-drop}
 use Rattle.std.proofs.lemmas.List.{take_rest, drop_more, take_all, drop-drop}
 use Rattle.memchr.specs.Find.{NoneBefore, Nowhere, Passes, is_byte}
 use Rattle.device_runs.specs.Calls.{Call}
 use Rattle.device_runs.specs.Endings.{Ending, Done}
 use Rattle.device_runs.specs.Writes.{Written, Stops, Delivers}
-use Rattle.device_runs.proofs.WriteLemmas.{Written-append, Written-nil, Stops-after, Stops-more}
-use Rattle.device_runs.proofs.WriteLemmas.{Delivers-after}
+use Rattle.device_runs.proofs.WriteLemmas.{Written-append, Written-nil, Stops-after, Stops-more, Delivers-after}
 use Rattle.lines.specs.declared.run_error.RunError.{RunError}
 use Rattle.lines.specs.Endings.{cause}
 use Rattle.lines.specs.Lines.{Split, split, HasNoNewline}
 use Rattle.lines.specs.LineAnswers.{Started, Meaning, answers_to_later}
 use Rattle.lines.specs.Writes.{Gathers, Serves}
 use Rattle.lines.proofs.AnswersLemmas.{answers_to_later-append}
-use Rattle.lines.proofs.SplitLemmas.{HasNoNewline-append, split-HasNoNewline, split-line}
-use Rattle.lines.proofs.SplitLemmas.{split_on}
-use Rattle.lines.proofs.WriteLemmas.{Delivers-gathered, Gathers-fails, Serves-delivered}
-use Rattle.lines.proofs.WriteLemmas.{cause_fails}
+use Rattle.lines.proofs.SplitLemmas.{HasNoNewline-append, split-HasNoNewline, split-line, split_on}
+use Rattle.lines.proofs.WriteLemmas.{Delivers-gathered, Gathers-fails, Serves-delivered, cause_fails}
 
 -- the answers to these lines are gathered, and what follows goes on with a line of which `started` is
 -- read
@@ -34,8 +31,7 @@ pub record Fed {D : Type 0} (transition : D → Call → D → Type 0) (m : Mean
   pub gathered : answers_to_later m earlier lines ≡ prefix ++ waiting
 
 not_true : (b : Bool) → (b ≡ true → ⊥) → b ≡ false
-not_true true h = absurd (h refl)
-not_true false h = refl
+not_true b h = grind arith
 
 -- no byte before the first 0a is one
 HasNoNewline-take : (bytes : List ℕ) (n : ℕ)
@@ -51,10 +47,7 @@ HasNoNewline-take (x ∷ bytes) (suc n) none = (
 -- the line that 0a ends at n, and what follows
 line_parts : (started rest : List ℕ) (n : ℕ) → n < length rest → get_or rest n 0 ≡ 10
     → started ++ rest ≡ (started ++ take n rest) ++ 10 ∷ drop (n + 1) rest
-line_parts started rest n lt is =
-    ap (λ l. started ++ l) (sym (take-append-drop n rest)
-    ∙ ap (λ l. take n rest ++ l) (drop_more rest n 0 lt ∙ ap (λ b. b ∷ drop (n + 1) rest) is))
-    ∙ sym (append_assoc started (take n rest) (10 ∷ drop (n + 1) rest))
+line_parts started rest n lt is = grind (arith, take-append-drop, drop_more, append_assoc)
 
 split_on-line : (lines : List (List ℕ)) (started rest : List ℕ) (n : ℕ) → HasNoNewline started
     → n < length rest → get_or rest n 0 ≡ 10 → HasNoNewline (take n rest)
@@ -75,20 +68,14 @@ answers-more : (m : Meaning) (earlier lines : List (List ℕ))
     → waiting ++ m.answer (earlier ++ lines) line ≡ prefix' ++ waiting'
     → answers_to_later m earlier (lines ++ line ∷ []) ≡ (prefix ++ prefix') ++ waiting'
 answers-more m earlier lines line prefix waiting prefix' waiting' before here =
-    let answer = m.answer (earlier ++ lines) line in
-    answers_to_later-append m earlier lines (line ∷ [])
-    ∙ ap (λ l. answers_to_later m earlier lines ++ l) (append-nil answer)
-    ∙ ap (λ l. l ++ answer) before
-    ∙ append_assoc prefix waiting answer ∙ ap (λ l. prefix ++ l) here
-    ∙ sym (append_assoc prefix prefix' waiting')
+    grind (arith, answers_to_later-append, append-nil, append_assoc)
 
 -- one more line is counted
 counted-more : (earlier lines : List (List ℕ)) (line : List ℕ) (count count' : ℕ)
     → count ≡ length (earlier ++ lines) → count' ≡ count + 1
     → count' ≡ length (earlier ++ (lines ++ line ∷ []))
 counted-more earlier lines line count count' before more =
-    more ∙ ap (λ n. n + 1) before ∙ sym (length-append (earlier ++ lines) (line ∷ []))
-    ∙ ap length (append_assoc earlier lines (line ∷ []))
+    grind (arith, length-append, append_assoc)
 
 module _ {D : Type 0} (transition : D → Call → D → Type 0) (m : Meaning) where
   pub fed_start : (old : D) (earlier : List (List ℕ)) (start chunk waiting : List ℕ)
@@ -98,7 +85,7 @@ module _ {D : Type 0} (transition : D → Call → D → Type 0) (m : Meaning) w
   fed_start old earlier start chunk waiting count has_started shown keeps none = record {
     lines = [];
     started = start;
-    keeps = subst (λ l. Started shown count has_started l start) (sym (append-nil earlier)) keeps;
+    keeps = grind (arith, append-nil);
     same = refl;
     prefix = [];
     written = Written-nil transition old;
@@ -121,7 +108,7 @@ module _ {D : Type 0} (transition : D → Call → D → Type 0) (m : Meaning) w
           line = line;
           later = [];
           parts = refl;
-          takes = ap (λ l. m.takes_memory l line) (append-nil earlier) ∙ h.0;
+          takes = grind (arith, append-nil);
           same = refl;
         },
         subst (λ l. Written transition old l new) none h.1,
@@ -162,17 +149,11 @@ module _ {D : Type 0} (transition : D → Call → D → Type 0) (m : Meaning) w
         record {
           lines = f.lines ++ line ∷ [];
           started = [];
-          keeps = record {
-            shows = subst (λ ls. shown' ls []) (append_assoc earlier f.lines (line ∷ [])) shows;
-            counted = counted-more earlier f.lines line count count' f.keeps.counted counts;
-            begins = none_started;
-            unended = tt;
-          };
-          same = f.same ∙ split_on-line f.lines f.started rest n f.keeps.unended lt is none;
+          keeps = grind (arith, append_assoc, counted-more);
+          same = grind (arith, split_on-line);
           prefix = f.prefix ++ more.0;
           written = Written-append transition old mid new f.prefix more.0 f.written more.1;
-          gathered = answers-more m earlier f.lines line f.prefix waiting more.0
-              waiting' f.gathered more.2;
+          gathered = grind (arith, answers-more);
         }
 
     -- a write stops at a line, or memory runs out for it
@@ -190,10 +171,7 @@ module _ {D : Type 0} (transition : D → Call → D → Type 0) (m : Meaning) w
         ∙ append_assoc f.lines (line ∷ []) later in
         let all : answers_to_later m earlier (split text).ended ≡ f.prefix
         ++ ((waiting ++ answer) ++ answers) =
-        ap (answers_to_later m earlier) parts ∙ answers_to_later-append m earlier f.lines (line ∷ later)
-        ∙ ap (λ l. l ++ (answer ++ answers)) f.gathered
-        ∙ append_assoc f.prefix waiting (answer ++ answers)
-        ∙ ap (λ l. f.prefix ++ l) (sym (append_assoc waiting answer answers)) in
+        grind (arith, answers_to_later-append, append_assoc) in
         Gathers-fails transition
         (λ ending. Serves transition m old earlier (split text).ended ending new) mid new
         (m.takes_memory (earlier ++ f.lines) line) waiting answer waiting'
@@ -235,7 +213,7 @@ module _ {D : Type 0} (transition : D → Call → D → Type 0) (m : Meaning) w
         → Serves transition m old earlier (split text).ended r later
     fed_written later r d =
         let all : answers_to_later m earlier (split text).ended ≡ f.prefix ++ waiting =
-        ap (λ (c : Split). answers_to_later m earlier c.ended) fed_split ∙ f.gathered in
+        grind (arith, fed_split) in
         Serves-delivered transition m old later earlier (split text).ended r
         (subst (λ bytes. Delivers transition old bytes r later) (sym all)
         (Delivers-after transition old new later f.prefix waiting r f.written d))

@@ -1,16 +1,15 @@
 -- A run, call by call.
-use Rattle.std.proofs.Common.{◌≡◌, ◌∙◌, sym, ap, refl, subst, ℕ, ◌+◌, ◌<◌, ◌≤◌, arith, Bool, true}
-use Rattle.std.proofs.Common.{false, List, [], ◌∷◌, ◌++◌, length, Some, None, Result, Err, IfSome}
-use Rattle.std.proofs.Common.{inl, inr, ◌*◌, ◌^◌, length-append}
+use Rattle.std.proofs.Common.{◌≡◌, ◌∙◌, sym, ap, refl, subst, ℕ, ◌+◌, ◌<◌, ◌≤◌, arith, Bool, true, [], false, List, ◌∷◌}
+use Rattle.std.proofs.Common.{◌++◌, length, Some, None, Result, Err, IfSome, inl, inr, ◌*◌, ◌^◌, length-append}
 use Rattle.std.specs.Prelude.{OnOk}
 use Rattle.std.specs.Io.KnownBytes.{Appends}
 use Rattle.device_runs.specs.Calls.{Call, Reads, Writes, bytes_given, bytes_read, read_count}
-use Rattle.device_runs.specs.Endings.{Ending, Done, OutOfMemory}
+use Rattle.device_runs.specs.Endings.{Ending, OutOfMemory}
 use Rattle.device_runs.specs.Known.{Known, KnownCall}
 use Rattle.device_runs.specs.Runs.{EachFollows, Goes}
 use Rattle.device_runs.specs.Writes.{Written}
-use Rattle.device_runs.proofs.Going.{Going, going_start, going_chunk, going_end, going_write, going_ends}
-use Rattle.device_runs.proofs.Going.{going_stops, going_unread, going_all, goes_nothing}
+use Rattle.device_runs.proofs.Going.{Going, going_start, going_chunk, going_end, going_write, going_ends, going_stops}
+use Rattle.device_runs.proofs.Going.{going_unread, going_all, goes_nothing}
 use Rattle.device_runs.proofs.CallLemmas.{read_count-append}
 use Rattle.device_runs.proofs.KnownLemmas.{goes_ok}
 use Rattle.lines.specs.declared.run_error.RunError.{RunError}
@@ -18,14 +17,13 @@ use Rattle.lines.specs.declared.run_error.RunError.TheVariants.{Read, Memory, To
 use Rattle.lines.specs.declared.limits.TheConstants.{READ_SIZE_LIMIT}
 use Rattle.device_runs.specs.declared.limits.TheConstants.{READ_COUNT_LIMIT}
 use Rattle.lines.specs.Endings.{cause}
-use Rattle.lines.specs.Lines.{Split, split, last_line, ended_lines_of}
+use Rattle.lines.specs.Lines.{split, last_line, ended_lines_of}
 use Rattle.lines.specs.LineAnswers.{EndsBefore, Meaning, answers_to_later, answers_to_text, answers_to_ended}
 use Rattle.lines.specs.LineAnswers.{whole_lines_of}
-use Rattle.lines.specs.Runs.{NumbersFit, RunsBy, answer_task}
+use Rattle.lines.specs.AnswerRuns.{NumbersFit, RunsBy, answer_task}
 use Rattle.lines.specs.Writes.{Serves}
-use Rattle.lines.proofs.AnswersLemmas.{EndsBefore-after, ended-append, answers_to_ended-append}
-use Rattle.lines.proofs.AnswersLemmas.{answers_to_ended-nil, answers_to_text-parts}
-use Rattle.lines.proofs.AnswersLemmas.{whole_lines_of-nil}
+use Rattle.lines.proofs.AnswersLemmas.{EndsBefore-after, ended-append, answers_to_ended-append, answers_to_ended-nil}
+use Rattle.lines.proofs.AnswersLemmas.{answers_to_text-parts, whole_lines_of-nil}
 use Rattle.lines.proofs.SplitLemmas.{ended_count, split-append, split-nil}
 use Rattle.lines.proofs.WriteLemmas.{Serves-cases, cause_fails}
 
@@ -37,20 +35,20 @@ not_nil (x ∷ before) line later none = cc
 -- where a line is whole something was read
 some_line : {m : Meaning} (end_reported : Bool) (read written : List ℕ)
     → EndsBefore m [] (whole_lines_of end_reported read) written → read ≡ [] → ⊥
-some_line end_reported read written ends nothing =
-    not_nil ends.before ends.line ends.later
-    (sym ends.parts ∙ ap (whole_lines_of end_reported) nothing ∙ whole_lines_of-nil end_reported)
+some_line end_reported read written ends nothing = grind (arith, not_nil, whole_lines_of-nil)
 
 -- what these reads give
 few_bytes : (m : Meaning) (before calls : List Call) → EachFollows (answer_task m) before calls
     → length (bytes_read calls) ≤ READ_SIZE_LIMIT * read_count calls
 few_bytes m before [] each = omega arith
 few_bytes m before (Reads given ∷ calls) each =
-    let later = few_bytes m (before ++ Reads given ∷ []) calls each.1 in
-    let here = each.0.1 in
-    let count = read_count-append (Reads given ∷ []) calls in
-    let size = length-append (bytes_given (Reads given)) (bytes_read calls) in
-    omega arith
+    omega (
+      arith,
+      few_bytes m (before ++ Reads given ∷ []) calls each.1,
+      each.0.1,
+      read_count-append (Reads given ∷ []) calls,
+      length-append (bytes_given (Reads given)) (bytes_read calls),
+    )
 few_bytes m before (Writes bytes taken ∷ calls) each =
     few_bytes m (before ++ Writes bytes taken ∷ []) calls each.1
 
@@ -87,13 +85,8 @@ module _ {D : Type 0} (transition : D → Call → D → Type 0) (m : Meaning) w
 
   pub answered_start : (old : D) (kept : List (List ℕ) → List ℕ → Type 0) (waiting : List ℕ)
       → kept [] [] → waiting ≡ [] → Answered 0 old old kept waiting
-  answered_start old kept waiting keeps none = record {
-    came = [];
-    going = subst (λ l. Going (answer_task m) transition [] l false 0 old old)
-        (sym (answers_to_ended-nil m)) (going_start (answer_task m) transition old);
-    keeps = subst (λ (c : Split). kept c.ended c.rest) (sym split-nil) keeps;
-    none = none;
-  }
+  answered_start old kept waiting keeps none =
+      grind (arith, answers_to_ended-nil, going_start, split-nil)
 
   module _ (n : ℕ) (old mid later new : D) (kept : List (List ℕ) → List ℕ → Type 0)
       (waiting : List ℕ) (a : Answered n old mid kept waiting) where
@@ -132,12 +125,8 @@ module _ {D : Type 0} (transition : D → Call → D → Type 0) (m : Meaning) w
       answered_more more kept' waiting' keeps none = record {
         came = a.came ++ chunk;
         going =
-            subst (λ l. Going (answer_task m) transition (a.came ++ chunk) l false (n + 1) old new)
-            (sym (answers_to_ended-append m a.came chunk))
-            (going_write (answer_task m) transition (a.came ++ chunk) (answers_to_ended m a.came)
-            false
-            (n + 1) old later new after_read (answers_to_later m earlier here) more);
-        keeps = subst (λ (c : Split). kept' c.ended c.rest) (sym (split-append a.came chunk)) keeps;
+            grind (arith, answers_to_ended-append, going_write, after_read);
+        keeps = grind (arith, split-append);
         none = none;
       }
 
@@ -165,12 +154,7 @@ module _ {D : Type 0} (transition : D → Call → D → Type 0) (m : Meaning) w
       -- a last line can be numbered,
       pub answered_number : NumbersFit transition m limit old → (count : ℕ)
           → count ≡ length (ended_lines_of a.came) → count + 1 < 2 ^ 64
-      answered_number numbers count counted =
-          let reads = a.going.reads in
-          let few = numbers mid a.going.calls a.going.made a.going.each (omega arith) in
-          let came = ap length a.going.gave in
-          let lines = ended_count a.came in
-          omega arith
+      answered_number numbers count counted = grind (arith, ended_count)
 
       -- and where the end is reported, it is answered
       pub answered_end : (chunk : List ℕ) → chunk ≡ []
@@ -190,9 +174,7 @@ module _ {D : Type 0} (transition : D → Call → D → Type 0) (m : Meaning) w
           (λ is w.
           let done = going_write (answer_task m) transition read written true
           (n + 1) old later new after_read last w in
-          going_ends (answer_task m) transition limit read (written ++ last) true
-          (n + 1) old new done Done (omega arith) (done.faults, done.reports)
-          (sym (answers_to_text-parts m read)))
+          grind (arith, going_ends, answers_to_text-parts))
           (λ answers ends w. going_lacks limit read written true (n + 1) old later new after_read
           (omega arith) answers w (EndsBefore-after m [] earlier line answers ends))
           (λ fault stops. going_stops (answer_task m) transition limit read written true

@@ -1,6 +1,6 @@
 -- A run over a device in memory.
-use Rattle.std.proofs.Common.{◌≡◌, ◌∙◌, ap, subst, ℕ, ◌+◌, ◌≤◌, arith, zero, suc, List, [], ◌∷◌}
-use Rattle.std.proofs.Common.{◌++◌, ◌<◌, ◌^◌, length, length-append, Some, None, Ok, Err}
+use Rattle.std.proofs.Common.{◌≡◌, ◌∙◌, ap, subst, ℕ, ◌+◌, ◌≤◌, arith, zero, suc, List, ◌∷◌, [], ◌++◌, ◌<◌, ◌^◌, length}
+use Rattle.std.proofs.Common.{length-append, Some, None, Ok, Err}
 use Rattle.device_runs.specs.declared.fault.Fault.TheVariants.{ReadFailed, NothingTaken}
 use Rattle.device_runs.specs.Calls.{Call, Reads, Writes, Makes, bytes_read, faults_of}
 use Rattle.device_runs.specs.Endings.{Ending, Done, OutOfReads}
@@ -8,21 +8,17 @@ use Rattle.device_runs.specs.Known.{Known, KnownCall, known_of}
 use Rattle.device_runs.specs.Runs.{EachFollows, Goes}
 use Rattle.device_runs.proofs.KnownLemmas.{Goes-map, goes_too_many, known_read}
 use Rattle.lines.specs.declared.run_error.RunError.{RunError}
-use Rattle.lines.specs.declared.run_error.RunError.TheVariants.{Read, WriteZero}
-use Rattle.lines.specs.declared.run_error.RunError.TheVariants.{TooManyReads}
+use Rattle.lines.specs.declared.run_error.RunError.TheVariants.{Read, WriteZero, TooManyReads}
 use Rattle.lines.specs.Known.{MemoryCall}
 use Rattle.lines.specs.LineAnswers.{Meaning, answers_to_text}
-use Rattle.lines.specs.Runs.{RunsBy, answer_task}
+use Rattle.lines.specs.AnswerRuns.{RunsBy, answer_task}
 use Rattle.lines.proofs.Going.{runs_ok}
 
 -- no more bytes are read than there are
 pub memory_fits : (text rest start output : List ℕ) (calls : List Call)
     → Makes KnownCall (known_of (Some text) (Some start)) calls (known_of (Some rest) (Some output))
     → length text + 1 < 2 ^ 64 → length (bytes_read calls) + 1 < 2 ^ 64
-memory_fits text rest start output calls made few =
-    let all = ap length (known_read (known_of (Some text) (Some start))
-    (known_of (Some rest) (Some output)) calls made) in
-    omega (arith, length-append (bytes_read calls) rest)
+memory_fits text rest start output calls made few = grind (arith, known_read, length-append)
 
 -- no read of a device in memory is a fault
 no_read : (a b : Known) (calls : List Call) → Makes MemoryCall a calls b
@@ -53,9 +49,7 @@ module _ (m : Meaning) where
   -- no read is a fault,
   pub memory_read : (limit : ℕ) (a b : Known) (e : RunError)
       → RunsBy MemoryCall m limit a b (Err e) → e ≡ Read → ⊥
-  memory_read limit a b e runs is =
-      let ended = subst (λ e. RunsBy MemoryCall m limit a b (Err e)) is runs in
-      no_read a b ended.calls ended.made ended.ends
+  memory_read limit a b e runs is = grind (arith, no_read)
 
   -- and no write of some bytes takes none
   no_write_zero : (before : List Call) (a b : Known) (calls : List Call)
@@ -66,16 +60,13 @@ module _ (m : Meaning) where
   no_write_zero before a b (Reads (Some bytes) ∷ calls) each made faults =
       no_write_zero (before ++ Reads (Some bytes) ∷ []) made.0 b calls each.1 made.2 faults
   no_write_zero before a b (Writes bytes None ∷ calls) each made faults = cc
-  no_write_zero before a b (Writes bytes (Some zero) ∷ calls) each made faults = let some =
-      each.0.1 in let none = made.1.1 in omega arith
+  no_write_zero before a b (Writes bytes (Some zero) ∷ calls) each made faults = grind arith
   no_write_zero before a b (Writes bytes (Some (suc n)) ∷ calls) each made faults =
       no_write_zero (before ++ Writes bytes (Some (suc n)) ∷ []) made.0 b calls each.1 made.2 faults
 
   pub memory_write_zero : (limit : ℕ) (a b : Known) (e : RunError)
       → RunsBy MemoryCall m limit a b (Err e) → e ≡ WriteZero → ⊥
-  memory_write_zero limit a b e runs is =
-      let ended = subst (λ e. RunsBy MemoryCall m limit a b (Err e)) is runs in
-      no_write_zero [] a b ended.calls ended.each ended.made ended.ends
+  memory_write_zero limit a b e runs is = grind (arith, no_write_zero)
 
   -- one read more than there are bytes reports the end
   pub memory_too_many : (text output : List ℕ) (b : Known) (e : RunError)

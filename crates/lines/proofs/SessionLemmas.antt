@@ -1,15 +1,14 @@
 -- Texts that go on, and what waits of the answers to them.
-use Rattle.std.proofs.Common.{◌≡◌, ◌∙◌, sym, ap, subst, ℕ, Bool, List, [], ◌∷◌, ◌++◌, Some, None}
-use Rattle.std.proofs.Common.{append_assoc, append-nil, arith, false, inl, inr, length, length-append}
-use Rattle.std.proofs.Common.{zero, suc, Err, Option, ◌+◌, ◌<◌, ◌≤◌, vec_capacity}
+use Rattle.std.proofs.Common.{◌≡◌, ◌∙◌, sym, ap, subst, ℕ, Bool, List, ◌∷◌, ◌++◌, Some, None, [], append_assoc}
+use Rattle.std.proofs.Common.{append-nil, arith, false, inl, inr, length, length-append, Err, Option, ◌+◌, ◌<◌, ◌≤◌}
+use Rattle.std.proofs.Common.{vec_capacity}
 use Rattle.std.specs.List.{AllByRecursion}
 use Rattle.lines.specs.Lines.{ended_lines_of, split}
 use Rattle.lines.specs.Endings.{ending_of}
 use Rattle.lines.specs.LineAnswers.{Started, Meaning}
 use Rattle.lines.specs.Writes.{Serves}
 use Rattle.lines.specs.declared.run_error.RunError.{RunError}
-use Rattle.lines.specs.declared.run_error.RunError.TheVariants.{Memory, Read, TooManyReads, Write}
-use Rattle.lines.specs.declared.run_error.RunError.TheVariants.{WriteZero}
+use Rattle.lines.specs.declared.run_error.RunError.TheVariants.{Memory, Read, TooManyReads, Write, WriteZero}
 use Rattle.device_runs.specs.Calls.{Call, Makes, Reads, Writes, bytes_written, fault_of}
 use Rattle.device_runs.specs.Writes.{Stops, TakesBytes, Written}
 use Rattle.device_runs.specs.declared.fault.Fault.{Fault}
@@ -23,13 +22,11 @@ transition s call t = Waits s.output call t.output
 
 appended : (a b : Waiting) (calls : List Call) → Makes transition a calls b
     → AllByRecursion TakesBytes calls → b.output.items ≡ a.output.items ++ bytes_written calls
-appended a b [] made each = ap (λ (w : Waiting). w.output.items) made
-    ∙ sym (append-nil a.output.items)
+appended a b [] made each = grind (arith, append-nil)
 appended a b (Reads given ∷ calls) made each = absurd each.0
 appended a b (Writes bytes None ∷ calls) made each = absurd each.0
 appended a b (Writes bytes (Some n) ∷ calls) made each =
-    appended made.0 b calls made.2 each.1 ∙ ap (λ l. l ++ bytes_written calls) made.1.1
-    ∙ append_assoc a.output.items _ (bytes_written calls)
+    grind (arith, appended made.0 b calls made.2 each.1, append_assoc)
 
 no_less : (a b : Waiting) (calls : List Call) → Makes transition a calls b
     → AllByRecursion TakesBytes calls → vec_capacity a.output ≤ vec_capacity b.output
@@ -44,27 +41,11 @@ stop_full : (mid new : Waiting) (offered : List ℕ) (taken : Option ℕ) (fault
     → transition mid (Writes offered taken) new → 0 < length offered
     → fault_of (Writes offered taken) ≡ Some fault
     → vec_capacity mid.output < length mid.output.items + length offered
-stop_full mid new offered None fault stop some is = stop
-stop_full mid new offered (Some zero) fault stop some is = absurd (omega (arith, stop.0, some))
-stop_full mid new offered (Some (suc n)) fault stop some is = cc
+stop_full mid new offered taken fault stop some is = grind arith
 
 full : (a b : Waiting) (fault : Fault) (bytes : List ℕ) → Stops transition fault a bytes b
     → vec_capacity a.output < length a.output.items + length bytes
-full a b fault bytes s =
-    let waits = appended a s.mid s.before.calls s.before.made s.before.each in
-    let long = ap length waits ∙ length-append a.output.items (bytes_written s.before.calls) in
-    let prefix = ap length s.before.whole in
-    let parts = ap length s.whole ∙ length-append s.prefix s.missing in
-    let next = ap length s.next ∙ length-append s.offered s.later in
-    omega (
-      arith,
-      no_less a s.mid s.before.calls s.before.made s.before.each,
-      stop_full s.mid b s.offered s.taken fault s.stop s.some s.is_fault,
-      long,
-      prefix,
-      parts,
-      next,
-    )
+full a b fault bytes s = grind (arith, appended, length-append, no_less, stop_full)
 
 pub runs_out_of_memory : {A : Type 0} (m : Meaning) (s : Session A) (b : Waiting)
     (earlier lines : List (List ℕ)) (e : RunError)
@@ -79,10 +60,7 @@ runs_out_of_memory m s b earlier lines TooManyReads served = absurd served
 -- what is written waits, after what waited
 pub waits_more : (a b : Waiting) (more returned all whole : List ℕ) → Written transition a more b
     → all ≡ returned ++ a.output.items → whole ≡ all ++ more → whole ≡ returned ++ b.output.items
-waits_more a b more returned all whole written waits same =
-    same ∙ ap (λ l. l ++ more) waits ∙ append_assoc returned a.output.items more
-    ∙ ap (λ l. returned ++ (a.output.items ++ l)) (sym written.whole)
-    ∙ ap (λ l. returned ++ l) (sym (appended a b written.calls written.made written.each))
+waits_more a b more returned all whole written waits same = grind (arith, append_assoc, appended)
 
 -- a line that goes on
 pub started_more : (shown : List (List ℕ) → List ℕ → Type 0) (count : ℕ) (has_started : Bool)
@@ -92,10 +70,7 @@ pub started_more : (shown : List (List ℕ) → List ℕ → Type 0) (count : �
     → Started shown count has_started (ended_lines_of text
     ++ ended_lines_of ((split text).rest ++ chunk)) (split ((split text).rest ++ chunk)).rest
     → Started shown count has_started (ended_lines_of (text ++ chunk)) (split (text ++ chunk)).rest
-started_more shown count has_started text chunk rest ended started =
-    subst (λ f. Started shown count has_started (ended_lines_of (text ++ chunk)) f) (sym rest)
-    (subst (λ e. Started shown count has_started e (split ((split text).rest ++ chunk)).rest)
-    (sym ended) started)
+started_more shown count has_started text chunk rest ended started = grind arith
 
 -- before any byte
 pub took_none : {A : Type 0} (m : Meaning) (shows : A → List (List ℕ) → List ℕ → Type 0)

@@ -1,7 +1,5 @@
 -- How a split goes on.
-use Rattle.std.proofs.Common.{◌≡◌, ◌∙◌, sym, ap, refl, ℕ, Bool, true, false, ◌==◌, List, [], ◌∷◌}
-use Rattle.std.proofs.Common.{◌++◌, ◌≤◌, length, arith, inl, inr}
-use Rattle.std.proofs.lemmas.Bool.{cases_Bool}
+use Rattle.std.proofs.Common.{◌≡◌, sym, ap, refl, ℕ, Bool, true, false, ◌==◌, List, ◌∷◌, ◌++◌, ◌≤◌, length, arith, []}
 use Rattle.lines.specs.Lines.{Split, split, with_byte, HasNoNewline}
 
 abbrev pub split_of : List (List ℕ) → List ℕ → Split
@@ -24,20 +22,12 @@ split-nil = refl
 
 with_byte-count : (b : ℕ) (lines : List (List ℕ)) (rest : List ℕ)
     → length (with_byte b lines rest).ended ≡ length lines
-with_byte-count b [] rest = refl
-with_byte-count b (line ∷ lines) rest = refl
+with_byte-count b lines rest = grind arith
 
 -- a line that 0a ends has a byte at least
 pub ended_count : (bytes : List ℕ) → length (split bytes).ended ≤ length bytes
 ended_count [] = let none = ap (λ (c : Split). length c.ended) split-nil in omega arith
-ended_count (b ∷ bytes) =
-    let later = ended_count bytes in
-    elim (cases_Bool (b == 10)) [
-      | inl is ↦ let here = ap (λ (c : Split). length c.ended) (split-end b bytes is) in omega arith
-      | inr is ↦
-          let here = ap (λ (c : Split). length c.ended) (split-other b bytes is)
-          ∙ with_byte-count b (split bytes).ended (split bytes).rest in omega arith
-    ]
+ended_count (b ∷ bytes) = grind (arith, ended_count bytes, split-end, split-other, with_byte-count)
 
 pub HasNoNewline-append : (a b : List ℕ) → HasNoNewline a → HasNoNewline b → HasNoNewline (a ++ b)
 HasNoNewline-append [] b p q = q
@@ -45,26 +35,21 @@ HasNoNewline-append (x ∷ a) b p q = (p.0, HasNoNewline-append a b p.1 q)
 
 pub split-HasNoNewline : (a : List ℕ) → HasNoNewline a → split a ≡ split_of [] a
 split-HasNoNewline [] p = split-nil
-split-HasNoNewline (x ∷ a) p = split-other x a p.0
-    ∙ ap (λ c. with_byte x c.ended c.rest) (split-HasNoNewline a p.1)
+split-HasNoNewline (x ∷ a) p = grind (arith, split-HasNoNewline a p.1, split-other)
 
 -- a line and its 0a
 pub split-line : (a b : List ℕ) → HasNoNewline a
     → split (a ++ 10 ∷ b) ≡ split_of (a ∷ (split b).ended) (split b).rest
 split-line [] b p = split-end 10 b refl
-split-line (x ∷ a) b p = split-other x (a ++ 10 ∷ b) p.0
-    ∙ ap (λ c. with_byte x c.ended c.rest) (split-line a b p.1)
+split-line (x ∷ a) b p = grind (arith, split-line a b p.1, split-other)
 
 with_byte-HasNoNewline : (x : ℕ) (lines : List (List ℕ)) (rest : List ℕ) → (x == 10) ≡ false
     → HasNoNewline rest → HasNoNewline (with_byte x lines rest).rest
-with_byte-HasNoNewline x [] rest e p = (e, p)
-with_byte-HasNoNewline x (line ∷ lines) rest e p = p
+with_byte-HasNoNewline x lines rest e p = grind arith
 
 HasNoNewline-cases : (t : Bool) (x : ℕ) (a : List ℕ) → (x == 10) ≡ t → HasNoNewline (split a).rest
     → HasNoNewline (split (x ∷ a)).rest
-HasNoNewline-cases true x a e p = rw (split-end x a e) p
-HasNoNewline-cases false x a e p = rw (split-other x a e)
-    (with_byte-HasNoNewline x (split a).ended (split a).rest e p)
+HasNoNewline-cases t x a e p = grind (arith, split-end, split-other, with_byte-HasNoNewline)
 
 -- what comes after the last 0a has none
 pub HasNoNewline-rest : (a : List ℕ) → HasNoNewline (split a).rest
@@ -78,19 +63,12 @@ split_on lines rest b = split_of (lines ++ (split (rest ++ b)).ended) (split (re
 with_byte-split_on : (x : ℕ) (lines : List (List ℕ)) (rest b : List ℕ) → (x == 10) ≡ false
     → with_byte x (split_on lines rest b).ended (split_on lines rest b).rest
     ≡ split_on (with_byte x lines rest).ended (with_byte x lines rest).rest b
-with_byte-split_on x [] rest b e = sym (split-other x (rest ++ b) e)
-with_byte-split_on x (line ∷ lines) rest b e = refl
+with_byte-split_on x lines rest b e = grind (arith, split-other)
 
 split-append-cases : (t : Bool) (x : ℕ) (a b : List ℕ) → (x == 10) ≡ t
     → split (a ++ b) ≡ split_on (split a).ended (split a).rest b
     → split (x ∷ (a ++ b)) ≡ split_on (split (x ∷ a)).ended (split (x ∷ a)).rest b
-split-append-cases true x a b e ih =
-    split-end x (a ++ b) e ∙ ap (λ c. split_of ([] ∷ c.ended) c.rest) ih
-    ∙ ap (λ c. split_on c.ended c.rest b) (sym (split-end x a e))
-split-append-cases false x a b e ih =
-    split-other x (a ++ b) e ∙ ap (λ c. with_byte x c.ended c.rest) ih
-    ∙ with_byte-split_on x (split a).ended (split a).rest b e
-    ∙ ap (λ c. split_on c.ended c.rest b) (sym (split-other x a e))
+split-append-cases t x a b e ih = grind (arith, split-end, split-other, with_byte-split_on)
 
 -- a split goes on from what comes after the last 0a
 pub split-append : (a b : List ℕ) → split (a ++ b) ≡ split_on (split a).ended (split a).rest b

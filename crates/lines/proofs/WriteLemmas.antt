@@ -1,26 +1,18 @@
 -- Answers that wait to be written, and writes.
-use Rattle.std.proofs.Common.{◌≡◌, ◌∙◌, sym, ap, refl, subst, ℕ, List, [], ◌++◌, Bool, true}
-use Rattle.std.proofs.Common.{append_assoc, append-nil}
+use Rattle.std.proofs.Common.{arith, ◌≡◌, sym, refl, subst, ℕ, List, ◌++◌, Bool, true, append_assoc, append-nil, []}
 use Rattle.device_runs.specs.declared.fault.Fault.{Fault}
 use Rattle.device_runs.specs.Calls.{Call}
 use Rattle.device_runs.specs.Endings.{Ending, Done, Stopped, OutOfMemory, OutOfReads, Refused}
 use Rattle.device_runs.specs.Writes.{Written, Stops, Delivers}
-use Rattle.device_runs.proofs.WriteLemmas.{Written-nil, Written-append, Stops-after, Stops-more}
-use Rattle.device_runs.proofs.WriteLemmas.{Delivers-after}
+use Rattle.device_runs.proofs.WriteLemmas.{Written-append, Stops-after, Stops-more, Delivers-after}
 use Rattle.lines.specs.declared.run_error.RunError.{RunError}
-use Rattle.lines.specs.declared.run_error.RunError.TheVariants.{Read, Write, WriteZero}
-use Rattle.lines.specs.declared.run_error.RunError.TheVariants.{Memory, TooManyReads}
 use Rattle.lines.specs.Endings.{cause}
 use Rattle.lines.specs.LineAnswers.{Meaning, EndsBefore, answers_to_later}
 use Rattle.lines.specs.Writes.{Gathers, Serves}
 
 -- an error isn't the ending `Done`
 pub cause_fails : (e : RunError) → cause e ≡ Done → ⊥
-cause_fails Read is = cc
-cause_fails Write is = cc
-cause_fails WriteZero is = cc
-cause_fails Memory is = cc
-cause_fails TooManyReads is = cc
+cause_fails e is = grind arith
 
 module _ {D : Type 0} (transition : D → Call → D → Type 0) where
   -- of what waits a prefix is written, and the rest is left
@@ -30,28 +22,17 @@ module _ {D : Type 0} (transition : D → Call → D → Type 0) where
     pub whole : waiting ≡ prefix ++ left
 
   pub Left-none : (a : D) (waiting left : List ℕ) → left ≡ waiting → Left a waiting left a
-  Left-none a waiting left is =
-      record { prefix = []; written = Written-nil transition a; whole = sym is }
+  Left-none a waiting left is = grind arith
 
   pub Left-all : (a b : D) (waiting left : List ℕ) → Written transition a waiting b → left ≡ []
       → Left a waiting left b
-  Left-all a b waiting left written is =
-      record {
-        prefix = waiting;
-        written = written;
-        whole = sym (ap (λ l. waiting ++ l) is ∙ append-nil waiting);
-      }
+  Left-all a b waiting left written is = grind (arith, append-nil)
 
   -- bytes are gathered,
   pub Gathers-left : (takes : Bool) (a b : D) (waiting left bytes waiting' : List ℕ)
       → Left a waiting left b → waiting' ≡ left ++ bytes
       → Gathers transition takes a waiting bytes Done waiting' b
-  Gathers-left takes a b waiting left bytes waiting' l is = (
-    l.prefix,
-    l.written,
-    ap (λ w. w ++ bytes) l.whole ∙ append_assoc l.prefix left bytes
-        ∙ ap (λ w. l.prefix ++ w) (sym is),
-  )
+  Gathers-left takes a b waiting left bytes waiting' l is = grind (arith, append_assoc)
 
   -- or memory runs out for them, and all that waits is written,
   pub Gathers-memory : (takes : Bool) (a b c : D) (waiting left bytes waiting' : List ℕ)
@@ -92,11 +73,7 @@ module _ {D : Type 0} (transition : D → Call → D → Type 0) where
         → ((fault : Fault) → Stops transition fault old (waiting ++ bytes) new → P (Stopped fault))
         → (ending : Ending ⊥) → (ending ≡ Done → ⊥)
         → Gathers transition takes old waiting bytes ending waiting' new → P ending
-    Gathers-fails takes waiting bytes waiting' memory stops Done fails g = absurd (fails refl)
-    Gathers-fails takes waiting bytes waiting' memory stops (Stopped fault) fails g = stops fault g
-    Gathers-fails takes waiting bytes waiting' memory stops OutOfMemory fails g = memory g
-    Gathers-fails takes waiting bytes waiting' memory stops OutOfReads fails g = absurd g
-    Gathers-fails takes waiting bytes waiting' memory stops (Refused reason) fails g = absurd g
+    Gathers-fails takes waiting bytes waiting' memory stops ending fails g = grind arith
 
     -- and where lines are served
     pub Serves-cases : (m : Meaning) (earlier lines : List (List ℕ)) (ending : Ending ⊥)
@@ -116,8 +93,4 @@ module _ {D : Type 0} (transition : D → Call → D → Type 0) where
   pub Serves-delivered : (m : Meaning) (old new : D) (earlier lines : List (List ℕ))
       (ending : Ending ⊥) → Delivers transition old (answers_to_later m earlier lines) ending new
       → Serves transition m old earlier lines ending new
-  Serves-delivered m old new earlier lines Done d = d
-  Serves-delivered m old new earlier lines (Stopped fault) d = d
-  Serves-delivered m old new earlier lines OutOfMemory d = absurd d
-  Serves-delivered m old new earlier lines OutOfReads d = d
-  Serves-delivered m old new earlier lines (Refused reason) d = d
+  Serves-delivered m old new earlier lines ending d = grind arith

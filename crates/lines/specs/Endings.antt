@@ -3,8 +3,7 @@ use Rattle.std.specs.Prelude.{ℕ, Result}
 use Rattle.device_runs.specs.declared.fault.Fault.TheVariants.{ReadFailed, WriteFailed, NothingTaken}
 use Rattle.device_runs.specs.Endings.{Ending, Stopped, OutOfMemory, OutOfReads, ending_by}
 use Rattle.lines.specs.declared.run_error.RunError.{RunError}
-use Rattle.lines.specs.declared.run_error.RunError.TheVariants.{Read, Write, WriteZero}
-use Rattle.lines.specs.declared.run_error.RunError.TheVariants.{Memory, TooManyReads}
+use Rattle.lines.specs.declared.run_error.RunError.TheVariants.{Read, Write, WriteZero, Memory, TooManyReads}
 
 -- no input is refused
 abbrev pub cause : RunError → Ending ⊥

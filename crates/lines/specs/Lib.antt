@@ -1,7 +1,7 @@
+pub mod AnswerRuns
 pub mod Endings
 pub mod Known
 pub mod LineAnswers
 pub mod Lines
-pub mod Runs
 pub mod Sessions
 pub mod Writes

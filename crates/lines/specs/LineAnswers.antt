@@ -1,6 +1,5 @@
 -- The answers to lines, one after another, where an answer may depend on the lines before it.
-use Rattle.std.specs.Prelude.{◌≡◌, ℕ, ◌+◌, ◌==◌, not, Bool, true, false, List, [], ◌∷◌, ◌++◌}
-use Rattle.std.specs.Prelude.{length}
+use Rattle.std.specs.Prelude.{◌≡◌, ℕ, ◌+◌, ◌==◌, not, Bool, true, false, List, [], ◌∷◌, ◌++◌, length}
 use Rattle.lines.specs.Lines.{HasNoNewline, lines_of, ended_lines_of}
 
 -- what lines mean: the answer to a line after those before it, and whether memory may run out for

@@ -1,10 +1,9 @@
 -- A text that comes in chunks, and the answers to its lines that are returned.
-use Rattle.std.specs.Prelude.{◌≡◌, ◌⊎◌, ℕ, ◌+◌, ◌^◌, ◌<◌, ◌≤◌, Bool, true, false, List, [], ◌++◌}
-use Rattle.std.specs.Prelude.{length, take, Some, None, vec_capacity}
+use Rattle.std.specs.Prelude.{◌≡◌, ◌⊎◌, ℕ, ◌+◌, ◌^◌, ◌<◌, ◌≤◌, Bool, true, false, List, [], ◌++◌, length, take, Some}
+use Rattle.std.specs.Prelude.{None, vec_capacity}
 use Rattle.std.specs.declared.vec.Vec.{Vec}
 use Rattle.lines.specs.Lines.{ended_lines_of, split}
-use Rattle.lines.specs.LineAnswers.{Started, EndsBefore, Meaning, answers_to_later, answers_to_text}
-use Rattle.lines.specs.LineAnswers.{answers_to_ended}
+use Rattle.lines.specs.LineAnswers.{Started, EndsBefore, Meaning, answers_to_later, answers_to_text, answers_to_ended}
 use Rattle.device_runs.specs.Calls.{Call, Reads, Writes}
 use Rattle.lines.specs.declared.session.Session.{Session}
 

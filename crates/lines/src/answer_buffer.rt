@@ -1,6 +1,6 @@
 //! Answers that wait to be written together.
-ghost use Rattle.std.specs.Prelude.{◌≡◌, ◌↔◌, ◌≤◌, ◌+◌, ◌++◌, ◌∷◌, ℕ, List, [], IsTrue, OnOk};
-ghost use Rattle.std.specs.Prelude.{OnErr, IfOk, MatchResult, length, take, vec_len};
+ghost use Rattle.std.specs.Prelude.{◌≡◌, ◌↔◌, ◌≤◌, ◌+◌, ◌++◌, ◌∷◌, ℕ, List, [], IsTrue, OnOk, OnErr, IfOk, MatchResult};
+ghost use Rattle.std.specs.Prelude.{length, take, vec_len};
 ghost use Rattle.device_runs.specs.Writes.{Delivers};
 ghost use Rattle.lines.specs.Endings.{ending_of};
 ghost use Rattle.lines.specs.LineAnswers.{number_after};

@@ -1,6 +1,5 @@
 //! What answers lines, one after another.
-ghost use Rattle.std.specs.Prelude.{◌≡◌, ◌≤◌, ◌++◌, ◌∷◌, ℕ, List, [], IfOk, IsTrue, MatchResult};
-ghost use Rattle.std.specs.Prelude.{length, take};
+ghost use Rattle.std.specs.Prelude.{◌≡◌, ◌≤◌, ◌++◌, ◌∷◌, ℕ, List, [], IfOk, IsTrue, MatchResult, length, take};
 ghost use Rattle.lines.specs.LineAnswers.{Meaning, number_after};
 ghost use Rattle.lines.specs.declared.limits.TheConstants.{ANSWER_CAPACITY};
 

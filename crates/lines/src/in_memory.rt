@@ -4,7 +4,7 @@ ghost use Rattle.device_runs.specs.Known.{known_of};
 ghost use Rattle.lines.specs.Known.{MemoryCall};
 ghost use Rattle.lines.specs.LineAnswers.{answers_to_text};
 
-use crate::run_lines::answer_input;
+use crate::answer_runs::run_where_numbers_fit;
 use crate::{Answerer, RunError};
 use device_runs::Device;
 use std::alloc::{AllocError, Global};
@@ -54,7 +54,7 @@ pub fn answers_by<A: Answerer + Drop>(
     };
     // Each read but the last one gives a byte at least.
     let reads = text.len() as u64 + 1;
-    match answer_input(alloc, answerer, &mut device, reads) {
+    match run_where_numbers_fit(alloc, answerer, &mut device, reads) {
         Ok(()) => Ok(device.output),
         Err(error) => match error {
             RunError::Write | RunError::Memory => Err(AllocError),

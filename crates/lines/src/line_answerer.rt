@@ -1,6 +1,5 @@
 //! Lines that come in chunks, and their answers.
-ghost use Rattle.std.specs.Prelude.{◌≡◌, ◌<◌, ◌+◌, ◌^◌, ◌++◌, ◌∷◌, ℕ, List, [], false, length};
-ghost use Rattle.std.specs.Prelude.{OnOk, IfOk};
+ghost use Rattle.std.specs.Prelude.{◌≡◌, ◌<◌, ◌+◌, ◌^◌, ◌++◌, ◌∷◌, ℕ, List, [], false, length, OnOk, IfOk};
 ghost use Rattle.lines.specs.Endings.{ending_of};
 ghost use Rattle.lines.specs.Lines.{HasNoNewline, last_line, split};
 ghost use Rattle.lines.specs.LineAnswers.{Started};

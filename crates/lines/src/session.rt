@@ -1,6 +1,6 @@
 //! Lines that come in chunks.
-ghost use Rattle.std.specs.Prelude.{◌≡◌, ◌≤◌, ◌<◌, ◌+◌, ◌++◌, ℕ, List, [], true, false, length};
-ghost use Rattle.std.specs.Prelude.{drop, take, IfOk, OnOk, OnErr};
+ghost use Rattle.std.specs.Prelude.{◌≡◌, ◌≤◌, ◌<◌, ◌+◌, ◌++◌, ℕ, List, [], true, false, length, drop, take, IfOk, OnOk};
+ghost use Rattle.std.specs.Prelude.{OnErr};
 ghost use Rattle.lines.specs.Lines.{ended_lines_of, last_line, split};
 ghost use Rattle.lines.specs.Sessions.{IsWrittenOut, RunsOut, Took, Waits, answers};
 

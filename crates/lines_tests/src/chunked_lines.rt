@@ -13,19 +13,14 @@ enum Requested<'l> {
     Nothing,
 }
 
+#[rattlefmt::skip]
 const LINES: [(&[u8], Requested<'static>); 16] = [
     (b"frame 0 00", Requested::Frame(0, &[0])),
-    (
-        b"frame 4294967295 0A90ff",
-        Requested::Frame(4_294_967_295, &[0x0a, 0x90, 0xff]),
-    ),
+    (b"frame 4294967295 0A90ff", Requested::Frame(4_294_967_295, &[0x0a, 0x90, 0xff])),
     (b"frame 0000000000 7f", Requested::Frame(0, &[0x7f])),
     (b"forget 0", Requested::Forget(0)),
     (b"forget 00000000000000000001", Requested::Forget(1)),
-    (
-        b"forget 18446744073709551615",
-        Requested::Forget(18_446_744_073_709_551_615),
-    ),
+    (b"forget 18446744073709551615", Requested::Forget(18_446_744_073_709_551_615)),
     (b"", Requested::Nothing),
     (b"frame", Requested::Nothing),
     (b"frame 0 ", Requested::Nothing),

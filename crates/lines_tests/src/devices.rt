@@ -151,11 +151,9 @@ fn each_read_is_one_read(rt: HostRuntime) {
 }
 
 // What a write can do instead of taking two bytes, and what is reported of it.
+#[rattlefmt::skip]
 const WRITES: &[(Fault, device_runs::Fault)] = &[
-    (
-        Fault::Fails(ErrorKind::Interrupted),
-        device_runs::Fault::WriteFailed,
-    ),
+    (Fault::Fails(ErrorKind::Interrupted), device_runs::Fault::WriteFailed),
     (FAILS, device_runs::Fault::WriteFailed),
     (Fault::MovesNone, device_runs::Fault::NothingTaken),
 ];

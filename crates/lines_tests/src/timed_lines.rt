@@ -6,12 +6,10 @@ use line_grammar::read_timed_line;
 // A channel, seconds, nanoseconds, and digits.
 type Parts = (u32, u32, u32, &'static [u8]);
 
+#[rattlefmt::skip]
 const LINES: [(&[u8], Option<Parts>); 11] = [
     (b"frame 0 ffff", Some((0, 0, 0, b"ffff"))),
-    (
-        b"frame 4294967295 00 1700000000 250000",
-        Some((4_294_967_295, 1_700_000_000, 250_000_000, b"00")),
-    ),
+    (b"frame 4294967295 00 1700000000 250000", Some((4_294_967_295, 1_700_000_000, 250_000_000, b"00"))),
     (b"frame 1 00 1 999999 999", Some((1, 1, 999_999_999, b"00"))),
     (b"frame 1 00 1", None),
     (b"frame 1 00 1 ", None),

@@ -1,9 +1,7 @@
 -- Fragments that wait one after another are accepted, and so is one that completes their message.
-use Rattle.std.proofs.Common.{◌≡◌, ◌∙◌, ap, refl, sym, List, [], ◌∷◌, ◌++◌, append-nil, append_assoc}
-use Rattle.std.proofs.Common.{None}
+use Rattle.std.proofs.Common.{arith, ◌≡◌, refl, sym, List, ◌∷◌, ◌++◌, append-nil, append_assoc, None, []}
 use Rattle.etherparse.specs.declared.defrag.overlap_rule.OverlapRule.{OverlapRule}
-use Rattle.etherparse.specs.Fragments.{Fragment, IsAccepted, refusal_of, with_accepted}
-use Rattle.etherparse.specs.Fragments.{with_all_accepted}
+use Rattle.etherparse.specs.Fragments.{Fragment, IsAccepted, refusal_of, with_accepted, with_all_accepted}
 use Rattle.etherparse.proofs.Found.{accepted_is}
 use Rattle.netlines.proofs.ShapeLemmas.{waits_if}
 use Rattle.netlines.proofs.WaitingLemmas.{AllWait}
@@ -13,9 +11,13 @@ module _ (rule : OverlapRule) where
       → with_all_accepted rule before fs ≡ before ++ fs
   accepted_waiting before [] wait = sym (append-nil before)
   accepted_waiting before (f ∷ fs) wait =
-      let taken = (waits_if rule before f (before ++ f ∷ []) wait.0).0 in
-      ap (λ (gs : List Fragment). with_all_accepted rule gs fs) (accepted_is rule before f taken)
-      ∙ accepted_waiting (before ++ f ∷ []) fs wait.1 ∙ append_assoc before (f ∷ []) fs
+      grind (
+        arith,
+        accepted_waiting (before ++ f ∷ []) fs wait.1,
+        waits_if,
+        accepted_is,
+        append_assoc,
+      )
 
   accepted-append : (before fs gs : List Fragment) → with_all_accepted rule before (fs ++ gs)
       ≡ with_all_accepted rule (with_all_accepted rule before fs) gs
@@ -24,8 +26,4 @@ module _ (rule : OverlapRule) where
 
   pub all_accepted : (fs : List Fragment) (h : Fragment) → AllWait rule [] fs
       → refusal_of rule fs h ≡ None → IsAccepted rule (fs ++ h ∷ [])
-  all_accepted fs h wait taken =
-      accepted-append [] fs (h ∷ [])
-      ∙ ap (λ (gs : List Fragment). with_all_accepted rule gs (h ∷ []))
-      (accepted_waiting [] fs wait)
-      ∙ accepted_is rule fs h taken
+  all_accepted fs h wait taken = grind (arith, accepted-append, accepted_waiting, accepted_is)

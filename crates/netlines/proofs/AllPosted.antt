@@ -1,14 +1,13 @@
 -- What is held of a message, and the answers to its lines, where all frames were posted.
-use Rattle.std.proofs.Common.{◌≡◌, ◌∙◌, ap, refl, subst, sym, inl, inr, ◌⊎◌, ◌↔◌, ℕ, zero, suc, ◌+◌}
-use Rattle.std.proofs.Common.{◌<◌, ◌≤◌, Bool, true, false, cond, List, [], ◌∷◌, ◌++◌, length, map}
-use Rattle.std.proofs.Common.{None, Result, Ok, Err, arith}
-use Rattle.std.specs.Prelude.{IsTrue, codes, nat_lt, Contains}
+use Rattle.std.proofs.Common.{◌≡◌, ◌∙◌, ap, refl, subst, sym, inl, inr, ◌⊎◌, ◌↔◌, ℕ, zero, suc, ◌+◌, [], ◌<◌, ◌≤◌, Bool}
+use Rattle.std.proofs.Common.{true, false, List, ◌∷◌, ◌++◌, length, map, None, Result, Ok, Err, arith}
+use Rattle.std.specs.Prelude.{IsTrue, codes, Contains}
 use Rattle.std.specs.List.{AllByRecursion}
 use Rattle.std.proofs.lemmas.List.Elements.{recursion_from_All}
-use Rattle.etherparse.specs.Fragments.{Fragment}
-use Rattle.etherparse.specs.IpFragId.{same_name}
+use Rattle.etherparse.specs.Fragments.{Fragment, overlap_of}
+use Rattle.etherparse.specs.IpFragId.{same_name, rule_over}
 use Rattle.etherparse.specs.Outcome.{Held, Outcome, held_after, outcome}
-use Rattle.etherparse.specs.Outcome.Outcome.{Completed, Waiting}
+use Rattle.etherparse.specs.Outcome.Outcome.{Completed, Waiting, Clash}
 use Rattle.etherparse.specs.PoolCalls.{no_lists}
 use Rattle.etherparse.specs.packet.Class.{Class, FragmentName, class_of}
 use Rattle.etherparse.specs.packet.Class.Class.{Whole, Cut, Refused}
@@ -16,36 +15,28 @@ use Rattle.etherparse.specs.packet.Readable.{ReadMessage, message_at}
 use Rattle.etherparse.specs.packet.declared.err.packet.slice_error.SliceError.{SliceError}
 use Rattle.etherparse.proofs.ListElements.{AllByRecursion-push}
 use Rattle.etherparse.proofs.OutcomeLemmas.{by_outcome}
-use Rattle.line_grammar.specs.Commands.{Command, command_of}
+use Rattle.line_grammar.specs.Commands.{command_of}
 use Rattle.line_grammar.specs.Commands.Command.{Frame}
 use Rattle.netlines.specs.Answers.{answer_after, completed_answer}
-use Rattle.netlines.specs.Answers.{outcome_answer}
 use Rattle.netlines.specs.Arrivals.{HasFragment, held_after_more, held_with_line, lists_after_lines}
 use Rattle.netlines.specs.Letter.{LetterFits, name_of, fragment_class}
 use Rattle.netlines.specs.Posted.{PostedFragment, frame, is_fragmented, fragments_from, posted_frames}
-use Rattle.netlines.specs.PostedInput.{AnswersAgree, AreAllPosted, IsPostedFrame}
-use Rattle.netlines.specs.PostedInput.{IsPostedOn}
+use Rattle.netlines.specs.PostedInput.{AnswersAgree, AreAllPosted, IsPostedFrame, IsPostedOn}
 use Rattle.netlines.specs.PostRefusal.{post_refusal}
 use Rattle.netlines.specs.Sealed.{addresses_of}
 use Rattle.netlines.specs.Waiting.{ReturnsMessage, line_of_message}
 use Rattle.netlines.specs.declared.letter.Letter.{Letter}
-use Rattle.netlines.proofs.ArrivalLemmas.{class_answered, fragment_answered, held_with_fragment}
-use Rattle.netlines.proofs.ArrivalLemmas.{line_is}
+use Rattle.netlines.proofs.ArrivalLemmas.{class_answered, fragment_answered, held_with_fragment, line_is}
 use Rattle.netlines.proofs.CoverLemmas.{IsFragmentationOf, IsIn, all-in}
 use Rattle.netlines.proofs.MessageFragments.{AreFragmentsOf, IsFragmentOf, fragment_not_refused, text_is}
 use Rattle.netlines.proofs.PostedFragmentation.{fragmentation_is, pool_fragment}
-use Rattle.netlines.proofs.PostedFrames.{FragmentIsRead, RefusedIsRead, WholeIsRead, frame_is_refused}
-use Rattle.netlines.proofs.PostedFrames.{frame_is_whole}
-use Rattle.netlines.proofs.PostedFragments.{goes_from_start, is_good, posted_classes}
-use Rattle.netlines.proofs.ReplayLemmas.{waiting_returns_nothing}
+use Rattle.netlines.proofs.PostedFrames.{FragmentIsRead, RefusedIsRead, WholeIsRead, frame_is_refused, frame_is_whole}
+use Rattle.netlines.proofs.PostedFragments.{goes_from_start, posted_classes}
+use Rattle.netlines.proofs.ReplayLemmas.{waiting_returns_nothing, overlap_returns_nothing}
 use Rattle.netlines.proofs.UnrefusedLemmas.{carried_whole, unrefused}
 use Rattle.etherparse.specs.declared.defrag.overlap_rule.OverlapRule.{OverlapRule}
 use Rattle.etherparse.specs.declared.defrag.overlap_rule.OverlapRule.TheVariants.{Refuses}
-use Rattle.etherparse.specs.IpFragId.{rule_over}
-use Rattle.etherparse.specs.Outcome.Outcome.{Clash}
-use Rattle.etherparse.specs.Fragments.{overlap_of}
 use Rattle.netlines.proofs.InertLemmas.{refuses_if}
-use Rattle.netlines.proofs.ReplayLemmas.{overlap_returns_nothing}
 
 pub is_in : {X : Type 0} (xs : List X) (x : X) → Contains xs x → IsIn x xs
 is_in [] x (k, below, is) = absurd (omega arith)
@@ -71,14 +62,7 @@ module _ (letter : Letter) (message cuts : List ℕ)
   parts = map pool_fragment (fragments_from 0 cuts message)
 
   not_empty : 0 < length message
-  not_empty = elim cuts as (λ (cs : List ℕ). post_refusal letter message cs ≡ None
-      → is_fragmented cs ≡ true → 0 < length message) [
-        | [] ↦ λ sent cut. cc
-        | first ∷ later ↦ λ sent cut.
-            let good = is_good _ (length message) 0 first later message
-            (goes_from_start letter message (first ∷ later) sent cut) in
-            omega (arith, good.within)
-      ] sent cut
+  not_empty = grind arith
 
   pub fragmentation : IsFragmentationOf message parts
   fragmentation = fragmentation_is message _ cuts (goes_from_start letter message cuts sent cut) not_empty
@@ -103,9 +87,7 @@ fragment_of_frame letter message cuts bytes among =
 each_class : (h : PostedFragment → List ℕ) (g : PostedFragment → Class) (ps : List PostedFragment)
     → map class_of (map h ps) ≡ map g ps → (p : PostedFragment) → IsIn p ps → class_of (h p) ≡ g p
 each_class h g [] is p in' = absurd in'
-each_class h g (q ∷ ps) is p (inl here) =
-    let first : class_of (h q) ≡ g q = cc in
-    subst (λ (x : PostedFragment). class_of (h x) ≡ g x) here first
+each_class h g (q ∷ ps) is p (inl here) = grind arith
 each_class h g (q ∷ ps) is p (inr there) =
     let rest : map class_of (map h ps) ≡ map g ps = cc in each_class h g ps rest p there
 
@@ -120,9 +102,7 @@ class_is letter law fits message cuts sent cut =
 -- an uncut message has one frame
 one_frame : (letter : Letter) (message bytes : List ℕ) → IsPostedFrame letter message [] bytes
     → frame letter false (record { offset = 0; more = false; text = message }) ≡ bytes
-one_frame letter message bytes posted =
-    elim (is_in (posted_frames letter message []) bytes posted.among)
-    [ inl is ↦ is | inr is ↦ absurd is ]
+one_frame letter message bytes posted = grind arith
 
 module _ (letter : Letter) (whole : WholeIsRead) (refused : RefusedIsRead)
     (message bytes : List ℕ) (posted : IsPostedFrame letter message [] bytes) where
@@ -197,15 +177,13 @@ module _ (sent : FragmentName → ℕ → List ℕ) where
         let text : p.posted_fragment.text ≡ f.bytes = cc in
         let same_fragment_of : pool_fragment p.posted_fragment ≡ f =
         λ i. record { offset = offset i; more = more i; bytes = text i } in
-        let message_is : message ≡ own = sym (one refl) ∙ ap (λ n. sent n channel) named in
+        let message_is : message ≡ own = grind arith in
         let posted_fragment : IsFragmentOf message (pool_fragment p.posted_fragment) =
         all-in (IsFragmentOf message) (parts letter message cuts posted.posted refl)
         (pool_fragment p.posted_fragment) (fragmentation letter message cuts posted.posted refl).fragments
         (in_map pool_fragment (fragments_from 0 cuts message) p.posted_fragment p.is_posted_fragment) in (
-          subst (λ (m : List ℕ). IsFragmentOf m f) message_is
-              (subst (IsFragmentOf message) same_fragment_of posted_fragment),
-          subst (λ (m : List ℕ). length m ≤ 65535) message_is
-              (is_short letter message cuts posted.posted refl),
+          grind arith,
+          grind (arith, message_is, is_short letter message cuts posted.posted refl),
         )
 
     fragment_of_line : (line : List ℕ) → IsPostedLine line → (f : Fragment)
@@ -232,13 +210,9 @@ module _ (sent : FragmentName → ℕ → List ℕ) where
               (λ taken open_end. AllByRecursion-push (IsFragmentOf own) h.fragments f all posted_fragment.0)
               (λ taken complete. tt))
           | inr (inl forgets) ↦
-              subst (λ (k : Command). AreFragmentsOf own
-              (held_with_line name channel number k h).fragments) (sym forgets.1)
-              (elim (nat_lt h.time forgets.0) as (λ (b : Bool).
-              AreFragmentsOf own (cond b (record { fragments = []; time = h.time }) h).fragments)
-              [ true ↦ tt | false ↦ all ])
+              grind arith
           | inr (inr stays) ↦
-              subst (λ (g : Held). AreFragmentsOf own g.fragments) (sym (stays number h)) all
+              grind arith
         ]
 
     fragments_after_more : (count : ℕ) (h : Held) (lines : List (List ℕ)) → ArePosted lines
@@ -284,19 +258,17 @@ module _ (sent : FragmentName → ℕ → List ℕ) where
           ⊎ (answer_after earlier line ≡ codes "refused overlap") × (rule ≡ Refuses))
       posted_fragment_answered =
           let answer = fragment_answered line name channel f has earlier in
-          elim becomes [
-            | inl is ↦ inl (answer ∙ ap (outcome_answer name) is)
-            | inr (inl is) ↦ inr (inl (answer ∙ ap (outcome_answer name) is))
-            | inr (inr is) ↦ inr (inr (answer ∙ ap (outcome_answer name) is.0, is.1))
-          ]
+          grind (arith, becomes)
 
       pub fragment_returned : ReturnsMessage (answer_after earlier line)
           → answer_after earlier line ≡ line_of_message name own
-      fragment_returned out = elim posted_fragment_answered [
-        | inl is ↦ absurd (waiting_returns_nothing (subst ReturnsMessage is out))
-        | inr (inl is) ↦ is
-        | inr (inr is) ↦ absurd (overlap_returns_nothing (subst ReturnsMessage is.0 out))
-      ]
+      fragment_returned out =
+          grind (
+            arith,
+            posted_fragment_answered,
+            waiting_returns_nothing,
+            overlap_returns_nothing,
+          )
 
   -- ---- the line of the uncut frame
 

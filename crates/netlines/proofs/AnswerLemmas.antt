@@ -1,14 +1,12 @@
 -- The list of each name after one more line, and the answer to the line.
-use Rattle.std.proofs.Common.{◌≡◌, ◌∙◌, sym, ap, refl, subst, ℕ, ◌+◌, true, List}
-use Rattle.std.proofs.Common.{[], ◌∷◌, ◌++◌, length, arith}
+use Rattle.std.proofs.Common.{◌≡◌, ◌∙◌, sym, ap, refl, subst, ℕ, ◌+◌, true, List, ◌∷◌, ◌++◌, length, arith, []}
 use Rattle.std.specs.Prelude.{IsTrue}
 use Rattle.etherparse.specs.packet.Class.{FragmentName}
 use Rattle.etherparse.specs.declared.defrag.ip_frag_id.IpFragId.{IpFragId}
 use Rattle.etherparse.specs.Outcome.{Held}
 use Rattle.etherparse.specs.PoolCalls.{Lists, ShowsLists, no_lists}
 use Rattle.etherparse.specs.ReassemblyTable.{Pool}
-use Rattle.netlines.specs.Answers.{answer_after, command_answer, command_takes_memory}
-use Rattle.netlines.specs.Answers.{answer_line_after, takes_memory}
+use Rattle.netlines.specs.Answers.{answer_after, command_answer, command_takes_memory, answer_line_after, takes_memory}
 use Rattle.netlines.specs.Arrivals.{held_after_more, held_with_line, lists_after_lines, lists_with_line}
 use Rattle.line_grammar.specs.Commands.{Command, command_of}
 use Rattle.lines.specs.LineAnswers.{number_after}
@@ -18,15 +16,11 @@ held_after_more-push : (name : FragmentName) (channel count : ℕ) (h : Held)
     → held_after_more name channel count h (lines ++ line ∷ [])
     ≡ held_with_line name channel (count + length lines + 1) (command_of line)
     (held_after_more name channel count h lines)
-held_after_more-push name channel count h [] line =
-    let e : count ≡ count + length {A = List ℕ} [] = omega arith in
-    ap (λ k. held_with_line name channel (k + 1) (command_of line) h) e
+held_after_more-push name channel count h [] line = grind arith
 held_after_more-push name channel count h (x ∷ lines) line =
     let next = held_with_line name channel (count + 1) (command_of x) h in
     let e : count + 1 + length lines ≡ count + length (x ∷ lines) = omega arith in
-    held_after_more-push name channel (count + 1) next lines line
-    ∙ ap (λ k. held_with_line name channel (k + 1) (command_of line)
-    (held_after_more name channel (count + 1) next lines)) e
+    cc (held_after_more-push name channel (count + 1) next lines line, e)
 
 -- what is held of a message after one line more
 pub held_after_lines-push : (lines : List (List ℕ)) (line : List ℕ)
@@ -35,17 +29,12 @@ pub held_after_lines-push : (lines : List (List ℕ)) (line : List ℕ)
     ≡ held_with_line name channel (number_after lines) (command_of line)
     (lists_after_lines lines name channel)
 unfolding lists_after_lines
-held_after_lines-push lines line name channel =
-    let e : 0 + length lines ≡ length lines = omega arith in
-    held_after_more-push name channel 0 (no_lists name channel) lines line
-    ∙ ap (λ k. held_with_line name channel (k + 1) (command_of line)
-    (held_after_more name channel 0 (no_lists name channel) lines)) e
+held_after_lines-push lines line name channel = grind (arith, held_after_more-push)
 
 pub lists_after_lines-push : (lines : List (List ℕ)) (line : List ℕ)
     → lists_after_lines (lines ++ line ∷ [])
     ≡ lists_with_line (lists_after_lines lines) (number_after lines) (command_of line)
-lists_after_lines-push lines line =
-    λ i name channel. held_after_lines-push lines line name channel i
+lists_after_lines-push lines line = grind (arith, held_after_lines-push)
 
 pub lists_after_lines-nil : lists_after_lines [] ≡ no_lists
 unfolding lists_after_lines
@@ -79,9 +68,7 @@ module _ (old new : Pool (IpFragId ℕ) ℕ) (number : ℕ) (command : Command) 
   answered_lists shown =
       let e : lists_with_line (lists_after_lines earlier) number command
       ≡ lists_after_lines (earlier ++ line ∷ []) =
-      ap (λ (c : Command). lists_with_line (lists_after_lines earlier) number c) is
-      ∙ ap (λ k. lists_with_line (lists_after_lines earlier) k (command_of line)) numbered
-      ∙ sym (lists_after_lines-push earlier line) in
+      grind (arith, lists_after_lines-push) in
       subst (ShowsLists new) e (shown (lists_after_lines earlier) shows)
 
   -- or it is out of memory

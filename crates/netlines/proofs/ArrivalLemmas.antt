@@ -1,29 +1,23 @@
 -- What a line does to a message, and with which line a message's last fragment came.
-use Rattle.std.proofs.Common.{◌≡◌, ◌≢◌, ◌∙◌, ap, refl, subst, sym, inl, inr, ◌⊎◌, ◌↔◌, ℕ, ◌<◌, ◌≤◌}
-use Rattle.std.proofs.Common.{◌&&◌, ◌==◌, Bool, true, if◌then◌else◌, Option, None, List, []}
-use Rattle.std.proofs.Common.{◌∷◌, ◌++◌, append-nil, append_assoc}
+use Rattle.std.proofs.Common.{arith, ◌≡◌, ◌≢◌, ◌∙◌, ap, refl, subst, sym, inl, inr, ◌⊎◌, ◌↔◌, ℕ, ◌<◌, ◌≤◌, [], ◌&&◌}
+use Rattle.std.proofs.Common.{◌==◌, Bool, true, if◌then◌else◌, None, List, ◌∷◌, ◌++◌, append-nil, append_assoc}
 use Rattle.std.specs.Prelude.{IsTrue, nat_eq}
 use Rattle.std.specs.Cmp.Lexicographic.{pointwise}
-use Rattle.std.proofs.lemmas.Bool.{and_parts, cases_Bool, cases_lt, eq-eqb, eqb-true, le-ltb}
-use Rattle.std.proofs.lemmas.Bool.{lt-ltb}
+use Rattle.std.proofs.lemmas.Bool.{and_parts, cases_Bool, cases_lt, eq-eqb, eqb-true, le-ltb, lt-ltb}
 use Rattle.etherparse.specs.Fragments.{Fragment, fragment}
-use Rattle.etherparse.specs.IpFragId.{fragment_in, same_addresses, same_name}
+use Rattle.etherparse.specs.IpFragId.{fragment_in, same_addresses, same_name, rule_over}
 use Rattle.etherparse.specs.Outcome.{Held, Outcome, held_after, outcome}
-use Rattle.etherparse.specs.PoolCalls.{Lists, after_fragment, after_frame, outcome_at}
-use Rattle.etherparse.specs.PoolCalls.{retained_from}
+use Rattle.etherparse.specs.PoolCalls.{Lists, after_frame, outcome_at, retained_from}
 use Rattle.etherparse.specs.packet.Class.{Class, FragmentName, class_of}
 use Rattle.etherparse.specs.packet.declared.addresses.Addresses.{Addresses}
-use Rattle.etherparse.specs.packet.declared.addresses.Addresses.TheVariants.{V4, V6}
 use Rattle.etherparse.specs.packet.Class.Class.{Whole, Cut, Other, Refused}
 use Rattle.etherparse.proofs.OutcomeLemmas.{by_outcome}
-use Rattle.netlines.specs.Answers.{answer_after, class_answer, command_answer, outcome_answer}
-use Rattle.netlines.specs.Arrivals.{HasFragment, LastAccepted, held_with_line}
-use Rattle.netlines.specs.Arrivals.{lists_after_lines}
+use Rattle.netlines.specs.Answers.{answer_after, class_answer, outcome_answer}
+use Rattle.netlines.specs.Arrivals.{HasFragment, LastAccepted, held_with_line, lists_after_lines}
 use Rattle.line_grammar.specs.Commands.{Command, command_of}
 use Rattle.line_grammar.specs.Commands.Command.{Frame, Forget, Bad}
 use Rattle.lines.specs.LineAnswers.{number_after}
 use Rattle.netlines.proofs.AnswerLemmas.{held_after_lines-push, lists_after_lines-nil}
-use Rattle.etherparse.specs.IpFragId.{rule_over}
 
 -- a name is the same as itself
 same_bytes : (bytes : List ℕ) → pointwise nat_eq bytes bytes ≡ true
@@ -31,29 +25,18 @@ same_bytes [] = refl
 same_bytes (b ∷ bytes) = rw (eq-eqb b b refl) (same_bytes bytes)
 
 same_between : (a : Addresses) → same_addresses a a ≡ true
-same_between (V4 source destination) = rw (same_bytes source) (same_bytes destination)
-same_between (V6 source destination) = rw (same_bytes source) (same_bytes destination)
+same_between a = grind (arith, same_bytes)
 
 same_self : (name : FragmentName) (channel : ℕ)
     → (same_name name name && (channel == channel)) ≡ true
-same_self name channel =
-    rw (
-      same_bytes name.vlan_ids,
-      same_between name.addresses,
-      eq-eqb name.identification
-          name.identification refl,
-      eq-eqb name.number name.number refl,
-    )
-    (eq-eqb channel channel refl)
+same_self name channel = grind (arith, same_bytes, same_between, eq-eqb)
 
 -- the answer to the line of a frame of a class
 pub class_answered : (earlier : List (List ℕ)) (line : List ℕ) (channel : ℕ) (bytes : List ℕ)
     (class : Class) → command_of line ≡ Frame channel bytes → class_of bytes ≡ class
     → answer_after earlier line ≡ class_answer (lists_after_lines earlier) class channel
 unfolding answer_after
-class_answered earlier line channel bytes class command read =
-    ap (command_answer (lists_after_lines earlier)) command
-    ∙ ap (λ (c : Class). class_answer (lists_after_lines earlier) c channel) read
+class_answered earlier line channel bytes class command read = grind arith
 
 -- a line with a fragment of a message
 module _ (line : List ℕ) (name : FragmentName) (channel : ℕ) (f : Fragment)
@@ -72,8 +55,7 @@ module _ (line : List ℕ) (name : FragmentName) (channel : ℕ) (f : Fragment)
       → lists_after_lines (earlier ++ line ∷ []) name channel
       ≡ held_after (lists_after_lines earlier name channel) (number_after earlier)
       (outcome_at (lists_after_lines earlier) name channel f)
-  list_with_fragment earlier = held_after_lines-push earlier line name channel
-      ∙ held_with_fragment (number_after earlier) (lists_after_lines earlier name channel)
+  list_with_fragment earlier = grind (arith, held_after_lines-push, held_with_fragment)
 
   pub fragment_answered : (earlier : List (List ℕ))
       → answer_after earlier line ≡ outcome_answer name
@@ -93,11 +75,7 @@ module _ (same : (a b : FragmentName) → IsTrue (same_name a b) ↔ (a ≡ b)) 
 
   not_a_fragment : (other : ℕ) (bytes : List ℕ) (class : Class) → command_of line ≡ Frame other bytes
       → class_of bytes ≡ class → fragment_in class ≡ None → IsToMessage
-  not_a_fragment other bytes class frame as_fragment none = inr (inr (λ number h.
-      ap (λ (k : Command). held_with_line name channel number k h) frame
-      ∙ ap (λ (c : Class). after_frame name channel c number other h) as_fragment
-      ∙ ap (λ (reported : Option (FragmentName × Fragment)). after_fragment name channel
-      reported number other h) none))
+  not_a_fragment other bytes class frame as_fragment none = grind arith
 
   frame_is : (other : ℕ) (bytes : List ℕ) → command_of line ≡ Frame other bytes → (class : Class)
       → class_of bytes ≡ class → IsToMessage
@@ -109,19 +87,13 @@ module _ (same : (a b : FragmentName) → IsTrue (same_name a b) ↔ (a ≡ b)) 
               fragment offset more text,
               record {
                 bytes = bytes;
-                frame = frame ∙ ap (λ (c : ℕ). Frame c bytes) (eqb-true other channel both.1);
-                as_fragment = as_fragment ∙ ap (λ (n : FragmentName). Cut n offset more text)
-                    ((same own name).0 both.0);
+                frame = grind (arith, eqb-true);
+                as_fragment = grind arith;
               },
             )
-        | inr t ↦ inr
-            (inr (λ number h. ap (λ (k : Command). held_with_line name channel number k h) frame
-            ∙ ap (λ (c : Class). after_frame name channel c number other h) as_fragment
-            ∙ ap (λ (b : Bool). if b then held_after h number
-            (outcome (rule_over name.addresses) h.fragments (fragment offset more text)) else h) t))
+        | inr t ↦ grind arith
       ]
-  frame_is other bytes frame (Whole addresses protocol text message) as_fragment =
-      not_a_fragment other bytes _ frame as_fragment refl
+  frame_is other bytes frame (Whole addresses protocol text message) as_fragment = grind arith
   frame_is other bytes frame Other as_fragment = not_a_fragment other bytes _ frame as_fragment refl
   frame_is other bytes frame Refused as_fragment = not_a_fragment other bytes _ frame as_fragment refl
 
@@ -130,8 +102,7 @@ module _ (same : (a b : FragmentName) → IsTrue (same_name a b) ↔ (a ≡ b)) 
       elim (command_of line) as (λ (k : Command). command_of line ≡ k → IsToMessage) [
         | Frame other bytes ↦ λ frame. frame_is other bytes frame (class_of bytes) refl
         | Forget number ↦ λ is. inr (inl (number, is))
-        | Bad ↦ λ is. inr
-            (inr (λ number h. ap (λ (k : Command). held_with_line name channel number k h) is))
+        | Bad ↦ grind arith
       ] refl
 
   pub list_with_other : (earlier : List (List ℕ))
@@ -143,8 +114,7 @@ module _ (same : (a b : FragmentName) → IsTrue (same_name a b) ↔ (a ≡ b)) 
       elim line_is [
         | inl has ↦ absurd (no_fragment has.0 has.1)
         | inr (inl forgets) ↦ absurd (no_forget forgets.0 forgets.1)
-        | inr (inr stays) ↦ held_after_lines-push earlier line name channel
-            ∙ stays (number_after earlier) (lists_after_lines earlier name channel)
+        | inr (inr stays) ↦ grind (arith, held_after_lines-push)
       ]
 
 -- a `forget` line
@@ -152,20 +122,16 @@ module _ (earlier : List (List ℕ)) (line : List ℕ) (number channel : ℕ) (n
     (is : command_of line ≡ Forget number) where
   forget_is : lists_after_lines (earlier ++ line ∷ []) name channel
       ≡ retained_from number (lists_after_lines earlier name channel)
-  forget_is = held_after_lines-push earlier line name channel
-      ∙ ap (λ (k : Command). held_with_line name channel (number_after earlier) k
-      (lists_after_lines earlier name channel)) is
+  forget_is = grind (arith, held_after_lines-push)
 
   pub forgotten : (lists_after_lines earlier name channel).time < number
       → (lists_after_lines (earlier ++ line ∷ []) name channel).fragments ≡ []
-  forgotten before = ap (λ (h : Held). h.fragments) forget_is
-      ∙ rw (lt-ltb (lists_after_lines earlier name channel).time number before) refl
+  forgotten before = grind (arith, forget_is, lt-ltb)
 
   pub remembered : number ≤ (lists_after_lines earlier name channel).time
       → lists_after_lines (earlier ++ line ∷ []) name channel
       ≡ lists_after_lines earlier name channel
-  remembered from = forget_is
-      ∙ rw (le-ltb (lists_after_lines earlier name channel).time number from) refl
+  remembered from = grind (arith, forget_is, le-ltb)
 
 -- ---- the line of the fragment that was accepted last
 
@@ -185,12 +151,11 @@ module _ (same : (a b : FragmentName) → IsTrue (same_name a b) ↔ (a ≡ b))
         before = l.before;
         line = l.line;
         later = l.later ++ line ∷ [];
-        parts = ap (λ ls. ls ++ line ∷ []) l.parts
-            ∙ append_assoc l.before (l.line ∷ l.later) (line ∷ []);
+        parts = grind (arith, append_assoc);
         fragment = l.fragment;
         has_fragment = l.has_fragment;
-        last = ap (λ (h : Held). h.fragments) stays ∙ l.last;
-        time = ap (λ (h : Held). h.time) stays ∙ l.time;
+        last = grind arith;
+        time = grind arith;
       }
 
   -- or empties it,
@@ -216,8 +181,8 @@ module _ (same : (a b : FragmentName) → IsTrue (same_name a b) ↔ (a ≡ b))
         parts = refl;
         fragment = f;
         has_fragment = has;
-        last = ap (λ (h : Held). h.fragments) is;
-        time = ap (λ (h : Held). h.time) is;
+        last = cc is;
+        time = cc is;
       })
       (λ taken whole is. none_left earlier line (ap (λ (h : Held). h.fragments) is))
       (list_with_fragment line name channel f has earlier)
@@ -233,9 +198,7 @@ module _ (same : (a b : FragmentName) → IsTrue (same_name a b) ↔ (a ≡ b))
               | inr from ↦ still_last earlier line last
                   (remembered earlier line forgets.0 channel name forgets.1 from)
             ]
-        | inr (inr stays) ↦ still_last earlier line last
-            (held_after_lines-push earlier line name channel
-            ∙ stays (number_after earlier) (lists_after_lines earlier name channel))
+        | inr (inr stays) ↦ grind (arith, still_last, held_after_lines-push)
       ]
 
   last_after : (earlier lines : List (List ℕ)) → Last earlier → Last (earlier ++ lines)

@@ -1,24 +1,20 @@
 -- Fragments of which one has a changed word make texts that differ in this word at most.
-use Rattle.std.proofs.Common.{◌≡◌, ◌∙◌, ap, refl, subst, sym, inl, inr, ◌⊎◌, ℕ, ◌+◌, ◌-◌, ◌%◌, ◌<◌, ◌≤◌}
-use Rattle.std.proofs.Common.{true, false, Option, Some, None, unwrap_or, List, [], ◌∷◌}
-use Rattle.std.proofs.Common.{◌++◌, length, get_or, take, drop, arith, append_assoc, length-append}
+use Rattle.std.proofs.Common.{◌≡◌, ◌∙◌, ap, refl, subst, sym, inl, inr, ◌⊎◌, ℕ, ◌+◌, ◌-◌, ◌%◌, ◌<◌, ◌≤◌, [], true}
+use Rattle.std.proofs.Common.{false, Option, Some, None, unwrap_or, List, ◌∷◌, ◌++◌, length, get_or, take, drop, arith}
+use Rattle.std.proofs.Common.{append_assoc, length-append}
 use Rattle.std.specs.Prelude.{All}
 use Rattle.std.specs.List.{AllZip, list_any}
 use Rattle.std.specs.Option.{option_or}
-use Rattle.std.proofs.lemmas.Bool.{cases_Bool, cases_eq, cases_lt, false_from_ne_true, or_parts}
-use Rattle.std.proofs.lemmas.Bool.{true≢false}
+use Rattle.std.proofs.lemmas.Bool.{cases_Bool, cases_eq, cases_lt, false_from_ne_true, or_parts, true≢false}
 use Rattle.std.proofs.lemmas.Bool.Decides.{nat_tests}
-use Rattle.std.proofs.lemmas.List.{get_or-append_right, get_or_append_left, get_or-drop}
-use Rattle.std.proofs.lemmas.List.{get_or-take, get_or_past, length-drop, length-take}
-use Rattle.std.proofs.lemmas.List.{take-append-drop}
+use Rattle.std.proofs.lemmas.List.{get_or-append_right, get_or_append_left, get_or-drop, get_or-take, get_or_past}
+use Rattle.std.proofs.lemmas.List.{length-drop, length-take, take-append-drop}
 use Rattle.std.proofs.lemmas.List.Elements.{recursion_from_All}
 use Rattle.std.proofs.lemmas.List.Folds.{Any-from_list_any, list_any-from_Any}
-use Rattle.std.proofs.lemmas.List.FromFn.{fill_by_all, get_or-map-range_with_len}
-use Rattle.std.proofs.lemmas.List.FromFn.{length-map-range_with_len}
+use Rattle.std.proofs.lemmas.List.FromFn.{fill_by_all, get_or-map-range_with_len, length-map-range_with_len}
 use Rattle.etherparse.specs.base.Bytes.{IsBytes}
 use Rattle.etherparse.specs.base.Sum.{total}
-use Rattle.etherparse.specs.Fragments.{AgreesWith, Fragment, Holds, end_of, holds, named_end}
-use Rattle.etherparse.specs.Fragments.{start_of}
+use Rattle.etherparse.specs.Fragments.{AgreesWith, Fragment, Holds, end_of, holds, named_end, start_of}
 use Rattle.etherparse.specs.FragmentBytes.{byte_at, byte_of, text_of}
 use Rattle.etherparse.proofs.ListElements.{AnyOf, AnyOf-from_Any, AnyOf-right, Any-from_AnyOf}
 use Rattle.etherparse.proofs.Push.{byte_of-here}
@@ -39,8 +35,7 @@ same_word : (xs ys : List ℕ) → length xs ≡ length ys → length xs ≤ 2 �
     → total xs ≡ total ys → xs ≡ ys
 unfolding total
 same_word [] [] size short bytes others same = refl
-same_word (a ∷ []) (c ∷ []) size short bytes others same =
-    let first : a ≡ c = omega arith in ap (λ (x : ℕ). x ∷ []) first
+same_word (a ∷ []) (c ∷ []) size short bytes others same = grind arith
 same_word (a ∷ b ∷ []) (c ∷ d ∷ []) size short bytes others same =
     let first : a ≡ c = omega (arith, bytes 1, others 1) in
     let second : b ≡ d = omega (arith, bytes 1, others 1) in
@@ -65,18 +60,10 @@ module _ (position : ℕ) (xs ys : List ℕ) (even : position % 2 ≡ 0) (size :
 
   parts_of : (zs : List ℕ)
       → take position zs ++ take 2 (drop position zs) ++ drop 2 (drop position zs) ≡ zs
-  parts_of zs =
-      append_assoc (take position zs) (take 2 (drop position zs)) (drop 2 (drop position zs))
-      ∙ ap (λ (t : List ℕ). take position zs ++ t) (take-append-drop 2 (drop position zs))
-      ∙ take-append-drop position zs
+  parts_of zs = grind (arith, append_assoc, take-append-drop)
 
   same_prefix : take position ys ≡ take position xs
-  same_prefix = same_list (take position ys) (take position xs)
-      (omega (arith, length-take position ys, length-take position xs, size))
-      (λ k below.
-      let low : k < position = omega (arith, length-take position ys) in
-      get_or-take position ys k 0 low ∙ sym (agree k (λ e. omega arith) (λ e. omega arith))
-      ∙ sym (get_or-take position xs k 0 low))
+  same_prefix = grind (arith, same_list, length-take, get_or-take)
 
   same_rest : drop 2 (drop position ys) ≡ drop 2 (drop position xs)
   same_rest = same_list (drop 2 (drop position ys)) (drop 2 (drop position xs))
@@ -112,13 +99,7 @@ module _ (position : ℕ) (xs ys : List ℕ) (even : position % 2 ≡ 0) (size :
 
   word_size : position < length xs → (length (take 2 (drop position xs)) ≡ 2)
       ⊎ ((length (take 2 (drop position xs)) ≡ 1) × (drop 2 (drop position xs) ≡ []))
-  word_size within = elim (cases_lt (position + 1) (length xs)) [
-    | inl two ↦ inl (omega (arith, length-take 2 (drop position xs), length-drop position xs))
-    | inr one ↦ inr (
-      omega (arith, length-take 2 (drop position xs), length-drop position xs),
-      no_rest (omega arith),
-    )
-  ]
+  word_size within = grind (arith, length-take, length-drop, no_rest)
 
   pub differ_at : DifferAt position xs ys
   differ_at =
@@ -193,23 +174,18 @@ agree_but_word xs ys words k not_first not_second =
           omega (arith, size, not_here, not_there))
 
 text_len : (fs : List Fragment) → length (text_of fs) ≡ unwrap_or (named_end fs) 0
-text_len fs = length-map-range_with_len (λ p. unwrap_or (byte_at fs p) 0) 0
-    (unwrap_or (named_end fs) 0)
+text_len fs = grind (arith, length-map-range_with_len)
 
 text_at : (fs : List Fragment) (k : ℕ) → k < unwrap_or (named_end fs) 0
     → get_or (text_of fs) k 0 ≡ unwrap_or (byte_at fs k) 0
-text_at fs k below = get_or-map-range_with_len (λ p. unwrap_or (byte_at fs p) 0) 0
-    (unwrap_or (named_end fs) 0) k k 0 below (omega arith)
+text_at fs k below = grind (arith, get_or-map-range_with_len)
 
 same_byte_at : (fs gs : List Fragment) (p : ℕ) → AllZip (λ f g. byte_of f p ≡ byte_of g p) fs gs
     → byte_at fs p ≡ byte_at gs p
 same_byte_at [] [] p all = refl
 same_byte_at [] (g ∷ gs) p all = absurd all
 same_byte_at (f ∷ fs) [] p all = absurd all
-same_byte_at (f ∷ fs) (g ∷ gs) p all =
-    let rest = same_byte_at fs gs p all.1 in
-    let here = all.0 in
-    λ i. option_or (rest i) (here i)
+same_byte_at (f ∷ fs) (g ∷ gs) p all = grind (arith, same_byte_at fs gs p all.1)
 
 -- one fragment instead of another
 pub one_changed : (R : Fragment → Fragment → Type 0) → ((h : Fragment) → R h h)
@@ -258,20 +234,7 @@ module _ (before following : List Fragment) (f g : Fragment) (same : SameShape f
   position = start_of f + length words.prefix
 
   same_at : (p : ℕ) → (p ≡ position → ⊥) → (p ≡ position + 1 → ⊥) → byte_of f p ≡ byte_of g p
-  same_at p not_first not_second =
-      let start = same_start f g same in
-      let both = same_holds f g same p in
-      elim (cases_Bool (holds f p)) [
-        | inl t ↦
-            let from : start_of f ≤ p = from_holds f p t in
-            rw (t, sym both ∙ t) (ap (λ (b : ℕ). Some b)
-            (agree_but_word f.bytes g.bytes words (p - start_of f)
-            (λ e. not_first (omega (arith, from, e))) (λ e. not_second (omega (arith, from, e)))
-            ∙ ap (λ (s : ℕ). get_or g.bytes (p - s) 0) start))
-        | inr t ↦ rw (t, sym both ∙ t) refl
-      ] where
-        from_holds : (h : Fragment) (q : ℕ) → holds h q ≡ true → start_of h ≤ q
-        from_holds h q t = grind (arith, nat_tests)
+  same_at p not_first not_second = grind (arith, same_start, same_holds, agree_but_word)
 
   abbrev with : Fragment → List Fragment
   with x = before ++ x ∷ following
@@ -280,8 +243,7 @@ module _ (before following : List Fragment) (f g : Fragment) (same : SameShape f
   len = unwrap_or (named_end (with f)) 0
 
   same_ends : named_end (with f) ≡ named_end (with g)
-  same_ends = same_named (with f) (with g)
-      (one_changed SameShape own_shape before following f g same)
+  same_ends = grind (arith, same_named, one_changed, own_shape)
 
   same_len : len ≡ unwrap_or (named_end (with g)) 0
   same_len = ap (λ (o : Option ℕ). unwrap_or o 0) same_ends
@@ -313,14 +275,7 @@ module _ (before following : List Fragment) (f g : Fragment) (same : SameShape f
       (recursion_from_All (AgreesWith (with f)) (with f) agrees) in'
 
   not_within : (k : Fragment) → IsIn k (with f) → end_of k ≡ position + 1 → position + 1 < len → ⊥
-  not_within k in' ends below =
-      let a = agreed k in' in
-      elim (cases_Bool k.more) [
-        | inl t ↦ let units = a.whole_units t in omega (arith, units, ends, even)
-        | inr t ↦
-            let named : len ≡ end_of k = ap (λ (o : Option ℕ). unwrap_or o 0) (a.end t) in
-            omega (arith, named, ends, below)
-      ]
+  not_within k in' ends below = grind (arith, agreed, even)
 
   in_following : (k : Fragment) → IsIn k following → IsIn k (with f)
   in_following k in' = AnyOf-right (λ x. x ≡ k) before (f ∷ following) (inr in')
@@ -368,23 +323,10 @@ module _ (before following : List Fragment) (f g : Fragment) (same : SameShape f
       (size : length word ≡ length words.old_word) (bytes : IsBytes word)
       (start : start_of x ≡ start_of f) (ends : unwrap_or (named_end (with x)) 0 ≡ len) where
     word_at : (i : ℕ) → i < length word → get_or x.bytes (length words.prefix + i) 0 ≡ get_or word i 0
-    word_at i below =
-        let back : (length words.prefix + i) - length words.prefix ≡ i = omega arith in
-        ap (λ (t : List ℕ). get_or t (length words.prefix + i) 0) x_is
-        ∙ get_or_append_left (words.prefix ++ word) words.rest 0 (length words.prefix + i)
-        (omega (arith, length-append words.prefix word))
-        ∙ get_or-append_right words.prefix word (length words.prefix) (length words.prefix + i) 0 refl
-        (omega arith)
-        ∙ ap (λ (k : ℕ). get_or word k 0) back
+    word_at i below = grind (arith, get_or_append_left, length-append, get_or-append_right)
 
     x_end : end_of x ≡ start_of f + length words.prefix + length word + length words.rest
-    x_end = omega (
-      arith,
-      start,
-      ap length x_is,
-      length-append (words.prefix ++ word) words.rest,
-      length-append words.prefix word,
-    )
+    x_end = grind (arith, length-append)
 
     small_at : (i : ℕ) → i < length word → list_any (λ k. holds k (position + i)) following ≡ false
         → position + i < len → get_or (text_of (with x)) (position + i) 0 < 256
@@ -413,25 +355,10 @@ module _ (before following : List Fragment) (f g : Fragment) (same : SameShape f
         (AnyOf-of (λ k. holds k position ≡ true) following k.0 k.1 first))) ∙ uncovered))
 
     two_bytes : position + 1 < len → length words.old_word ≡ 2
-    two_bytes inside = elim words.size [
-      | inl two ↦ two
-      | inr one ↦
-          let f_end : end_of f ≡ position + 1 =
-          omega (
-            arith,
-            one.0,
-            ap length one.1,
-            ap length words.old_is,
-            length-append (words.prefix ++ words.old_word) words.rest,
-            length-append words.prefix words.old_word,
-          ) in
-          absurd (not_within f in_here f_end inside)
-    ]
+    two_bytes inside = grind (arith, length-append, not_within, in_here)
 
     past : (k : ℕ) → len ≤ k → get_or (text_of (with x)) k 0 < 256
-    past k from = subst (λ (b : ℕ). b < 256)
-        (sym (get_or_past (text_of (with x)) k 0 (omega (arith, text_len (with x), ends))))
-        (omega arith)
+    past k from = grind (arith, get_or_past, text_len)
 
     some : 1 ≤ length words.old_word
     some = elim words.size [ inl two ↦ omega arith | inr one ↦ omega (arith, one.0) ]

@@ -1,30 +1,25 @@
 -- The lines of a message that came, one of them with a changed word.
-use Rattle.std.proofs.Common.{◌≡◌, ◌∙◌, ap, refl, subst, sym, ◌↔◌, ℕ, ◌+◌, ◌*◌, List, [], ◌∷◌, ◌++◌}
-use Rattle.std.proofs.Common.{length, map, arith, length-append}
+use Rattle.std.proofs.Common.{◌≡◌, ◌∙◌, ap, refl, subst, sym, ◌↔◌, ℕ, ◌+◌, ◌*◌, List, ◌∷◌, ◌++◌, [], length, map, arith}
+use Rattle.std.proofs.Common.{length-append}
 use Rattle.std.specs.Prelude.{All, IsTrue, codes}
 use Rattle.etherparse.specs.Fragments.{AgreesWith, Fragment, FragmentsAgree}
-use Rattle.etherparse.specs.IpFragId.{same_name}
+use Rattle.etherparse.specs.IpFragId.{same_name, rule_over}
 use Rattle.etherparse.specs.PoolCalls.{outcome_at}
 use Rattle.etherparse.specs.FragmentBytes.{text_of}
-use Rattle.etherparse.specs.packet.Class.{FragmentName, class_of}
-use Rattle.etherparse.specs.packet.Class.Class.{Cut}
-use Rattle.line_grammar.specs.Commands.Command.{Frame}
+use Rattle.etherparse.specs.packet.Class.{FragmentName}
 use Rattle.netlines.specs.Alone.{answers_after}
 use Rattle.netlines.specs.Answers.{answer_after, outcome_answer}
 use Rattle.netlines.specs.Arrivals.{HasFragment, lists_after_lines}
 use Rattle.netlines.specs.ChangedWord.{DifferAt, IsChangedFragment}
-use Rattle.netlines.specs.Waiting.{ReturnsMessage, ReturnsChanged, line_of_message, lines_for, texts_for}
-use Rattle.netlines.specs.Waiting.{waiting_lines}
+use Rattle.netlines.specs.Waiting.{ReturnsMessage, ReturnsChanged, line_of_message, lines_for, texts_for, waiting_lines}
 use Rattle.netlines.proofs.AcceptedWaiting.{all_accepted}
 use Rattle.netlines.proofs.ArrivalLemmas.{fragment_answered}
 use Rattle.netlines.proofs.ChangedFragment.{one_changed, texts_differ}
 use Rattle.netlines.proofs.ReplayLemmas.{answered_among, returned_text}
-use Rattle.netlines.proofs.ShapeLemmas.{AllSameShape, SameShape, completes_if, own_shape, same_completed}
-use Rattle.netlines.proofs.ShapeLemmas.{same_wait}
+use Rattle.netlines.proofs.ShapeLemmas.{AllSameShape, SameShape, completes_if, own_shape, same_completed, same_wait}
 use Rattle.netlines.proofs.WaitingLemmas.{AllWait, HaveFragments, HaveFragments-push, are_waiting, none_held}
 use Rattle.etherparse.specs.declared.defrag.overlap_rule.OverlapRule.{OverlapRule}
 use Rattle.etherparse.specs.declared.defrag.overlap_rule.OverlapRule.TheVariants.{Overwrites}
-use Rattle.etherparse.specs.IpFragId.{rule_over}
 use Rattle.etherparse.specs.Outcome.{outcome}
 use Rattle.etherparse.specs.Outcome.Outcome.{Completed}
 
@@ -33,8 +28,7 @@ waits_alike : (xs ys : List (List ℕ)) → length xs ≡ length ys
 waits_alike [] [] size = refl
 waits_alike [] (y ∷ ys) size = absurd (omega arith)
 waits_alike (x ∷ xs) [] size = absurd (omega arith)
-waits_alike (x ∷ xs) (y ∷ ys) size =
-    ap (λ (ws : List (List ℕ)). codes "wait" ∷ ws) (waits_alike xs ys (omega arith))
+waits_alike (x ∷ xs) (y ∷ ys) size = grind (arith, waits_alike xs ys (omega arith))
 
 -- the last of fragments of the same shapes
 record ShapedLast (fs : List Fragment) (h : Fragment) (ks : List Fragment) : Type 0 where
@@ -69,15 +63,7 @@ module _ (same : (a b : FragmentName) → IsTrue (same_name a b) ↔ (a ≡ b)) 
   -- a line has one fragment
   same_fragment : (line : List ℕ) (f g : Fragment) → HasFragment line name channel f
       → HasFragment line name channel g → f ≡ g
-  same_fragment line f g a b =
-      let frames : Frame channel a.bytes ≡ Frame channel b.bytes = sym a.frame ∙ b.frame in
-      let bytes : a.bytes ≡ b.bytes = cc in
-      let parts : Cut name f.offset f.more f.bytes ≡ Cut name g.offset g.more g.bytes =
-      sym a.as_fragment ∙ ap class_of bytes ∙ b.as_fragment in
-      let offset : f.offset ≡ g.offset = cc in
-      let more : f.more ≡ g.more = cc in
-      let text : f.bytes ≡ g.bytes = cc in
-      λ i. record { offset = offset i; more = more i; bytes = text i }
+  same_fragment line f g a b = grind arith
 
   -- the fragments around that of one line
   record InAround (prefix : List (List ℕ)) (line : List ℕ) (rest : List (List ℕ))

@@ -1,16 +1,14 @@
 -- What a changed word does to a text's sum.
-use Rattle.std.proofs.Common.{◌≡◌, ◌≢◌, ◌⊎◌, inl, inr, ◌∙◌, sym, ap, refl, ℕ, ◌+◌, ◌%◌, ◌≤◌, ◌==◌}
-use Rattle.std.proofs.Common.{◌&&◌, not, Bool, true, false, List, [], ◌∷◌, ◌++◌, length, get_or}
-use Rattle.std.proofs.Common.{subst, arith, append_assoc, length-append}
+use Rattle.std.proofs.Common.{◌≡◌, ◌≢◌, ◌⊎◌, inl, inr, ◌∙◌, sym, ap, refl, ℕ, ◌+◌, ◌%◌, ◌≤◌, ◌==◌, [], ◌&&◌, not, Bool}
+use Rattle.std.proofs.Common.{true, false, List, ◌∷◌, ◌++◌, length, get_or, arith, append_assoc, length-append}
 use Rattle.std.specs.Prelude.{if◌then◌else◌}
 use Rattle.std.proofs.lemmas.Bool.Decides.{nat_tests}
 use Rattle.etherparse.specs.base.Bytes.{IsBytes}
-use Rattle.etherparse.specs.base.Sum.{all_ones, total}
+use Rattle.etherparse.specs.base.Sum.{total}
 use Rattle.netlines.specs.ChangedWord.{DifferInOneWord, is_exchange, verdict_after}
 use Rattle.etherparse.specs.tcpudp.Udp.{checksum_of, length_of}
 use Rattle.etherparse.specs.packet.Readable.{ReadMessage}
-use Rattle.checksum_verdicts.specs.Verdict.{is_unchecked, verdict_by_sum, pseudo, pseudo_of, summed_bytes}
-use Rattle.checksum_verdicts.specs.Verdict.{summed_text}
+use Rattle.checksum_verdicts.specs.Verdict.{is_unchecked, verdict_by_sum, pseudo, pseudo_of, summed_bytes, summed_text}
 use Rattle.checksum_verdicts.specs.Verdict.{verdict_of}
 use Rattle.etherparse.specs.packet.declared.addresses.Addresses.{Addresses}
 use Rattle.checksum_verdicts.specs.declared.verdict.Verdict.{Verdict}
@@ -51,24 +49,19 @@ after others old new old_small new_small differ good = grind (arith, nat_tests)
 
 -- a verdict on a text that summed to all ones, when a word of it is another one
 is_good : (b : Bool) → (if b then verdict.Good else verdict.Bad) ≡ verdict.Good → b ≡ true
-is_good true is = refl
-is_good false is = cc
+is_good b is = grind arith
 
 short_word : (word rest : List ℕ) → (length word ≡ 2)
     ⊎ ((length word ≡ 1) × (rest ≡ [])) → length word ≤ 2
-short_word word rest (inl two) = omega arith
-short_word word rest (inr one) = omega (arith, one.0)
+short_word word rest h = grind arith
 
 same_word : (old new rest : List ℕ) → length new ≡ length old → (length old ≡ 2)
     ⊎ ((length old ≡ 1) × (rest ≡ [])) → (length new ≡ 2) ⊎ ((length new ≡ 1) × (rest ≡ []))
-same_word old new rest same (inl two) = inl (same ∙ two)
-same_word old new rest same (inr one) = inr (same ∙ one.0, one.1)
+same_word old new rest same h = grind (arith, nat_tests)
 
 following : (pseudo prefix word rest : List ℕ)
     → pseudo ++ (prefix ++ word ++ rest) ≡ pseudo ++ prefix ++ word ++ rest
-following pseudo prefix word rest =
-    sym (append_assoc pseudo (prefix ++ word) rest)
-    ∙ ap (λ (xs : List ℕ). xs ++ rest) (sym (append_assoc pseudo prefix word))
+following pseudo prefix word rest = grind (arith, append_assoc)
 
 -- a text whose word is changed, after a pseudo header of whole words
 pub judged_after : (pseudo old new : List ℕ) → length pseudo % 2 ≡ 0
@@ -81,23 +74,16 @@ judged_after pseudo old new even words good =
     let others : ℕ = total (prefix ++ words.rest) in
     let new_size = same_word words.old_word words.new_word words.rest words.same_size words.size in
     let old_total : total (pseudo ++ old) ≡ others + total words.old_word =
-    ap total (ap (λ (xs : List ℕ). pseudo ++ xs) words.old_is
-    ∙ following pseudo words.prefix words.old_word words.rest)
-    ∙ total-word prefix words.old_word words.rest aligned words.size in
+    grind (arith, following, total-word) in
     let new_total : total (pseudo ++ new) ≡ others + total words.new_word =
-    ap total (ap (λ (xs : List ℕ). pseudo ++ xs) words.new_is
-    ∙ following pseudo words.prefix words.new_word words.rest)
-    ∙ total-word prefix words.new_word words.rest aligned new_size in
+    grind (arith, following, total-word) in
     let was : sums (others + total words.old_word) ≡ true =
-    ap sums (sym old_total) ∙ is_good (all_ones (pseudo ++ old)) good in
+    grind arith in
     let is = after others (total words.old_word) (total words.new_word)
     (total-small words.old_word (short_word words.old_word words.rest words.size) words.old_bytes)
     (total-small words.new_word (short_word words.new_word words.rest new_size) words.new_bytes)
     words.differ was in
-    ap (λ (b : Bool). if b then verdict.Good else verdict.Bad)
-    (ap sums new_total ∙ is
-    ∙ ap (λ (t : ℕ). is_exchange (total words.old_word) (total words.new_word)
-    && not (t == 0)) (sym new_total))
+    grind arith
 
 -- the fields of UDP that a changed word elsewhere leaves as they are
 abbrev pub IsKept : List ℕ → List ℕ → Type 0
@@ -124,10 +110,8 @@ kept_pair (a ∷ b ∷ []) p q r s rest even at_length at_checksum = (refl, refl
 kept_pair (a ∷ b ∷ c ∷ []) p q r s rest even at_length at_checksum = absurd (omega arith)
 kept_pair (a ∷ b ∷ c ∷ d ∷ []) p q r s rest even at_length at_checksum = absurd (at_length refl)
 kept_pair (a ∷ b ∷ c ∷ d ∷ e ∷ []) p q r s rest even at_length at_checksum = absurd (omega arith)
-kept_pair (a ∷ b ∷ c ∷ d ∷ e ∷ f ∷ []) p q r s rest even at_length at_checksum =
-    absurd (at_checksum refl)
-kept_pair (a ∷ b ∷ c ∷ d ∷ e ∷ f ∷ g ∷ []) p q r s rest even at_length at_checksum =
-    absurd (omega arith)
+kept_pair (a ∷ b ∷ c ∷ d ∷ e ∷ f ∷ []) p q r s rest even at_length at_checksum = grind arith
+kept_pair (a ∷ b ∷ c ∷ d ∷ e ∷ f ∷ g ∷ []) p q r s rest even at_length at_checksum = grind arith
 kept_pair (a ∷ b ∷ c ∷ d ∷ e ∷ f ∷ g ∷ h ∷ prefix) p q r s rest even at_length at_checksum =
     (refl, refl)
 
@@ -144,10 +128,7 @@ pub kept : (prefix old new rest : List ℕ) → length prefix % 2 ≡ 0 → leng
 kept prefix old new rest even at_length at_checksum (inl two) same long =
     let kept = kept_pair prefix (get_or old 0 0) (get_or old 1 0) (get_or new 0 0)
     (get_or new 1 0) rest even at_length at_checksum in
-    subst (λ (w : List ℕ). IsKept (prefix ++ w ++ rest) (prefix ++ old ++ rest))
-    (sym (pair new (same ∙ two)))
-    (subst (λ (w : List ℕ). IsKept (prefix ++ (get_or new 0 0 ∷ get_or new 1 0 ∷ []) ++ rest)
-    (prefix ++ w ++ rest)) (sym (pair old two)) kept)
+    grind (arith, pair)
 kept prefix old new rest even at_length at_checksum (inr one) same long =
     kept_far prefix old new rest
     (omega (
@@ -169,8 +150,7 @@ pub record IsChanged (addresses : Addresses) (message changed : ReadMessage)
 
 checked_good : (b : Bool) (v : Verdict) → (if b then verdict.None else v) ≡ verdict.Good
     → (b ≡ false) × (v ≡ verdict.Good)
-checked_good true v is = cc
-checked_good false v is = (refl, is)
+checked_good b v is = grind arith
 
 pub reported : (addresses : Addresses) (message changed : ReadMessage) (new : List ℕ)
     → length (pseudo_of addresses message) % 2 ≡ 0
@@ -191,17 +171,7 @@ reported addresses message changed new even good words is =
 
 -- a text of the same length
 pub same_len : (old new : List ℕ) (words : DifferInOneWord old new) → length new ≡ length old
-same_len old new words =
-    omega (
-      arith,
-      ap length words.old_is,
-      ap length words.new_is,
-      words.same_size,
-      length-append (words.prefix ++ words.old_word) words.rest,
-      length-append (words.prefix ++ words.new_word) words.rest,
-      length-append words.prefix words.old_word,
-      length-append words.prefix words.new_word,
-    )
+same_len old new words = grind (arith, length-append)
 
 pub nothing_after : (bytes following : List ℕ) → bytes ≡ bytes ++ following → following ≡ []
 nothing_after bytes [] is = refl

@@ -1,25 +1,24 @@
 -- The lines with frames on one channel are answered by themselves.
-use Rattle.std.proofs.Common.{◌≡◌, ◌∙◌, ap, refl, sym, inl, inr, ℕ, ◌&&◌, Bool}
-use Rattle.std.proofs.Common.{true, false, cond, List, [], ◌∷◌, ◌++◌}
+use Rattle.std.proofs.Common.{arith, ◌≡◌, ◌∙◌, ap, refl, sym, inl, inr, ℕ, ◌&&◌, Bool, [], true, false, cond, List, ◌∷◌}
+use Rattle.std.proofs.Common.{◌++◌}
+use Rattle.std.proofs.lemmas.Bool.Decides.{nat_tests}
 use Rattle.std.specs.Prelude.{◌==◌}
-use Rattle.std.proofs.lemmas.Bool.{cases_Bool, eqb-true}
+use Rattle.std.proofs.lemmas.Bool.{cases_Bool}
 use Rattle.etherparse.specs.Fragments.{Fragment, fragment}
-use Rattle.etherparse.specs.IpFragId.{same_name}
+use Rattle.etherparse.specs.IpFragId.{same_name, rule_over}
 use Rattle.etherparse.specs.Outcome.{Held, Outcome, held_after, outcome}
 use Rattle.etherparse.specs.Outcome.Outcome.{Clash, Completed, Refusal, Waiting}
 use Rattle.etherparse.specs.PoolCalls.{Lists, after_frame}
-use Rattle.etherparse.specs.packet.Class.{Class, FragmentName, class_of}
+use Rattle.etherparse.specs.packet.Class.{Class, FragmentName}
 use Rattle.etherparse.specs.packet.Class.Class.{Whole, Cut, Other, Refused}
 use Rattle.netlines.specs.Alone.{HasNoForget, answers_after, answers_to, command_on, on_channel}
-use Rattle.netlines.specs.Answers.{answer_after, class_answer, command_answer, outcome_answer}
+use Rattle.netlines.specs.Answers.{answer_after, class_answer, command_answer}
 use Rattle.netlines.specs.Arrivals.{held_with_line, lists_after_lines}
 use Rattle.line_grammar.specs.Commands.{Command, command_of}
-use Rattle.line_grammar.specs.Commands.Command.{Frame, Forget, Bad}
-use Rattle.lines.specs.LineAnswers.{number_after}
+use Rattle.line_grammar.specs.Commands.Command.{Forget}
 use Rattle.netlines.proofs.AloneLemmas.{answer_is}
 use Rattle.netlines.proofs.AnswerLemmas.{held_after_lines-push}
 use Rattle.etherparse.specs.declared.defrag.overlap_rule.OverlapRule.{OverlapRule}
-use Rattle.etherparse.specs.IpFragId.{rule_over}
 
 abbrev SameFragments : Held → Held → Type 0
 SameFragments h g = h.fragments ≡ g.fragments
@@ -56,58 +55,28 @@ command_alike : (name : FragmentName) (channel : ℕ) (command : Command) (h g :
     → command_on channel command ≡ true → SameFragments h g
     → SameFragments (held_with_line name channel n command h)
     (held_with_line name channel m command g)
-command_alike name channel (Frame other bytes) h g n m on is =
-    class_alike name channel (class_of bytes) other h g n m is
-command_alike name channel (Forget number) h g n m on is = cc
-command_alike name channel Bad h g n m on is = is
-
--- a frame on another channel
-other_stays : (b : Bool) (h next : Held) → cond (b && false) next h ≡ h
-other_stays true h next = refl
-other_stays false h next = refl
+command_alike name channel command h g n m on is = grind arith
 
 class_stays : (name : FragmentName) (channel : ℕ) (class : Class) (other : ℕ) (h : Held) (n : ℕ)
     → (other == channel) ≡ false → after_frame name channel class n other h ≡ h
-class_stays name channel (Cut own offset more bytes) other h n off =
-    let next = held_after h n
-    (outcome (rule_over name.addresses) h.fragments (fragment offset more bytes)) in
-    ap (λ (b : Bool). cond (same_name own name && b) next h) off
-    ∙ other_stays (same_name own name) h next
-class_stays name channel (Whole addresses number bytes message) other h n off = refl
-class_stays name channel Other other h n off = refl
-class_stays name channel Refused other h n off = refl
+class_stays name channel class other h n off = grind arith
 
 command_stays : (name : FragmentName) (channel : ℕ) (command : Command) (h : Held) (n : ℕ)
     → ((number : ℕ) → command ≡ Forget number → ⊥) → command_on channel command ≡ false
     → held_with_line name channel n command h ≡ h
-command_stays name channel (Frame other bytes) h n none off =
-    class_stays name channel (class_of bytes) other h n off
-command_stays name channel (Forget number) h n none off = absurd (none number refl)
-command_stays name channel Bad h n none off = refl
+command_stays name channel command h n none off = grind arith
 
 -- the answer to a frame on the channel
 class_reported : (channel : ℕ) (lists others : Lists) (class : Class)
     → ((name : FragmentName) → SameFragments (lists name channel) (others name channel))
     → class_answer lists class channel ≡ class_answer others class channel
-class_reported channel lists others (Cut own offset more bytes) same =
-    ap (λ (fs : List Fragment). outcome_answer own
-    (outcome (rule_over own.addresses) fs (fragment offset more bytes)))
-    (same own)
-class_reported channel lists others (Whole addresses number bytes message) same = refl
-class_reported channel lists others Other same = refl
-class_reported channel lists others Refused same = refl
+class_reported channel lists others class same = grind arith
 
 command_is_one_line : (channel : ℕ) (lists others : Lists) (command : Command)
     → command_on channel command ≡ true
     → ((name : FragmentName) → SameFragments (lists name channel) (others name channel))
     → command_answer lists command ≡ command_answer others command
-command_is_one_line channel lists others (Frame other bytes) on same =
-    let here = eqb-true other channel on in
-    ap (class_answer lists (class_of bytes)) here
-    ∙ class_reported channel lists others (class_of bytes) same
-    ∙ sym (ap (class_answer others (class_of bytes)) here)
-command_is_one_line channel lists others (Forget number) on same = refl
-command_is_one_line channel lists others Bad on same = refl
+command_is_one_line channel lists others command on same = grind (arith, nat_tests)
 
 module _ (channel : ℕ) where
   abbrev Alike : (earlier own : List (List ℕ)) → Type 0
@@ -125,32 +94,18 @@ module _ (channel : ℕ) where
       elim (cases_Bool (command_on channel command)) [
         | inl on ↦
             let answer : answer_after own line ≡ answer_after earlier line =
-            answer_is own line
-            ∙ command_is_one_line channel (lists_after_lines own) (lists_after_lines earlier) command on
-            same
-            ∙ sym (answer_is earlier line) in
-            let next : Alike (earlier ++ line ∷ []) (own ++ line ∷ []) = λ name.
-            ap (λ (h : Held). h.fragments) (held_after_lines-push own line name channel)
-            ∙ command_alike name channel command (lists_after_lines own name channel)
-            (lists_after_lines earlier name channel) (number_after own) (number_after earlier) on
-            (same name)
-            ∙ sym (ap (λ (h : Held). h.fragments)
-            (held_after_lines-push earlier line name channel)) in
+            grind (arith, answer_is, command_is_one_line) in
+            let next : Alike (earlier ++ line ∷ []) (own ++ line ∷ []) =
+            grind (arith, held_after_lines-push, command_alike) in
             ap (λ (b : Bool). answers_after own (cond b (line ∷ rest) rest)) on
             ∙ ap (λ (a : List ℕ). a ∷ answers_after (own ++ line ∷ []) rest) answer
             ∙ ap (λ (reported : List (List ℕ)). answer_after earlier line ∷ reported)
             (answered_alike (earlier ++ line ∷ []) (own ++ line ∷ []) lines next none.1)
             ∙ sym (ap (λ (b : Bool). cond b (answer_after earlier line ∷ later) later) on)
         | inr off ↦
-            let next : Alike (earlier ++ line ∷ []) own = λ name.
-            same name
-            ∙ sym (ap (λ (h : Held). h.fragments)
-            (held_after_lines-push earlier line name channel
-            ∙ command_stays name channel command (lists_after_lines earlier name channel)
-            (number_after earlier) none.0 off)) in
-            ap (λ (b : Bool). answers_after own (cond b (line ∷ rest) rest)) off
-            ∙ answered_alike (earlier ++ line ∷ []) own lines next none.1
-            ∙ sym (ap (λ (b : Bool). cond b (answer_after earlier line ∷ later) later) off)
+            let next : Alike (earlier ++ line ∷ []) own =
+            grind (arith, held_after_lines-push, command_stays) in
+            cc (off, answered_alike (earlier ++ line ∷ []) own lines next none.1)
       ]
 
   pub apart_by_channel : (lines : List (List ℕ)) → HasNoForget lines

@@ -1,21 +1,17 @@
 -- When the fragments of one cut of a message cover it: with the last of them, in any order and with
 -- repeats.
-use Rattle.std.proofs.Common.{◌≡◌, ◌∙◌, sym, ap, refl, subst, inl, inr, ℕ, ◌<◌, ◌≤◌, true}
-use Rattle.std.proofs.Common.{false, None, IsSome, List, [], ◌∷◌, ◌++◌, length}
-use Rattle.std.proofs.Common.{arith}
+use Rattle.std.proofs.Common.{◌≡◌, sym, refl, subst, inl, inr, ℕ, ◌<◌, ◌≤◌, true, [], false, None, IsSome, List, ◌∷◌}
+use Rattle.std.proofs.Common.{◌++◌, length, arith}
 use Rattle.std.specs.List.{AllByRecursion, Contains}
-use Rattle.std.proofs.lemmas.Bool.{cases_Bool, false_from_ne_true}
-use Rattle.etherparse.specs.Fragments.{Fragment, Holds, end_of, is_complete, named_end}
-use Rattle.etherparse.specs.Fragments.{overlaps, refusal_of, start_of}
+use Rattle.std.proofs.lemmas.Bool.{false_from_ne_true}
+use Rattle.etherparse.specs.Fragments.{Fragment, Holds, end_of, is_complete, named_end, overlaps, refusal_of, start_of}
 use Rattle.etherparse.specs.declared.defrag.overlap_rule.OverlapRule.{OverlapRule}
-use Rattle.etherparse.specs.declared.defrag.overlap_rule.OverlapRule.TheVariants.{Overwrites}
-use Rattle.etherparse.specs.declared.defrag.overlap_rule.OverlapRule.TheVariants.{Refuses}
+use Rattle.etherparse.specs.declared.defrag.overlap_rule.OverlapRule.TheVariants.{Overwrites, Refuses}
 use Rattle.etherparse.specs.Outcome.{outcome}
 use Rattle.etherparse.specs.Outcome.Outcome.{Completed}
 use Rattle.etherparse.proofs.Clash.{no_clash}
 use Rattle.etherparse.proofs.Complete.{complete_Decides}
-use Rattle.etherparse.proofs.ListElements.{AllByRecursion-push, Any-from_AnyOf, AnyOf, AnyOf-from_Any}
-use Rattle.etherparse.proofs.ListElements.{AnyOf-push}
+use Rattle.etherparse.proofs.ListElements.{AllByRecursion-push, Any-from_AnyOf, AnyOf, AnyOf-from_Any, AnyOf-push}
 use Rattle.etherparse.proofs.OutcomeLemmas.{is_completed, is_taken, is_waiting}
 use Rattle.netlines.proofs.MessageFragments.{AreFragmentsOf, IsFragmentOf, complete_to_end, greatest_within}
 use Rattle.netlines.proofs.MessageFragments.{fragment_not_refused, text_is}
@@ -64,10 +60,7 @@ pub record IsFragmentationOf (message : List ℕ) (parts : List Fragment) : Type
 named_some : (fs : List Fragment) → AnyOf (λ f. f.more ≡ false) fs → IsSome (named_end fs)
 named_some [] h = absurd h
 named_some (f ∷ fs) (inl h) = rw h refl
-named_some (f ∷ fs) (inr h) = elim (cases_Bool f.more) [
-  | inl t ↦ rw t (named_some fs h)
-  | inr t ↦ rw t refl
-]
+named_some (f ∷ fs) (inr h) = grind (arith, named_some fs h)
 
 -- each of these fragments is one of the cut
 abbrev pub AreAmong : List Fragment → List Fragment → Type 0
@@ -91,7 +84,7 @@ module _ (message : List ℕ) (short : length message ≤ 65535) (parts : List F
       (omega (arith, some, posted_fragment.within))) in
       let same : held.0 ≡ missing = cut.apart held.0 missing (start_of missing)
       (all-in (λ f. IsIn f parts) fs held.0 among held.1) as_fragment held.2 (omega arith, some) in
-      none (subst (λ (f : Fragment). IsIn f fs) same held.1))
+      grind arith)
 
   -- with all of them they do
   whole_with : (fs : List Fragment) → AreAmong parts fs
@@ -118,7 +111,7 @@ module _ (message : List ℕ) (short : length message ≤ 65535) (parts : List F
         let in' = is_in_list fs g at in
         let same : g ≡ f = cut.apart g f h.1.0
         (all-in (λ k. IsIn k parts) fs g among in') as_fragment h.1.2.4 h.1.1 in
-        h.0 (subst (λ (k : Fragment). Contains fs k) same at)
+        grind arith
     | inr h ↦
         let g = h.1.2.1 in
         let in' = is_in_list fs g (h.1.2.0, h.1.2.2, h.1.2.3) in
@@ -132,10 +125,7 @@ module _ (message : List ℕ) (short : length message ≤ 65535) (parts : List F
   fragment_accepted : (rule : OverlapRule) (fs : List Fragment) (f : Fragment) → AreAmong parts fs
       → IsIn f parts → refusal_of rule fs f ≡ None
   fragment_accepted rule fs f among as_fragment =
-      is_taken rule fs f
-      (fragment_not_refused message fs f short (are_fragments fs among)
-      (all-in (IsFragmentOf message) parts f cut.fragments as_fragment))
-      (no_overlap rule fs f among as_fragment)
+      grind (arith, is_taken, fragment_not_refused, are_fragments, all-in, no_overlap)
 
   -- so each waits while one is missing,
   wait_without : (rule : OverlapRule) (missing : Fragment) → IsIn missing parts → (before fs : List Fragment)
@@ -149,23 +139,18 @@ module _ (message : List ℕ) (short : length message ≤ 65535) (parts : List F
         | inl k ↦ not_before k
         | inr k ↦ none (inl k)
       ] in (
-        is_waiting rule before f (fragment_accepted rule before f among_before among.0)
-            (open_without missing as_fragment (before ++ f ∷ []) longer without),
+        grind (arith, is_waiting, fragment_accepted, open_without),
         wait_without rule missing as_fragment (before ++ f ∷ []) fs longer without among.1
             (λ h. none (inr h)),
       )
 
   pub all_wait : (rule : OverlapRule) (missing : Fragment) → IsIn missing parts
       → (fs : List Fragment) → AreAmong parts fs → (IsIn missing fs → ⊥) → AllWait rule [] fs
-  all_wait rule missing as_fragment fs among none =
-      wait_without rule missing as_fragment [] fs tt (λ h. h) among none
+  all_wait rule missing as_fragment fs among none = grind (arith, wait_without)
 
   -- and the last one completes the message
   pub completes : (rule : OverlapRule) (fs : List Fragment) (f : Fragment) → AreAmong parts (fs ++ f ∷ [])
       → ((g : Fragment) → IsIn g parts → IsIn g (fs ++ f ∷ [])) → AreAmong parts fs
       → IsIn f parts → outcome rule fs f ≡ Completed message
   completes rule fs f among each before as_fragment =
-      is_completed rule fs f (fragment_accepted rule fs f before as_fragment)
-      (whole_with (fs ++ f ∷ []) among each)
-      ∙ ap Completed (text_is message (fs ++ f ∷ []) (are_fragments (fs ++ f ∷ []) among)
-      (whole_with (fs ++ f ∷ []) among each))
+      grind (arith, is_completed, fragment_accepted, whole_with, text_is, are_fragments)

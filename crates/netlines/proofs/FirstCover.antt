@@ -1,12 +1,12 @@
 -- The frames of one cut of a message, in any order and with repeats: each waits until the last of
 -- them that is new has come.
-use Rattle.std.proofs.Common.{◌≡◌, ◌∙◌, ap, refl, subst, sym, inl, inr, ◌↔◌, ℕ, true, List}
-use Rattle.std.proofs.Common.{suc, [], ◌∷◌, ◌++◌, map, None, arith}
+use Rattle.std.proofs.Common.{◌≡◌, ◌∙◌, ap, refl, subst, sym, inl, inr, ◌↔◌, ℕ, true, List, [], suc, ◌∷◌, ◌++◌, map}
+use Rattle.std.proofs.Common.{None, arith}
 use Rattle.std.specs.Prelude.{IsTrue, Contains}
 use Rattle.std.specs.List.{AllByRecursion}
 use Rattle.std.proofs.lemmas.List.Elements.{All-contains, recursion_from_All}
 use Rattle.etherparse.specs.Fragments.{Fragment}
-use Rattle.etherparse.specs.IpFragId.{same_name}
+use Rattle.etherparse.specs.IpFragId.{same_name, rule_over}
 use Rattle.etherparse.specs.packet.Class.{FragmentName, class_of}
 use Rattle.etherparse.proofs.ListElements.{AllByRecursion-push}
 use Rattle.line_grammar.specs.Commands.{command_of}
@@ -19,14 +19,13 @@ use Rattle.netlines.specs.PostedInput.{HaveFrames, IsFirstCover}
 use Rattle.netlines.specs.PostRefusal.{post_refusal}
 use Rattle.netlines.specs.Waiting.{line_of_message, lines_for, texts_for, waiting_lines}
 use Rattle.netlines.specs.declared.letter.Letter.{Letter}
-use Rattle.netlines.proofs.AllPosted.{fragmentation, class_is, from_map, in_map, is_in, is_short, parts}
-use Rattle.netlines.proofs.AllPosted.{by_parts, fragment_of_frame}
+use Rattle.netlines.proofs.AllPosted.{fragmentation, class_is, from_map, in_map, is_in, is_short, parts, by_parts}
+use Rattle.netlines.proofs.AllPosted.{fragment_of_frame}
 use Rattle.netlines.proofs.CoverLemmas.{AreAmong, IsIn, all-in, all_wait, completes}
 use Rattle.netlines.proofs.PostedFragmentation.{pool_fragment}
 use Rattle.netlines.proofs.PostedFrames.{FragmentIsRead}
 use Rattle.netlines.proofs.ReplayLemmas.{AllButLast, answered_among}
 use Rattle.netlines.proofs.WaitingLemmas.{HaveFragments, none_held}
-use Rattle.etherparse.specs.IpFragId.{rule_over}
 
 contains : {X : Type 0} (xs : List X) (x : X) → IsIn x xs → Contains xs x
 contains [] x h = absurd h
@@ -39,19 +38,7 @@ map_push f [] x = refl
 map_push f (y ∷ xs) x = ap (λ ys. f y ∷ ys) (map_push f xs x)
 
 same_fragment_of : (p q : PostedFragment) → pool_fragment p ≡ pool_fragment q → p ≡ q
-same_fragment_of p q is = λ i. record {
-  offset = (is i).offset;
-  more = (is i).more;
-  text = (is i).bytes;
-}
-
-fragments_from_classes : (letter : Letter) (p q : PostedFragment)
-    → fragment_class letter p ≡ fragment_class letter q → pool_fragment p ≡ pool_fragment q
-fragments_from_classes letter p q is =
-    let offset : p.offset ≡ q.offset = cc in
-    let more : p.more ≡ q.more = cc in
-    let text : p.text ≡ q.text = cc in
-    λ i. record { offset = offset i; more = more i; bytes = text i }
+same_fragment_of p q is = grind arith
 
 module _ (letter : Letter) (message cuts : List ℕ) (law : FragmentIsRead) (fits : LetterFits letter)
     (sent : post_refusal letter message cuts ≡ None) (cut : is_fragmented cuts ≡ true) where
@@ -89,11 +76,7 @@ module _ (letter : Letter) (message cuts : List ℕ) (law : FragmentIsRead) (fit
   module _ (channel : ℕ) where
     has : (line : List ℕ) (p : PostedFragment) → IsIn p fragments → command_of line ≡ Frame channel (of p)
         → HasFragment line (name_of letter) channel (pool_fragment p)
-    has line p in' frame_is = record {
-      bytes = of p;
-      frame = frame_is;
-      as_fragment = class_is letter law fits message cuts sent cut p in';
-    }
+    has line p in' frame_is = grind (arith, class_is)
 
     have_fragments : (same : (a b : FragmentName) → IsTrue (same_name a b) ↔ (a ≡ b))
         (lines : List (List ℕ)) (ps : List PostedFragment) → AllByRecursion (λ p. IsIn p fragments) ps
@@ -126,17 +109,13 @@ module _ (letter : Letter) (message cuts : List ℕ) (law : FragmentIsRead) (fit
         let all_fragments = parts letter message cuts sent cut in
         let as_fragment : IsIn f all_fragments = in_map pool_fragment fragments p.posted_fragment p.is_posted_fragment in
         let among = among_fragments before.ps before.among in
-        let new : IsIn f fs → ⊥ = λ h.
-        let q = from_map pool_fragment before.ps f h in
-        cover.new (contains came last (subst (λ (xs : List (List ℕ)). IsIn last xs) before.are
-        (subst (λ (x : List ℕ). IsIn x (map of before.ps)) p.frame_is
-        (in_map of before.ps p.posted_fragment
-        (subst (λ (r : PostedFragment). IsIn r before.ps) (same_fragment_of q.0 p.posted_fragment q.2) q.1))))) in
+        let new : IsIn f fs → ⊥ =
+        grind (arith, from_map, pool_fragment, contains, in_map, same_fragment_of) in
         let ps : List PostedFragment = before.ps ++ p.posted_fragment ∷ [] in
         let ps_among : AllByRecursion (λ r. IsIn r fragments) ps =
         AllByRecursion-push (λ r. IsIn r fragments) before.ps p.posted_fragment before.among p.is_posted_fragment in
         let ps_are : map of ps ≡ came ++ last ∷ [] =
-        map_push of before.ps p.posted_fragment ∙ (λ i. before.are i ++ p.frame_is i ∷ []) in
+        grind (arith, map_push) in
         let each : (g : Fragment) → IsIn g all_fragments → IsIn g (fs ++ f ∷ []) = λ g in'.
         let q = from_map pool_fragment fragments g in' in
         let arrived : Contains (came ++ last ∷ []) (of q.0) =
@@ -149,7 +128,7 @@ module _ (letter : Letter) (message cuts : List ℕ) (law : FragmentIsRead) (fit
         let classes : fragment_class letter r.0 ≡ fragment_class letter q.0 =
         sym (class_is letter law fits message cuts sent cut r.0 r_in) ∙ ap class_of r.2
         ∙ class_is letter law fits message cuts sent cut q.0 q.1 in
-        let same_as : pool_fragment r.0 ≡ g = fragments_from_classes letter r.0 q.0 classes ∙ q.2 in
+        let same_as : pool_fragment r.0 ≡ g = grind arith in
         subst (λ (xs : List Fragment). IsIn g xs) (map_push pool_fragment before.ps p.posted_fragment)
         (subst (λ (x : Fragment). IsIn x (map pool_fragment ps)) same_as (in_map pool_fragment ps r.0 r.1)) in
         let longer : AreAmong all_fragments (fs ++ f ∷ []) =

@@ -1,34 +1,26 @@
 -- The answer to a fragment, by what the pool returns.
-use Rattle.std.proofs.Common.{inl, inr, ◌≡◌, ◌∙◌, sym, ap, subst, refl, ℕ, Bool, true, Option}
-use Rattle.std.proofs.Common.{None, Result, is_some, List, []}
+use Rattle.std.proofs.Common.{refl, arith, inl, inr, ◌≡◌, ◌∙◌, sym, ap, subst, ℕ, Bool, true, Option, None, Result}
+use Rattle.std.proofs.Common.{List, []}
 use Rattle.std.specs.Prelude.{codes}
-use Rattle.etherparse.specs.Fragments.{fragment}
-use Rattle.etherparse.specs.Outcome.{Outcome}
-use Rattle.etherparse.specs.Outcome.Outcome.{Completed, Refusal, Waiting}
+use Rattle.etherparse.specs.Fragments.{fragment, Fragment}
 use Rattle.etherparse.specs.declared.defrag.ip_defrag_error.IpDefragError.{IpDefragError}
 use Rattle.etherparse.specs.declared.defrag.ip_defrag_payload_vec.IpDefragPayloadVec.{IpDefragPayloadVec}
 use Rattle.etherparse.specs.declared.defrag.ip_frag_id.IpFragId.{IpFragId}
-use Rattle.etherparse.specs.IpFragId.{id_named}
+use Rattle.etherparse.specs.IpFragId.{id_named, rule_over}
 use Rattle.etherparse.specs.Processed.{PacketsAreAnswered, Processed, MemoryErrorsAreReported}
 use Rattle.etherparse.specs.ReassemblyTable.{Pool}
-use Rattle.etherparse.specs.PoolCalls.{FrameAnswered, HasMemory, Lists, ShowsLists, CallResult}
-use Rattle.etherparse.specs.PoolCalls.{answer_to_frame, lists_with_frame, outcome_at, result_of_outcome}
-use Rattle.etherparse.specs.PoolCalls.{as_call_result}
-use Rattle.etherparse.specs.PoolCalls.CallResult.{Delivered, Nothing, Refused, NotSliced, Retained}
-use Rattle.etherparse.specs.PoolCalls.CallResult.{NoMemory}
+use Rattle.etherparse.specs.PoolCalls.{FrameAnswered, HasMemory, Lists, ShowsLists, CallResult, answer_to_frame}
+use Rattle.etherparse.specs.PoolCalls.{lists_with_frame, outcome_at, result_of_outcome, as_call_result}
+use Rattle.etherparse.specs.PoolCalls.CallResult.{Delivered, Nothing, Refused, NotSliced, Retained, NoMemory}
 use Rattle.etherparse.specs.packet.Class.{Class, FragmentName, as_class}
 use Rattle.etherparse.specs.packet.Class.Class.{Cut, Refused as Faulty}
 use Rattle.etherparse.specs.packet.Readable.{message_at}
-use Rattle.netlines.specs.Answers.{class_answer, class_takes_memory, completed_answer}
-use Rattle.netlines.specs.Answers.{outcome_answer, refusal_answer}
+use Rattle.netlines.specs.Answers.{class_answer, class_takes_memory, completed_answer, outcome_answer, refusal_answer}
 use Rattle.etherparse.specs.packet.declared.addresses.Addresses.{Addresses}
 use Rattle.etherparse.specs.packet.declared.class.Class.TheVariants as sliced_class
 use Rattle.etherparse.specs.packet.declared.class.IpFragment.{IpFragment}
 use Rattle.etherparse.specs.declared.defrag.overlap_rule.OverlapRule.{OverlapRule}
-use Rattle.etherparse.specs.Fragments.{Fragment}
 use Rattle.etherparse.specs.Outcome.{outcome}
-use Rattle.etherparse.proofs.OutcomeLemmas.{by_outcome}
-use Rattle.etherparse.specs.IpFragId.{rule_over}
 
 -- the answer where the pool returns this for a message that goes between these addresses
 abbrev pub pool_answer : Addresses → CallResult → List ℕ
@@ -44,10 +36,7 @@ pool_answer addresses NoMemory = []
 outcome_reported : (name : FragmentName) (channel : ℕ) (rule : OverlapRule) (fs : List Fragment)
     (f : Fragment) → pool_answer name.addresses
     (result_of_outcome (id_named name channel) (outcome rule fs f)) ≡ outcome_answer name (outcome rule fs f)
-outcome_reported name channel rule fs f =
-    by_outcome rule fs f (λ (o : Outcome). pool_answer name.addresses
-    (result_of_outcome (id_named name channel) o) ≡ outcome_answer name o)
-    (λ error refused. refl) (λ none clash. refl) (λ taken open_end. refl) (λ taken whole. refl)
+outcome_reported name channel rule fs f = grind arith
 
 -- this is a fragment of a message that goes between these addresses
 pub record IsFragment (class : Class) (addresses : Addresses) : Type 0 where
@@ -65,7 +54,7 @@ fragment_is class message same = record {
     vlan_ids = message.vlan_ids.items;
     addresses = message.addresses;
     identification = message.identification;
-    number = message.fragment.ip_number.0;
+    number = message.ip_number.0;
   };
   offset = message.fragment.offset;
   more = message.fragment.more_fragments;
@@ -119,11 +108,4 @@ module _ (answered : PacketsAreAnswered) (memory_reported : MemoryErrorsAreRepor
 
   pub fragment_takes_memory : (r : Result (Option IpDefragPayloadVec) IpDefragError) → result ≡ r
       → (HasMemory (as_call_result r) → ⊥) → class_takes_memory lists class channel ≡ true
-  fragment_takes_memory r is lacks = elim reported_by [
-    | inl goes_on ↦
-        absurd (lacks
-        (subst (λ (q : Result (Option IpDefragPayloadVec) IpDefragError). HasMemory
-        (as_call_result q)) is
-        (subst HasMemory (sym goes_on.0) (memory_reported.answers lists class channel None))))
-    | inr memory_errors ↦ ap (λ (lacking : Option CallResult). is_some lacking) memory_errors.0
-  ]
+  fragment_takes_memory r is lacks = grind arith

@@ -1,13 +1,12 @@
 -- The bytes of a message are among those of its frame.
-use Rattle.std.proofs.Common.{◌≡◌, ℕ, ◌≤◌, Bool, true, false, cond, List, ◌++◌, length, Option}
-use Rattle.std.proofs.Common.{Some, None, IfSome, ap, subst, arith, length-append}
+use Rattle.std.proofs.Common.{◌≡◌, ℕ, ◌≤◌, Bool, cond, List, length, Option, Some, None, IfSome, subst, arith}
+use Rattle.std.proofs.Common.{length-append}
 use Rattle.etherparse.specs.ip.Ipv4 as v4
 use Rattle.etherparse.specs.ipslice.Ipv6Packet.{fragment_fields_in}
-use Rattle.etherparse.specs.ipslice.Packet.{FragmentFields, IpPayload, ipv4_fragment_fields}
-use Rattle.etherparse.specs.ipslice.Packet.{ipv4_payload}
+use Rattle.etherparse.specs.ipslice.Packet.{FragmentFields, IpPayload, ipv4_fragment_fields, ipv4_payload}
 use Rattle.etherparse.specs.link.Ethernet.{ethernet_len}
-use Rattle.etherparse.specs.packet.Class.{Class, ipv4_addresses, ipv6_addresses, net_class}
-use Rattle.etherparse.specs.packet.Class.{packet_parsed, fragmented_class}
+use Rattle.etherparse.specs.packet.Class.{Class, ipv4_addresses, ipv6_addresses, net_class, packet_parsed}
+use Rattle.etherparse.specs.packet.Class.{fragmented_class}
 use Rattle.etherparse.specs.packet.Class.Class.{Whole, Cut, Other, Refused}
 use Rattle.etherparse.specs.packet.Parts.{ArePartsOf, IsAt, IsNetAt}
 use Rattle.etherparse.specs.packet.Readable.{ReadMessage}
@@ -26,26 +25,16 @@ message_len Other = 0
 message_len Refused = 0
 
 at_fits : (bytes fragment : List ℕ) (position : ℕ) → IsAt bytes position fragment → length fragment ≤ length bytes
-at_fits bytes fragment position at =
-    omega (
-      arith,
-      ap length at.parts,
-      length-append
-          (at.before ++ fragment) at.after,
-      length-append at.before fragment,
-    )
+at_fits bytes fragment position at = grind (arith, length-append)
 
 choice_fits : (b : Bool) (fragment whole : Class) (n : ℕ) → message_len fragment ≤ n → message_len whole ≤ n
     → message_len (cond b fragment whole) ≤ n
-choice_fits true fragment whole n left right = left
-choice_fits false fragment whole n left right = right
+choice_fits b fragment whole n left right = grind arith
 
 fragment_fits : (ids : List ℕ) (addresses : Addresses) (p : IpPayload)
     (fields : Option FragmentFields) (n : ℕ)
     → message_len (fragmented_class ids addresses p fields) ≤ n
-fragment_fits ids addresses p None n = omega arith
-fragment_fits ids addresses p (Some fields) n =
-    choice_fits (v4.is_fragmenting fields.more fields.offset) _ Other n (omega arith) (omega arith)
+fragment_fits ids addresses p fields n = grind arith
 
 net_fits : (frame ids : List ℕ) (position : ℕ) (o : Option NetSlice) (message : Option TransportSlice)
     → IfSome o (IsNetAt frame position) → message_len (net_class ids o message) ≤ length frame

@@ -1,29 +1,25 @@
 -- Fragments that came in the order of their message, each from where the one before it ends.
-use Rattle.std.proofs.Common.{◌≡◌, ◌∙◌, sym, ap, refl, inl, inr, ℕ, ◌-◌, ◌%◌, ◌<◌, ◌≤◌, ◌==◌, ◌&&◌}
-use Rattle.std.proofs.Common.{Bool, true, false, cond, not, if◌then◌else◌, List, [], ◌∷◌, ◌++◌}
-use Rattle.std.proofs.Common.{length, get_or, unwrap_or, map, Option, Some, None, arith}
-use Rattle.std.proofs.Common.{length-append}
+use Rattle.std.proofs.Common.{◌≡◌, ◌∙◌, sym, ap, refl, inl, inr, ℕ, ◌%◌, ◌<◌, ◌≤◌, ◌==◌, ◌&&◌, [], Bool, true, false}
+use Rattle.std.proofs.Common.{cond, not, if◌then◌else◌, List, ◌∷◌, ◌++◌, length, get_or, unwrap_or, map, Option, Some}
+use Rattle.std.proofs.Common.{None, arith, length-append}
 use Rattle.std.specs.List.{range_with_len}
 use Rattle.std.specs.Option.{option_or}
-use Rattle.std.proofs.lemmas.Bool.{cases_lt, eq-eqb, le-ltb}
+use Rattle.std.proofs.lemmas.Bool.{cases_lt}
 use Rattle.std.proofs.lemmas.Bool.Decides.{nat_tests}
 use Rattle.std.proofs.lemmas.List.{get_or-append_right, get_or_append_left}
 use Rattle.std.proofs.lemmas.List.FromFn.{fill_by_all}
 use Rattle.etherparse.specs.declared.defrag.ip_defrag_error.IpDefragError.{IpDefragError}
-use Rattle.etherparse.specs.Fragments.{Fragment, Holds, end_of, greatest_end, is_complete}
-use Rattle.etherparse.specs.Fragments.{named_end, overlaps, refusal_at, refusal_of, start_of}
-use Rattle.etherparse.specs.Fragments.{Covered}
+use Rattle.etherparse.specs.Fragments.{Fragment, Holds, end_of, greatest_end, is_complete, named_end, overlaps}
+use Rattle.etherparse.specs.Fragments.{refusal_at, refusal_of, start_of, Covered}
 use Rattle.etherparse.specs.declared.defrag.overlap_rule.OverlapRule.{OverlapRule}
-use Rattle.etherparse.specs.declared.defrag.overlap_rule.OverlapRule.TheVariants.{Overwrites}
-use Rattle.etherparse.specs.declared.defrag.overlap_rule.OverlapRule.TheVariants.{Refuses}
+use Rattle.etherparse.specs.declared.defrag.overlap_rule.OverlapRule.TheVariants.{Overwrites, Refuses}
 use Rattle.etherparse.specs.FragmentBytes.{byte_at, byte_of, text_of}
 use Rattle.etherparse.proofs.Clash.{no_clash}
 use Rattle.etherparse.proofs.Complete.{complete_Decides}
 use Rattle.etherparse.proofs.Disjoint.{greatest_of}
 use Rattle.etherparse.proofs.ListElements.{Any-from_AnyOf, AnyOf, AnyOf-left, AnyOf-right}
 use Rattle.etherparse.proofs.OutcomeLemmas.{is_taken}
-use Rattle.etherparse.proofs.Push.{byte_at-push, byte_of-here, greatest_end-push, named_end-push}
-use Rattle.etherparse.proofs.Push.{own_end}
+use Rattle.etherparse.proofs.Push.{byte_at-push, byte_of-here, greatest_end-push, named_end-push, own_end}
 
 -- these fragments hold the first bytes of a message, whose end isn't named
 pub record ArePrefix (fs : List Fragment) (text : List ℕ) : Type 0 where
@@ -55,20 +51,15 @@ module _ (fs : List Fragment) (text : List ℕ) (prefix : ArePrefix fs text) (f 
   bytes_with : (p : ℕ) → p < length (text ++ f.bytes)
       → byte_at (fs ++ f ∷ []) p ≡ Some (get_or (text ++ f.bytes) p 0)
   bytes_with p below =
-      byte_at-push fs f p
-      ∙ elim (cases_lt p (length text)) as
-      (λ _. option_or (byte_of f p) (byte_at fs p) ≡ Some (get_or (text ++ f.bytes) p 0)) [
-        | inl before_it ↦
-            ap (λ o. option_or o (byte_at fs p)) (byte_before f p (omega arith))
-            ∙ prefix.bytes p before_it
-            ∙ ap Some (sym (get_or_append_left text f.bytes 0 p before_it))
-        | inr following ↦
-            let here : byte_of f p ≡ Some (get_or f.bytes (p - start_of f) 0) =
-            byte_of-here f p (omega arith) (omega (arith, joined_len)) in
-            ap (λ o. option_or o (byte_at fs p)) here
-            ∙ ap Some (ap (λ k. get_or f.bytes (p - k) 0) follows
-            ∙ sym (get_or-append_right text f.bytes (length text) p 0 refl following))
-      ]
+      grind (
+        arith,
+        byte_at-push,
+        byte_before,
+        get_or_append_left,
+        byte_of-here,
+        joined_len,
+        get_or-append_right,
+      )
 
   covered_with : (p : ℕ) → p < length (text ++ f.bytes) → AnyOf (λ g. Holds g p) (fs ++ f ∷ [])
   covered_with p below = elim (cases_lt p (length text)) [
@@ -83,7 +74,7 @@ module _ (fs : List Fragment) (text : List ℕ) (prefix : ArePrefix fs text) (f 
   -- one that more follow,
   pub prefix_with : f.more ≡ true → ArePrefix (fs ++ f ∷ []) (text ++ f.bytes)
   prefix_with more = record {
-    unended = ended_with ∙ ap (λ b. cond b None (Some (end_of f))) more;
+    unended = cc (ended_with, more);
     top = top_with;
     bytes = bytes_with;
     covered = covered_with;
@@ -115,19 +106,15 @@ module _ (fs : List Fragment) (text : List ℕ) (prefix : ArePrefix fs text) (f 
 
 aligned : (more : Bool) (n : ℕ) (e : IpDefragError) → (more ≡ true → n % 8 ≡ 0)
     → (if more && not (n % 8 == 0) then Some e else None) ≡ None
-aligned true n e is = rw (eq-eqb (n % 8) 0 (is refl)) refl
-aligned false n e is = refl
+aligned more n e is = grind arith
 
 -- none is refused that fits and is of whole units where more follows
 unrefused_with : (fs : List Fragment) (f : Fragment) → named_end fs ≡ None → end_of f ≤ 65535
     → (f.more ≡ true → length f.bytes % 8 ≡ 0) → refusal_at (named_end fs) f ≡ None
-unrefused_with fs f unended short units =
-    ap (λ o. refusal_at o f) unended ∙ rw (le-ltb 65535 (end_of f) short)
-    (aligned f.more (length f.bytes) _ units)
+unrefused_with fs f unended short units = grind arith
 
 below_top : (fs : List Fragment) (p : ℕ) → Covered fs p → p < greatest_end fs
-below_top fs p c =
-    let top = greatest_of fs c.1 (c.0, c.2, c.3) in omega (arith, c.4.1, top)
+below_top fs p c = omega (arith, greatest_of fs c.1 (c.0, c.2, c.3), c.4.1)
 
 -- one that begins where they end overlaps none
 no_overlap_with : (rule : OverlapRule) (fs : List Fragment) (text : List ℕ) → ArePrefix fs text
@@ -139,13 +126,11 @@ no_overlap_with Refuses fs text prefix f follows = no_clash fs f (λ clash. elim
       let own = h.1.1 in
       omega (arith, below, own.0, prefix.top, follows)
   | inr h ↦
-      let below = below_top fs h.1.0 h.1.2 in
-      omega (arith, below, h.1.1, prefix.top, follows)
+      omega (arith, below_top fs h.1.0 h.1.2, h.1.1, prefix.top, follows)
 ])
 
 pub taken_with : (rule : OverlapRule) (fs : List Fragment) (text : List ℕ) → ArePrefix fs text
     → (f : Fragment) → start_of f ≡ length text → end_of f ≤ 65535
     → (f.more ≡ true → length f.bytes % 8 ≡ 0) → refusal_of rule fs f ≡ None
 taken_with rule fs text prefix f follows short units =
-    is_taken rule fs f (unrefused_with fs f prefix.unended short units)
-    (no_overlap_with rule fs text prefix f follows)
+    grind (arith, is_taken, unrefused_with, no_overlap_with)

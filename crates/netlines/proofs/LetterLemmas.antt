@@ -1,13 +1,10 @@
 -- The headers of a letter's frames are as their types hold them.
-use Rattle.std.proofs.Common.{◌≡◌, refl, ℕ, ◌+◌, ◌*◌, ◌/◌, ◌%◌, ◌^◌, ◌<◌, ◌≤◌, ◌==◌, Bool, true, false}
-use Rattle.std.proofs.Common.{if◌then◌else◌, List, [], ◌∷◌, length, All, arith}
-use Rattle.std.proofs.lemmas.Bool.{eq-eqb, ne_eqb}
+use Rattle.std.proofs.Common.{◌≡◌, ℕ, ◌+◌, ◌*◌, ◌/◌, ◌%◌, ◌^◌, ◌<◌, ◌≤◌, ◌==◌, Bool, [], if◌then◌else◌, List, ◌∷◌}
+use Rattle.std.proofs.Common.{length, All, arith}
 use Rattle.std.proofs.lemmas.List.Elements.{All-head, All-tail}
 use Rattle.etherparse.specs.BuiltFrames.{IpFits, TagsFit}
 use Rattle.etherparse.specs.BuiltSteps.{tag_of}
 use Rattle.etherparse.specs.declared.defrag.ip_frag_version_spec_id.IpFragVersionSpecId.{IpFragVersionSpecId}
-use Rattle.etherparse.specs.declared.defrag.ip_frag_version_spec_id.IpFragVersionSpecId.TheVariants.{Ipv4}
-use Rattle.etherparse.specs.declared.defrag.ip_frag_version_spec_id.IpFragVersionSpecId.TheVariants.{Ipv6}
 use Rattle.etherparse.specs.link.Ethernet.{Fits}
 use Rattle.etherparse.specs.link.declared.link.ethernet2_header.Ethernet2Header.{Ethernet2Header}
 use Rattle.etherparse.specs.tag.Vlan as vlan
@@ -33,8 +30,7 @@ pub record HeadersFit (letter : Letter) (cut : Bool) (offset : ℕ) (more : Bool
   pub ip : IpFits (ip_headers_of letter.stream cut offset more) letter.number.0
 
 tag_fits : (id : ℕ) → id ≤ 4095 → vlan.Fits (tag_of id)
-tag_fits id small =
-    record { pcp = omega arith; vlan_id = small; ether_type = omega arith }
+tag_fits id small = grind arith
 
 tags_fit : (ids : List ℕ) → All (λ id. id ≤ 4095) ids → TagsFit (tags_of ids)
 tags_fit [] all = tt
@@ -49,13 +45,11 @@ tags_fit (outer ∷ inner ∷ others) all =
 offset_is : (more : Bool) (offset : ℕ) → offset < 8192
     → (256 * ((8 * offset + (if more then 1 else 0)) / 256 % 256) +
     (8 * offset + (if more then 1 else 0)) % 256) / 8 ≡ offset
-offset_is true offset small = omega arith
-offset_is false offset small = omega arith
+offset_is more offset small = grind arith
 
 flag_is : (more : Bool) (offset : ℕ) → offset < 8192
     → ((8 * offset + (if more then 1 else 0)) % 256 % 2 == 1) ≡ more
-flag_is true offset small = eq-eqb _ 1 (omega arith)
-flag_is false offset small = ne_eqb _ 1 (λ is. absurd (omega arith))
+flag_is more offset small = grind arith
 
 identification_is : (n : ℕ) → n < 2 ^ 32
     → 256 * (256 * (256 * (n / 16777216 % 256) + n / 65536 % 256) + n / 256 % 256) + n % 256 ≡ n
@@ -64,53 +58,9 @@ identification_is n small = omega arith
 ip_fits : (stream : IpFragVersionSpecId) (number offset : ℕ) (cut more : Bool) → offset < 8192
     → AddressesFit (addresses_of stream) → IdentificationFits stream
     → IpFits (ip_headers_of stream cut offset more) number
-ip_fits (Ipv4 source destination identification) number offset cut more small addresses fits = (
-  record {
-    dscp = omega arith;
-    total_len = omega arith;
-    identification = fits;
-    fragment_offset = small;
-    header_checksum = omega arith;
-    source = addresses.0;
-    destination = addresses.1;
-    options = record { fits = omega arith; words = refl };
-  },
-  tt,
-)
-ip_fits (Ipv6 source destination identification) number offset false more small addresses fits = (
-  record {
-    traffic_class = omega arith;
-    flow_label = omega arith;
-    payload_length = omega arith;
-    source = addresses.0;
-    destination = addresses.1;
-  },
-  tt,
-  refl,
-)
-ip_fits (Ipv6 source destination identification) number offset true more small addresses fits = (
-  record {
-    traffic_class = omega arith;
-    flow_label = omega arith;
-    payload_length = omega arith;
-    source = addresses.0;
-    destination = addresses.1;
-  },
-  (λ i. record {
-    next_header = record { 0 = 0 };
-    fragment_offset = offset_is more offset small i;
-    more_fragments = flag_is more offset small i;
-    identification = identification_is identification fits i;
-  }),
-  (refl, record { whole = refl }, refl),
-)
+ip_fits stream number offset cut more small addresses fits = grind arith
 
 -- so they are at every offset in a message
 pub headers_fit : (letter : Letter) (cut : Bool) (offset : ℕ) (more : Bool) → offset < 8192
     → LetterFits letter → HeadersFit letter cut offset more
-headers_fit letter cut offset more small fit = record {
-  link = record { source = fit.source; destination = fit.destination; ether_type = omega arith };
-  tags = tags_fit letter.vlans.items fit.ids;
-  few = fit.few;
-  ip = ip_fits letter.stream letter.number.0 offset cut more small fit.addresses fit.identification;
-}
+headers_fit letter cut offset more small fit = grind arith

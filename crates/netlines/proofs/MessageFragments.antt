@@ -1,14 +1,13 @@
 -- Fragments of one message, in any order, overlapping or repeated.
-use Rattle.std.proofs.Common.{◌≡◌, ◌∙◌, sym, ap, refl, subst, inl, inr, ◌⊎◌, ℕ, ◌-◌, ◌%◌, ◌<◌, ◌≤◌}
-use Rattle.std.proofs.Common.{◌==◌, ◌&&◌, Bool, true, false, not, cond, if◌then◌else◌}
-use Rattle.std.proofs.Common.{Option, Some, None, IsSome, List, [], ◌∷◌, length, get_or, map}
+use Rattle.std.proofs.Common.{◌≡◌, ◌∙◌, sym, ap, refl, inl, inr, ◌⊎◌, ℕ, ◌-◌, ◌%◌, ◌<◌, ◌≤◌, [], ◌==◌, ◌&&◌, Bool, true}
+use Rattle.std.proofs.Common.{false, not, cond, if◌then◌else◌, Option, Some, None, List, ◌∷◌, length, get_or, map}
 use Rattle.std.proofs.Common.{unwrap_or, max, arith}
 use Rattle.std.specs.List.{AllByRecursion, range_with_len}
-use Rattle.std.proofs.lemmas.Bool.{cases_Bool, eq-eqb, le-ltb, false≢true}
+use Rattle.std.proofs.lemmas.Bool.{le-ltb}
 use Rattle.std.proofs.lemmas.Bool.Decides.{nat_tests}
 use Rattle.std.proofs.lemmas.List.FromFn.{fill_by_all}
-use Rattle.etherparse.specs.Fragments.{Fragment, Holds, end_of, end_conflict, greatest_end, holds}
-use Rattle.etherparse.specs.Fragments.{is_complete, named_end, refusal_at, start_of}
+use Rattle.etherparse.specs.Fragments.{Fragment, Holds, end_of, end_conflict, greatest_end, holds, is_complete}
+use Rattle.etherparse.specs.Fragments.{named_end, refusal_at, start_of}
 use Rattle.etherparse.specs.declared.defrag.ip_defrag_error.IpDefragError.{IpDefragError}
 use Rattle.etherparse.specs.FragmentBytes.{byte_at, text_of}
 use Rattle.etherparse.proofs.Complete.{complete_Decides}
@@ -43,10 +42,7 @@ module _ (message : List ℕ) where
   named_is : (fs : List Fragment) → AreFragmentsOf message fs
       → (named_end fs ≡ None) ⊎ (named_end fs ≡ Some (length message))
   named_is [] all = inl refl
-  named_is (f ∷ fs) all = elim (cases_Bool f.more) [
-    | inl t ↦ rw t (named_is fs all.1)
-    | inr t ↦ rw t (inr (ap Some (all.0.last t)))
-  ]
+  named_is (f ∷ fs) all = grind (arith, named_is fs all.1)
 
   pub greatest_within : (fs : List Fragment) → AreFragmentsOf message fs
       → greatest_end fs ≤ length message
@@ -57,22 +53,13 @@ module _ (message : List ℕ) where
   byte_is : (fs : List Fragment) → AreFragmentsOf message fs → (p : ℕ)
       → (byte_at fs p ≡ None) ⊎ (byte_at fs p ≡ Some (get_or message p 0))
   byte_is [] all p = inl refl
-  byte_is (f ∷ fs) all p = elim (byte_is fs all.1 p) [
-    | inr some ↦ inr (rw some refl)
-    | inl none ↦ elim (cases_Bool (holds f p)) [
-      | inl t ↦ inr (rw (none, t) (ap Some (all.0.bytes p (holds_is f p t))))
-      | inr t ↦ inl (rw (none, t) refl)
-    ]
-  ]
+  byte_is (f ∷ fs) all p = grind (arith, byte_is fs all.1 p)
 
   covered_byte : (fs : List Fragment) → AreFragmentsOf message fs → (p : ℕ)
       → AnyOf (λ f. Holds f p) fs → byte_at fs p ≡ Some (get_or message p 0)
   covered_byte [] all p h = absurd h
   covered_byte (f ∷ fs) all p (inr h) = rw (covered_byte fs all.1 p h) refl
-  covered_byte (f ∷ fs) all p (inl h) = elim (byte_is fs all.1 p) [
-    | inr some ↦ rw some refl
-    | inl none ↦ rw none (byte_of-here f p h.0 h.1 ∙ ap Some (all.0.bytes p h))
-  ]
+  covered_byte (f ∷ fs) all p (inl h) = grind (arith, byte_is, byte_of-here)
 
   -- complete fragments reach to the end,
   pub complete_to_end : (fs : List Fragment) → AreFragmentsOf message fs → is_complete fs ≡ true
@@ -80,7 +67,7 @@ module _ (message : List ℕ) where
   complete_to_end fs all is p below =
       let complete = (complete_Decides fs).0 is in
       elim (named_is fs all) [
-        | inl none ↦ absurd (false≢true (subst (λ (o : Option ℕ). IsSome o) none complete.ended))
+        | inl none ↦ grind arith
         | inr some ↦ AnyOf-from_Any (λ f. Holds f p) fs
             (complete.covered p (omega (arith, named-le fs (length message) some)))
       ]
@@ -91,7 +78,7 @@ module _ (message : List ℕ) where
   text_is fs all is =
       let complete = (complete_Decides fs).0 is in
       elim (named_is fs all) [
-        | inl none ↦ absurd (false≢true (subst (λ (o : Option ℕ). IsSome o) none complete.ended))
+        | inl none ↦ grind arith
         | inr some ↦
             ap (λ (o : Option ℕ). map (λ p. unwrap_or (byte_at fs p) 0)
             (range_with_len 0 (unwrap_or o 0))) some
@@ -103,23 +90,14 @@ module _ (message : List ℕ) where
   aligned : (more : Bool) (n : ℕ) (e : IpDefragError) (o : Option IpDefragError)
       → (more ≡ true → n % 8 ≡ 0) → o ≡ None
       → (if more && not (n % 8 == 0) then Some e else o) ≡ None
-  aligned true n e o is none = rw (eq-eqb (n % 8) 0 (is refl)) none
-  aligned false n e o is none = none
+  aligned more n e o is none = grind arith
 
   agrees : (f : Fragment) → IsFragmentOf message f → (o : Option ℕ)
       → (o ≡ None) ⊎ (o ≡ Some (length message)) → end_conflict o f ≡ None
-  agrees f posted_fragment o (inl none) = rw none refl
-  agrees f posted_fragment o (inr some) =
-      rw (some, le-ltb (length message) (end_of f) posted_fragment.within)
-      (elim (cases_Bool f.more) [
-        | inl t ↦ rw t refl
-        | inr t ↦ rw (t, eq-eqb (end_of f) (length message) (posted_fragment.last t)) refl
-      ])
+  agrees f posted_fragment o h = grind arith
 
   -- one more fragment isn't refused for its end
   pub fragment_not_refused : (fs : List Fragment) (f : Fragment) → length message ≤ 65535
       → AreFragmentsOf message fs → IsFragmentOf message f → refusal_at (named_end fs) f ≡ None
   fragment_not_refused fs f short all posted_fragment =
-      rw (le-ltb 65535 (end_of f) (omega (arith, posted_fragment.within)))
-      (aligned f.more (length f.bytes) _ _ posted_fragment.units
-      (agrees f posted_fragment (named_end fs) (named_is fs all)))
+      grind (arith, le-ltb, aligned, agrees, named_is)

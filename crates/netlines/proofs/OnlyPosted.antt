@@ -1,16 +1,15 @@
 -- Where all frames were posted, no other message is returned.
-use Rattle.std.proofs.Common.{◌≡◌, ◌∙◌, ap, refl, subst, sym, inl, ◌↔◌, ℕ, true, List}
-use Rattle.std.proofs.Common.{[], ◌∷◌, ◌++◌, get_or, Result, Ok, Err, arith}
+use Rattle.std.proofs.Common.{◌≡◌, ◌∙◌, ap, refl, sym, inl, ◌↔◌, ℕ, true, List, [], ◌∷◌, ◌++◌, get_or, Result, Ok, Err}
+use Rattle.std.proofs.Common.{arith}
 use Rattle.std.specs.Prelude.{IsTrue, codes}
 use Rattle.etherparse.specs.Fragments.{Fragment, fragment}
 use Rattle.etherparse.specs.IpFragId.{same_name}
-use Rattle.etherparse.specs.packet.Class.{FragmentName, class_of}
+use Rattle.etherparse.specs.packet.Class.{FragmentName}
 use Rattle.etherparse.specs.packet.Readable.{ReadMessage, message_at}
 use Rattle.etherparse.specs.packet.declared.err.packet.slice_error.SliceError.{SliceError}
 use Rattle.line_grammar.specs.Commands.{Command, command_of}
 use Rattle.line_grammar.specs.Commands.Command.{Frame, Forget, Bad}
-use Rattle.netlines.specs.Answers.{answer_after, bad_line, command_answer, completed_answer}
-use Rattle.netlines.specs.Answers.{message_answer}
+use Rattle.netlines.specs.Answers.{answer_after, command_answer, completed_answer, message_answer}
 use Rattle.netlines.specs.Arrivals.{HasFragment, lists_after_lines}
 use Rattle.netlines.specs.Letter.{name_of}
 use Rattle.netlines.specs.Posted.{is_fragmented}
@@ -19,8 +18,8 @@ use Rattle.netlines.specs.Sealed.{addresses_of}
 use Rattle.checksum_verdicts.specs.Verdict.{verdict_of}
 use Rattle.netlines.specs.Waiting.{line_of_message}
 use Rattle.checksum_verdicts.specs.declared.verdict.Verdict.{Verdict}
-use Rattle.netlines.proofs.AllPosted.{class_is, fragment_returned, fragment_of_frame, posted_parts}
-use Rattle.netlines.proofs.AllPosted.{uncut_is_refused, uncut_is_whole}
+use Rattle.netlines.proofs.AllPosted.{class_is, fragment_returned, fragment_of_frame, posted_parts, uncut_is_refused}
+use Rattle.netlines.proofs.AllPosted.{uncut_is_whole}
 use Rattle.netlines.proofs.AloneLemmas.{answer_is}
 use Rattle.netlines.proofs.ArrivalLemmas.{class_answered}
 use Rattle.netlines.proofs.InertLemmas.{first_byte}
@@ -81,13 +80,7 @@ module _ (sent : FragmentName → ℕ → List ℕ) (as_fragment : FragmentIsRea
         let frame = posted.is_frame in
         let p = fragment_of_frame letter posted.message posted.cuts bytes frame.among in
         let f : Fragment = fragment p.posted_fragment.offset p.posted_fragment.more p.posted_fragment.text in
-        let has : HasFragment line (name_of letter) channel f = record {
-          bytes = bytes;
-          frame = has_frame;
-          as_fragment = ap class_of (sym p.frame_is)
-              ∙ class_is letter as_fragment frame.fits posted.message posted.cuts frame.posted cut p.posted_fragment
-              p.is_posted_fragment;
-        } in
+        let has : HasFragment line (name_of letter) channel f = grind (arith, class_is) in
         let line_is : answer ≡ line_of_message (name_of letter) posted.message =
         fragment_returned sent as_fragment whole refused same (name_of letter) channel earlier line all f
         has (inl (number, verdict, text, out))
@@ -97,15 +90,11 @@ module _ (sent : FragmentName → ℕ → List ℕ) (as_fragment : FragmentIsRea
         → answer ≡ completed_answer (addresses_of letter.stream) letter.number.0 posted.message r
         → ReturnsPosted sent line answer) [
           | Ok read ↦ λ is same_answer. reported read is same_answer
-          | Err e ↦ λ is other.
-              let r : 114 ≡ 109 = begins (codes "refused message") number verdict text
-              (sym other ∙ out) in
-              absurd (omega (arith, r))
+          | Err e ↦ grind arith
         ] refl line_is
 
     of_cuts : (cuts : List ℕ) → posted.cuts ≡ cuts → ReturnsPosted sent line answer
-    of_cuts [] is = of_uncut (subst (λ (cs : List ℕ). IsPostedFrame posted.letter posted.message cs
-        bytes) is posted.is_frame)
+    of_cuts [] is = grind (arith, of_uncut)
     of_cuts (first ∷ later) is = of_fragments (ap is_fragmented is)
 
   -- no other line is answered with a message
@@ -117,10 +106,6 @@ module _ (sent : FragmentName → ℕ → List ℕ) (as_fragment : FragmentIsRea
         | Frame channel bytes ↦ λ is _.
             let posted = (posted_parts sent earlier line all).1 channel bytes is in
             of_cuts channel bytes is posted posted.cuts refl
-        | Forget from ↦ λ is ok.
-            let r : 111 ≡ 109 = begins (codes "ok") number verdict text (sym ok ∙ out) in
-            absurd (omega (arith, r))
-        | Bad ↦ λ is bad.
-            let r : 98 ≡ 109 = begins bad_line number verdict text (sym bad ∙ out) in
-            absurd (omega (arith, r))
+        | Forget from ↦ grind arith
+        | Bad ↦ grind arith
       ] refl reported_by

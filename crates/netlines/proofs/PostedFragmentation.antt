@@ -1,9 +1,7 @@
 -- The fragments that a message is posted in are one cut of it.
-use Rattle.std.proofs.Common.{◌≡◌, ◌∙◌, sym, ap, refl, subst, inl, inr, ℕ, ◌+◌, ◌-◌, ◌/◌}
-use Rattle.std.proofs.Common.{◌<◌, ◌≤◌, true, false, List, [], ◌∷◌, length, take, drop, map}
-use Rattle.std.proofs.Common.{get_or, arith}
+use Rattle.std.proofs.Common.{◌≡◌, ◌∙◌, sym, ap, subst, inl, inr, ℕ, ◌+◌, ◌-◌, ◌/◌, [], ◌<◌, ◌≤◌, true, false, List}
+use Rattle.std.proofs.Common.{◌∷◌, length, take, drop, map, get_or, arith}
 use Rattle.std.specs.List.{AllByRecursion}
-use Rattle.std.proofs.lemmas.Bool.{cases_lt}
 use Rattle.std.proofs.lemmas.List.{get_or-drop, get_or-take}
 use Rattle.etherparse.specs.Fragments.{Fragment, Holds, end_of, fragment, start_of}
 use Rattle.netlines.specs.Posted.{PostedFragment, fragments_from}
@@ -31,11 +29,7 @@ module _ (message : List ℕ) (room : ℕ) where
       (to : end_of f ≡ cut) (some : start < cut) (posted_fragment : IsFragmentOf message f)
       (rest : IsFragmentationFrom message cut parts) where
     later : (g : Fragment) (p : ℕ) → IsIn g parts → Holds f p → Holds g p → ⊥
-    later g p in' here there =
-        let far = all-in (λ h. cut ≤ start_of h) parts g rest.following in' in
-        let low : p < end_of f = here.1 in
-        let high : start_of g ≤ p = there.0 in
-        absurd (omega (arith, far, low, high, to))
+    later g p in' here there = grind (arith, all-in)
 
     apart_with : (g h : Fragment) (p : ℕ) → IsIn g (f ∷ parts) → IsIn h (f ∷ parts) → Holds g p
         → Holds h p → g ≡ h
@@ -56,10 +50,7 @@ module _ (message : List ℕ) (room : ℕ) where
       fragments = (posted_fragment, rest.fragments);
       some = (omega (arith, from, to, some), rest.some);
       following = (omega (arith, from), farther parts rest.following);
-      cover = λ p above below. elim (cases_lt p cut) [
-        | inl here ↦ inl (omega (arith, from), omega (arith, to))
-        | inr there ↦ inr (rest.cover p there below)
-      ];
+      cover = grind arith;
       apart = apart_with;
       last = inr rest.last;
     }
@@ -71,28 +62,7 @@ module _ (message : List ℕ) (room : ℕ) where
   fragmentation_from : (start : ℕ) (later rest : List ℕ) → Goes room (length message) start later rest
       → start < length message → StandsAt start rest
       → IsFragmentationFrom message start (map pool_fragment (fragments_from start later rest))
-  fragmentation_from start [] rest goes below stands =
-      let f : Fragment = fragment (start / 8) false rest in
-      let from : start_of f ≡ start = omega (arith, goes.units) in
-      let to : end_of f ≡ length message = omega (arith, from, goes.all) in
-      let posted_fragment : IsFragmentOf message f = record {
-        within = omega (arith, to);
-        bytes = λ p here. stands (p - start_of f)
-            ∙ ap (λ (k : ℕ). get_or message k 0) (omega (arith, from, here.0));
-        units = λ more. absurd (cc);
-        last = λ _. to;
-      } in
-      record {
-        fragments = (posted_fragment, tt);
-        some = (omega (arith, from, to, below), tt);
-        following = (omega (arith, from), tt);
-        cover = λ p above under. inl (omega (arith, from), omega (arith, to));
-        apart = λ g h p in_g in_h at_g at_h. elim in_g [
-          | inl a ↦ elim in_h [ inl b ↦ sym a ∙ b | inr b ↦ absurd b ]
-          | inr a ↦ absurd a
-        ];
-        last = inl refl;
-      }
+  fragmentation_from start [] rest goes below stands = grind arith
   fragmentation_from start (cut ∷ later) rest goes below stands =
       let text = take (cut - start) rest in
       let f : Fragment = fragment (start / 8) true text in
@@ -100,15 +70,7 @@ module _ (message : List ℕ) (room : ℕ) where
       let size = text_len room (length message) start cut later rest goes in
       let from : start_of f ≡ start = omega (arith, goes.units) in
       let to : end_of f ≡ cut = omega (arith, from, size, good.following) in
-      let posted_fragment : IsFragmentOf message f = record {
-        within = omega (arith, to, good.within);
-        bytes = λ p here.
-            get_or-take (cut - start) rest (p - start_of f) 0 (omega (arith, here.1, here.0, from, to))
-            ∙ stands (p - start_of f)
-            ∙ ap (λ (k : ℕ). get_or message k 0) (omega (arith, from, here.0));
-        units = λ _. omega (arith, size, good.following, good.units, goes.units);
-        last = λ last. absurd (cc);
-      } in
+      let posted_fragment : IsFragmentOf message f = grind (arith, get_or-take) in
       fragmentation_with start cut f (map pool_fragment (fragments_from cut later (drop (cut - start) rest))) from to
       good.following posted_fragment
       (fragmentation_from cut later (drop (cut - start) rest)

@@ -1,16 +1,16 @@
 -- What the frames of a message in fragments are read as.
-use Rattle.std.proofs.Common.{◌≡◌, ◌∙◌, sym, ap, refl, ℕ, ◌+◌, ◌-◌, ◌*◌, ◌/◌, ◌%◌, ◌≤◌, ◌<◌, ◌&&◌}
-use Rattle.std.proofs.Common.{◌==◌, Bool, true, false, if◌then◌else◌, List, [], ◌∷◌, length, take}
-use Rattle.std.proofs.Common.{drop, map, Option, Some, None, arith}
+use Rattle.std.proofs.lemmas.Bool.Decides.{nat_tests}
+use Rattle.std.proofs.Common.{◌≡◌, ◌∙◌, ap, ℕ, ◌+◌, ◌-◌, ◌*◌, ◌/◌, ◌%◌, ◌≤◌, ◌<◌, [], Bool, true, false, if◌then◌else◌}
+use Rattle.std.proofs.Common.{List, ◌∷◌, length, take, drop, map, Option, Some, None, arith}
 use Rattle.std.specs.Prelude.{nat_lt}
 use Rattle.std.proofs.lemmas.List.{length-take, length-drop}
-use Rattle.std.proofs.lemmas.Bool.{and_parts, eqb-true, ltb-true, ltb-false, lt-ltb}
+use Rattle.std.proofs.lemmas.Bool.{ltb-false}
 use Rattle.etherparse.specs.ip.Ipv4.{is_fragmenting}
 use Rattle.etherparse.specs.packet.Class.{class_of}
 use Rattle.netlines.specs.Letter.{LetterFits, fragment_class}
 use Rattle.netlines.specs.Posted.{PostedFragment, frame, is_fragmented, fragments_from, posted_frames}
-use Rattle.netlines.specs.PostRefusal.{bad_cut_from, is_good_cut, long_fragment_from, names_extension}
-use Rattle.netlines.specs.PostRefusal.{post_refusal, room}
+use Rattle.netlines.specs.PostRefusal.{bad_cut_from, is_good_cut, long_fragment_from, names_extension, post_refusal}
+use Rattle.netlines.specs.PostRefusal.{room}
 use Rattle.netlines.specs.declared.letter.Letter.{Letter}
 use Rattle.netlines.proofs.LetterLemmas.{headers_fit}
 use Rattle.netlines.proofs.PostedFrames.{FragmentIsRead, frame_is_fragment}
@@ -18,8 +18,7 @@ use Rattle.netlines.proofs.UnrefusedLemmas.{unrefused}
 
 fragmenting : (more : Bool) (offset : ℕ) → (more ≡ false → 0 < offset)
     → is_fragmenting more offset ≡ true
-fragmenting true offset some = refl
-fragmenting false offset some = lt-ltb 0 offset (some refl)
+fragmenting more offset some = grind arith
 
 -- what each test says of a cut and of a fragment
 pub record IsGoodCut (len before cut : ℕ) : Type 0 where
@@ -28,24 +27,15 @@ pub record IsGoodCut (len before cut : ℕ) : Type 0 where
   pub within : cut < len
 
 good_cut : (len before cut : ℕ) → is_good_cut len before cut ≡ true → IsGoodCut len before cut
-good_cut len before cut is =
-    let following = and_parts ((cut % 8 == 0) && nat_lt before cut) (nat_lt cut len) is in
-    let parts = and_parts (cut % 8 == 0) (nat_lt before cut) following.0 in
-    record {
-      units = eqb-true (cut % 8) 0 parts.0;
-      following = ltb-true before cut parts.1;
-      within = ltb-true cut len following.1;
-    }
+good_cut len before cut is = grind arith
 
 goes_on : (b : Bool) (n : ℕ) (o : Option ℕ) → (if b then o else Some n) ≡ None
     → (b ≡ true) × (o ≡ None)
-goes_on true n o is = (refl, is)
-goes_on false n o is = cc
+goes_on b n o is = grind arith
 
 passes : (b : Bool) (n : ℕ) (o : Option ℕ) → (if b then Some n else o) ≡ None
     → (b ≡ false) × (o ≡ None)
-passes true n o is = cc
-passes false n o is = (refl, is)
+passes b n o is = grind arith
 
 -- the rest of a message of so many bytes, from this offset on, can be sent with these cuts: in more
 -- than one fragment, none of them longer than this
@@ -61,8 +51,7 @@ pub record Goes (room len start : ℕ) (later rest : List ℕ) : Type 0 where
 
 module _ (room len start : ℕ) where
   pub last_fits : (rest : List ℕ) → Goes room len start [] rest → length rest ≤ room
-  last_fits rest goes = ltb-false room (length rest)
-      (passes (nat_lt room (length rest)) goes.position None goes.fits).0
+  last_fits rest goes = grind arith
 
   module _ (cut : ℕ) (later rest : List ℕ) (goes : Goes room len start (cut ∷ later) rest) where
     abbrev text : List ℕ
@@ -73,57 +62,28 @@ module _ (room len start : ℕ) where
 
     next_cut : (is_good_cut len start cut ≡ true)
         × (bad_cut_from len cut (goes.index + 1) later ≡ None)
-    next_cut = goes_on (is_good_cut len start cut) goes.index
-        (bad_cut_from len cut (goes.index + 1) later) goes.good
+    next_cut = grind arith
 
     next_fragment : (nat_lt room (length text) ≡ false)
         × (long_fragment_from room (goes.position + 1) (fragments_from cut later following) ≡ None)
-    next_fragment = passes (nat_lt room (length text)) goes.position
-        (long_fragment_from room (goes.position + 1) (fragments_from cut later following)) goes.fits
+    next_fragment = grind arith
 
     pub is_good : IsGoodCut len start cut
     is_good = good_cut len start cut next_cut.0
 
     pub text_len : length text ≡ cut - start
-    text_len = let good = is_good in
-        omega (arith, length-take (cut - start) rest, good.within, good.following, goes.all)
+    text_len = grind (arith, is_good, length-take)
 
     pub text_fits : length text ≤ room
     text_fits = ltb-false room (length text) next_fragment.0
 
     pub goes_after : Goes room len cut later following
-    goes_after = let good = is_good in record {
-      index = goes.index + 1;
-      position = goes.position + 1;
-      short = goes.short;
-      all = omega (arith, length-drop (cut - start) rest, good.within, good.following, goes.all);
-      units = good.units;
-      several = omega (arith, good.following, good.units);
-      good = next_cut.1;
-      fits = next_fragment.1;
-    }
-
-some_cut : (cuts : List ℕ) → is_fragmented cuts ≡ true → 0 < length cuts
-some_cut [] some = cc
-some_cut (cut ∷ cuts) some = omega arith
+    goes_after = let good = is_good in grind (arith, length-drop, next_cut, next_fragment)
 
 pub goes_from_start : (letter : Letter) (message cuts : List ℕ)
     → post_refusal letter message cuts ≡ None → is_fragmented cuts ≡ true
     → Goes (room letter.stream true) (length message) 0 cuts message
-goes_from_start letter message cuts sent cut =
-    let holds = unrefused letter message cuts sent in
-    let some = some_cut cuts cut in
-    record {
-      index = 0;
-      position = 0;
-      short = holds.short;
-      all = omega arith;
-      units = refl;
-      several = omega (arith, some);
-      good = holds.good;
-      fits = ap (λ b. long_fragment_from (room letter.stream b) 0 (fragments_from 0 cuts message))
-          (sym cut) ∙ holds.fits;
-    }
+goes_from_start letter message cuts sent cut = grind arith
 
 module _ (letter : Letter) (law : FragmentIsRead) (fit : LetterFits letter)
     (number : names_extension letter.stream letter.number.0 ≡ false) where
@@ -139,10 +99,7 @@ module _ (letter : Letter) (law : FragmentIsRead) (fit : LetterFits letter)
       → Goes (room letter.stream true) len start [] rest
       → class_of (frame letter true (record { offset = start / 8; more = false; text = rest }))
       ≡ fragment_class letter (record { offset = start / 8; more = false; text = rest })
-  last_is_read len start rest goes =
-      fragment_is_read (record { offset = start / 8; more = false; text = rest })
-      (last_fits (room letter.stream true) len start rest goes)
-      (omega (arith, goes.all, goes.short)) (λ last. omega (arith, goes.several))
+  last_is_read len start rest goes = grind (arith, nat_tests, fragment_is_read, last_fits)
 
   pub first_is_read : (len start cut : ℕ) (later rest : List ℕ)
       → Goes (room letter.stream true) len start (cut ∷ later) rest
@@ -151,9 +108,7 @@ module _ (letter : Letter) (law : FragmentIsRead) (fit : LetterFits letter)
       ≡ fragment_class letter
       (record { offset = start / 8; more = true; text = take (cut - start) rest })
   first_is_read len start cut later rest goes =
-      fragment_is_read (record { offset = start / 8; more = true; text = take (cut - start) rest })
-      (text_fits (room letter.stream true) len start cut later rest goes)
-      (omega (arith, goes.all, goes.short)) (λ last. absurd (cc))
+      grind (arith, nat_tests, fragment_is_read, text_fits)
 
   classes_from : (len start : ℕ) (later rest : List ℕ)
       → Goes (room letter.stream true) len start later rest
@@ -161,10 +116,12 @@ module _ (letter : Letter) (law : FragmentIsRead) (fit : LetterFits letter)
       ≡ map (fragment_class letter) (fragments_from start later rest)
   classes_from len start [] rest goes = ap (λ class. class ∷ []) (last_is_read len start rest goes)
   classes_from len start (cut ∷ later) rest goes =
-      let first = first_is_read len start cut later rest goes in
-      let following = classes_from len cut later (drop (cut - start) rest)
-      (goes_after (room letter.stream true) len start cut later rest goes) in
-      λ i. first i ∷ following i
+      grind (
+        arith,
+        classes_from len cut later (drop (cut - start) rest),
+        first_is_read,
+        goes_after,
+      )
 
 pub posted_classes : (letter : Letter) → FragmentIsRead → LetterFits letter
     → (message cuts : List ℕ) → post_refusal letter message cuts ≡ None → is_fragmented cuts ≡ true

@@ -1,14 +1,11 @@
 -- What the frame with a message, or with a fragment of one, is read as, whatever the letter.
-use Rattle.std.proofs.Common.{◌≡◌, ◌≢◌, ◌∙◌, sym, ap, refl, ℕ, ◌≤◌, ◌==◌, Bool, true, false, List}
-use Rattle.std.proofs.Common.{[], ◌∷◌, length, Option, Some, Ok, Err, arith, ltb-true}
-use Rattle.std.specs.Prelude.{◌||◌, not}
-use Rattle.std.proofs.lemmas.Bool.{eq-eqb, ne_eqb}
+use Rattle.std.proofs.Common.{◌≡◌, ◌∙◌, sym, ap, refl, ℕ, ◌≤◌, ◌==◌, Bool, true, false, List, [], ◌∷◌, length, Option}
+use Rattle.std.proofs.Common.{Some, Ok, Err, arith}
+use Rattle.std.specs.Prelude.{◌||◌}
 use Rattle.etherparse.specs.Built.{packet_with_number}
-use Rattle.etherparse.specs.BuiltFrames.{Frames, NamesNone, addresses_in, fields_in}
-use Rattle.etherparse.specs.BuiltFrames.{ethernet_packet as frame_headers, ids_in, fragment_with}
+use Rattle.etherparse.specs.BuiltFrames.{Frames, NamesNone, addresses_in, fields_in, ethernet_packet as frame_headers}
+use Rattle.etherparse.specs.BuiltFrames.{ids_in, fragment_with}
 use Rattle.etherparse.specs.declared.defrag.ip_frag_version_spec_id.IpFragVersionSpecId.{IpFragVersionSpecId}
-use Rattle.etherparse.specs.declared.defrag.ip_frag_version_spec_id.IpFragVersionSpecId.TheVariants.{Ipv4}
-use Rattle.etherparse.specs.declared.defrag.ip_frag_version_spec_id.IpFragVersionSpecId.TheVariants.{Ipv6}
 use Rattle.etherparse.specs.ext.Follow.{has_slot}
 use Rattle.etherparse.specs.ip.Ipv4.{is_fragmenting}
 use Rattle.etherparse.specs.link.declared.link.ethernet2_header.Ethernet2Header.{Ethernet2Header}
@@ -35,17 +32,9 @@ pub record CanCarry (letter : Letter) (cut : Bool) (text : List ℕ) : Type 0 wh
   pub number : names_extension letter.stream letter.number.0 ≡ false
   pub fits : length text ≤ room letter.stream cut
 
-not_number : (n m : ℕ) → (n == m) ≡ false → n ≢ m
-not_number n m is same = let e = sym (eq-eqb n m same) ∙ is in cc
-
 no_one : (a b c d e : Bool) → (a || b || c || d || e) ≡ false
     → (a || (b || (c || (d || (e || false))))) ≡ false
-no_one true b c d e is = cc
-no_one false true c d e is = cc
-no_one false false true d e is = cc
-no_one false false false true e is = cc
-no_one false false false false true is = cc
-no_one false false false false false is = refl
+no_one a b c d e is = grind arith
 
 no_slot : (n : ℕ) → ((n == 0) || (n == 43) || (n == 44) || (n == 51) || (n == 60)) ≡ false
     → has_slot n ≡ false
@@ -55,9 +44,7 @@ no_slot n is = no_one (n == 0) (n == 43) (n == 44) (n == 51) (n == 60) is
 names_none : (stream : IpFragVersionSpecId) (cut : Bool) (offset : ℕ) (more : Bool) (number : ℕ)
     → names_extension stream number ≡ false
     → NamesNone (ip_headers_of stream cut offset more) number
-names_none (Ipv4 source destination identification) cut offset more number is =
-    not_number number 51 is
-names_none (Ipv6 source destination identification) cut offset more number is = no_slot number is
+names_none stream cut offset more number is = grind arith
 
 -- the frame is one that the builder writes
 module _ (letter : Letter) (cut : Bool) (offset : ℕ) (more : Bool) (text : List ℕ)
@@ -83,8 +70,7 @@ module _ (letter : Letter) (cut : Bool) (offset : ℕ) (more : Bool) (text : Lis
 
 addresses_are : (stream : IpFragVersionSpecId) (cut : Bool) (offset : ℕ) (more : Bool)
     → addresses_in (ip_headers_of stream cut offset more) ≡ addresses_of stream
-addresses_are (Ipv4 source destination identification) cut offset more = refl
-addresses_are (Ipv6 source destination identification) cut offset more = refl
+addresses_are stream cut offset more = grind arith
 
 tags_again : (ids : List ℕ) → length ids ≤ 2 → ids_in (tags_of ids) ≡ ids
 tags_again [] few = refl
@@ -94,26 +80,16 @@ tags_again (outer ∷ inner ∷ third ∷ others) few = absurd (omega arith)
 
 uncut_headers : (stream : IpFragVersionSpecId)
     → fragments (ip_headers_of stream false 0 false) ≡ false
-uncut_headers (Ipv4 source destination identification) = refl
-uncut_headers (Ipv6 source destination identification) = refl
-
--- the fields of a fragment header say that it is cut as those of an IPv4 header do
-some_offset : (offset : ℕ) (more : Bool) → is_fragmenting more offset ≡ true
-    → (more || not (offset == 0)) ≡ true
-some_offset offset true is = refl
-some_offset offset false is = let some = ltb-true 0 offset is in
-    rw (ne_eqb offset 0 (λ none. absurd (omega arith))) refl
+uncut_headers stream = grind arith
 
 fragment_headers : (stream : IpFragVersionSpecId) (offset : ℕ) (more : Bool)
     → is_fragmenting more offset ≡ true → fragments (ip_headers_of stream true offset more) ≡ true
-fragment_headers (Ipv4 source destination identification) offset more is = is
-fragment_headers (Ipv6 source destination identification) offset more is = some_offset offset more is
+fragment_headers stream offset more is = grind arith
 
 fragment_fields : (stream : IpFragVersionSpecId) (offset : ℕ) (more : Bool)
     → fields_in (ip_headers_of stream true offset more)
     ≡ Some (record { identification = identification_of stream; offset = offset; more = more })
-fragment_fields (Ipv4 source destination identification) offset more = refl
-fragment_fields (Ipv6 source destination identification) offset more = refl
+fragment_fields stream offset more = grind arith
 
 -- what is said of built frames
 abbrev pub WholeIsRead : Type 0

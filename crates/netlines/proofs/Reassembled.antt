@@ -1,12 +1,11 @@
 -- The answers with two messages that came in fragments and differ in one word.
-use Rattle.std.proofs.Common.{◌≡◌, ◌∙◌, ap, refl, sym, ℕ, ◌-◌, List, ◌++◌, length, get_or}
-use Rattle.std.proofs.Common.{append_assoc, Ok, arith}
+use Rattle.std.proofs.Common.{◌≡◌, ◌∙◌, ap, refl, sym, ℕ, List, ◌++◌, length, get_or, append_assoc, Ok, arith}
 use Rattle.std.specs.Prelude.{codes, decimal}
 use Rattle.std.proofs.lemmas.List.{get_or-append_right}
 use Rattle.etherparse.specs.packet.Class.{FragmentName}
 use Rattle.etherparse.specs.packet.Readable.{ReadMessage, message_at}
-use Rattle.netlines.specs.Answers.{answer_after, completed_answer, hex_word, message_answer}
-use Rattle.netlines.specs.Answers.{outcome_answer, verdict_word}
+use Rattle.netlines.specs.Answers.{answer_after, completed_answer, hex_word, message_answer, outcome_answer}
+use Rattle.netlines.specs.Answers.{verdict_word}
 use Rattle.checksum_verdicts.specs.Verdict.{verdict_of}
 use Rattle.netlines.specs.Waiting.{Completes}
 use Rattle.checksum_verdicts.specs.declared.verdict.Verdict.{Verdict}
@@ -18,11 +17,7 @@ use Rattle.netlines.proofs.ArrivalLemmas.{fragment_answered}
 word_at : (prefix : List ℕ) (verdict : Verdict) (rest : List ℕ)
     → get_or (prefix ++ (verdict_word verdict ++ rest)) (length prefix) 0
     ≡ get_or (verdict_word verdict ++ rest) 0 0
-word_at prefix verdict rest =
-    let none : length prefix - length prefix ≡ 0 = omega arith in
-    get_or-append_right prefix (verdict_word verdict ++ rest) (length prefix) (length prefix) 0 refl
-    (omega arith)
-    ∙ ap (λ (k : ℕ). get_or (verdict_word verdict ++ rest) k 0) none
+word_at prefix verdict rest = grind (arith, get_or-append_right)
 
 module _ (number : ℕ) (text : List ℕ) where
   abbrev prefix : List ℕ
@@ -30,11 +25,7 @@ module _ (number : ℕ) (text : List ℕ) where
 
   letter_of : (verdict : Verdict) → get_or (message_answer number verdict text) (length prefix) 0
       ≡ get_or (verdict_word verdict ++ (codes " " ++ hex_word text)) 0 0
-  letter_of verdict =
-      ap (λ (t : List ℕ). get_or t (length prefix) 0)
-      (append_assoc (prefix ++ verdict_word verdict) (codes " ") (hex_word text)
-      ∙ append_assoc prefix (verdict_word verdict) (codes " " ++ hex_word text))
-      ∙ word_at prefix verdict (codes " " ++ hex_word text)
+  letter_of verdict = grind (arith, append_assoc, word_at)
 
   letters_differ : (verdict : Verdict)
       → message_answer number verdict text ≡ message_answer number Good text

@@ -1,74 +1,37 @@
 -- Lines with fragments that wait one after another, and one that completes the message, have the
 -- same answers wherever they are among others.
-use Rattle.std.proofs.Common.{◌≡◌, ◌∙◌, ap, refl, subst, sym, inl, inr, ◌↔◌, ℕ, ◌+◌, Bool}
-use Rattle.std.proofs.Common.{true, false, cond, List, [], ◌∷◌, ◌++◌, length, map, get_or, arith}
+use Rattle.std.proofs.Common.{◌≡◌, ◌∙◌, ap, refl, subst, sym, ◌↔◌, ℕ, ◌+◌, List, ◌∷◌, ◌++◌, length, map, arith, []}
 use Rattle.std.proofs.Common.{append-nil, append_assoc}
 use Rattle.std.specs.Prelude.{IsTrue, codes}
 use Rattle.etherparse.specs.declared.defrag.ip_defrag_error.IpDefragError.{IpDefragError}
-use Rattle.etherparse.specs.declared.defrag.ip_defrag_error.IpDefragError.TheVariants.{AllocationFailure}
-use Rattle.etherparse.specs.declared.defrag.ip_defrag_error.IpDefragError.TheVariants.{ConflictingEnd}
-use Rattle.etherparse.specs.declared.defrag.ip_defrag_error.IpDefragError.TheVariants.{SegmentTooBig}
-use Rattle.etherparse.specs.declared.defrag.ip_defrag_error.IpDefragError.TheVariants.{UnalignedFragmentPayloadLen}
 use Rattle.etherparse.specs.Fragments.{Fragment}
-use Rattle.etherparse.specs.IpFragId.{same_name}
+use Rattle.etherparse.specs.IpFragId.{same_name, rule_over}
 use Rattle.etherparse.specs.Outcome.{Held, Outcome, held_after, outcome}
-use Rattle.etherparse.specs.Outcome.Outcome.{Completed, Refusal, Waiting}
+use Rattle.etherparse.specs.Outcome.Outcome.{Completed, Waiting}
 use Rattle.etherparse.specs.PoolCalls.{outcome_at}
 use Rattle.etherparse.specs.packet.Class.{Class, FragmentName}
 use Rattle.line_grammar.specs.Commands.{command_of}
-use Rattle.netlines.specs.Alone.{answers_after, matter_after, matters}
-use Rattle.netlines.specs.Answers.{answer_after, class_answer, command_answer, message_answer}
-use Rattle.netlines.specs.Answers.{outcome_answer, refusal_answer}
+use Rattle.netlines.specs.Alone.{answers_after, matter_after}
+use Rattle.netlines.specs.Answers.{answer_after, class_answer, command_answer, outcome_answer, refusal_answer}
 use Rattle.netlines.specs.Arrivals.{HasFragment, held_with_line, lists_after_lines}
 use Rattle.netlines.specs.Waiting.{ReturnsMessage, lines_for, texts_for, waiting_lines}
 use Rattle.netlines.proofs.AloneLemmas.{all_hold, answered_by, answers_by}
 use Rattle.netlines.proofs.ArrivalLemmas.{fragment_answered, held_with_fragment}
-use Rattle.netlines.proofs.InertLemmas.{first_byte, refusal_other}
 use Rattle.netlines.proofs.WaitingLemmas.{AllWait, HaveFragments, are_waiting, none_held}
-use Rattle.etherparse.specs.IpFragId.{rule_over}
 use Rattle.etherparse.specs.declared.defrag.ip_defrag_error.IpDefragError.TheVariants.{OverlappingFragment}
-use Rattle.etherparse.specs.Outcome.Outcome.{Clash}
-
--- the answers where a message is completed, and where it isn't
-pub not_message : (answer : List ℕ) → (get_or answer 0 0 ≡ 109 → ⊥)
-    → (answer ≡ codes "refused message" → ⊥) → ReturnsMessage answer → ⊥
-not_message answer first other (inl is) =
-    first (first_byte answer (message_answer is.0 is.1 is.2) is.3)
-not_message answer first other (inr is) = other is
 
 refusal_returns_nothing : (error : IpDefragError) → ReturnsMessage (refusal_answer error) → ⊥
-refusal_returns_nothing (SegmentTooBig offset payload_len max) =
-    not_message (codes "refused long") (λ e. let r : 114 ≡ 109 = e in absurd (omega (arith, r)))
-    (refusal_other (SegmentTooBig offset payload_len max))
-refusal_returns_nothing (UnalignedFragmentPayloadLen offset payload_len) =
-    not_message (codes "refused unaligned")
-    (λ e. let r : 114 ≡ 109 = e in absurd (omega (arith, r)))
-    (refusal_other (UnalignedFragmentPayloadLen offset payload_len))
-refusal_returns_nothing (ConflictingEnd previous_end conflicting_end) =
-    not_message (codes "refused end") (λ e. let r : 114 ≡ 109 = e in absurd (omega (arith, r)))
-    (refusal_other (ConflictingEnd previous_end conflicting_end))
-refusal_returns_nothing (OverlappingFragment offset payload_len) =
-    not_message (codes "refused overlap") (λ e. let r : 114 ≡ 109 = e in absurd (omega (arith, r)))
-    (refusal_other (OverlappingFragment offset payload_len))
-refusal_returns_nothing (AllocationFailure len) =
-    not_message [] (λ e. let r : 0 ≡ 109 = e in absurd (omega (arith, r)))
-    (refusal_other (AllocationFailure len))
+refusal_returns_nothing error = grind arith
 
 pub waiting_returns_nothing : ReturnsMessage (codes "wait") → ⊥
-waiting_returns_nothing =
-    not_message (codes "wait") (λ e. let w : 119 ≡ 109 = e in absurd (omega (arith, w)))
-    (λ e. let w : 119 ≡ 114 = first_byte (codes "wait") (codes "refused message") e in
-    absurd (omega (arith, w)))
+waiting_returns_nothing = grind arith
 
 pub overlap_returns_nothing : ReturnsMessage (codes "refused overlap") → ⊥
 overlap_returns_nothing = refusal_returns_nothing (OverlappingFragment 0 0)
 
 pub returned_text : (name : FragmentName) (o : Outcome) → ReturnsMessage (outcome_answer name o)
     → (text : List ℕ) × (o ≡ Completed text)
-returned_text name (Refusal error) is = absurd (refusal_returns_nothing error is)
-returned_text name (Clash error) is = absurd (refusal_returns_nothing (OverlappingFragment 0 0) is)
-returned_text name (Waiting fs) is = absurd (waiting_returns_nothing is)
-returned_text name (Completed text) is = (text, refl)
+returned_text name o is = grind arith
 
 -- which texts there are doesn't depend on how many lines come before
 unnumbered : (name : FragmentName) (channel count other : ℕ) (lines texts : List (List ℕ))
@@ -77,13 +40,7 @@ unnumbered : (name : FragmentName) (channel count other : ℕ) (lines texts : Li
 unnumbered name channel count other [] texts = refl
 unnumbered name channel count other (line ∷ lines) [] = refl
 unnumbered name channel count other (line ∷ lines) (text ∷ texts) =
-    let rest = unnumbered name channel (count + 1) (other + 1) lines texts in
-    elim (matters name channel line) as (λ (b : Bool).
-    map (λ t. t.1) (cond b ((count + 1, text) ∷ matter_after name channel (count + 1) lines texts)
-    (matter_after name channel (count + 1) lines texts))
-    ≡ map (λ t. t.1) (cond b ((other + 1, text) ∷ matter_after name channel (other + 1) lines texts)
-    (matter_after name channel (other + 1) lines texts)))
-    [ true ↦ ap (λ (ts : List (List ℕ)). text ∷ ts) rest | false ↦ rest ]
+    grind (arith, unnumbered name channel (count + 1) (other + 1) lines texts)
 
 module _ (same : (a b : FragmentName) → IsTrue (same_name a b) ↔ (a ≡ b)) (name : FragmentName)
     (channel : ℕ) where
@@ -107,11 +64,7 @@ module _ (same : (a b : FragmentName) → IsTrue (same_name a b) ↔ (a ≡ b)) 
   run_of [] [] before line f text [] h held all has wait whole is = cc
   run_of [] [] before line f text (pair ∷ []) h held all has wait whole is =
       let here : pair.1 ≡ line = cc in
-      ap (λ (a : List ℕ). a ∷ [])
-      (ap (λ (l : List ℕ). command_answer (all_hold same name channel h) (command_of l)) here
-      ∙ answered_alone line f has h
-      ∙ ap (outcome_answer name) (ap (λ (gs : List Fragment). outcome (rule_over name.addresses) gs f)
-      (held ∙ sym (append-nil before)) ∙ whole))
+      cc (here, answered_alone line f has h, held, append-nil before, whole)
   run_of [] [] before line f text (pair ∷ other ∷ pairs) h held all has wait whole is = cc
   run_of [] (g ∷ fs) before line f text pairs h held all has wait whole is = absurd all
   run_of (l ∷ lines) [] before line f text pairs h held all has wait whole is = absurd all
@@ -120,7 +73,7 @@ module _ (same : (a b : FragmentName) → IsTrue (same_name a b) ↔ (a ≡ b)) 
       let here : pair.1 ≡ l = cc in
       let later : map (λ p. p.1) pairs ≡ lines ++ line ∷ [] = cc in
       let becomes : outcome (rule_over name.addresses) h.fragments g ≡ Waiting (before ++ g ∷ []) =
-      ap (λ (gs : List Fragment). outcome (rule_over name.addresses) gs g) held ∙ wait.0 in
+      grind arith in
       let answer = ap (λ (x : List ℕ). command_answer (all_hold same name channel h) (command_of x))
       here ∙ answered_alone l g all.0 h ∙ ap (outcome_answer name) becomes in
       let next = ap (λ (x : List ℕ). held_with_line name channel pair.0 (command_of x) h) here

@@ -1,11 +1,9 @@
 -- The verdict on a sealed message.
-use Rattle.std.proofs.Common.{◌≡◌, ◌↔◌, ◌∙◌, sym, ap, refl, ℕ, zero, suc, ◌+◌, ◌%◌, ◌<◌, ◌≤◌, ◌==◌}
-use Rattle.std.proofs.Common.{Bool, true, false, IsTrue, List, [], ◌∷◌, ◌++◌, length, Ok, Option}
-use Rattle.std.proofs.Common.{Some, None}
-use Rattle.std.proofs.Common.{arith, append_assoc, length-append}
+use Rattle.std.proofs.lemmas.Bool.Decides.{nat_tests}
+use Rattle.std.proofs.Common.{◌≡◌, ◌↔◌, ◌∙◌, sym, ap, refl, ℕ, ◌+◌, ◌%◌, ◌<◌, ◌≤◌, ◌==◌, Bool, true, false, IsTrue}
+use Rattle.std.proofs.Common.{List, ◌++◌, length, Ok, Option, Some, None, arith, append_assoc, length-append}
 use Rattle.std.specs.Prelude.{nat_lt, if◌then◌else◌}
-use Rattle.std.specs.Int.{w16, w32, to_be_bytes}
-use Rattle.std.proofs.lemmas.Bool.{le-ltb, lt-ltb, ltb-false, ltb-true, ne_eqb}
+use Rattle.std.proofs.lemmas.Bool.{le-ltb, ne_eqb}
 use Rattle.std.proofs.lemmas.List.{take_all}
 use Rattle.etherparse.specs.base.Sum.{all_ones, checksum, no_zero}
 use Rattle.etherparse.specs.icmp.Icmpv4 as icmpv4_spec
@@ -23,26 +21,21 @@ use Rattle.etherparse.specs.tcpudp.declared.transport.tcp_header.TcpHeader.{TcpH
 use Rattle.etherparse.specs.tcpudp.declared.transport.udp_header.UdpHeader.{UdpHeader}
 use Rattle.etherparse.specs.packet.Readable.{ReadMessage, message_at, read_as}
 use Rattle.etherparse.proofs.FrameTags.{two_bytes}
-use Rattle.netlines.proofs.ReadLemmas.{icmpv4_is, icmpv6_is, segment_is}
+use Rattle.netlines.proofs.ReadLemmas.{icmpv6_is, segment_is}
 use Rattle.etherparse.specs.packet.Readable.ReadMessage.{Udp}
 use Rattle.etherparse.specs.icmp.declared.transport.icmpv4_header.Icmpv4Header.{Icmpv4Header}
 use Rattle.etherparse.specs.icmp.declared.transport.icmpv6_header.Icmpv6Header.{Icmpv6Header}
-use Rattle.etherparse.specs.Built.{with_message_checksum as built_header}
-use Rattle.etherparse.specs.packet.Transport.{transport_len, transport_encoding}
+use Rattle.etherparse.specs.Built.{number_of, with_message_checksum as built_header}
+use Rattle.etherparse.specs.packet.Transport.{transport_encoding}
 use Rattle.etherparse.specs.packet.declared.net.ip_headers.IpHeaders.{IpHeaders}
 use Rattle.etherparse.specs.packet.declared.net.ip_headers.IpHeaders.TheVariants as packet
 use Rattle.etherparse.specs.declared.defrag.ip_frag_version_spec_id.IpFragVersionSpecId.{IpFragVersionSpecId}
-use Rattle.etherparse.specs.declared.defrag.ip_frag_version_spec_id.IpFragVersionSpecId.TheVariants.{Ipv4}
-use Rattle.etherparse.specs.declared.defrag.ip_frag_version_spec_id.IpFragVersionSpecId.TheVariants.{Ipv6}
 use Rattle.netlines.specs.declared.seal_error.SealError.{SealError}
-use Rattle.netlines.specs.declared.seal_error.SealError.TheVariants.{IcmpOfOtherVersion}
-use Rattle.netlines.specs.declared.seal_error.SealError.TheVariants.{TooLong}
+use Rattle.netlines.specs.declared.seal_error.SealError.TheVariants.{IcmpOfOtherVersion, TooLong}
 use Rattle.etherparse.specs.packet.declared.transport.transport_header.TransportHeader.{TransportHeader}
 use Rattle.etherparse.specs.packet.declared.transport.transport_header.TransportHeader.TheVariants as header
-use Rattle.netlines.specs.Sealed.{AddressesFit, HeaderFits, IsSealable, addresses_of}
-use Rattle.netlines.specs.Sealed.{is_icmp_of_other_version}
-use Rattle.netlines.specs.Sealed.{number_of, seal_refusal, sealed_header, sealed_message_bytes}
-use Rattle.netlines.specs.Sealed.{version_id_of}
+use Rattle.netlines.specs.Sealed.{AddressesFit, HeaderFits, IsSealable, addresses_of, seal_refusal, sealed_header}
+use Rattle.netlines.specs.Sealed.{sealed_message_bytes, version_id_of}
 use Rattle.checksum_verdicts.specs.Verdict.{verdict_by_sum, pseudo, verdict_of}
 use Rattle.etherparse.specs.packet.declared.addresses.Addresses.{Addresses}
 use Rattle.etherparse.specs.packet.declared.addresses.Addresses.TheVariants.{V4, V6}
@@ -60,32 +53,12 @@ joined prefix header payload is = ap verdict_by_sum (sym (append_assoc prefix he
 
 -- a checksum where 0 means that there is none
 no_zero_fits : (n : ℕ) → n ≤ 65535 → (1 ≤ no_zero n) × (no_zero n ≤ 65535)
-no_zero_fits zero small = (omega arith, omega arith)
-no_zero_fits (suc n) small = (omega arith, small)
+no_zero_fits n small = grind arith
 
 -- a header that is whole words, after a pseudo header
 pub even_pseudo : (addresses : Addresses) (number len : ℕ) → AddressesFit addresses
     → length (pseudo addresses number len) % 2 ≡ 0
-even_pseudo (V4 source destination) number len fit =
-    omega (
-      arith,
-      fit.0,
-      fit.1,
-      length-append source destination,
-      length-append
-          (source ++ destination) (0 ∷ number ∷ to_be_bytes w16 len),
-    )
-even_pseudo (V6 source destination) number len fit =
-    omega (
-      arith,
-      fit.0,
-      fit.1,
-      length-append source destination,
-      length-append
-          (source ++ destination) (to_be_bytes w32 len),
-      length-append
-          (source ++ destination ++ to_be_bytes w32 len) (0 ∷ 0 ∷ 0 ∷ number ∷ []),
-    )
+even_pseudo addresses number len fit = grind (arith, length-append)
 
 -- a datagram whose length field counts all of it
 module _ (header : UdpHeader) (payload : List ℕ) (stated : header.length ≡ 8 + length payload)
@@ -97,13 +70,7 @@ module _ (header : UdpHeader) (payload : List ℕ) (stated : header.length ≡ 8
   states = two_bytes header.length (omega (arith, stated)) ∙ stated
 
   read_datagram : udp_at datagram ≡ Ok datagram
-  read_datagram =
-      rw (
-        le-ltb (length datagram) 8 (omega arith),
-        le-ltb (length datagram) (udp_spec.length_of datagram) (omega (arith, states)),
-        ne_eqb (udp_spec.length_of datagram) 0 (λ none. absurd (omega (arith, states, none))),
-        le-ltb (udp_spec.length_of datagram) 8 (omega (arith, states)),
-      ) (ap Ok (take_all (udp_spec.length_of datagram) datagram (omega (arith, states))))
+  read_datagram = grind (arith, le-ltb, states, ne_eqb, take_all)
 
 -- what the laws of the protocols say of their sealed messages
 pub record Laws : Type 0 where
@@ -134,8 +101,7 @@ udp_is_good laws addresses h payload read fit fits is =
     (omega arith) in
     let stored : udp_spec.checksum_of bytes ≡ right = two_bytes right within.1 in
     let some : (udp_spec.checksum_of bytes == 0) ≡ false =
-    ne_eqb (udp_spec.checksum_of bytes) 0
-    (λ none. absurd (omega (arith, within.0, stored, none))) in
+    grind arith in
     let len : length bytes ≡ 8 + length payload = omega arith in
     let same : Ok (Udp bytes) ≡ Ok read =
     sym (ap (read_as (λ m. Udp m) (λ e. slice_error.Len e))
@@ -146,7 +112,7 @@ udp_is_good laws addresses h payload read fit fits is =
     (ap (λ (n : ℕ). verdict_by_sum (pseudo addresses 17 n ++ bytes)) len
     ∙ joined prefix (udp_spec.encoding sealed) payload
     (laws.udp prefix payload unchecked (even_pseudo addresses 17 (8 + length payload) fit))) in
-    ap (verdict_of addresses) (sym is_read) ∙ good
+    grind arith
 
 tcp_is_good : Laws → (addresses : Addresses) (h : TcpHeader) (payload : List ℕ) (read : ReadMessage)
     → AddressesFit addresses → IsTcpOptions h.options
@@ -169,11 +135,7 @@ icmpv4_is_good : Laws → (source destination : List ℕ) (h : Icmpv4Header)
     → message_at 1 (icmpv4_spec.encoding (icmpv4_spec.icmpv4_with_checksum h.icmp_type payload)
     ++ payload)
     ≡ Ok read → verdict_of (V4 source destination) read ≡ verdict.Good
-icmpv4_is_good laws source destination h payload read is =
-    let bytes : List ℕ = icmpv4_spec.encoding (icmpv4_spec.icmpv4_with_checksum h.icmp_type payload)
-    ++ payload in
-    ap (verdict_of (V4 source destination)) (icmpv4_is bytes read is)
-    ∙ good_where bytes (laws.icmpv4 h.icmp_type payload)
+icmpv4_is_good laws source destination h payload read is = grind (arith, nat_tests)
 
 icmpv6_is_good : Laws → (source destination : List ℕ) (h : Icmpv6Header) (payload : List ℕ)
     (read : ReadMessage) → AddressesFit (V6 source destination)
@@ -200,91 +162,37 @@ refusal other long = if other then Some IcmpOfOtherVersion
     else (if long then Some TooLong else None)
 
 no_refusal : (other long : Bool) → refusal other long ≡ None → (other ≡ false) × (long ≡ false)
-no_refusal true long is = cc
-no_refusal false true is = cc
-no_refusal false false is = (refl, refl)
-
-refused_as_long : (other long : Bool) → refusal other long ≡ Some TooLong
-    → (other ≡ false) × (long ≡ true)
-refused_as_long true long is = cc
-refused_as_long false true is = (refl, refl)
-refused_as_long false false is = cc
+no_refusal other long is = grind arith
 
 pub sealed_where : (other : Bool) (len : ℕ)
     → (refusal other (nat_lt 65535 len) ≡ None) ↔ ((other ≡ false) × (len ≤ 65535))
-sealed_where other len = (
-  λ is. let parts = no_refusal other (nat_lt 65535 len) is in
-      (parts.0, ltb-false 65535 len parts.1),
-  λ fits. rw (fits.0, le-ltb 65535 len fits.1) refl,
-)
+sealed_where other len = grind arith
 
 pub other_where : (other long : Bool)
     → (refusal other long ≡ Some IcmpOfOtherVersion) ↔ (other ≡ true)
-other_where true long = (λ is. refl, λ is. refl)
-other_where false true = (λ is. cc, λ is. cc)
-other_where false false = (λ is. cc, λ is. cc)
+other_where other long = grind arith
 
 pub long_where : (other : Bool) (len : ℕ)
     → (refusal other (nat_lt 65535 len) ≡ Some TooLong) ↔ ((other ≡ false) × (65535 < len))
-long_where other len = (
-  λ is. let parts = refused_as_long other (nat_lt 65535 len) is in
-      (parts.0, ltb-true 65535 len parts.1),
-  λ long. rw (long.0, lt-ltb 65535 len long.1) refl,
-)
-
--- UDP's length field is the length of a datagram that is short enough
-udp_length_fits : (h : TransportHeader) (payload : List ℕ) → transport_len h + length payload ≤ 65535
-    → number_of h ≡ 17 → 8 + length payload ≤ 65535
-udp_length_fits (header.Udp h) payload short same = short
-udp_length_fits (header.Tcp h) payload short same = absurd (omega arith)
-udp_length_fits (header.Icmpv4 h) payload short same = absurd (omega arith)
-udp_length_fits (header.Icmpv6 h) payload short same = absurd (omega arith)
+long_where other len = grind arith
 
 pub unrefused : (stream : IpFragVersionSpecId) (h : TransportHeader) (payload : List ℕ)
     → AddressesFit (addresses_of stream) → HeaderFits h → seal_refusal stream h payload ≡ None
     → IsSealable stream h payload
-unrefused stream h payload addresses fits is =
-    let other : Bool = is_icmp_of_other_version stream h in
-    let parts = (sealed_where other (transport_len h + length payload)).0 is in
-    record {
-      addresses = addresses;
-      fits = fits;
-      version = parts.0;
-      reported = udp_length_fits h payload parts.1;
-    }
+unrefused stream h payload addresses fits is = grind arith
 
 pub sealed_good : Laws → (stream : IpFragVersionSpecId) (h : TransportHeader) (payload : List ℕ)
     (read : ReadMessage) → IsSealable stream h payload
     → message_at (number_of h) (sealed_message_bytes stream h payload) ≡ Ok read
     → verdict_of (addresses_of stream) read ≡ verdict.Good
-sealed_good laws stream (header.Udp h) payload read sealable is =
-    udp_is_good laws (addresses_of stream) h payload read sealable.addresses
-    (sealable.reported refl) is
-sealed_good laws stream (header.Tcp h) payload read sealable is =
-    tcp_is_good laws (addresses_of stream) h payload read sealable.addresses sealable.fits is
-sealed_good laws (Ipv4 source destination identification)
-    (header.Icmpv4 h) payload read sealable is =
-    icmpv4_is_good laws source destination h payload read is
-sealed_good laws (Ipv6 source destination identification)
-    (header.Icmpv4 h) payload read sealable is = let other : true ≡ false = sealable.version in cc
-sealed_good laws (Ipv4 source destination identification)
-    (header.Icmpv6 h) payload read sealable is = let other : true ≡ false = sealable.version in cc
-sealed_good laws (Ipv6 source destination identification)
-    (header.Icmpv6 h) payload read sealable is =
-    icmpv6_is_good laws source destination h payload read sealable.addresses sealable.fits is
+sealed_good laws stream h payload read sealable is =
+    grind (arith, udp_is_good, tcp_is_good, icmpv4_is_good, icmpv6_is_good)
 
 -- what the builder writes is the same
 built_same : (ip : IpHeaders) (h : TransportHeader) (payload : List ℕ)
     → transport_encoding (built_header ip payload h) ++ payload
     ≡ sealed_message_bytes (version_id_of ip) h payload
-built_same (packet.Ipv4 ip e) (header.Udp h) payload = refl
-built_same (packet.Ipv4 ip e) (header.Tcp h) payload = refl
-built_same (packet.Ipv4 ip e) (header.Icmpv4 h) payload = refl
-built_same (packet.Ipv4 ip e) (header.Icmpv6 h) payload = refl
-built_same (packet.Ipv6 ip e) (header.Udp h) payload = refl
-built_same (packet.Ipv6 ip e) (header.Tcp h) payload = refl
-built_same (packet.Ipv6 ip e) (header.Icmpv4 h) payload = refl
-built_same (packet.Ipv6 ip e) (header.Icmpv6 h) payload = refl
+built_same ip h payload = grind arith
 
 pub built_good : Laws → (ip : IpHeaders) (h : TransportHeader) (payload : List ℕ)
     (read : ReadMessage) → IsSealable (version_id_of ip) h payload

@@ -1,8 +1,7 @@
 -- One message in two fragments: its frames are posted, and its lines have them.
-use Rattle.std.proofs.Common.{◌≡◌, ◌≢◌, ◌∙◌, sym, ap, refl, subst, ℕ, zero, suc, ◌<◌, lit<, lit≤}
-use Rattle.std.proofs.Common.{List, [], ◌∷◌, arith}
-use Rattle.std.proofs.lemmas.List.Elements.{All-cons, All-nil, All-contains_itself}
-use Rattle.std.specs.Prelude.{slice_index, Contains}
+use Rattle.std.proofs.Common.{◌≡◌, sym, refl, subst, ℕ, ◌<◌, lit<, lit≤, List, ◌∷◌, arith, []}
+use Rattle.std.proofs.lemmas.List.Elements.{All-nil, All-contains_itself}
+use Rattle.std.specs.Prelude.{Contains}
 use Rattle.hex.specs.Hex.{decode_pairs}
 use Rattle.etherparse.specs.base.Bytes.{IsBytes}
 use Rattle.etherparse.specs.base.Sum.{fold, total}
@@ -13,8 +12,8 @@ use Rattle.netlines.specs.Arrivals.{HasFragment}
 use Rattle.netlines.specs.Letter.{LetterFits}
 use Rattle.netlines.specs.Posted.{posted_frames}
 use Rattle.netlines.specs.PostedInput.{AreAllPosted, IsFirstCover, IsPostedOn}
-use Rattle.netlines.specs.TwoFragments.{first_fragment, first_frame, first_line, second_fragment}
-use Rattle.netlines.specs.TwoFragments.{second_frame, second_line, udp_letter, udp_message, udp_name}
+use Rattle.netlines.specs.TwoFragments.{first_fragment, first_frame, first_line, second_fragment, second_frame}
+use Rattle.netlines.specs.TwoFragments.{second_line, udp_letter, udp_message, udp_name}
 
 -- ---- the fragments of the lines
 
@@ -80,29 +79,17 @@ line_posted : (line frame : List ℕ) → command_of line ≡ Frame 0 frame
     → ((channel : ℕ) → IsPostedOn (λ name other. udp_message) channel frame)
     → (channel : ℕ) (other : List ℕ) → command_of line ≡ Frame channel other
     → IsPostedOn (λ name other. udp_message) channel other
-line_posted line frame has posted channel other is =
-    subst (IsPostedOn (λ name other. udp_message) channel) (ap frame_in (sym has ∙ is))
-    (posted channel)
+line_posted line frame has posted channel other is = grind arith
 
 pub lines_posted : AreAllPosted (λ name channel. udp_message) (first_line ∷ second_line ∷ [])
 lines_posted =
     let is_posted : List ℕ → Type 0 = λ line. (channel : ℕ) (frame : List ℕ)
     → command_of line ≡ Frame channel frame
     → IsPostedOn (λ name other. udp_message) channel frame in
-    All-cons is_posted first_line (second_line ∷ [])
-    (line_posted first_line first_frame first_command first_posted)
-    (All-cons is_posted second_line []
-    (line_posted second_line second_frame second_command second_posted)
-    (All-nil is_posted))
-
--- they differ in the word of flags and offset
-frames_differ : first_frame ≢ second_frame
-frames_differ same =
-    let flags = ap (λ (frame : List ℕ). slice_index frame 20) same in omega arith
+    grind (arith, line_posted, first_command, first_posted, second_command, second_posted)
 
 not_come : Contains (first_frame ∷ []) second_frame → ⊥
-not_come (zero, few, same) = frames_differ same
-not_come (suc n, few, same) = omega arith
+not_come h = grind arith
 
 pub cover : IsFirstCover (posted_frames udp_letter udp_message (8 ∷ [])) (first_frame ∷ [])
     second_frame
@@ -115,10 +102,7 @@ cover =
 -- ---- changed
 
 pub two_bytes : (a b : ℕ) → a < 256 → b < 256 → IsBytes (a ∷ b ∷ [])
-two_bytes a b small small' zero = small
-two_bytes a b small small' (suc zero) = small'
-two_bytes a b small small' (suc (suc n)) = lit< tt
+two_bytes a b small small' h = grind arith
 
 pub one_byte : (a : ℕ) → a < 256 → IsBytes (a ∷ [])
-one_byte a small zero = small
-one_byte a small (suc n) = lit< tt
+one_byte a small h = grind arith

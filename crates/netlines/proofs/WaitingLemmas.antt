@@ -1,11 +1,11 @@
 -- The lines that wait have the fragments that are held, each of which waited after those before it.
-use Rattle.std.proofs.Common.{◌≡◌, ◌∙◌, ap, refl, subst, sym, inl, inr, ◌↔◌, ℕ, ◌+◌, ◌&&◌, ◌==◌}
-use Rattle.std.proofs.Common.{Bool, true, false, cond, List, [], ◌∷◌, ◌++◌, append_assoc, append-nil}
-use Rattle.std.specs.Prelude.{IsTrue, nat_lt}
+use Rattle.std.proofs.Common.{arith, ◌≡◌, refl, subst, inl, inr, ◌↔◌, ℕ, ◌+◌, ◌&&◌, ◌==◌, [], List, ◌∷◌, ◌++◌}
+use Rattle.std.proofs.Common.{append_assoc, append-nil}
+use Rattle.std.specs.Prelude.{IsTrue}
 use Rattle.std.specs.List.{AllZip}
 use Rattle.std.proofs.lemmas.Bool.{and_parts, cases_Bool, eqb-true}
 use Rattle.etherparse.specs.Fragments.{Fragment, fragment}
-use Rattle.etherparse.specs.IpFragId.{fragment_in, same_name}
+use Rattle.etherparse.specs.IpFragId.{fragment_in, same_name, rule_over}
 use Rattle.etherparse.specs.Outcome.{Held, Outcome, held_after, outcome}
 use Rattle.etherparse.specs.Outcome.Outcome.{Waiting}
 use Rattle.etherparse.specs.PoolCalls.{after_frame, no_lists}
@@ -15,10 +15,8 @@ use Rattle.etherparse.proofs.OutcomeLemmas.{by_outcome, is_waiting}
 use Rattle.line_grammar.specs.Commands.{Command, command_of}
 use Rattle.line_grammar.specs.Commands.Command.{Frame, Forget, Bad}
 use Rattle.netlines.specs.Arrivals.{HasFragment, held_after_more, held_with_line, lists_after_lines}
-use Rattle.netlines.specs.Waiting.{waiting_after, waiting_lines, waiting_with, waiting_with_line}
-use Rattle.netlines.specs.Waiting.{waiting_with_fragment}
+use Rattle.netlines.specs.Waiting.{waiting_after, waiting_lines, waiting_with, waiting_with_line, waiting_with_fragment}
 use Rattle.etherparse.specs.declared.defrag.overlap_rule.OverlapRule.{OverlapRule}
-use Rattle.etherparse.specs.IpFragId.{rule_over}
 
 -- each is accepted after those before it, and none completes the message
 abbrev pub AllWait : OverlapRule → (before fs : List Fragment) → Type 0
@@ -30,17 +28,9 @@ pub AllWait-push : (rule : OverlapRule) (before fs : List Fragment) (f : Fragmen
     → AllWait rule before fs
     → outcome rule (before ++ fs) f ≡ Waiting ((before ++ fs) ++ f ∷ [])
     → AllWait rule before (fs ++ f ∷ [])
-AllWait-push rule before [] f all is = (
-  subst (λ (gs : List Fragment). outcome rule gs f ≡ Waiting (gs ++ f ∷ []))
-      (append-nil before) is,
-  tt,
-)
-AllWait-push rule before (g ∷ fs) f all is = (
-  all.0,
-  AllWait-push rule (before ++ g ∷ []) fs f all.1
-      (subst (λ (gs : List Fragment). outcome rule gs f ≡ Waiting (gs ++ f ∷ []))
-      (sym (append_assoc before (g ∷ []) fs)) is),
-)
+AllWait-push rule before [] f all is = grind (arith, append-nil)
+AllWait-push rule before (g ∷ fs) f all is =
+    grind (arith, AllWait-push rule (before ++ g ∷ []) fs f all.1, append_assoc)
 
 module _ (same : (a b : FragmentName) → IsTrue (same_name a b) ↔ (a ≡ b)) (name : FragmentName)
     (channel : ℕ) where
@@ -89,17 +79,10 @@ module _ (same : (a b : FragmentName) → IsTrue (same_name a b) ↔ (a ≡ b)) 
         elim (cases_Bool (same_name own name && (other == channel))) [
           | inl t ↦
               let both = and_parts (same_name own name) (other == channel) t in
-              let has : HasFragment line name channel f = record {
-                bytes = bytes;
-                frame = frame ∙ ap (λ (c : ℕ). Frame c bytes) (eqb-true other channel both.1);
-                as_fragment = as_fragment ∙ ap (λ (n : FragmentName). Cut n offset more text)
-                    ((same own name).0 both.0);
-              } in
-              subst (λ (b : Bool). AreWaiting (cond b (waiting_with waiting line o) waiting)
-              (cond b (held_after h number o) h)) (sym t) (with_fragment f has)
+              let has : HasFragment line name channel f = grind (arith, eqb-true) in
+              grind (arith, t, with_fragment f has)
           | inr t ↦
-              subst (λ (b : Bool). AreWaiting (cond b (waiting_with waiting line o) waiting)
-              (cond b (held_after h number o) h)) (sym t) are
+              grind arith
         ]
     with_class other bytes frame (Whole addresses protocol text message) as_fragment = are
     with_class other bytes frame Other as_fragment = are
@@ -112,10 +95,7 @@ module _ (same : (a b : FragmentName) → IsTrue (same_name a b) ↔ (a ≡ b)) 
         → AreWaiting (waiting_with_line name channel h line waiting k)
         (held_with_line name channel number k h)) [
           | Frame other bytes ↦ λ frame. with_class other bytes frame (class_of bytes) refl
-          | Forget from ↦ λ _. elim (nat_lt h.time from) as
-              (λ (b : Bool). AreWaiting (cond b [] waiting)
-              (cond b (record { fragments = []; time = h.time }) h))
-              [ true ↦ (tt, tt) | false ↦ are ]
+          | Forget from ↦ grind arith
           | Bad ↦ λ _. are
         ] refl
 
@@ -135,8 +115,7 @@ module _ (same : (a b : FragmentName) → IsTrue (same_name a b) ↔ (a ≡ b)) 
 
   -- where none waits, none is held
   no_fragment : (fs : List Fragment) → HaveFragments [] fs → fs ≡ []
-  no_fragment [] all = refl
-  no_fragment (f ∷ fs) all = absurd all
+  no_fragment fs all = grind arith
 
   pub none_held : (lines : List (List ℕ)) → waiting_lines name channel lines ≡ []
       → (lists_after_lines lines name channel).fragments ≡ []

@@ -1,7 +1,6 @@
 -- The lines of what a run writes are its answers.
-use Rattle.std.proofs.Common.{◌≡◌, ◌∙◌, ap, refl, subst, sym, ℕ, zero, suc, ◌/◌, ◌%◌, ◌==◌}
-use Rattle.std.proofs.Common.{◌&&◌, Bool, true, false, not, cond, Option, Some, None, Result, Ok, Err, List, [], ◌∷◌}
-use Rattle.std.proofs.Common.{◌++◌, get_or, append_assoc, arith}
+use Rattle.std.proofs.Common.{◌≡◌, refl, subst, sym, ℕ, zero, suc, ◌/◌, ◌%◌, ◌==◌, [], ◌&&◌, Bool, true, false, not}
+use Rattle.std.proofs.Common.{cond, Option, Some, None, Result, Ok, Err, List, ◌∷◌, ◌++◌, get_or, append_assoc, arith}
 use Rattle.std.specs.Fmt.{decimal, digit_glyph, digits, digits_onto}
 use Rattle.std.specs.Io.KnownBytes.{Appends}
 use Rattle.std.specs.Prelude.{IfSome, OnOk, codes}
@@ -25,14 +24,13 @@ use Rattle.etherparse.specs.packet.declared.addresses.Addresses.{Addresses}
 use Rattle.etherparse.specs.packet.declared.err.packet.slice_error.SliceError.{SliceError}
 use Rattle.line_grammar.specs.Commands.{Command, command_of}
 use Rattle.line_grammar.specs.Commands.Command.{Frame, Forget, Bad}
-use Rattle.lines.specs.Lines.{HasNoNewline, Split, last_line, lines_of, split, with_byte}
+use Rattle.lines.specs.Lines.{HasNoNewline, Split, lines_of, split}
 use Rattle.lines.specs.LineAnswers.{answers_to_later}
-use Rattle.netlines.specs.Alone.{answers_after, answers_to, lines_that_matter}
-use Rattle.netlines.specs.Alone.{texts_that_matter}
+use Rattle.netlines.specs.Alone.{answers_after, answers_to, lines_that_matter, texts_that_matter}
 use Rattle.netlines.specs.TwoRuns.{AreIsolated}
-use Rattle.netlines.specs.Answers.{answer_after, answers_of, class_answer, command_answer}
-use Rattle.netlines.specs.Answers.{completed_answer, frame_meaning, hex_word, message_answer}
-use Rattle.netlines.specs.Answers.{outcome_answer, refusal_answer, answer_line_after, verdict_word}
+use Rattle.netlines.specs.Answers.{answer_after, answers_of, class_answer, command_answer, completed_answer}
+use Rattle.netlines.specs.Answers.{frame_meaning, hex_word, message_answer, outcome_answer, refusal_answer}
+use Rattle.netlines.specs.Answers.{answer_line_after, verdict_word}
 use Rattle.netlines.specs.Arrivals.{lists_after_lines}
 use Rattle.checksum_verdicts.specs.Verdict.{verdict_of}
 use Rattle.checksum_verdicts.specs.declared.verdict.Verdict.{Verdict}
@@ -80,8 +78,7 @@ digits_end (suc count) n text none =
     elim (n / 10 == 0) as (λ (b : Bool). HasNoNewline (cond b (digit_glyph false (n % 10) ∷ text)
     (digits_onto count 10 false (n / 10) (digit_glyph false (n % 10) ∷ text)))) [
       | true ↦ (glyph (n % 10), none)
-      | false ↦ digits_end count (n / 10) (digit_glyph false (n % 10) ∷ text)
-          (glyph (n % 10), none)
+      | false ↦ grind (arith, digits_end count (n / 10) (digit_glyph false (n % 10) ∷ text))
     ]
 
 number_is_one_line : (n : ℕ) → HasNoNewline (decimal n)
@@ -102,13 +99,7 @@ message_reported : (number : ℕ) (v : Verdict) (message : List ℕ)
 message_reported number v message =
     let numbered = codes "message " ++ decimal number in
     let judged = numbered ++ codes " " ++ verdict_word v in
-    joined (judged ++ codes " ") (hex_word message)
-    (joined judged (codes " ")
-    (joined (numbered ++ codes " ") (verdict_word v)
-    (joined numbered (codes " ")
-    (joined (codes "message ") (decimal number) (by_test (codes "message ") refl)
-    (number_is_one_line number)) (by_test (codes " ") refl)) (verdict_is_one_line v))
-    (by_test (codes " ") refl)) (hex_is_one_line message)
+    grind (arith, joined, by_test, number_is_one_line, verdict_is_one_line, hex_is_one_line)
 
 completed_is_one_line : (addresses : Addresses) (number : ℕ) (text : List ℕ)
     (read : Result ReadMessage SliceError)
@@ -160,16 +151,11 @@ first_split : (text following : List ℕ) → HasNoNewline text
     → split (text ++ 10 ∷ following) ≡ started text (split following)
 unfolding split
 first_split [] following none = refl
-first_split (b ∷ text) following none =
-    ap (λ (t : Bool). cond t
-    (record { ended = [] ∷ (split (text ++ 10 ∷ following)).ended; rest = (split (text ++ 10 ∷ following)).rest })
-    (with_byte b (split (text ++ 10 ∷ following)).ended (split (text ++ 10 ∷ following)).rest)) none.0
-    ∙ ap (λ (later : Split). with_byte b later.ended later.rest) (first_split text following none.1)
+first_split (b ∷ text) following none = grind (arith, first_split text following none.1)
 
 first_line : (text following : List ℕ) → HasNoNewline text
     → lines_of (text ++ 10 ∷ following) ≡ text ∷ lines_of following
-first_line text following none =
-    ap (λ (s : Split). s.ended ++ last_line s.rest) (first_split text following none)
+first_line text following none = grind (arith, first_split)
 
 answer_line_is : (earlier : List (List ℕ)) (line : List ℕ)
     → answer_line_after earlier line ≡ answer_after earlier line ++ 10 ∷ []
@@ -181,12 +167,14 @@ answer_lines : (earlier lines : List (List ℕ))
 unfolding split
 answer_lines earlier [] = refl
 answer_lines earlier (line ∷ lines) =
-    let following = answers_to_later frame_meaning (earlier ++ line ∷ []) lines in
-    ap (λ (t : List ℕ). lines_of (t ++ following)) (answer_line_is earlier line)
-    ∙ ap lines_of (append_assoc (answer_after earlier line) (10 ∷ []) following)
-    ∙ first_line (answer_after earlier line) following (answer_is_one_line earlier line)
-    ∙ ap (λ (rest : List (List ℕ)). answer_after earlier line ∷ rest)
-    (answer_lines (earlier ++ line ∷ []) lines)
+    grind (
+      arith,
+      answer_lines (earlier ++ line ∷ []) lines,
+      answer_line_is,
+      append_assoc,
+      first_line,
+      answer_is_one_line,
+    )
 
 pub written_lines : (bytes : List ℕ) → lines_of (answers_of bytes) ≡ answers_to (lines_of bytes)
 written_lines bytes = answer_lines [] (lines_of bytes)
@@ -211,13 +199,5 @@ pub runs_isolated : (inputs : (name : FragmentName) (channel : ℕ) (lines other
     (old new other_old other_new : Option (List ℕ)) (input other : List ℕ)
     → Appends old new (answers_of input) → Appends other_old other_new (answers_of other)
     → AreIsolated input other old new other_old other_new
-runs_isolated inputs old new other_old other_new input other appends other_appends = record {
-  written = answers_of input;
-  other_written = answers_of other;
-  appended = appends;
-  other_appended = other_appends;
-  answered = λ name channel is.
-      ap (texts_that_matter name channel (lines_of input)) (written_lines input)
-      ∙ inputs name channel (lines_of input) (lines_of other) is
-      ∙ sym (ap (texts_that_matter name channel (lines_of other)) (written_lines other));
-}
+runs_isolated inputs old new other_old other_new input other appends other_appends =
+    grind (arith, written_lines)

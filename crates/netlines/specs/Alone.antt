@@ -1,6 +1,6 @@
 -- The lines that matter to one message, and the answers to them.
-use Rattle.std.specs.Prelude.{◌≡◌, ◌⊎◌, ℕ, ◌+◌, ◌&&◌, ◌==◌, not, Bool, true, false}
-use Rattle.std.specs.Prelude.{if◌then◌else◌, List, [], ◌∷◌, ◌++◌, codes, length}
+use Rattle.std.specs.Prelude.{◌≡◌, ◌⊎◌, ℕ, ◌+◌, ◌&&◌, ◌==◌, not, Bool, true, false, if◌then◌else◌, List, [], ◌∷◌, ◌++◌}
+use Rattle.std.specs.Prelude.{codes, length}
 use Rattle.etherparse.specs.IpFragId.{same_name}
 use Rattle.etherparse.specs.packet.Class.{Class, FragmentName, class_of}
 use Rattle.etherparse.specs.packet.Class.Class.{Whole, Cut, Other, Refused}

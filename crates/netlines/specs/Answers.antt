@@ -1,6 +1,5 @@
 -- The answer to a line after others, and the answers to a list of bytes line by line.
-use Rattle.std.specs.Prelude.{ℕ, Bool, false, is_some, Result, Ok, Err, List}
-use Rattle.std.specs.Prelude.{[], ◌∷◌, ◌++◌, codes, decimal}
+use Rattle.std.specs.Prelude.{ℕ, Bool, false, is_some, Result, Ok, Err, List, [], ◌∷◌, ◌++◌, codes, decimal}
 use Rattle.hex.specs.Hex.{encode_lower}
 use Rattle.etherparse.specs.Fragments.{fragment}
 use Rattle.etherparse.specs.Outcome.{Outcome}

@@ -1,7 +1,6 @@
 -- Two texts that differ in one 16-bit word, as a checksum counts words (RFC 1071, section 1): an
 -- odd last byte is a word with a zero byte after it.
-use Rattle.std.specs.Prelude.{◌≡◌, ◌≢◌, ◌⊎◌, ℕ, ◌%◌, ◌==◌, ◌&&◌, ◌||◌, not, Bool, if◌then◌else◌}
-use Rattle.std.specs.Prelude.{List, [], ◌++◌, length}
+use Rattle.std.specs.Prelude.{◌≡◌, ◌≢◌, ◌⊎◌, ℕ, ◌%◌, ◌==◌, ◌&&◌, ◌||◌, not, Bool, if◌then◌else◌, List, [], ◌++◌, length}
 use Rattle.etherparse.specs.base.Bytes.{IsBytes}
 use Rattle.etherparse.specs.base.Sum.{total}
 use Rattle.etherparse.specs.Fragments.{Fragment}

@@ -2,6 +2,7 @@ pub mod Alone
 pub mod Answers
 pub mod Arrivals
 pub mod ChangedWord
+pub mod FrameRuns
 pub mod Letter
 pub mod PoolAnswers
 pub mod PoolBuffers
@@ -9,7 +10,6 @@ pub mod PostRefusal
 pub mod Posted
 pub mod PostedHeaders
 pub mod PostedInput
-pub mod Runs
 pub mod Sealed
 pub mod TwoFragments
 pub mod TwoRuns

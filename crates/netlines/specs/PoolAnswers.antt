@@ -4,8 +4,7 @@ use Rattle.etherparse.specs.PoolCalls.{Lists, ShowsLists, lists_with_frame}
 use Rattle.etherparse.specs.ReassemblyTable.{Pool}
 use Rattle.etherparse.specs.declared.defrag.ip_frag_id.IpFragId.{IpFragId}
 use Rattle.etherparse.specs.packet.Class.{Class}
-use Rattle.netlines.specs.Answers.{class_answer, class_takes_memory, command_answer}
-use Rattle.netlines.specs.Answers.{command_takes_memory}
+use Rattle.netlines.specs.Answers.{class_answer, class_takes_memory, command_answer, command_takes_memory}
 use Rattle.netlines.specs.Arrivals.{lists_with_line}
 use Rattle.line_grammar.specs.Commands.{Command}
 

@@ -1,17 +1,14 @@
 -- Why a message can't be posted, out of memory aside.
-use Rattle.std.specs.Prelude.{ℕ, ◌+◌, ◌%◌, ◌&&◌, ◌||◌, ◌==◌, nat_lt, Bool}
-use Rattle.std.specs.Prelude.{if◌then◌else◌, List, [], ◌∷◌, length, Option, Some, None}
+use Rattle.std.specs.Prelude.{ℕ, ◌+◌, ◌%◌, ◌&&◌, ◌||◌, ◌==◌, nat_lt, Bool, if◌then◌else◌, List, [], ◌∷◌, length, Option}
+use Rattle.std.specs.Prelude.{Some, None}
 use Rattle.std.specs.Option.{option_map, option_or}
 use Rattle.etherparse.specs.base.Refusals.{first_refusal}
 use Rattle.etherparse.specs.declared.defrag.ip_frag_version_spec_id.IpFragVersionSpecId.{IpFragVersionSpecId}
-use Rattle.etherparse.specs.declared.defrag.ip_frag_version_spec_id.IpFragVersionSpecId.TheVariants.{Ipv4}
-use Rattle.etherparse.specs.declared.defrag.ip_frag_version_spec_id.IpFragVersionSpecId.TheVariants.{Ipv6}
+use Rattle.etherparse.specs.declared.defrag.ip_frag_version_spec_id.IpFragVersionSpecId.TheVariants.{Ipv4, Ipv6}
 use Rattle.netlines.specs.declared.letter.Letter.{Letter}
 use Rattle.netlines.specs.declared.post_error.PostError.{PostError}
-use Rattle.netlines.specs.declared.post_error.PostError.TheVariants.{Cuts, MessageTooLong}
-use Rattle.netlines.specs.declared.post_error.PostError.TheVariants.{ExtensionNumber}
-use Rattle.netlines.specs.declared.post_error.PostError.TheVariants.{IcmpOfOtherVersion}
-use Rattle.netlines.specs.declared.post_error.PostError.TheVariants.{PieceTooLong}
+use Rattle.netlines.specs.declared.post_error.PostError.TheVariants.{Cuts, MessageTooLong, ExtensionNumber}
+use Rattle.netlines.specs.declared.post_error.PostError.TheVariants.{IcmpOfOtherVersion, PieceTooLong}
 use Rattle.netlines.specs.Posted.{PostedFragment, is_fragmented, fragments_from}
 
 -- a message of so many bytes can be cut here, after the cut before (0 before the first one): a

@@ -1,6 +1,5 @@
 -- Inputs whose frames are those that messages were posted as.
-use Rattle.std.specs.Prelude.{◌≡◌, ◌⊎◌, ℕ, true, None, Ok, List, All, Contains, codes}
-use Rattle.std.specs.Prelude.{[], ◌∷◌, ◌++◌}
+use Rattle.std.specs.Prelude.{◌≡◌, ◌⊎◌, ℕ, true, None, Ok, List, All, Contains, codes, [], ◌∷◌, ◌++◌}
 use Rattle.std.specs.List.{AllZip}
 use Rattle.etherparse.specs.packet.Class.{FragmentName}
 use Rattle.etherparse.specs.packet.Readable.{ReadMessage, message_at}

@@ -1,33 +1,29 @@
 -- Messages with the length and the checksum that belong to them (RFC 768; RFC 792; RFC 4443,
 -- section 2.3; RFC 9293, section 3.1; RFC 8200, section 8.1).
-use Rattle.std.specs.Prelude.{◌≡◌, ℕ, ⊤, ◌+◌, ◌≤◌, nat_lt, Bool, true, false, List, [], ◌∷◌, ◌++◌}
-use Rattle.std.specs.Prelude.{length, Option}
+use Rattle.std.specs.Prelude.{◌≡◌, ℕ, ⊤, ◌+◌, ◌≤◌, nat_lt, Bool, true, false, List, [], ◌∷◌, ◌++◌, length, Option}
 use Rattle.etherparse.specs.base.Refusals.{first_refusal}
+use Rattle.etherparse.specs.Built.{number_of}
 use Rattle.etherparse.specs.icmp.Icmpv4 as icmpv4_spec
 use Rattle.etherparse.specs.icmp.Icmpv6 as icmpv6_spec
 use Rattle.etherparse.specs.icmp.declared.transport.icmpv6_type.Icmpv6Type.{Icmpv6Type}
 use Rattle.etherparse.specs.packet.Transport.{transport_len, transport_encoding}
 use Rattle.etherparse.specs.packet.declared.transport.transport_header.TransportHeader.{TransportHeader}
-use Rattle.etherparse.specs.packet.declared.transport.transport_header.TransportHeader.TheVariants.{Udp}
-use Rattle.etherparse.specs.packet.declared.transport.transport_header.TransportHeader.TheVariants.{Tcp}
-use Rattle.etherparse.specs.packet.declared.transport.transport_header.TransportHeader.TheVariants.{Icmpv4}
+use Rattle.etherparse.specs.packet.declared.transport.transport_header.TransportHeader.TheVariants.{Udp, Tcp, Icmpv4}
 use Rattle.etherparse.specs.packet.declared.transport.transport_header.TransportHeader.TheVariants.{Icmpv6}
 use Rattle.etherparse.specs.tcpudp.Tcp.{header_len}
 use Rattle.etherparse.specs.tcpudp.TcpChecksum as tcp_checksum
 use Rattle.etherparse.specs.tcpudp.TcpOptions.{IsTcpOptions}
 use Rattle.etherparse.specs.tcpudp.UdpChecksum as udp_checksum
-use Rattle.etherparse.specs.packet.Readable.{icmpv4, icmpv6, tcp, udp}
+use Rattle.etherparse.specs.packet.Readable.{tcp, udp}
 use Rattle.checksum_verdicts.specs.Verdict.{pseudo}
 use Rattle.etherparse.specs.packet.declared.addresses.Addresses.{Addresses}
 use Rattle.etherparse.specs.packet.declared.addresses.Addresses.TheVariants.{V4, V6}
 use Rattle.etherparse.specs.declared.defrag.ip_frag_version_spec_id.IpFragVersionSpecId.{IpFragVersionSpecId}
-use Rattle.etherparse.specs.declared.defrag.ip_frag_version_spec_id.IpFragVersionSpecId.TheVariants.{Ipv4}
-use Rattle.etherparse.specs.declared.defrag.ip_frag_version_spec_id.IpFragVersionSpecId.TheVariants.{Ipv6}
+use Rattle.etherparse.specs.declared.defrag.ip_frag_version_spec_id.IpFragVersionSpecId.TheVariants.{Ipv4, Ipv6}
 use Rattle.etherparse.specs.packet.declared.net.ip_headers.IpHeaders.{IpHeaders}
 use Rattle.etherparse.specs.packet.declared.net.ip_headers.IpHeaders.TheVariants as packet
 use Rattle.netlines.specs.declared.seal_error.SealError.{SealError}
-use Rattle.netlines.specs.declared.seal_error.SealError.TheVariants.{IcmpOfOtherVersion}
-use Rattle.netlines.specs.declared.seal_error.SealError.TheVariants.{TooLong}
+use Rattle.netlines.specs.declared.seal_error.SealError.TheVariants.{IcmpOfOtherVersion, TooLong}
 
 -- addresses of the length of their version
 abbrev pub AddressesFit : Addresses → Type 0
@@ -44,13 +40,6 @@ addresses_of (Ipv6 source destination identification) = V6 source destination
 abbrev pub version_id_of : IpHeaders → IpFragVersionSpecId
 version_id_of (packet.Ipv4 h e) = Ipv4 h.source h.destination h.identification
 version_id_of (packet.Ipv6 h e) = Ipv6 h.source h.destination 0
-
--- the number of a header's protocol
-abbrev pub number_of : TransportHeader → ℕ
-number_of (Udp h) = udp
-number_of (Tcp h) = tcp
-number_of (Icmpv4 h) = icmpv4
-number_of (Icmpv6 h) = icmpv6
 
 -- a header of a length that its type allows: options of TCP that fit, and 8 bytes of ICMPv6
 abbrev pub HeaderFits : TransportHeader → Type 0

@@ -1,6 +1,6 @@
 -- The lines of one message among others, and those whose fragments wait for the rest of it.
-use Rattle.std.specs.Prelude.{◌≡◌, ◌⊎◌, ℕ, ◌+◌, ◌&&◌, ◌==◌, nat_lt, if◌then◌else◌, Option, Some}
-use Rattle.std.specs.Prelude.{None, List, [], ◌∷◌, ◌++◌, codes, map}
+use Rattle.std.specs.Prelude.{◌≡◌, ◌⊎◌, ℕ, ◌+◌, ◌&&◌, ◌==◌, nat_lt, if◌then◌else◌, Option, Some, None, List, [], ◌∷◌}
+use Rattle.std.specs.Prelude.{◌++◌, codes, map}
 use Rattle.etherparse.specs.Fragments.{Fragment}
 use Rattle.etherparse.specs.IpFragId.{fragment_in, rule_over, same_name}
 use Rattle.etherparse.specs.Joined.{IsJoined}

@@ -1,14 +1,12 @@
 //! What the program `netlines` does, apart from the system that it runs on: it answers an input,
 //! and ends with a status.
-ghost use Rattle.std.specs.Prelude.{◌≡◌, ◌≤◌, ℕ, List, Option, Result, length, OnOk, IfSome, IsErrOf};
-ghost use Rattle.std.specs.Prelude.{MatchResult};
+ghost use Rattle.std.specs.Prelude.{◌≡◌, ℕ, List, Option, Result, OnOk, IfSome, MatchResult};
 ghost use Rattle.std.specs.Io.KnownBytes.{Appends, IsAtEnd, Keeps};
 ghost use Rattle.std.specs.Process.{exit_status};
 ghost use Rattle.lines.specs.declared.run_error.RunError.{RunError};
 ghost use Rattle.device_runs.specs.Endings.{EndsFlushed};
-ghost use Rattle.device_runs.specs.Known.{KnownCall, known_of};
 ghost use Rattle.netlines.specs.Answers.{answers_of};
-ghost use Rattle.netlines.specs.Runs.{Runs, Transfers};
+ghost use Rattle.netlines.specs.FrameRuns.{RunsWithin};
 
 use crate::frames::run_frames::run;
 use device_runs::flush_after;
@@ -29,21 +27,11 @@ pub fn answer_input<R: Read, W: Write>(
         Appends (W.contents writer.old) (W.contents writer.new) (answers_of bytes))) }
     ensures end { OnOk result (IsAtEnd (R.remaining reader.new)) }
 
-    // What is written is the output of the run for the bytes read.
-    ensures bytes { (done : Result Unit RunError) × EndsFlushed RunError.Write done result
-        × Transfers (R.remaining reader.old) (R.remaining reader.new)
-        (W.contents writer.old) (W.contents writer.new) done }
-
-    // The calls of the run, one by one, as far as they show in the known bytes.
-    ensures calls { (done : Result Unit RunError) × (held : Option (List ℕ))
+    // What holds of the run before the flush, which keeps what is written.
+    ensures run { (done : Result Unit RunError) × (held : Option (List ℕ))
         × EndsFlushed RunError.Write done result × Keeps held (W.contents writer.new)
-        × Runs KnownCall READ_COUNT_LIMIT
-        (known_of (R.remaining reader.old) (W.contents writer.old))
-        (known_of (R.remaining reader.new) held) done }
-
-    // Each of the reads gave a byte at least.
-    ensures too_many { IsErrOf result RunError.TooManyReads
-        → IfSome (R.remaining reader.old) (λ bytes. READ_COUNT_LIMIT ≤ length bytes) }
+        × RunsWithin READ_COUNT_LIMIT (R.remaining reader.old) (R.remaining reader.new)
+        (W.contents writer.old) held done }
 {
     run(alloc, reader, writer)?;
     flush_after(writer, Ok(()), RunError::Write)

@@ -1,6 +1,6 @@
 -- What is known of what a session holds when it is taken, and when it is put back.
-use Rattle.std.proofs.Common.{◌≡◌, ◌∙◌, refl, sym, ap, subst, arith, length-append, ℕ, zero}
-use Rattle.std.proofs.Common.{suc, ◌≤◌, ◌<◌, ◌+◌, Bool, List, ◌++◌, length, Option, Some, true}
+use Rattle.std.proofs.Common.{◌≡◌, ◌∙◌, refl, sym, ap, subst, arith, length-append, ℕ, zero, suc, ◌≤◌, ◌<◌, ◌+◌, Bool}
+use Rattle.std.proofs.Common.{List, ◌++◌, length, Option, Some, true}
 use Rattle.std.proofs.lemmas.List.{length-take-le}
 use Rattle.std.specs.Prelude.{take, unwrap_or}
 use Rattle.netlines.specs.Answers.{frame_meaning}

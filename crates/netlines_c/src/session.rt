@@ -1,6 +1,6 @@
 //! Lines that come in chunks.
-ghost use Rattle.std.specs.Prelude.{◌≡◌, ◌≤◌, ◌<◌, ◌+◌, ◌++◌, ◌⊎◌, ℕ, Bool, List, [], true, false};
-ghost use Rattle.std.specs.Prelude.{Some, drop, length, take, IfOk, IsSome};
+ghost use Rattle.std.specs.Prelude.{◌≡◌, ◌≤◌, ◌<◌, ◌+◌, ◌++◌, ◌⊎◌, ℕ, Bool, List, [], true, false, Some, drop, length};
+ghost use Rattle.std.specs.Prelude.{take, IfOk, IsSome};
 ghost use Rattle.netlines.specs.Answers.{answers_of, ended_answers_of, frame_meaning};
 ghost use Rattle.netlines_c.specs.FrameSessions.{IsSession, TookText, shows_lines};
 ghost use Rattle.lines.specs.Sessions.{IsWrittenOut, Took, answers};

@@ -7,32 +7,12 @@
 #[cfg(test)]
 mod checks;
 #[cfg(test)]
-mod faults;
-#[cfg(test)]
-mod few_reads;
-#[cfg(test)]
-mod hasher_states;
-#[cfg(test)]
 mod laws;
-#[cfg(test)]
-mod lengths;
 #[cfg(test)]
 mod memory;
 #[cfg(test)]
 mod messages;
 #[cfg(test)]
-mod post;
-#[cfg(test)]
-mod post_refusals;
-#[cfg(test)]
 mod program;
 #[cfg(test)]
-mod reuse;
-#[cfg(test)]
-mod rounds;
-#[cfg(test)]
-mod rows;
-#[cfg(test)]
-mod sealing;
-#[cfg(test)]
-mod texts;
+mod runs;

@@ -2,10 +2,10 @@
 //! refuses that one: then a call returns this error and no other, what it changes is as before, and
 //! the same call succeeds after it. All growths are those of the calls.
 use crate::checks::{equal, holds};
-use crate::post::{FRAME, MESSAGE, MESSAGE_V6, SEGMENT, letter, stream};
-use crate::rows::{TWO_ANSWERS, TWO_FRAGMENTS};
-use crate::sealing::{Header, transport};
-use crate::texts::{TWO_ROUNDS, TWO_ROUNDS_ANSWERS};
+use crate::messages::post::{FRAME, MESSAGE, MESSAGE_V6, SEGMENT, letter, stream};
+use crate::messages::sealing::{Header, transport};
+use crate::runs::rows::{TWO_ANSWERS, TWO_FRAGMENTS};
+use crate::runs::texts::{TWO_ROUNDS, TWO_ROUNDS_ANSWERS};
 use fault_devices::FaultReader;
 use netlines::{PostError, RunError, SealError, post, run, seal_message};
 use std::process::Abort;
@@ -30,14 +30,11 @@ const FORGOTTEN_ANSWERS: &[u8] = b"wait\nok\nwait\n\
 // memory.
 type Run = (&'static [u8], &'static [u8], &'static [usize]);
 
+#[rattlefmt::skip]
 const RUNS: &[Run] = &[
     (TWO_FRAGMENTS, TWO_ANSWERS, &[0, 5]),
     // The second round takes the buffers of the first.
-    (
-        TWO_ROUNDS,
-        TWO_ROUNDS_ANSWERS,
-        &[0, 5, 54, 59, 64, 120, 125, 174, 179, 184],
-    ),
+    (TWO_ROUNDS, TWO_ROUNDS_ANSWERS, &[0, 5, 54, 59, 64, 120, 125, 174, 179, 184]),
     (FORGOTTEN_HALF, FORGOTTEN_ANSWERS, &[0, 8, 13]),
     // Lines that hold no fragment take no memory, so a run answers all of them or reads nothing.
     (b"\nforget\nforget 7", b"bad line\nbad line\nok\n", &[0]),

@@ -1,8 +1,6 @@
 -- Packets counted in buckets, of which each packet is in one.
-use Rattle.std.proofs.Common.{◌≡◌, ◌≢◌, ℕ, zero, suc, ◌+◌, ◌^◌, ◌<◌, ◌≤◌, ◌==◌, ◌⊎◌}
-use Rattle.std.proofs.Common.{inl, inr, Bool, true, false, List, [], ◌∷◌, ◌++◌, length}
-use Rattle.std.proofs.Common.{nat_lt, refl, ap, sym, ◌∙◌, arith, get_or-set_other}
-use Rattle.std.proofs.Common.{get_or-set_same, replicate}
+use Rattle.std.proofs.Common.{◌≡◌, ◌≢◌, ℕ, zero, suc, ◌+◌, ◌^◌, ◌<◌, ◌≤◌, ◌==◌, ◌⊎◌, [], Bool, true, false, List, ◌∷◌}
+use Rattle.std.proofs.Common.{◌++◌, length, refl, arith, get_or-set_other, get_or-set_same, replicate}
 use Rattle.std.specs.List.{count_by, slice_index, slice_index_or, slice_set}
 use Rattle.std.proofs.lemmas.Bool.Decides.{eqb_tells, nat_tests}
 use Rattle.std.proofs.Math.Pow.{pow_mono}
@@ -22,52 +20,26 @@ pub bucket-more : (counts : List ℕ) (capacity k v : ℕ) (kind : ℕ → Outli
     → v ≡ capped (slice_index counts k + 1) → (d : ℕ) → d < capacity
     → slice_index (slice_set counts k v) d ≡ capped (count_by (kind d) (packets ++ packet ∷ []))
 bucket-more counts capacity k v kind packets packet within counted here others ev d small =
-    elim (eqb_tells d k) [
-      | inl same ↦
-          let old : slice_index counts k ≡ capped (count_by (kind k) packets) =
-          counted k (omega (arith, same.1)) in
-          rw same.1 (rw get_or-set_same (ev ∙ ap (λ n. capped (n + 1)) old
-          ∙ sym (count_by-more (kind k) packets packet here)))
-      | inr other ↦
-          let not_here : d ≢ k = other.1 in
-          rw get_or-set_other (counted d small
-          ∙ ap capped (sym (count_by-none (kind d) packets packet (others d other.1))))
-    ]
+    grind (arith, eqb_tells, get_or-set_same, count_by-more, get_or-set_other, count_by-none)
 
 has-low : (more n : ℕ) → has_digits (suc more) n ≡ true → 2 ^ more ≤ n
 has-low more n h = grind (arith, nat_tests)
 
 has-high : (digits n : ℕ) → has_digits digits n ≡ true → n < 2 ^ digits
-has-high zero n h = grind (arith, nat_tests)
-has-high (suc more) n h = grind (arith, nat_tests)
+has-high digits n h = grind arith
 
 fewer-digits : (a b n : ℕ) → a < b → has_digits a n ≡ true → has_digits b n ≡ true → ⊥
-fewer-digits a zero n lt ha hb = absurd (omega arith)
-fewer-digits a (suc more) n lt ha hb =
-    let high : n < 2 ^ a = has-high a n ha in
-    let low : 2 ^ more ≤ n = has-low more n hb in
-    let mono : 2 ^ a ≤ 2 ^ more = pow_mono (omega arith) in
-    omega (arith, high, low, mono)
+fewer-digits a b n lt ha hb = grind (arith, has-high, has-low, pow_mono)
 
 order : (a b : ℕ) → a ≢ b → (a < b) ⊎ (b < a)
-order a b other = elim (nat_lt a b) as (λ t. nat_lt a b ≡ t → (a < b) ⊎ (b < a)) [
-  | true ↦ λ e. inl (grind (arith, nat_tests))
-  | false ↦ λ e. inr (grind (arith, nat_tests))
-] refl
+order a b other = grind arith
 
 apart : (a b n : ℕ) → a ≢ b → has_digits a n ≡ true → has_digits b n ≡ true → ⊥
-apart a b n other ha hb = elim (order a b other) [
-  | inl lt ↦ fewer-digits a b n lt ha hb
-  | inr lt ↦ fewer-digits b a n lt hb ha
-]
+apart a b n other ha hb = grind (arith, order, fewer-digits)
 
 -- no number has another number of digits too
 pub digits-others : (k n : ℕ) → has_digits k n ≡ true → (d : ℕ) → d ≢ k → has_digits d n ≡ false
-digits-others k n here d other =
-    elim (has_digits d n) as (λ b. has_digits d n ≡ b → b ≡ false) [
-      | true ↦ λ e. absurd (apart d k n other e here)
-      | false ↦ λ e. refl
-    ] refl
+digits-others k n here d other = grind (arith, apart)
 
 -- the tallies of the buckets with one packet more, which is in bucket k alone
 pub bucket-tally : (tallies : List Tally) (k : ℕ) (v : Tally) (kind : ℕ → Outline → Bool)
@@ -79,13 +51,7 @@ pub bucket-tally : (tallies : List Tally) (k : ℕ) (v : Tally) (kind : ℕ → 
     → (d : ℕ) → d < 256
     → slice_index_or (slice_set tallies k v) d no_tally ≡ tally_of (kind d) (packets ++ packet ∷ [])
 bucket-tally tallies k v kind packets packet within small_k counted here others added d small =
-    elim (eqb_tells d k) [
-      | inl same ↦ rw same.1 (rw get_or-set_same (added (counted k small_k)))
-      | inr other ↦
-          let not_here : d ≢ k = other.1 in
-          rw get_or-set_other (counted d small
-          ∙ tally_of-other (kind d) packets packet (others d other.1))
-    ]
+    grind (arith, eqb_tells, get_or-set_same, get_or-set_other, tally_of-other)
 
 pub tallies-none : (n k : ℕ) → slice_index_or (replicate n no_tally) k no_tally ≡ no_tally
 tallies-none zero zero = refl

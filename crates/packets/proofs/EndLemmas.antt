@@ -1,20 +1,18 @@
 -- How runs end: by a write or otherwise.
-use Rattle.std.proofs.Common.{◌≡◌, sym, refl, subst, arith, ℕ, Bool, List, [], Option, Result, Ok}
-use Rattle.std.proofs.Common.{Err, MatchResult, OnOk, OnErr, append-nil, inl, inr}
+use Rattle.std.proofs.Common.{◌≡◌, sym, refl, subst, arith, ℕ, Bool, List, [], Option, Result, Ok, Err, MatchResult}
+use Rattle.std.proofs.Common.{OnOk, OnErr, append-nil, inl, inr}
 use Rattle.captures.specs.PacketSteps.{Gives}
 use Rattle.captures.specs.Skipping.{none_skipped}
 use Rattle.captures.specs.Units.{skipped_in}
 use Rattle.captures.specs.declared.packet.Packet.{Packet}
 use Rattle.captures.specs.declared.translation.run_error.RunError.{RunError}
-use Rattle.captures.specs.declared.translation.run_error.RunError.TheVariants.{Read, Write}
-use Rattle.captures.specs.declared.translation.run_error.RunError.TheVariants.{WriteZero, Memory}
-use Rattle.captures.specs.declared.translation.run_error.RunError.TheVariants.{TooManyReads}
-use Rattle.captures.specs.declared.translation.run_error.RunError.TheVariants.{Capture, BadLine}
+use Rattle.captures.specs.declared.translation.run_error.RunError.TheVariants.{Read, Write, WriteZero, Memory}
+use Rattle.captures.specs.declared.translation.run_error.RunError.TheVariants.{TooManyReads, Capture, BadLine}
 use Rattle.captures.specs.declared.translation.skipped.Skipped.{Skipped}
 use Rattle.captures.specs.declared.translation.state.State.{State}
 use Rattle.captures.specs.declared.translation.state.State.TheVariants.{Start}
 use Rattle.captures.specs.declared.unfit.Unfit.{Unfit}
-use Rattle.packets.specs.Runs.{AreButLast, AreTaken, BreaksBy, EndsBy, Unbroken, UnlessOutOfMemory}
+use Rattle.packets.specs.PacketRuns.{AreButLast, AreTaken, BreaksBy, EndsBy, Unbroken, UnlessOutOfMemory}
 
 pub weaker_match : {E : Type 0} (result : Result Unit E) (A C : Type 0) (B D : E → Type 0)
     → (A → C) → ((error : E) → B error → D error) → MatchResult result (λ _. A) B

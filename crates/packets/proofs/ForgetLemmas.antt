@@ -1,7 +1,9 @@
 -- Which reassemblies a span that has passed drops.
-use Rattle.std.proofs.Common.{◌≡◌, ℕ, ◌+◌, ◌-◌, ◌*◌, ◌<◌, ◌≤◌, Bool, true, false, List, [], ◌∷◌}
-use Rattle.std.proofs.Common.{◌++◌, Option, Some, None, refl, ap, sym, subst, ◌∙◌}
-use Rattle.std.proofs.Common.{arith, inl, inr, map, ◌⊎◌}
+use Rattle.etherparse.specs.PoolCalls.{after_frame, Lists, retained_from}
+use Rattle.packets.specs.Courses.{class_of, forgotten, Course, begin_at, course_after, lists_at, lists_since}
+use Rattle.packets.specs.Courses.{next_course}
+use Rattle.std.proofs.Common.{◌≡◌, ℕ, ◌+◌, ◌*◌, ◌<◌, ◌≤◌, Bool, true, false, List, ◌∷◌, [], ◌++◌, Option, Some, None}
+use Rattle.std.proofs.Common.{refl, ap, sym, subst, ◌∙◌, arith, inl, inr, map, ◌⊎◌}
 use Rattle.std.specs.List.{AllByRecursion}
 use Rattle.std.specs.Prelude.{nat_lt, if◌then◌else◌}
 use Rattle.std.proofs.lemmas.Bool.{cases_Bool, cases_lt}
@@ -9,38 +11,20 @@ use Rattle.std.proofs.lemmas.Bool.Decides.{nat_tests}
 use Rattle.std.proofs.lemmas.List.{map-append}
 use Rattle.captures.specs.Spans.{Drops, Mark, SpansDrop, have_passed, passed_spans}
 use Rattle.captures.specs.declared.packet.Packet.{Packet}
-use Rattle.etherparse.specs.PoolCalls.{Lists, after_frame, retained_from}
 use Rattle.etherparse.specs.Outcome.{Held}
 use Rattle.ep_packet.specs.Class.{FragmentName}
-use Rattle.packets.specs.Courses.{Course, begin_at, class_of, course_after, forgotten, lists_at}
-use Rattle.packets.specs.Courses.{lists_since, next_course}
 use Rattle.packets.specs.Forgetting.{ComeWithin, ForgetDrops, PassesBy}
 
 chosen : (b : Bool) (lists : Lists) (begin : ℕ) (name : FragmentName) (channel : ℕ)
     → lists_since (if b then Some begin else None) lists name channel
     ≡ (if b then retained_from begin (lists name channel) else lists name channel)
-chosen true lists begin name channel = refl
-chosen false lists begin name channel = refl
-
-late-enough : (seconds begin time late : ℕ) → 0 < seconds → time < late + 1000000000 * seconds
-    → have_passed seconds begin time ≡ true → nat_lt late begin ≡ false
-late-enough seconds begin time late some near passed =
-    let far : begin + 1000000000 * seconds ≤ time = grind (arith, nat_tests) in
-    let after : begin ≤ late = omega (arith, far, near) in
-    grind (arith, nat_tests)
+chosen b lists begin name channel = grind arith
 
 -- a packet soon after the last fragment drops nothing
 stays : (seconds begin time : ℕ) (lists : Lists) (name : FragmentName) (channel : ℕ) → 0 < seconds
     → time < (lists name channel).time + 1000000000 * seconds
     → lists_at (Some seconds) (Some begin) time lists name channel ≡ lists name channel
-stays seconds begin time lists name channel some near =
-    chosen (have_passed seconds begin time) lists begin name channel
-    ∙ elim (have_passed seconds begin time) as (λ b. have_passed seconds begin time ≡ b
-    → (if b then retained_from begin (lists name channel) else lists name channel)
-    ≡ lists name channel) [
-      | true ↦ λ e. rw (late-enough seconds begin time (lists name channel).time some near e) refl
-      | false ↦ λ e. refl
-    ] refl
+stays seconds begin time lists name channel some near = grind arith
 
 stays-at : (seconds time : ℕ) (course : Course) (name : FragmentName) (channel : ℕ) → 0 < seconds
     → time < (course.lists name channel).time + 1000000000 * seconds
@@ -69,8 +53,7 @@ pub forget_keeps : (seconds channel : ℕ) (name : FragmentName) (course : Cours
     (packets : List Packet) → 0 < seconds → ComeWithin seconds name channel course packets
     → (course_after (Some seconds) course packets).lists name channel
     ≡ (course_after None course packets).lists name channel
-forget_keeps seconds channel name course packets some near =
-    keeps seconds channel name course course packets some refl near
+forget_keeps seconds channel name course packets some near = grind (arith, keeps)
 
 passes : (seconds begin time : ℕ) → begin + 1000000000 * seconds ≤ time
     → have_passed seconds begin time ≡ true
@@ -84,8 +67,7 @@ is-late a b t = grind (arith, nat_tests)
 
 later-drops : (own begin : ℕ) (numbers : List ℕ) → begin ≤ own → Drops own (begin ∷ numbers)
     → Drops own numbers
-later-drops own begin numbers late (inl early) = absurd (omega (arith, late, early))
-later-drops own begin numbers late (inr after) = after
+later-drops own begin numbers late h = grind arith
 
 earlier : (late begin : ℕ) → late < begin → nat_lt late begin ≡ true
 earlier late begin lt = grind (arith, nat_tests)
@@ -99,21 +81,10 @@ gone begin h early = rw (earlier h.time begin early) refl
 retained : (begin : ℕ) (h : Held) → begin ≤ h.time → retained_from begin h ≡ h
 retained begin h late = rw (no-earlier h.time begin late) refl
 
-none-chosen : (b : Bool) (some h : Held) → some.fragments ≡ [] → h.fragments ≡ []
-    → (if b then some else h).fragments ≡ []
-none-chosen true some h first second = first
-none-chosen false some h first second = second
-
-none-retained : (begin : ℕ) (h : Held) → h.fragments ≡ []
-    → (retained_from begin h).fragments ≡ []
-none-retained begin h none =
-    none-chosen (nat_lt h.time begin) (record { fragments = []; time = h.time }) h refl none
-
 pub span_drops : (seconds begin time channel : ℕ) (lists : Lists) (name : FragmentName)
     → (lists name channel).time < begin → begin + 1000000000 * seconds ≤ time
     → (lists_at (Some seconds) (Some begin) time lists name channel).fragments ≡ []
-span_drops seconds begin time channel lists name early far =
-    rw (passes seconds begin time far) (gone begin (lists name channel) early)
+span_drops seconds begin time channel lists name early far = grind arith
 
 module _ (seconds channel : ℕ) (name : FragmentName) where
   abbrev held : Course → Held
@@ -132,22 +103,13 @@ module _ (seconds channel : ℕ) (name : FragmentName) where
 
   module _ (course : Course) (packet : Packet) (begin : ℕ) (by : PassesBy name channel packet)
       (started : course.begin ≡ Some begin) where
-    held-at : held (next course packet)
-        ≡ (if have_passed seconds begin packet.time then retained_from begin (held course)
-        else held course)
-    held-at = by (lists_at (Some seconds) course.begin packet.time course.lists name channel)
-        ∙ ap (λ (o : Option ℕ). lists_at (Some seconds) o packet.time course.lists name channel)
-        started ∙ chosen (have_passed seconds begin packet.time) course.lists begin name channel
-
     held-passed : have_passed seconds begin packet.time ≡ true
         → held (next course packet) ≡ retained_from begin (held course)
-    held-passed e = held-at ∙ ap (λ (b : Bool). if b then retained_from begin (held course)
-        else held course) e
+    held-passed e = grind arith
 
     held-more : have_passed seconds begin packet.time ≡ false
         → held (next course packet) ≡ held course
-    held-more e = held-at ∙ ap (λ (b : Bool). if b then retained_from begin (held course)
-        else held course) e
+    held-more e = grind arith
 
     begin-at : (next course packet).begin
         ≡ (if have_passed seconds begin packet.time then Some packet.time else Some begin)
@@ -161,24 +123,12 @@ module _ (seconds channel : ℕ) (name : FragmentName) where
         → (next course packet).begin ≡ Some begin
     begin-more e = begin-at ∙ ap (λ (b : Bool). if b then Some packet.time else Some begin) e
 
-  none-at : (begin : Option ℕ) (time : ℕ) (course : Course) → (held course).fragments ≡ []
-      → (lists_at (Some seconds) begin time course.lists name channel).fragments ≡ []
-  none-at None time course none = none
-  none-at (Some begin) time course none =
-      ap (λ (h : Held). h.fragments)
-      (chosen (have_passed seconds begin time) course.lists begin name channel)
-      ∙ none-chosen (have_passed seconds begin time) (retained_from begin (held course))
-      (held course) (none-retained begin (held course) none) none
-
   -- a reassembly that is dropped stays dropped
   stays-dropped : (course : Course) (packets : List Packet) → (held course).fragments ≡ []
       → AllPass packets → (after course packets).fragments ≡ []
   stays-dropped course [] none by = none
   stays-dropped course (packet ∷ packets) none by =
-      stays-dropped (next course packet) packets
-      (ap (λ (h : Held). h.fragments)
-      (by.0 (lists_at (Some seconds) course.begin packet.time course.lists name channel))
-      ∙ none-at course.begin packet.time course none) by.1
+      grind (arith, stays-dropped (next course packet) packets)
 
   abbrev mark : Packet → Mark
   mark packet = record { time = packet.time; number = packet.time }

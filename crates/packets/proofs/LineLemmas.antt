@@ -1,12 +1,11 @@
 -- Lines of packets: one line more, and what is written of them.
-use Rattle.std.proofs.Common.{◌≡◌, ◌∙◌, sym, ap, refl, subst, ℕ, true, List, [], ◌∷◌, ◌++◌}
-use Rattle.std.proofs.Common.{append-nil, append_assoc, Option, Result, Ok, Err, MatchResult}
-use Rattle.std.proofs.Common.{if◌then◌else◌, is_ok}
+use Rattle.std.proofs.Common.{◌≡◌, ◌∙◌, sym, ap, refl, subst, ℕ, true, List, [], ◌∷◌, ◌++◌, append-nil, append_assoc}
+use Rattle.std.proofs.Common.{Option, Result, Ok, Err, MatchResult, if◌then◌else◌, is_ok}
 use Rattle.std.specs.Io.KnownBytes.{Appends, Keeps}
 use Rattle.std.proofs.KnownBytes.{Appends-kept, Appends-trans}
 use Rattle.captures.specs.declared.translation.run_error.RunError.{RunError}
 use Rattle.captures.specs.declared.translation.skipped.Skipped.{Skipped}
-use Rattle.packets.specs.Runs.{BreaksBy, IsWritten, Unbroken}
+use Rattle.packets.specs.PacketRuns.{BreaksBy, IsWritten, Unbroken}
 use Rattle.packets.specs.Written.{AreLines, WritesLines, one_line}
 use Rattle.packets.specs.declared.dissection.Dissection.{Dissection}
 use Rattle.packets.specs.declared.run.rules.Rules.{Rules}

@@ -1,8 +1,7 @@
 -- Packets counted in spans of time: spans that are doubled, and one packet more.
-use Rattle.std.proofs.Common.{◌≡◌, ◌≢◌, ℕ, zero, suc, ◌+◌, ◌-◌, ◌*◌, ◌/◌, ◌^◌, ◌<◌, ◌≤◌, ◌==◌, ◌⊎◌}
-use Rattle.std.proofs.Common.{inl, inr, Bool, true, false, cond, List, [], ◌∷◌, ◌++◌, length}
-use Rattle.std.proofs.Common.{nat_lt, Option, Some, unwrap_or, replicate, refl, ap, sym, ◌∙◌}
-use Rattle.std.proofs.Common.{◌||◌, subst, arith}
+use Rattle.std.proofs.Common.{◌≡◌, ◌≢◌, ℕ, zero, suc, ◌+◌, ◌-◌, ◌*◌, ◌/◌, ◌^◌, ◌<◌, ◌≤◌, ◌==◌, ◌⊎◌, inl, inr, Bool}
+use Rattle.std.proofs.Common.{true, false, cond, List, [], ◌∷◌, ◌++◌, length, nat_lt, Option, Some, unwrap_or}
+use Rattle.std.proofs.Common.{replicate, refl, ap, sym, ◌∙◌, ◌||◌, subst, arith}
 use Rattle.std.specs.List.{All, count_by, list_any, slice_index, slice_index_or, slice_set}
 use Rattle.std.proofs.Math.Bool.{or-true}
 use Rattle.std.proofs.lemmas.Bool.{true≢false}

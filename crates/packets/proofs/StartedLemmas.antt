@@ -1,6 +1,6 @@
 -- In which packets the datagrams that are not complete started, with one packet more.
-use Rattle.std.proofs.Common.{◌≡◌, ◌≢◌, ◌∙◌, refl, sym, ap, subst, ℕ, ◌==◌, ◌&&◌, nat_eq, Bool, true, false}
-use Rattle.std.proofs.Common.{List, [], ◌∷◌, Option, None, Some, Result, Ok, Err, cond, inl, inr}
+use Rattle.std.proofs.Common.{arith, ◌≡◌, ◌∙◌, refl, sym, ap, subst, ℕ, ◌==◌, ◌&&◌, nat_eq, Bool, true, false, List}
+use Rattle.std.proofs.Common.{Option, None, Some, Result, Ok, Err, cond, inl, inr}
 use Rattle.std.proofs.lemmas.Bool.{and_parts, cases_Bool, eqb-true}
 use Rattle.std.specs.Option.{IsSomeAnd, option_map}
 use Rattle.std.specs.Prelude.{◌↔◌, IsTrue, IfErr, IfOk, IfSome, MatchResult, unwrap_or}
@@ -18,7 +18,6 @@ use Rattle.etherparse.specs.declared.defrag.overlap_rule.OverlapRule.{OverlapRul
 use Rattle.ep_packet.specs.Class.{FragmentName}
 use Rattle.ep_packet.specs.Class.Class.{Cut}
 use Rattle.ep_packet.specs.declared.addresses.Addresses.{Addresses}
-use Rattle.ep_packet.specs.declared.addresses.Addresses.TheVariants.{V4, V6}
 use Rattle.etherparse.specs.ReassemblyTable.{Becomes, IsLeft, OthersStay, Pool, Retained, ShowsReassembly, Stays}
 use Rattle.etherparse.specs.ReassemblyTable.{reassembly_at}
 use Rattle.etherparse.specs.Timestamps.{pool_by, timestamp_at}
@@ -42,20 +41,12 @@ first r = r.first
 abbrev last : Received → ℕ
 last r = r.last
 
-some_started : (fs : List Fragment) (number : ℕ) → fs ≢ [] → Some number ≡ started_if fs number
-some_started [] number some = absurd (some refl)
-some_started (f ∷ fs) number some = refl
-
 -- where a datagram started, by what the pool keeps of it
 known_started : (rule : OverlapRule) (s : Option (Reassembly ℕ)) (h : Held) (before : Option Received)
     (number : ℕ) → ShowsHeld rule s h
     → option_map timestamp s ≡ option_map last before
     → IfSome before (λ r. r.first ≡ number) → option_map first before ≡ started_if h.fragments number
-known_started rule None h None number shows is kept = rw shows.0 refl
-known_started rule None h (Some r) number shows is kept = cc
-known_started rule (Some s) h None number shows is kept = cc
-known_started rule (Some s) h (Some r) number shows is kept =
-    ap Some kept ∙ some_started h.fragments number shows.0.2
+known_started rule s h before number shows is kept = grind arith
 
 either_way : {X : Type 0} (b : Bool) (x : X) → cond b x x ≡ x
 either_way true x = refl
@@ -73,35 +64,19 @@ accepted_now rule whole (Completed text) now s reported h = rw h.1 tt
 
 renewed : (s : Option Received) (now : Received) (number : ℕ) → IfSome s (λ r. r ≡ now)
     → now.first ≡ number → IfSome s (λ r. r.first ≡ number)
-renewed None now number h is = tt
-renewed (Some r) now number h is = ap first h ∙ is
-
--- and with one that isn't
-left_first : (overlap : Bool) (s left : Option (Reassembly Received)) (number : ℕ)
-    → IsLeft overlap s left → IfSome (option_map timestamp left)
-    (λ r. r.first ≡ unwrap_or (option_map first (option_map timestamp s)) number)
-left_first true s left number h = rw h tt
-left_first false None left number h = rw h tt
-left_first false (Some s) None number h = tt
-left_first false (Some s) (Some t) number h = ap (λ (x : Reassembly Received). x.timestamp.first) h
+renewed s now number h is = grind arith
 
 left_started : (overlap : Bool) (s left : Option (Reassembly Received)) (number : ℕ)
     → IsLeft overlap s left → IfSome (option_map timestamp s) (λ r. r.first ≡ number)
     → IfSome (option_map timestamp left) (λ r. r.first ≡ number)
-left_started true s left number h kept = rw h tt
-left_started false None left number h kept = rw h tt
-left_started false (Some s) None number h kept = tt
-left_started false (Some s) (Some t) number h kept =
-    ap (λ (x : Reassembly Received). x.timestamp.first) h ∙ kept
+left_started overlap s left number h kept = grind arith
 
 -- what is kept after a test of the timestamp
 pub retained_started : (answers : Received → Bool → Type 0) (old new : Option (Reassembly Received))
     (number : ℕ) → Retained answers old new
     → IfSome (option_map timestamp old) (λ r. r.first ≡ number)
     → IfSome (option_map timestamp new) (λ r. r.first ≡ number)
-retained_started answers None new number h kept = rw h tt
-retained_started answers (Some s) new number (inl h) kept = rw h.0 kept
-retained_started answers (Some s) new number (inr h) kept = rw h.0 tt
+retained_started answers old new number h kept = grind arith
 
 -- what of the reassemblies is kept after a test, whatever it is
 pub forgotten_started : (answers : Received → Bool → Type 0) (old new : Datagrams) (started : Started)
@@ -158,12 +133,7 @@ module _ (parts : (a b : FragmentName) (x y : ℕ)
         → IfOk r (λ payload. IfSome (timestamp_at same new.pool (id_named name channel)) (λ r. r ≡ now))
         → IfErr r (Stays same (id_named name channel) old.pool new.pool)
         → Keeps name channel (unwrap_or (started_in lists started name channel) number)
-    here (Ok payload) at stays = renewed (timestamp_at same new.pool (id_named name channel)) now _ at
-        (is ∙ ap (λ (o : Option ℕ). unwrap_or o number) known)
-    here (Err e) at stays =
-        subst (λ (o : Option ℕ). Keeps name channel (unwrap_or o number)) known
-        (left_first (is_overlap e) (reassembly_at same old.pool (id_named name channel))
-        (reassembly_at same new.pool (id_named name channel)) number stays)
+    here r at stays = grind arith
 
     fragment_started : ShowsStarted new (started_with lists started (Cut name offset more bytes) channel number)
     fragment_started = one_changes (λ n c. unwrap_or (started_in lists started n c) number)
@@ -195,8 +165,7 @@ module _ (parts : (a b : FragmentName) (x y : ℕ)
 -- the rule of a name is that of its addresses
 rule_named : (addresses : Addresses) (identification : ℕ)
     → overlap_rule_of (spec_id addresses identification) ≡ rule_over addresses
-rule_named (V4 source destination) identification = refl
-rule_named (V6 source destination) identification = refl
+rule_named addresses identification = grind arith
 
 -- the same by the clauses of the pool
 module _ (parts : (a b : FragmentName) (x y : ℕ)
@@ -231,9 +200,7 @@ module _ (parts : (a b : FragmentName) (x y : ℕ)
   kept_now : (r : Result (Option IpDefragPayloadVec) IpDefragError)
       → Accepts same old.pool new.pool id (fragment offset more bytes) now r
       → IfOk r (λ payload. IfSome (timestamp_at same new.pool id) (λ (at : Received). at ≡ now))
-  kept_now (Ok payload) goes = accepted_now (overlap_rule_of id.ip) _ _ now
-      (reassembly_at same new.pool id) _ (goes (lists name channel).fragments here_shown)
-  kept_now (Err e) goes = tt
+  kept_now r goes = grind (arith, accepted_now, here_shown)
 
   pub pool_answered : {E : Type 0} → (r : Result Finding E) → IsFound (as_call_result result) r
       → IfOk r (λ finding. IsSomeAnd finding.fragment (BeganIn (option_map first before)

@@ -1,7 +1,6 @@
 -- Tallies of packets, and of one packet more.
-use Rattle.std.proofs.Common.{◌≡◌, ℕ, ◌+◌, ◌-◌, ◌^◌, ◌<◌, Bool, true, false, cond}
-use Rattle.std.proofs.Common.{List, [], ◌∷◌}
-use Rattle.std.proofs.Common.{◌++◌, Option, Some, None, unwrap_or, refl, ap, sym, ◌∙◌, arith, rules}
+use Rattle.std.proofs.Common.{◌≡◌, ℕ, ◌+◌, ◌-◌, ◌^◌, ◌<◌, Bool, true, false, cond, List, ◌∷◌, [], ◌++◌, Option, Some}
+use Rattle.std.proofs.Common.{None, unwrap_or, refl, ap, sym, ◌∙◌, arith, rules}
 use Rattle.std.specs.List.{count_by, filter, find, sum_by}
 use Rattle.std.specs.Option.{option_map, option_or}
 use Rattle.std.specs.Prelude.{not}
@@ -63,15 +62,7 @@ pub tally_of-more : (kind : Outline
     → f ≡ unwrap_or old.first packet.number
     → record { packets = m; bytes = b; first = Some f } ≡ tally_of kind (packets ++ packet ∷ [])
 tally_of-more kind packets packet old m b f e h em eb ef =
-    let ps : m ≡ capped (count_by kind (packets ++ packet ∷ [])) =
-    em ∙ ap (λ (t : Tally). capped (t.packets + 1)) e ∙ sym (count_by-more kind packets packet h) in
-    let bs : b ≡ capped (sum_by (λ (p : Outline). p.len) (filter kind (packets ++ packet ∷ []))) =
-    eb ∙ ap (λ (t : Tally). capped (t.bytes + packet.len)) e
-    ∙ sym (sum_by-more (λ (p : Outline). p.len) kind packets packet h) in
-    let fs : Some f ≡ option_map (λ (p : Outline). p.number) (find kind (packets ++ packet ∷ [])) =
-    ap Some (ef ∙ ap (λ (t : Tally). unwrap_or t.first packet.number) e)
-    ∙ sym (find-more (λ (p : Outline). p.number) kind packets packet h) in
-    λ i. record { packets = ps i; bytes = bs i; first = fs i }
+    grind (arith, count_by-more, sum_by-more, find-more)
 
 filter-none : {X : Type 0} (p : X → Bool) (xs : List X) (x : X) → p x ≡ false
     → filter p (xs ++ x ∷ []) ≡ filter p xs
@@ -98,18 +89,7 @@ find-none p xs x h =
 -- the tally with one packet more of another kind
 pub tally_of-other : (kind : Outline → Bool) (packets : List Outline) (packet : Outline)
     → kind packet ≡ false → tally_of kind packets ≡ tally_of kind (packets ++ packet ∷ [])
-tally_of-other kind packets packet h =
-    let ps : count_by kind packets ≡ count_by kind (packets ++ packet ∷ []) =
-    sym (count_by-none kind packets packet h) in
-    let bs : filter kind packets ≡ filter kind (packets ++ packet ∷ []) =
-    sym (filter-none kind packets packet h) in
-    let fs : find kind packets ≡ find kind (packets ++ packet ∷ []) =
-    sym (find-none kind packets packet h) in
-    λ i. record {
-      packets = capped (ps i);
-      bytes = capped (sum_by (λ (p : Outline). p.len) (bs i));
-      first = option_map (λ (p : Outline). p.number) (fs i);
-    }
+tally_of-other kind packets packet h = grind (arith, count_by-none, filter-none, find-none)
 
 count-parted : {X : Type 0} (p : X → Bool) (xs : List X)
     → count_by (λ x. true) xs ≡ count_by p xs + count_by (λ x. not (p x)) xs
@@ -148,15 +128,10 @@ pub packets-parted : (kind : Outline → Bool) (packets : List Outline)
     → (tally_of (λ packet. true) packets).packets < 2 ^ 64 - 1
     → (tally_of (λ packet. true) packets).packets
     ≡ (tally_of kind packets).packets + (tally_of (λ packet. not (kind packet)) packets).packets
-packets-parted kind packets small =
-    capped-parted (count_by (λ (p : Outline). true) packets) (count_by kind packets)
-    (count_by (λ p. not (kind p)) packets) (count-parted kind packets) small
+packets-parted kind packets small = grind (arith, capped-parted, count-parted)
 
 pub bytes-parted : (kind : Outline → Bool) (packets : List Outline)
     → (tally_of (λ packet. true) packets).bytes < 2 ^ 64 - 1
     → (tally_of (λ packet. true) packets).bytes
     ≡ (tally_of kind packets).bytes + (tally_of (λ packet. not (kind packet)) packets).bytes
-bytes-parted kind packets small =
-    let size : Outline → ℕ = λ p. p.len in
-    capped-parted (sum_by size (filter (λ p. true) packets)) (sum_by size (filter kind packets))
-    (sum_by size (filter (λ p. not (kind p)) packets)) (sum-parted size kind packets) small
+bytes-parted kind packets small = grind (arith, capped-parted, sum-parted)

@@ -1,6 +1,5 @@
 -- Walks over the packets of a capture: one packet more, and how they end.
-use Rattle.std.proofs.Common.{◌≡◌, ◌∙◌, sym, ap, refl, subst, ℕ, Bool, List, []}
-use Rattle.std.proofs.Common.{◌∷◌, ◌++◌, Option, Some, Err, inl}
+use Rattle.std.proofs.Common.{◌≡◌, ◌∙◌, sym, ap, refl, subst, ℕ, Bool, List, ◌∷◌, ◌++◌, Option, Some, Err, inl, []}
 use Rattle.std.proofs.Common.{append_assoc, append-nil, arith, map}
 use Rattle.std.specs.List.{filter}
 use Rattle.std.proofs.lemmas.List.{map-append}
@@ -12,17 +11,13 @@ use Rattle.captures.specs.declared.reading.packet_reader.PacketReader.{PacketRea
 use Rattle.captures.specs.declared.reading.read_error.ReadError.{ReadError}
 use Rattle.captures.specs.declared.reading.read_error.ReadError.TheVariants as read
 use Rattle.captures.specs.declared.translation.run_error.RunError.{RunError}
-use Rattle.captures.specs.declared.translation.run_error.RunError.TheVariants.{Read, Write}
-use Rattle.captures.specs.declared.translation.run_error.RunError.TheVariants.{WriteZero, Memory}
-use Rattle.captures.specs.declared.translation.run_error.RunError.TheVariants.{TooManyReads}
-use Rattle.captures.specs.declared.translation.run_error.RunError.TheVariants.{Capture, BadLine}
+use Rattle.captures.specs.declared.translation.run_error.RunError.TheVariants.{Read, TooManyReads, Capture}
 use Rattle.captures.specs.declared.unfit.Unfit.{Unfit}
 use Rattle.ep_packet.specs.declared.addresses.Addresses.{Addresses}
 use Rattle.packets.specs.declared.reason.Reason.{Reason}
 use Rattle.packets.specs.Conditions.{lets_through}
-use Rattle.packets.specs.Courses.{AreDissected, Course, IsDissected, course_after, forgotten}
-use Rattle.packets.specs.Courses.{next_course, shown}
-use Rattle.packets.specs.Runs.{AreButLast, AreFirst, EndsBy, Unbroken}
+use Rattle.packets.specs.Courses.{AreDissected, Course, IsDissected, course_after, forgotten, next_course, shown}
+use Rattle.packets.specs.PacketRuns.{AreButLast, AreFirst, EndsBy, Unbroken}
 use Rattle.packets.specs.Counts.{Counts}
 use Rattle.packets.specs.Outlines.{outline_of}
 use Rattle.packets.specs.declared.dissection.Dissection.{Dissection}
@@ -39,27 +34,7 @@ as_run_error read.TooManyReads = TooManyReads
 
 same_error : (from : ReadError) (error : RunError) → cause error ≡ read_cause from
     → error ≡ as_run_error from
-same_error read.Read Read is = refl
-same_error read.Read Write is = cc
-same_error read.Read WriteZero is = cc
-same_error read.Read Memory is = cc
-same_error read.Read TooManyReads is = cc
-same_error read.Read (Capture error position) is = cc
-same_error read.Read (BadLine number) is = cc
-same_error (read.Capture error position) Read is = cc
-same_error (read.Capture error position) Write is = cc
-same_error (read.Capture error position) WriteZero is = cc
-same_error (read.Capture error position) Memory is = cc
-same_error (read.Capture error position) TooManyReads is = cc
-same_error (read.Capture error position) (Capture other elsewhere) is = cc
-same_error (read.Capture error position) (BadLine number) is = cc
-same_error read.TooManyReads Read is = cc
-same_error read.TooManyReads Write is = cc
-same_error read.TooManyReads WriteZero is = cc
-same_error read.TooManyReads Memory is = cc
-same_error read.TooManyReads TooManyReads is = refl
-same_error read.TooManyReads (Capture error position) is = cc
-same_error read.TooManyReads (BadLine number) is = cc
+same_error from error is = grind arith
 
 -- what a reader has given are the first packets
 pub first_given : {R : Type 0} (unfit : Unfit) (reader : PacketReader R) (bytes : List ℕ)

@@ -1,6 +1,6 @@
 -- What the writes of a text do to the bytes that a writer holds.
-use Rattle.std.proofs.Common.{◌≡◌, ◌∙◌, sym, refl, subst, ℕ, zero, suc, List, [], ◌∷◌, ◌++◌}
-use Rattle.std.proofs.Common.{append-nil, Option, Some, None}
+use Rattle.std.proofs.Common.{arith, ◌≡◌, ◌∙◌, sym, refl, subst, ℕ, zero, suc, List, ◌∷◌, ◌++◌, [], append-nil, Option}
+use Rattle.std.proofs.Common.{Some, None}
 use Rattle.std.specs.Io.KnownBytes.{Appends}
 use Rattle.std.proofs.KnownBytes.{Appends-kept, Appends-nil, Appends-trans}
 use Rattle.device_runs.specs.Calls.{Call, Makes, Reads, Writes, bytes_taken, bytes_written, fault_of}
@@ -52,11 +52,7 @@ module _ {A B : Type 0} (remaining : A → Option (List ℕ)) (contents : B → 
   pub written_appends : (old new : ReaderWriter A B) (bytes : List ℕ) → Written Moves old bytes new
       → (new.writer.ghost_name ≡ old.writer.ghost_name)
       × Appends (contents old.writer.now) (contents new.writer.now) bytes
-  written_appends old new bytes w =
-      let all = calls_append old new w.calls w.made in (
-        all.0,
-        subst (Appends (contents old.writer.now) (contents new.writer.now)) w.whole all.1,
-      )
+  written_appends old new bytes w = grind (arith, calls_append)
 
   pub stops_appends : (fault : Fault) (old new : ReaderWriter A B) (bytes : List ℕ)
       → Stops Moves fault old bytes new → (new.writer.ghost_name ≡ old.writer.ghost_name)

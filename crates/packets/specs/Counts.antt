@@ -2,8 +2,7 @@
 use Rattle.std.specs.Prelude.{◌≡◌, Bool, true, false, List, Option, Some, None, is_some}
 use Rattle.ep_packet.specs.declared.addresses.Addresses.{Addresses}
 use Rattle.header_descriptions.specs.declared.protocol.Protocol.{Protocol}
-use Rattle.header_descriptions.specs.declared.protocol.Protocol.TheVariants.{Ethernet, Vlan, Macsec, Arp, Ipv4}
-use Rattle.header_descriptions.specs.declared.protocol.Protocol.TheVariants.{Ipv6}
+use Rattle.header_descriptions.specs.declared.protocol.Protocol.TheVariants.{Ethernet, Vlan, Macsec, Arp, Ipv4, Ipv6}
 use Rattle.packets.specs.declared.reason.Reason.{Reason}
 use Rattle.packets.specs.Headers.{has_header, net_addresses}
 use Rattle.packets.specs.Numbers.{CountsNumbers}

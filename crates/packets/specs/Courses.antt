@@ -6,8 +6,7 @@ use Rattle.captures.specs.Numbers.{capped}
 use Rattle.captures.specs.Spans.{begin_with, passed_with}
 use Rattle.captures.specs.declared.packet.Packet.{Packet}
 use Rattle.captures.specs.declared.spans.Spans.{Spans}
-use Rattle.etherparse.specs.PoolCalls.{Lists, answer_to_frame, fault_in, lists_with_frame}
-use Rattle.etherparse.specs.PoolCalls.{no_lists, retained_from}
+use Rattle.etherparse.specs.PoolCalls.{Lists, answer_to_frame, fault_in, lists_with_frame, no_lists, retained_from}
 use Rattle.ep_packet.specs.Class.{Class, sliced_class}
 use Rattle.packets.specs.Started.{Started, ShowsStarted, ShowsFragments, ReportsStarted, started_with, none_started}
 use Rattle.packets.specs.Conditions.{lets_through}

@@ -1,18 +1,14 @@
 -- The dissection of a packet, by its headers and by the fragments of its datagram that came before
 -- it.
-use Rattle.std.specs.Prelude.{◌≡◌, ℕ, Bool, true, false, Option, Some, None, IsSome, Result}
-use Rattle.std.specs.Prelude.{Ok, Err, MatchResult}
+use Rattle.std.specs.Prelude.{◌≡◌, ℕ, Bool, true, false, Option, Some, None, IsSome, Result, Ok, Err, MatchResult}
 use Rattle.etherparse.specs.IpDefragPool.{payload_parsed}
 use Rattle.etherparse.specs.IpFragId.{fragment_in}
-use Rattle.etherparse.specs.PoolCalls.{HasMemory, Lists, CallResult}
-use Rattle.etherparse.specs.PoolCalls.{answer_to_frame}
-use Rattle.etherparse.specs.PoolCalls.{lists_with_frame}
-use Rattle.etherparse.specs.PoolCalls.CallResult.{Delivered, NoMemory, NotSliced, Nothing}
-use Rattle.etherparse.specs.PoolCalls.CallResult.{Refused as FragmentRefused, Retained}
+use Rattle.etherparse.specs.PoolCalls.{HasMemory, Lists, CallResult, answer_to_frame, lists_with_frame}
+use Rattle.etherparse.specs.PoolCalls.CallResult.{Delivered, NoMemory, NotSliced, Nothing, Refused as FragmentRefused}
+use Rattle.etherparse.specs.PoolCalls.CallResult.{Retained}
 use Rattle.etherparse.specs.declared.defrag.ip_defrag_error.IpDefragError.{IpDefragError}
 use Rattle.etherparse.specs.declared.defrag.ip_defrag_error.IpDefragError.TheVariants.{UnalignedFragmentPayloadLen}
-use Rattle.etherparse.specs.declared.defrag.ip_defrag_error.IpDefragError.TheVariants.{SegmentTooBig}
-use Rattle.etherparse.specs.declared.defrag.ip_defrag_error.IpDefragError.TheVariants.{ConflictingEnd}
+use Rattle.etherparse.specs.declared.defrag.ip_defrag_error.IpDefragError.TheVariants.{SegmentTooBig, ConflictingEnd}
 use Rattle.etherparse.specs.declared.defrag.ip_defrag_error.IpDefragError.TheVariants.{AllocationFailure}
 use Rattle.etherparse.specs.declared.defrag.ip_defrag_error.IpDefragError.TheVariants.{OverlappingFragment}
 use Rattle.ep_packet.specs.Class.{Class}

@@ -5,14 +5,8 @@ use Rattle.captures.specs.declared.link.header.Header.{Header}
 use Rattle.ep_link.specs.Ethernet.{ethernet_len}
 use Rattle.ep_packet.specs.Sliced.{sliced_ether_type, sliced_ethernet}
 use Rattle.ep_packet.specs.declared.err.packet.slice_error.SliceError.{SliceError}
-use Rattle.ep_packet.specs.declared.err.packet.slice_error.SliceError.TheVariants.{Len}
-use Rattle.ep_packet.specs.declared.err.packet.slice_error.SliceError.TheVariants.{LinuxSll}
-use Rattle.ep_packet.specs.declared.err.packet.slice_error.SliceError.TheVariants.{Macsec}
-use Rattle.ep_packet.specs.declared.err.packet.slice_error.SliceError.TheVariants.{Ip, Ipv4}
-use Rattle.ep_packet.specs.declared.err.packet.slice_error.SliceError.TheVariants.{Ipv6}
-use Rattle.ep_packet.specs.declared.err.packet.slice_error.SliceError.TheVariants.{Ipv4Exts}
-use Rattle.ep_packet.specs.declared.err.packet.slice_error.SliceError.TheVariants.{Ipv6Exts}
-use Rattle.ep_packet.specs.declared.err.packet.slice_error.SliceError.TheVariants.{Tcp}
+use Rattle.ep_packet.specs.declared.err.packet.slice_error.SliceError.TheVariants.{Len, LinuxSll, Macsec, Ip, Ipv4}
+use Rattle.ep_packet.specs.declared.err.packet.slice_error.SliceError.TheVariants.{Ipv6, Ipv4Exts, Ipv6Exts, Tcp}
 use Rattle.ep_packet.specs.declared.sliced_packet.SlicedPacket.{SlicedPacket}
 
 -- a fault whose offset counts from the start of an Ethernet II header before the bytes. An offset

@@ -9,9 +9,9 @@ pub mod Headers
 pub mod Layers
 pub mod Numbers
 pub mod Outlines
+pub mod PacketRuns
 pub mod Rate
 pub mod Reasons
-pub mod Runs
 pub mod Sizes
 pub mod Table
 pub mod Tally

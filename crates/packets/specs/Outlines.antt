@@ -2,8 +2,7 @@
 use Rattle.std.specs.Prelude.{Bool, true, false, Option, Some, None, Result, Ok, Err}
 use Rattle.std.specs.List.{list_any}
 use Rattle.captures.specs.declared.link.kind.Link.{Link}
-use Rattle.captures.specs.declared.link.kind.Link.TheVariants.{Ethernet, Ip, Null, Loop, Sll, Sll2}
-use Rattle.captures.specs.declared.link.kind.Link.TheVariants.{Other}
+use Rattle.captures.specs.declared.link.kind.Link.TheVariants.{Ethernet, Ip, Null, Loop, Sll, Sll2, Other}
 use Rattle.ep_ipslice.specs.Packet.{ipv4_payload}
 use Rattle.ep_packet.specs.Class.{ipv4_addresses, ipv6_addresses}
 use Rattle.ep_packet.specs.Readable.{ReadMessage, message_at}

@@ -1,6 +1,6 @@
 -- How many packets there are in each span of time.
-use Rattle.std.specs.Prelude.{◌≡◌, ◌⊎◌, ℕ, ◌<◌, ◌*◌, ◌^◌, ◌-◌, ◌/◌, ◌==◌, nat_le, Bool, true, List}
-use Rattle.std.specs.Prelude.{[], ◌∷◌, count_by, slice_index, Option, Some, None, All}
+use Rattle.std.specs.Prelude.{◌≡◌, ◌⊎◌, ℕ, ◌<◌, ◌*◌, ◌^◌, ◌-◌, ◌/◌, ◌==◌, nat_le, Bool, true, List, [], ◌∷◌, count_by}
+use Rattle.std.specs.Prelude.{slice_index, Option, Some, None, All}
 use Rattle.std.specs.List.{list_any}
 use Rattle.captures.specs.Numbers.{capped}
 use Rattle.packets.specs.declared.outline.Outline.{Outline}

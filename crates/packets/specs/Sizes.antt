@@ -1,6 +1,6 @@
 -- How many packets there are of each size.
-use Rattle.std.specs.Prelude.{◌≡◌, ℕ, zero, suc, ◌<◌, ◌^◌, ◌==◌, ◌&&◌, nat_le, nat_lt, Bool, List}
-use Rattle.std.specs.Prelude.{count_by, slice_index}
+use Rattle.std.specs.Prelude.{◌≡◌, ℕ, zero, suc, ◌<◌, ◌^◌, ◌==◌, ◌&&◌, nat_le, nat_lt, Bool, List, count_by}
+use Rattle.std.specs.Prelude.{slice_index}
 use Rattle.captures.specs.Numbers.{capped}
 use Rattle.packets.specs.declared.outline.Outline.{Outline}
 use Rattle.packets.specs.declared.summary.sizes.Sizes.{Sizes}

@@ -1,6 +1,6 @@
 -- In which packets the datagrams that are not complete started.
-use Rattle.std.specs.Prelude.{◌≡◌, ℕ, ◌==◌, ◌&&◌, nat_eq, if◌then◌else◌, List, [], ◌∷◌, Option}
-use Rattle.std.specs.Prelude.{Some, None, IfSome, IsSomeAnd, option_map, unwrap_or, Result, MatchResult}
+use Rattle.std.specs.Prelude.{◌≡◌, ℕ, ◌==◌, ◌&&◌, nat_eq, if◌then◌else◌, List, [], ◌∷◌, Option, Some, None, IfSome}
+use Rattle.std.specs.Prelude.{IsSomeAnd, option_map, unwrap_or, Result, MatchResult}
 use Rattle.etherparse.specs.IpDefragPool.{same_id}
 use Rattle.etherparse.specs.IpFragId.{fragment_in, id_named, same_name}
 use Rattle.etherparse.specs.PoolCalls.{Lists, ShowsLists}

@@ -5,7 +5,7 @@ use Rattle.captures.specs.declared.packet.Packet.{Packet}
 use Rattle.captures.specs.declared.translation.run_error.RunError.{RunError}
 use Rattle.captures.specs.declared.translation.skipped.Skipped.{Skipped}
 use Rattle.packets.specs.Courses.{AreDissected, no_course, shown}
-use Rattle.packets.specs.Runs.{EndsBy, IsWritten}
+use Rattle.packets.specs.PacketRuns.{EndsBy, IsWritten}
 use Rattle.packets.specs.declared.dissection.Dissection.{Dissection}
 use Rattle.packets.specs.declared.run.rules.Rules.{Rules}
 

@@ -1,22 +1,18 @@
 //! The reassembly of datagrams from their fragments.
-ghost use Rattle.std.specs.Prelude.{◌≡◌, ℕ, None, Some, IsSomeAnd, Ok, IfOk, Option, option_map};
-ghost use Rattle.std.specs.Prelude.{nat_eq, nat_le};
+ghost use Rattle.std.specs.Prelude.{◌≡◌, ℕ, None, Some, IsSomeAnd, Ok, IfOk, Option, option_map, nat_eq, nat_le};
 ghost use Rattle.etherparse.specs.IpDefragPool.{payload_parsed, same_id};
 ghost use Rattle.etherparse.specs.declared.defrag.ip_frag_id.IpFragId.{IpFragId};
 ghost use Rattle.etherparse.specs.ReassemblyTable.{Retained, reassembly_at};
 ghost use Rattle.etherparse.specs.OpenReassemblies.{IsOpenCount};
-ghost use Rattle.etherparse.specs.PoolCalls.{Lists, fault_in, no_lists};
-ghost use Rattle.etherparse.specs.PoolCalls.{retained_from, as_call_result};
+ghost use Rattle.etherparse.specs.PoolCalls.{Lists, fault_in, no_lists, retained_from, as_call_result};
 ghost use Rattle.etherparse.specs.PoolCalls.CallResult.{Delivered};
-ghost use Rattle.ep_packet.specs.Class.{IdentificationFits, as_class, sliced_class};
-ghost use Rattle.ep_packet.specs.Class.{packet_parsed};
+ghost use Rattle.ep_packet.specs.Class.{IdentificationFits, as_class, sliced_class, packet_parsed};
 ghost use Rattle.ep_packet.specs.Readable.{message_at};
 ghost use Rattle.ep_packet.specs.declared.class.Class.TheVariants as class;
-ghost use Rattle.packets.specs.Started.{AnswersStarted, BeganIn, Started, ShowsStarted, ShowsFragments};
-ghost use Rattle.packets.specs.Started.{none_started, received_with};
-ghost use Rattle.packets.specs.Dissected.{Answers, IsFound, completed_verdict, found_reported};
-ghost use Rattle.packets.specs.Dissected.{fragment_result, is_out_of_memory, result_if_found};
-ghost use Rattle.packets.specs.Dissected.{verdict_if_read, verdict_on};
+ghost use Rattle.packets.specs.Started.{AnswersStarted, BeganIn, Started, ShowsStarted, ShowsFragments, none_started};
+ghost use Rattle.packets.specs.Started.{received_with};
+ghost use Rattle.packets.specs.Dissected.{Answers, IsFound, completed_verdict, found_reported, fragment_result};
+ghost use Rattle.packets.specs.Dissected.{is_out_of_memory, result_if_found, verdict_if_read, verdict_on};
 
 use crate::Fragment;
 use checksum_verdicts::{Verdict, judge};

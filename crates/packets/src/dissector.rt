@@ -1,15 +1,15 @@
 //! Packets, dissected one after the other.
-ghost use Rattle.std.specs.Prelude.{◌≡◌, ◌+◌, IfOk, OnErr, MatchOption, MatchResult, IsSome, List, ℕ};
-ghost use Rattle.std.specs.Prelude.{None, Some, length, unwrap_or};
+ghost use Rattle.std.specs.Prelude.{◌≡◌, ◌+◌, IfOk, OnErr, MatchOption, MatchResult, IsSome, List, ℕ, None, Some};
+ghost use Rattle.std.specs.Prelude.{length, unwrap_or};
 ghost use Rattle.captures.specs.Framed.{frame_bytes};
 ghost use Rattle.captures.specs.Numbers.{capped};
 ghost use Rattle.etherparse.specs.IpFragId.{fragment_in};
 ghost use Rattle.etherparse.specs.OpenReassemblies.{IsOpenCount};
-ghost use Rattle.etherparse.specs.PoolCalls.{Lists, answer_to_frame, fault_in};
-ghost use Rattle.etherparse.specs.PoolCalls.{lists_with_frame, no_lists, retained_from};
+ghost use Rattle.etherparse.specs.PoolCalls.{Lists, answer_to_frame, fault_in, lists_with_frame, no_lists};
+ghost use Rattle.etherparse.specs.PoolCalls.{retained_from};
 ghost use Rattle.ep_packet.specs.Class.{sliced_class};
-ghost use Rattle.packets.specs.Started.{Started, ShowsStarted, ShowsFragments, ReportsStarted};
-ghost use Rattle.packets.specs.Started.{started_with, none_started};
+ghost use Rattle.packets.specs.Started.{Started, ShowsStarted, ShowsFragments, ReportsStarted, started_with};
+ghost use Rattle.packets.specs.Started.{none_started};
 ghost use Rattle.packets.specs.Courses.{first_at};
 ghost use Rattle.packets.specs.Dissected.{fragment_result, packet_result, verdict_on};
 ghost use Rattle.packets.specs.Layers.{after_header, layers_of};

@@ -1,9 +1,8 @@
 //! Which packets are shown or counted.
 ghost use Rattle.std.specs.Prelude.{◌≡◌, ◌++◌, ◌∷◌, [], OnOk, OnErr};
 ghost use Rattle.ep_packet.specs.Readable.{message_at};
-ghost use Rattle.packets.specs.Conditions.{arp_has_host, datagram_has_port, has_host};
-ghost use Rattle.packets.specs.Conditions.{has_ipv4_host, has_ipv6_host, has_port};
-ghost use Rattle.packets.specs.Conditions.{message_has_port, packet_has_port, segment_has_port};
+ghost use Rattle.packets.specs.Conditions.{arp_has_host, datagram_has_port, has_host, has_ipv4_host, has_ipv6_host};
+ghost use Rattle.packets.specs.Conditions.{has_port, message_has_port, packet_has_port, segment_has_port};
 ghost use Rattle.packets.specs.Conditions.{transport_has_port};
 ghost use Rattle.packets.specs.Counts.{is_bad};
 

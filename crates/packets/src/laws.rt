@@ -1,6 +1,6 @@
 //! What `Clone`, `PartialEq` and `Hash` of the types here mean, and what runs drop and count.
-ghost use Rattle.std.specs.Prelude.{◌≡◌, ◌≤◌, ◌<◌, ◌+◌, ◌-◌, ◌*◌, ◌^◌, ℕ, true, not, is_some, pos};
-ghost use Rattle.std.specs.Prelude.{List, [], ◌∷◌, Some, None};
+ghost use Rattle.std.specs.Prelude.{◌≡◌, ◌≤◌, ◌<◌, ◌+◌, ◌-◌, ◌*◌, ◌^◌, ℕ, true, not, is_some, pos, List, [], ◌∷◌, Some};
+ghost use Rattle.std.specs.Prelude.{None};
 ghost use Rattle.std.specs.Hash as fed;
 ghost use Rattle.captures.specs.declared.packet.Packet.{Packet};
 ghost use Rattle.ep_base.specs.Traits.{IsPlainData, VariantFeeds};

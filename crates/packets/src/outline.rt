@@ -3,9 +3,8 @@ ghost use Rattle.std.specs.Prelude.{◌≡◌};
 ghost use Rattle.std.specs.List.{list_any};
 ghost use Rattle.ep_packet.specs.Readable.{message_at};
 ghost use Rattle.packets.specs.Headers.{has_header, net_addresses, net_number};
-ghost use Rattle.packets.specs.Outlines.{headers_of, is_ethernet, is_macsec, is_vlan};
-ghost use Rattle.packets.specs.Outlines.{message_refusal, net_of, outline_of, fragment_state_of};
-ghost use Rattle.packets.specs.Outlines.{fragment_refusal, refusal_of};
+ghost use Rattle.packets.specs.Outlines.{headers_of, is_ethernet, is_macsec, is_vlan, message_refusal, net_of};
+ghost use Rattle.packets.specs.Outlines.{outline_of, fragment_state_of, fragment_refusal, refusal_of};
 
 use crate::{Dissection, Fragment, Protocol, Reason};
 use captures::Link;

@@ -1,7 +1,6 @@
 //! Why packets are refused, without the numbers that differ from packet to packet.
 ghost use Rattle.std.specs.Prelude.{◌≡◌};
-ghost use Rattle.packets.specs.Reasons.{auth_reason, cooked_reason, exts_reason, ip_reason};
-ghost use Rattle.packets.specs.Reasons.{ipv4_reason, macsec_reason};
+ghost use Rattle.packets.specs.Reasons.{auth_reason, cooked_reason, exts_reason, ip_reason, ipv4_reason, macsec_reason};
 
 use ep_base::err::Layer;
 use ep_ext::err::{ip_auth, ipv6_exts};

@@ -152,32 +152,21 @@ fn texts_of_protocols(rt: HostRuntime) {
     }
 }
 
+#[rattlefmt::skip]
 const TEXTS_OF_REASONS: &[(Reason, &str)] = &[
     (Reason::CutOff(Layer::Ipv4Header), "IPv4 header cut off"),
     (Reason::CookedPacketType, "cooked packet of an unknown type"),
-    (
-        Reason::CookedHardwareType,
-        "cooked packet of an unknown hardware type",
-    ),
+    (Reason::CookedHardwareType, "cooked packet of an unknown hardware type"),
     (Reason::MacsecVersion, "MACsec version 1"),
     (Reason::MacsecShortLen, "MACsec short length 1"),
     (Reason::IpVersion, "IP header of another version"),
     (Reason::Ipv4HeaderLen, "IPv4 header length below 5"),
     (Reason::AuthHeaderLen, "authentication header of length 0"),
-    (
-        Reason::HopByHopNotFirst,
-        "hop-by-hop options behind another header",
-    ),
+    (Reason::HopByHopNotFirst, "hop-by-hop options behind another header"),
     (Reason::TcpDataOffset, "TCP data offset below 5"),
-    (
-        Reason::FragmentUnaligned,
-        "fragment of no multiple of 8 bytes",
-    ),
+    (Reason::FragmentUnaligned, "fragment of no multiple of 8 bytes"),
     (Reason::FragmentTooLong, "fragment behind 65535 bytes"),
-    (
-        Reason::FragmentEnd,
-        "fragment against the end of its message",
-    ),
+    (Reason::FragmentEnd, "fragment against the end of its message"),
     (Reason::FragmentOverlap, "fragment that overlaps another"),
     (Reason::FragmentMemory, "no memory for a fragment"),
 ];
@@ -189,23 +178,15 @@ fn reasons(rt: HostRuntime) {
     }
 }
 
+#[rattlefmt::skip]
 const REASONS_OF_ERRORS: &[(SliceError, Reason)] = &[
     (
         SliceError::LinuxSll(linux_sll::HeaderError::UnsupportedPacketTypeField { packet_type: 8 }),
         Reason::CookedPacketType,
     ),
-    (
-        SliceError::Macsec(macsec::HeaderError::UnexpectedVersion),
-        Reason::MacsecVersion,
-    ),
-    (
-        SliceError::Ip(ip::HeaderError::UnsupportedIpVersion { version_number: 7 }),
-        Reason::IpVersion,
-    ),
-    (
-        SliceError::Tcp(tcp::HeaderError::DataOffsetTooSmall { data_offset: 4 }),
-        Reason::TcpDataOffset,
-    ),
+    (SliceError::Macsec(macsec::HeaderError::UnexpectedVersion), Reason::MacsecVersion),
+    (SliceError::Ip(ip::HeaderError::UnsupportedIpVersion { version_number: 7 }), Reason::IpVersion),
+    (SliceError::Tcp(tcp::HeaderError::DataOffsetTooSmall { data_offset: 4 }), Reason::TcpDataOffset),
 ];
 
 #[test]

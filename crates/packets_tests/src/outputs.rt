@@ -78,18 +78,9 @@ fn an_empty_report(rt: HostRuntime) {
     is_text(rt, text.as_slice(), REPORT);
 }
 
+#[rattlefmt::skip]
 const STATUSES: &[(RunError, u8)] = &[
-    (
-        RunError::Capture(
-            CaptureError::CutOff,
-            Position {
-                packet: 3,
-                offset: 112,
-                block: None,
-            },
-        ),
-        3,
-    ),
+    (RunError::Capture(CaptureError::CutOff, Position { packet: 3, offset: 112, block: None, }), 3),
     (RunError::Read, 4),
     (RunError::Write, 4),
     (RunError::WriteZero, 4),

@@ -7,23 +7,10 @@ use std::alloc::{AllocError, Global};
 use std::process::Abort;
 
 // The outputs and their options. Nothing is requested by the last ones.
+#[rattlefmt::skip]
 const OUTPUTS: &[(&[&str], &str)] = &[
-    (
-        &["packets_cli", "show", "x.pcap"],
-        "Show(SinceFirst, None, Auto)",
-    ),
-    (
-        &[
-            "packets_cli",
-            "show",
-            "--utc",
-            "--width",
-            "80",
-            "--color",
-            "never",
-        ],
-        "Show(Utc, Some(80), Never)",
-    ),
+    (&["packets_cli", "show", "x.pcap"], "Show(SinceFirst, None, Auto)"),
+    (&["packets_cli", "show", "--utc", "--width", "80", "--color", "never"], "Show(Utc, Some(80), Never)"),
     (&["packets_cli", "json"], "Json(false)"),
     (&["packets_cli", "json", "--payload", "-"], "Json(true)"),
     (&["packets_cli", "summary", "--forget", "30"], "Summary"),

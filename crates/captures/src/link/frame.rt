@@ -1,11 +1,10 @@
 //! A packet as an Ethernet II frame.
-ghost use Rattle.std.specs.Prelude.{◌≡◌, ◌≤◌, ◌+◌, ◌*◌, ◌++◌, ◌==◌, List, ℕ, [], length, take};
-ghost use Rattle.std.specs.Prelude.{◌<◌, IfOk, IfSome, None, Some, MatchOption, MatchResult};
+ghost use Rattle.std.specs.Prelude.{◌≡◌, ◌≤◌, ◌+◌, ◌*◌, ◌++◌, ◌==◌, List, ℕ, [], length, take, ◌<◌, IfOk, IfSome, None};
+ghost use Rattle.std.specs.Prelude.{Some, MatchOption, MatchResult};
 ghost use Rattle.hex.specs.Hex.{encode_lower};
-ghost use Rattle.captures.specs.Framed.{address_at, cooked_type, family_type};
-ghost use Rattle.captures.specs.Framed.{FrameParts, frame_bytes, frame_parts, own_frame, IsBack};
-ghost use Rattle.captures.specs.Framed.{reason_on, reported_frame, reported_of};
-ghost use Rattle.captures.specs.Framed.{framed_after, framed_packet, ip_type};
+ghost use Rattle.captures.specs.Framed.{address_at, cooked_type, family_type, FrameParts, frame_bytes, frame_parts};
+ghost use Rattle.captures.specs.Framed.{own_frame, IsBack, reason_on, reported_frame, reported_of, framed_after};
+ghost use Rattle.captures.specs.Framed.{framed_packet, ip_type};
 ghost use Rattle.captures.specs.Skipping.{counted};
 ghost use Rattle.captures.specs.declared.link.kind.Link.TheVariants.{Null, Loop, Sll, Sll2};
 

@@ -1,10 +1,8 @@
 //! The unit at the start of some bytes of a capture: a file header, a packet record, or a block.
-ghost use Rattle.std.specs.Prelude.{◌≡◌, ◌≤◌, ◌+◌, ◌*◌, ℕ, List, length, IfOk, IfErr, IfSome};
-ghost use Rattle.std.specs.Prelude.{MatchOption, ◌↔◌, IsTrue};
+ghost use Rattle.std.specs.Prelude.{◌≡◌, ◌≤◌, ◌+◌, ◌*◌, ℕ, List, length, IfOk, IfErr, IfSome, MatchOption, ◌↔◌, IsTrue};
 ghost use Rattle.captures.specs.Pcap.{IsFileHeader, is_magic};
 ghost use Rattle.captures.specs.Framed.{frame_bytes};
-ghost use Rattle.captures.specs.Units.{IsIncomplete, Refuses, HasPacket, BeginsSection, StandsAt};
-ghost use Rattle.captures.specs.Units.{record_origin};
+ghost use Rattle.captures.specs.Units.{IsIncomplete, Refuses, HasPacket, BeginsSection, StandsAt, record_origin};
 ghost use Rattle.captures.specs.declared.byte_order.ByteOrder.{ByteOrder};
 ghost use Rattle.captures.specs.declared.translation.state.State.TheVariants.{Start, Classic};
 

@@ -1,14 +1,13 @@
 //! What a whole block of a pcapng file says.
-ghost use Rattle.std.specs.Prelude.{◌<◌, ◌≡◌, ◌≤◌, ◌+◌, ◌*◌, ◌==◌, if◌then◌else◌, ◌↔◌, IsTrue, ℕ, List, []};
-ghost use Rattle.std.specs.Prelude.{length, IfOk, IfErr, IfSome, MatchOption};
+ghost use Rattle.std.specs.Prelude.{◌<◌, ◌≡◌, ◌≤◌, ◌+◌, ◌*◌, ◌==◌, if◌then◌else◌, ◌↔◌, IsTrue, ℕ, List, [], length};
+ghost use Rattle.std.specs.Prelude.{IfOk, IfErr, IfSome, MatchOption};
 ghost use Rattle.captures.specs.Framed.{frame_bytes, own_frame};
 ghost use Rattle.captures.specs.Numbers.{word};
-ghost use Rattle.captures.specs.Pcapng.{section_header, interface_description, simple_packet};
-ghost use Rattle.captures.specs.Pcapng.{captured_len, is_read_version, IsOther, IsSkipped};
-ghost use Rattle.captures.specs.Pcapng.{HoldsPacket, Content};
-ghost use Rattle.captures.specs.Pcapng.{Says, IsTimedPacket, IsSimplePacket, Reads, RefusesBlock};
+ghost use Rattle.captures.specs.Pcapng.{section_header, interface_description, simple_packet, captured_len};
+ghost use Rattle.captures.specs.Pcapng.{is_read_version, IsOther, IsSkipped, HoldsPacket, Content, Says, IsTimedPacket};
+ghost use Rattle.captures.specs.Pcapng.{IsSimplePacket, Reads, RefusesBlock, clock_at, clocks_with, link_at};
+ghost use Rattle.captures.specs.Pcapng.{links_with, later_links};
 ghost use Rattle.captures.specs.Pcapng.Content.{Holds};
-ghost use Rattle.captures.specs.Pcapng.{clock_at, clocks_with, link_at, links_with, later_links};
 ghost use Rattle.captures.specs.Units.{IsHeldOn, StandsAt};
 ghost use Rattle.captures.specs.declared.origin.Origin.{Origin};
 ghost use Rattle.captures.specs.declared.link.kind.Link.{Link};

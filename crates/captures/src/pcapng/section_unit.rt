@@ -1,6 +1,5 @@
 //! The block at the start of some bytes of a section.
-ghost use Rattle.std.specs.Prelude.{◌≡◌, ◌≤◌, ◌+◌, ◌*◌, ◌↔◌, IsTrue, length, IfOk, IfErr, IfSome};
-ghost use Rattle.std.specs.Prelude.{MatchOption};
+ghost use Rattle.std.specs.Prelude.{◌≡◌, ◌≤◌, ◌+◌, ◌*◌, ◌↔◌, IsTrue, length, IfOk, IfErr, IfSome, MatchOption};
 ghost use Rattle.captures.specs.Pcapng.{HasOrder, IsTaken};
 ghost use Rattle.captures.specs.Framed.{frame_bytes};
 ghost use Rattle.captures.specs.Units.{IsIncomplete, RefusesAt, HasPacket, StandsAt};

@@ -1,13 +1,12 @@
 //! The packets of a capture that a reader gives.
-ghost use Rattle.std.specs.Prelude.{◌≡◌, ◌+◌, ◌<◌, ◌++◌, ℕ, List, [], length, Result, IfOk};
-ghost use Rattle.std.specs.Prelude.{true, false, Some, None};
+ghost use Rattle.std.specs.Prelude.{◌≡◌, ◌+◌, ◌<◌, ◌++◌, ℕ, List, [], length, Result, IfOk, true, false, Some, None};
 ghost use Rattle.std.specs.Io.KnownBytes.{Consumes};
 ghost use Rattle.captures.specs.Dropped.{IsDropped};
 ghost use Rattle.captures.specs.Numbers.{capped};
 ghost use Rattle.captures.specs.Positions.{block_type};
-ghost use Rattle.captures.specs.Readers.{ComesTo, EndsBy, FindsPacket, HasRead, HeldTo, IsBeside};
-ghost use Rattle.captures.specs.Readers.{IsRefusedWith, again, packet_at, skipped_by, source_of};
-ghost use Rattle.captures.specs.Runs.{fault_at_end};
+ghost use Rattle.captures.specs.Readers.{ComesTo, EndsBy, FindsPacket, HasRead, HeldTo, IsBeside, IsRefusedWith, again};
+ghost use Rattle.captures.specs.Readers.{packet_at, skipped_by, source_of};
+ghost use Rattle.captures.specs.CaptureRuns.{fault_at_end};
 ghost use Rattle.captures.specs.declared.limits.TheConstants.{INPUT_CAPACITY};
 ghost use Rattle.captures.specs.declared.packet.Packet.{Packet};
 ghost use Rattle.captures.specs.declared.reading.read_error.ReadError.{ReadError};

@@ -1,8 +1,8 @@
 //! How far the lines of a run have come: their number, and the span of time that is running.
 ghost use Rattle.std.specs.Prelude.{◌≡◌, ◌+◌, ◌*◌, ◌≤◌, ◌++◌, length, take};
 ghost use Rattle.captures.specs.Framed.{frame_bytes};
-ghost use Rattle.captures.specs.Lines.{blank, counted_by, forget_text, has_passed, noted, noted_as};
-ghost use Rattle.captures.specs.Lines.{reported, reported_as};
+ghost use Rattle.captures.specs.Lines.{blank, counted_by, forget_text, has_passed, noted, noted_as, reported};
+ghost use Rattle.captures.specs.Lines.{reported_as};
 ghost use Rattle.captures.specs.declared.extra.Extra.TheVariants.{Forget};
 
 use crate::Extra;

@@ -2,9 +2,8 @@
 ghost use Rattle.std.specs.Prelude.{◌≡◌, ◌+◌, ◌*◌, ◌<◌, ◌≤◌, ◌++◌, codes, length, take, decimal};
 ghost use Rattle.hex.specs.Hex.{encode_lower};
 ghost use Rattle.captures.specs.Framed.{frame_bytes};
-ghost use Rattle.captures.specs.Lines.{forget_line, line_of};
+ghost use Rattle.captures.specs.Lines.{forget_line, line_of, timed_line_of};
 ghost use Rattle.line_grammar.specs.Written.{nanoseconds_text, time_text};
-ghost use Rattle.captures.specs.Lines.{timed_line_of};
 
 use crate::link::frame::Frame;
 use crate::origin::Origin;

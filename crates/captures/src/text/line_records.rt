@@ -1,9 +1,7 @@
 //! All whole lines at the start of some bytes, as the packet records of their frames.
-ghost use Rattle.std.specs.Prelude.{◌≡◌, ◌≤◌, ◌+◌, ◌*◌, ◌++◌, length, take, position, MatchOption};
-ghost use Rattle.std.specs.Prelude.{IfSome, None, Some};
-ghost use Rattle.line_grammar.specs.TimedLines.{timed_frame_of};
+ghost use Rattle.std.specs.Prelude.{◌≡◌, ◌≤◌, ◌+◌, ◌*◌, ◌++◌, length, take, position, MatchOption, IfSome, None, Some};
+ghost use Rattle.line_grammar.specs.TimedLines.{timed_frame_of, TimedFrame};
 ghost use Rattle.captures.specs.Encoding.{record_of};
-ghost use Rattle.line_grammar.specs.TimedLines.{TimedFrame};
 ghost use Rattle.captures.specs.Texts.{TakesLines, is_newline};
 
 use crate::FRAME_LIMIT;

@@ -1,7 +1,7 @@
 //! How an interface of a pcapng file counts times.
 ghost use Rattle.std.specs.Prelude.{◌≡◌, ◌<◌, ◌≤◌, ◌+◌, ◌*◌, ◌^◌, false, length, min};
-ghost use Rattle.captures.specs.Times.{clock_of, clock_time, ends_options, long_word, moved};
-ghost use Rattle.captures.specs.Times.{nanoseconds_of, option_len, with_option};
+ghost use Rattle.captures.specs.Times.{clock_of, clock_time, ends_options, long_word, moved, nanoseconds_of};
+ghost use Rattle.captures.specs.Times.{option_len, with_option};
 ghost use Rattle.captures.specs.declared.limits.TheConstants.{TIME_LIMIT};
 
 use crate::byte_order::ByteOrder;

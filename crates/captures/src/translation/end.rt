@@ -1,7 +1,7 @@
 //! The end of a capture.
 ghost use Rattle.std.specs.Prelude.{◌≡◌, ◌+◌, ℕ, List, length};
 ghost use Rattle.captures.specs.Dropped.{IsDropped};
-ghost use Rattle.captures.specs.Runs.{fault_at_end};
+ghost use Rattle.captures.specs.CaptureRuns.{fault_at_end};
 
 use crate::CaptureError;
 use crate::limits::FIRST_UNIT_LEN;

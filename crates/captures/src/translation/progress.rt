@@ -1,6 +1,5 @@
 //! What a run takes of its input, chunk by chunk.
-ghost use Rattle.std.specs.Prelude.{◌≡◌, ◌≤◌, ◌<◌, ◌+◌, ◌*◌, ◌++◌, ℕ, List, length, take};
-ghost use Rattle.std.specs.Prelude.{None, Some};
+ghost use Rattle.std.specs.Prelude.{◌≡◌, ◌≤◌, ◌<◌, ◌+◌, ◌*◌, ◌++◌, ℕ, List, length, take, None, Some};
 ghost use Rattle.captures.specs.Dropped.{IsDropped, Leaves, dropped_len, last_of};
 
 use crate::CaptureError;

@@ -1,6 +1,5 @@
 //! A run: reads, and the lines of the packets that they give.
-ghost use Rattle.std.specs.Prelude.{◌≡◌, ◌≤◌, ◌+◌, ◌-◌, ◌*◌, ◌^◌, ◌++◌, ℕ, List, length};
-ghost use Rattle.std.specs.Prelude.{OnOk, IfSome, IsErrOf, None};
+ghost use Rattle.std.specs.Prelude.{◌≡◌, ◌≤◌, ◌+◌, ◌-◌, ◌*◌, ◌^◌, ◌++◌, ℕ, List, length, OnOk, IfSome, IsErrOf, None};
 ghost use Rattle.std.specs.Io.KnownBytes.{Appends, Consumes, IsAtEnd};
 ghost use Rattle.device_runs.specs.Known.{KnownCall, Transfers, known_of};
 ghost use Rattle.captures.specs.declared.extra.Extra.{Extra};
@@ -9,8 +8,8 @@ ghost use Rattle.captures.specs.Endings.{ending_of};
 ghost use Rattle.captures.specs.Lines.{Packet, blank, lines_of};
 ghost use Rattle.captures.specs.Numbers.{capped};
 ghost use Rattle.captures.specs.Positions.{block_type};
-ghost use Rattle.captures.specs.Runs.{ArePassedOver, IsCapture, PassesOver, Runs};
-ghost use Rattle.captures.specs.Runs.{capture_to_lines, result_at_end};
+ghost use Rattle.captures.specs.CaptureRuns.{ArePassedOver, IsCapture, PassesOver, Runs, capture_to_lines};
+ghost use Rattle.captures.specs.CaptureRuns.{result_at_end};
 ghost use Rattle.captures.specs.Skipping.{none_skipped};
 ghost use Rattle.captures.specs.Framed.{unfit_by};
 ghost use Rattle.captures.specs.Units.{Takes, skipped_in};

@@ -1,6 +1,6 @@
 //! What a run makes of its input, chunk by chunk, and such a run.
-ghost use Rattle.std.specs.Prelude.{◌≡◌, ◌≤◌, ◌<◌, ◌+◌, ◌*◌, ◌++◌, ℕ, List, [], length, take, IfOk};
-ghost use Rattle.std.specs.Prelude.{None, vec_capacity, vec_len};
+ghost use Rattle.std.specs.Prelude.{◌≡◌, ◌≤◌, ◌<◌, ◌+◌, ◌*◌, ◌++◌, ℕ, List, [], length, take, IfOk, None, vec_capacity};
+ghost use Rattle.std.specs.Prelude.{vec_len};
 ghost use Rattle.device_runs.specs.Runs.{Task};
 ghost use Rattle.captures.specs.Endings.{ending_of};
 ghost use Rattle.captures.specs.Translations.{Begins, RunEnds, IsDueBy, Translates, Finishes};

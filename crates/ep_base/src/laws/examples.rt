@@ -18,10 +18,10 @@ ghost use Rattle.ep_base.specs.IpDscpKnown.{IsKnown};
 ghost use Rattle.ep_base.specs.IpEcn.{IsEcn};
 ghost use Rattle.ep_base.specs.LenError.{CanMove, offset_by, too_few_bytes};
 ghost use Rattle.ep_base.specs.SliceError as slice_error;
-ghost use Rattle.ep_base.specs.Traits.{CopyIsValue, CopyNeverFails, DefaultIs, EqualIsSame};
-ghost use Rattle.ep_base.specs.Traits.{HashIsOf, OrderIsOf, VariantFeeds};
-ghost use Rattle.ep_base.specs.Sum.{IsCutAtWords, accumulator_sum, all_ones, checksum, fold};
-ghost use Rattle.ep_base.specs.Sum.{no_zero, total, whole_words};
+ghost use Rattle.ep_base.specs.Traits.{CopyIsValue, CopyNeverFails, DefaultIs, EqualIsSame, HashIsOf, OrderIsOf};
+ghost use Rattle.ep_base.specs.Traits.{VariantFeeds};
+ghost use Rattle.ep_base.specs.Sum.{IsCutAtWords, accumulator_sum, all_ones, checksum, fold, no_zero, total};
+ghost use Rattle.ep_base.specs.Sum.{whole_words};
 
 use super::{fold_of_pieces, one_changed_byte};
 use crate::LenSource;

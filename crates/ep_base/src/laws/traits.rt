@@ -13,9 +13,8 @@ ghost use Rattle.ep_base.specs.IpDscpKnown.{code_point};
 ghost use Rattle.ep_base.specs.IpEcn.{ecn_number};
 ghost use Rattle.ep_base.specs.Layer.{layer_index};
 ghost use Rattle.ep_base.specs.LenSource.{source_index};
-ghost use Rattle.ep_base.specs.Traits.{CopyIsValue, CopyNeverFails, DefaultIs, EqualIsSame};
-ghost use Rattle.ep_base.specs.Traits.{HashIsOf, HashIsOfIndex, IsPlainData, OrderIsOf};
-ghost use Rattle.ep_base.specs.Traits.{VariantFeeds};
+ghost use Rattle.ep_base.specs.Traits.{CopyIsValue, CopyNeverFails, DefaultIs, EqualIsSame, HashIsOf, HashIsOfIndex};
+ghost use Rattle.ep_base.specs.Traits.{IsPlainData, OrderIsOf, VariantFeeds};
 ghost use Rattle.ep_base.specs.ValueType.{kind_index};
 
 use crate::checksum::Sum16BitWords;

@@ -1,6 +1,6 @@
 //! Laws of headers in a row, under any order of slots.
-ghost use Rattle.std.specs.Prelude.{◌≡◌, ◌≤◌, ◌<◌, ◌+◌, ◌^◌, ℕ, List, [], ◌∷◌, ◌++◌, length, Some};
-ghost use Rattle.std.specs.Prelude.{None, Ok, Err, IsOkAnd, false};
+ghost use Rattle.std.specs.Prelude.{◌≡◌, ◌≤◌, ◌<◌, ◌+◌, ◌^◌, ℕ, List, [], ◌∷◌, ◌++◌, length, Some, None, Ok, Err};
+ghost use Rattle.std.specs.Prelude.{IsOkAnd, false};
 ghost use Rattle.ep_ip.specs.Skip.{is_skipped, skip};
 ghost use Rattle.ep_base.specs.Bytes.{num};
 ghost use Rattle.ep_ext.specs.Auth.{auth_at};

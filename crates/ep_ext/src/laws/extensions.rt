@@ -1,6 +1,5 @@
 //! Laws of the extension headers that one value holds.
-ghost use Rattle.std.specs.Prelude.{◌≡◌, ◌≢◌, Ok, ℕ, List, ◌∷◌, ◌++◌, IsOkAnd, false, None, []};
-ghost use Rattle.std.specs.Prelude.{length};
+ghost use Rattle.std.specs.Prelude.{◌≡◌, ◌≢◌, Ok, ℕ, List, ◌∷◌, ◌++◌, IsOkAnd, false, None, [], length};
 ghost use Rattle.ep_ext.specs.Follow.{Follows, IsReadAgain, has_slot, walk_fault};
 ghost use Rattle.ep_ext.specs.Slot.{slot_of};
 ghost use Rattle.ep_ext.specs.Ipv4Exts.{NamesAfter, auth_number, ipv4_exts_of, ipv4_exts_encoding};

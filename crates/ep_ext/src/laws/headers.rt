@@ -1,13 +1,9 @@
 //! Laws of single extension headers, and of the reader with a limit.
-ghost use Rattle.std.specs.Prelude.{◌≡◌, ◌+◌, ℕ, true, false, List, [], ◌∷◌, ◌++◌, map, Some, None};
-ghost use Rattle.std.specs.Prelude.{IsOkAnd, Ok, Err};
+ghost use Rattle.std.specs.Prelude.{◌≡◌, ◌+◌, ℕ, true, false, List, [], ◌∷◌, ◌++◌, map, Some, None, IsOkAnd, Ok, Err};
 ghost use Rattle.ep_base.specs.Bytes.{IsBytes};
-ghost use Rattle.ep_ext.specs.Auth.{IsAuth, auth_of, auth_at, auth_encoding, auth_cleared};
-ghost use Rattle.ep_ext.specs.Auth.{icv_fault};
-ghost use Rattle.ep_ext.specs.Fragment.{IsFragment, fragment_of, fragment_encoding};
-ghost use Rattle.ep_ext.specs.Fragment.{fragment_cleared, fragment_at};
-ghost use Rattle.ep_ext.specs.Raw.{IsRawExt, raw_of, raw_at, raw_encoding, is_raw_number};
-ghost use Rattle.ep_ext.specs.Raw.{payload_fault};
+ghost use Rattle.ep_ext.specs.Auth.{IsAuth, auth_of, auth_at, auth_encoding, auth_cleared, icv_fault};
+ghost use Rattle.ep_ext.specs.Fragment.{IsFragment, fragment_of, fragment_encoding, fragment_cleared, fragment_at};
+ghost use Rattle.ep_ext.specs.Raw.{IsRawExt, raw_of, raw_at, raw_encoding, is_raw_number, payload_fault};
 ghost use Rattle.ep_base.specs.LenError.{too_few_bytes};
 ghost use Rattle.ep_base.specs.declared.err.slice_error.SliceError.TheVariants as slice_error;
 

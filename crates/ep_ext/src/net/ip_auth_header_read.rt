@@ -1,7 +1,6 @@
 //! An authentication header from a reader.
 
-ghost use Rattle.std.specs.Prelude.{◌≡◌, ℕ, List, ◌++◌, IfOk, IfErr, MatchResult, Some, length};
-ghost use Rattle.std.specs.Prelude.{take, ◌≤◌, ◌-◌};
+ghost use Rattle.std.specs.Prelude.{◌≡◌, ℕ, List, ◌++◌, IfOk, IfErr, MatchResult, Some, length, take, ◌≤◌, ◌-◌};
 ghost use Rattle.std.specs.Io.KnownBytes.{Consumes};
 ghost use Rattle.ep_ext.specs.Auth.{IsAuth, auth_of};
 ghost use Rattle.ep_ext.specs.Limited.{at_next_layer, Takes};

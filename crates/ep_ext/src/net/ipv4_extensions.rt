@@ -1,12 +1,10 @@
-ghost use Rattle.std.specs.Prelude.{◌≡◌, ◌+◌, ◌≤◌, ◌<◌, ◌^◌, ℕ, List, IfOk, IfErr, IsOkAnd};
-ghost use Rattle.std.specs.Prelude.{MatchOption, Err, Ok, None, Some, Option, is_some, is_none};
-ghost use Rattle.std.specs.Prelude.{if◌then◌else◌, length, vec_len, vec_capacity};
+ghost use Rattle.std.specs.Prelude.{◌≡◌, ◌+◌, ◌≤◌, ◌<◌, ◌^◌, ℕ, List, IfOk, IfErr, IsOkAnd, MatchOption, Err, Ok, None};
+ghost use Rattle.std.specs.Prelude.{Some, Option, is_some, is_none, if◌then◌else◌, length, vec_len, vec_capacity};
 ghost use Rattle.ep_ext.specs.Auth.{IsAuth, auth_of, auth_encoding};
 ghost use Rattle.ep_base.specs.SliceError.{CanMove};
 ghost use Rattle.ep_ext.specs.declared.net.ip_auth_header.IpAuthHeader.{IpAuthHeader};
-ghost use Rattle.ep_ext.specs.Ipv4Exts.{Ipv4Chain, auth_after, ipv4_exts_of, number_after};
-ghost use Rattle.ep_ext.specs.Ipv4Exts.{ipv4_exts_encoding, ipv4_with_link, ipv4_walk_fault};
-ghost use Rattle.ep_ext.specs.Ipv4Exts.{NamesAfter, AppendsNamed};
+ghost use Rattle.ep_ext.specs.Ipv4Exts.{Ipv4Chain, auth_after, ipv4_exts_of, number_after, ipv4_exts_encoding};
+ghost use Rattle.ep_ext.specs.Ipv4Exts.{ipv4_with_link, ipv4_walk_fault, NamesAfter, AppendsNamed};
 ghost use Rattle.ep_ext.specs.declared.err.ipv4_exts.header_write_error.HeaderWriteError.TheVariants.{Memory};
 
 use super::IpAuthHeader;

@@ -1,9 +1,7 @@
 //! The extension headers of an IPv4 packet from a reader.
 
-ghost use Rattle.std.specs.Prelude.{◌≡◌, ◌≤◌, ◌-◌, ℕ, List, ◌++◌, length, IfOk, IfErr, MatchResult};
-ghost use Rattle.std.specs.Prelude.{Option, Some};
-ghost use Rattle.ep_ext.specs.Ipv4Exts.{IsAuthAfter, auth_bytes, auth_number, ipv4_exts_of};
-ghost use Rattle.ep_ext.specs.Ipv4Exts.{number_after};
+ghost use Rattle.std.specs.Prelude.{◌≡◌, ◌≤◌, ◌-◌, ℕ, List, ◌++◌, length, IfOk, IfErr, MatchResult, Option, Some};
+ghost use Rattle.ep_ext.specs.Ipv4Exts.{IsAuthAfter, auth_bytes, auth_number, ipv4_exts_of, number_after};
 ghost use Rattle.ep_ext.specs.Limited.{at_next_layer};
 ghost use Rattle.ep_ext.specs.Reads.{IsAuthIo, IsAuthLimitedIo, RefusesAuth, RefusesAuthWithin};
 ghost use Rattle.ep_ext.specs.ReadsIpv4Exts.{ReadsAuthAfter, ReadsAuthWithin};

@@ -1,13 +1,11 @@
 //! The extension headers of an IPv6 packet from a reader with a limit.
 
-ghost use Rattle.std.specs.Prelude.{◌≡◌, ◌≤◌, ◌-◌, ℕ, List, [], ◌++◌, IfOk, IfErr, MatchResult};
-ghost use Rattle.std.specs.Prelude.{Some, length};
+ghost use Rattle.std.specs.Prelude.{◌≡◌, ◌≤◌, ◌-◌, ℕ, List, [], ◌++◌, IfOk, IfErr, MatchResult, Some, length};
 ghost use Rattle.ep_base.specs.Bytes.{num};
 ghost use Rattle.ep_ext.specs.Chain.{IsPiece};
 ghost use Rattle.ep_ext.specs.Limited.{at_next_layer, Takes};
-ghost use Rattle.ep_ext.specs.ReadsExts.{IsExtsLimitedIo, IsWholeRow, ReadsRowWithin};
-ghost use Rattle.ep_ext.specs.ReadsExts.{RefusesExtWithin, RefusesRowWithin, auth_exts_error};
-ghost use Rattle.ep_ext.specs.ReadsExts.{bytes_error, read_layer};
+ghost use Rattle.ep_ext.specs.ReadsExts.{IsExtsLimitedIo, IsWholeRow, ReadsRowWithin, RefusesExtWithin};
+ghost use Rattle.ep_ext.specs.ReadsExts.{RefusesRowWithin, auth_exts_error, bytes_error, read_layer};
 ghost use Rattle.ep_ext.specs.Value.{Piece, bytes_of, with_header_in_slot, value_of};
 
 use super::passed::Passed;

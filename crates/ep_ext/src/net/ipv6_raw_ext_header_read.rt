@@ -1,7 +1,6 @@
 //! A raw extension header from a reader.
 
-ghost use Rattle.std.specs.Prelude.{◌≡◌, ℕ, List, ◌++◌, IfOk, IfErr, Some, length, take, ◌≤◌, ◌-◌};
-ghost use Rattle.std.specs.Prelude.{MatchResult};
+ghost use Rattle.std.specs.Prelude.{◌≡◌, ℕ, List, ◌++◌, IfOk, IfErr, Some, length, take, ◌≤◌, ◌-◌, MatchResult};
 ghost use Rattle.std.specs.Io.KnownBytes.{Consumes};
 ghost use Rattle.ep_ext.specs.Limited.{at_next_layer, Takes};
 ghost use Rattle.ep_ext.specs.Raw.{IsRawExt, raw_of, raw_len};

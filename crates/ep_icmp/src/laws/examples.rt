@@ -5,8 +5,7 @@ ghost use Rattle.std.specs.Prelude.{◌≡◌, ℕ, [], ◌∷◌, ◌++◌, rep
 ghost use Rattle.ep_base.specs.LenError.{too_few_bytes};
 ghost use Rattle.ep_base.specs.declared.err.layer.Layer.TheVariants as layer;
 ghost use Rattle.ep_base.specs.declared.err.value_type.ValueType.TheVariants as value_type;
-ghost use Rattle.ep_icmp.specs.Examples.{destination, letters, ping, source, three_bytes};
-ghost use Rattle.ep_icmp.specs.Examples.{timestamp, too_big};
+ghost use Rattle.ep_icmp.specs.Examples.{destination, letters, ping, source, three_bytes, timestamp, too_big};
 ghost use Rattle.ep_icmp.specs.Icmpv4 as v4;
 ghost use Rattle.ep_icmp.specs.Icmpv4Fault as v4_fault;
 ghost use Rattle.ep_icmp.specs.Icmpv6 as v6;

@@ -2,8 +2,7 @@
 ghost use Rattle.std.specs.Prelude.{◌≡◌, ℕ, List, [], ◌∷◌, ◌++◌, IsOkAnd, IsTrue};
 ghost use Rattle.ep_base.specs.Bytes.{IsBytes};
 ghost use Rattle.ep_base.specs.Sum.{all_ones};
-ghost use Rattle.ep_icmp.specs.Icmpv4.{IsPayload, IsCanonical, ReadableIcmpv4};
-ghost use Rattle.ep_icmp.specs.Icmpv4.{icmpv4_with_checksum, icmpv4_header_of};
+ghost use Rattle.ep_icmp.specs.Icmpv4.{IsPayload, IsCanonical, ReadableIcmpv4, icmpv4_with_checksum, icmpv4_header_of};
 ghost use Rattle.ep_icmp.specs.Icmpv4.{layout_of, encoding, type_of};
 ghost use Rattle.ep_icmp.specs.Layout.{with_unused_bytes_zero};
 ghost use Rattle.ep_icmp.specs.declared.transport.icmpv4_type.Icmpv4Type.{Icmpv4Type};

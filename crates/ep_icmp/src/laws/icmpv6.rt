@@ -2,8 +2,7 @@
 ghost use Rattle.std.specs.Prelude.{◌≡◌, ◌+◌, ℕ, List, [], ◌∷◌, ◌++◌, IsOkAnd, IsTrue, length};
 ghost use Rattle.ep_base.specs.Bytes.{IsBytes};
 ghost use Rattle.ep_base.specs.Sum.{all_ones};
-ghost use Rattle.ep_icmp.specs.Icmpv6.{IsCanonical, ReadableIcmpv6, icmpv6_with_checksum};
-ghost use Rattle.ep_icmp.specs.Icmpv6.{icmpv6_header_of, layout_of};
+ghost use Rattle.ep_icmp.specs.Icmpv6.{IsCanonical, ReadableIcmpv6, icmpv6_with_checksum, icmpv6_header_of, layout_of};
 ghost use Rattle.ep_icmp.specs.Icmpv6.{pseudo, encoding, type_of};
 ghost use Rattle.ep_icmp.specs.Layout.{with_unused_bytes_zero};
 ghost use Rattle.ep_icmp.specs.declared.transport.icmpv6_type.Icmpv6Type.{Icmpv6Type};

@@ -1,11 +1,8 @@
 //! The header of an ICMPv4 message.
-ghost use Rattle.std.specs.Prelude.{◌≡◌, ◌+◌, ◌≤◌, ◌++◌, length, IfOk, IfErr, IsOk, OnOk, OnErr};
-ghost use Rattle.std.specs.Prelude.{Err, vec_len, vec_capacity};
-ghost use Rattle.ep_icmp.specs.Icmpv4.{HeaderFits, IsRead, IsCanonical, ReadableIcmpv4};
-ghost use Rattle.ep_icmp.specs.Icmpv4.{icmpv4_with_checksum};
-ghost use Rattle.ep_icmp.specs.Icmpv4.{fixed_payload_size, header_len, icmpv4_header_of};
-ghost use Rattle.ep_icmp.specs.Icmpv4.{right_checksum};
-ghost use Rattle.ep_icmp.specs.Icmpv4.{encoding};
+ghost use Rattle.std.specs.Prelude.{◌≡◌, ◌+◌, ◌≤◌, ◌++◌, length, IfOk, IfErr, IsOk, OnOk, OnErr, Err, vec_len};
+ghost use Rattle.std.specs.Prelude.{vec_capacity};
+ghost use Rattle.ep_icmp.specs.Icmpv4.{HeaderFits, IsRead, IsCanonical, ReadableIcmpv4, icmpv4_with_checksum};
+ghost use Rattle.ep_icmp.specs.Icmpv4.{fixed_payload_size, header_len, icmpv4_header_of, right_checksum, encoding};
 ghost use Rattle.ep_icmp.specs.Icmpv4Fault.{message_at};
 
 use super::{Icmpv4Slice, Icmpv4Type};

@@ -1,12 +1,11 @@
 //! An ICMPv4 message, borrowed.
-ghost use Rattle.std.specs.Prelude.{◌≡◌, ◌≤◌, ℕ, false, List, ◌++◌, length, drop, slice_range};
-ghost use Rattle.std.specs.Prelude.{IfOk, IsTrue, Ok, nat_eq};
+ghost use Rattle.std.specs.Prelude.{◌≡◌, ◌≤◌, ℕ, false, List, ◌++◌, length, drop, slice_range, IfOk, IsTrue, Ok};
+ghost use Rattle.std.specs.Prelude.{nat_eq};
 ghost use Rattle.std.specs.Cmp.Lexicographic.{pointwise};
 ghost use Rattle.std.specs.Cmp.Rules.{comparing};
 ghost use Rattle.std.proofs.Common.{rules};
 ghost use Rattle.ep_base.specs.Bytes.{num};
-ghost use Rattle.ep_icmp.specs.Icmpv4.{ReadableIcmpv4, header_len, icmpv4_header_of, is_listed};
-ghost use Rattle.ep_icmp.specs.Icmpv4.{is_timestamp, type_of};
+ghost use Rattle.ep_icmp.specs.Icmpv4.{ReadableIcmpv4, header_len, icmpv4_header_of, is_listed, is_timestamp, type_of};
 ghost use Rattle.ep_icmp.specs.Icmpv4Fault.{message_at};
 ghost use Rattle.ep_icmp.specs.Fields.{echo_in, timestamp_in};
 

@@ -2,8 +2,8 @@
 ghost use Rattle.std.specs.Prelude.{◌≡◌, ◌++◌, length, take};
 ghost use Rattle.std.specs.Option.{option_copied};
 ghost use Rattle.ep_base.specs.Sum.{fold, total};
-ghost use Rattle.ep_icmp.specs.Icmpv4.{FieldsFit, Fits, fixed_payload_size, header_len, layout_of};
-ghost use Rattle.ep_icmp.specs.Icmpv4.{right_checksum, timestamp_of};
+ghost use Rattle.ep_icmp.specs.Icmpv4.{FieldsFit, Fits, fixed_payload_size, header_len, layout_of, right_checksum};
+ghost use Rattle.ep_icmp.specs.Icmpv4.{timestamp_of};
 ghost use Rattle.ep_icmp.specs.Layout.{prefix, bytes_of_layout, bytes_of_fields};
 
 use super::icmpv4::{

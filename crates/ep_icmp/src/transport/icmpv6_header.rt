@@ -1,9 +1,8 @@
 //! The header of an ICMPv6 message.
-ghost use Rattle.std.specs.Prelude.{◌≡◌, ◌+◌, ◌≤◌, ◌++◌, ◌<◌, length, IfOk, IfErr, IsOk};
-ghost use Rattle.std.specs.Prelude.{MatchResult, None, OnOk, OnErr, Err, vec_len, vec_capacity};
+ghost use Rattle.std.specs.Prelude.{◌≡◌, ◌+◌, ◌≤◌, ◌++◌, ◌<◌, length, IfOk, IfErr, IsOk, MatchResult, None, OnOk};
+ghost use Rattle.std.specs.Prelude.{OnErr, Err, vec_len, vec_capacity};
 ghost use Rattle.ep_base.specs.Bounded.{too_big};
-ghost use Rattle.ep_icmp.specs.Icmpv6.{HeaderFits, IsRead, ReadableIcmpv6, icmpv6_with_checksum};
-ghost use Rattle.ep_icmp.specs.Icmpv6.{encoding};
+ghost use Rattle.ep_icmp.specs.Icmpv6.{HeaderFits, IsRead, ReadableIcmpv6, icmpv6_with_checksum, encoding};
 ghost use Rattle.ep_icmp.specs.Icmpv6Fault.{message_at};
 ghost use Rattle.ep_icmp.specs.Limit.{IsWithin, greatest_payload};
 

@@ -1,14 +1,12 @@
 //! An ICMPv6 message, borrowed.
-ghost use Rattle.std.specs.Prelude.{◌≡◌, ℕ, false, List, ◌++◌, length, drop, slice_range, IfOk, Ok};
-ghost use Rattle.std.specs.Prelude.{nat_eq};
+ghost use Rattle.std.specs.Prelude.{◌≡◌, ℕ, false, List, ◌++◌, length, drop, slice_range, IfOk, Ok, nat_eq};
 ghost use Rattle.std.specs.Cmp.Lexicographic.{pointwise};
 ghost use Rattle.std.specs.Cmp.Rules.{comparing};
 ghost use Rattle.std.proofs.Common.{rules};
 ghost use Rattle.ep_base.specs.Bytes.{num};
 ghost use Rattle.ep_base.specs.Sum.{all_ones};
 ghost use Rattle.ep_icmp.specs.Fields.{echo_in};
-ghost use Rattle.ep_icmp.specs.Icmpv6.{ReadableIcmpv6, icmpv6_header_of, is_listed, pseudo};
-ghost use Rattle.ep_icmp.specs.Icmpv6.{type_of};
+ghost use Rattle.ep_icmp.specs.Icmpv6.{ReadableIcmpv6, icmpv6_header_of, is_listed, pseudo, type_of};
 ghost use Rattle.ep_icmp.specs.Icmpv6Fault.{message_at};
 
 use super::icmpv6::{

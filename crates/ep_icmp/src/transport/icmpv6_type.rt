@@ -3,8 +3,7 @@ ghost use Rattle.std.specs.Prelude.{◌≡◌, ℕ, ◌++◌, List, MatchResult,
 ghost use Rattle.ep_base.specs.Bounded.{too_big};
 ghost use Rattle.ep_base.specs.MessageSum.{SumsWords};
 ghost use Rattle.ep_base.specs.Sum.{fold, total};
-ghost use Rattle.ep_icmp.specs.Icmpv6.{FieldsFit, Fits, icmpv6_with_checksum, layout_of, pseudo};
-ghost use Rattle.ep_icmp.specs.Icmpv6.{right_checksum};
+ghost use Rattle.ep_icmp.specs.Icmpv6.{FieldsFit, Fits, icmpv6_with_checksum, layout_of, pseudo, right_checksum};
 ghost use Rattle.ep_icmp.specs.Layout.{bytes_of_layout, bytes_of_fields};
 ghost use Rattle.ep_icmp.specs.Limit.{IsWithin};
 

@@ -1,16 +1,15 @@
 //! The definitions and laws at values from outside: each clause states a value of a standard or one
 //! that was calculated by hand, so that a definition can't change with the code.
 
-ghost use Rattle.std.specs.Prelude.{◌≡◌, [], ◌∷◌, ◌++◌, replicate, take, length, true, false, Ok};
-ghost use Rattle.std.specs.Prelude.{Err};
+ghost use Rattle.std.specs.Prelude.{◌≡◌, [], ◌∷◌, ◌++◌, replicate, take, length, true, false, Ok, Err};
 ghost use Rattle.ep_base.specs.declared.err.layer.Layer.TheVariants as layer;
 ghost use Rattle.ep_base.specs.declared.len_source.LenSource.TheVariants as source;
 ghost use Rattle.ep_base.specs.declared.net.ip_ecn.IpEcn.TheVariants as notification;
 ghost use Rattle.ep_ip.specs.declared.err.ipv4.header_error.HeaderError.TheVariants as fault_4;
 ghost use Rattle.ep_base.specs.declared.err.slice_error.SliceError.TheVariants as slice_error;
 ghost use Rattle.ep_ip.specs.declared.err.ipv6.header_error.HeaderError.TheVariants as fault_6;
-ghost use Rattle.ep_ip.specs.Examples.{ipv4_with_options, ipv4_with_reserved_bit, ipv4_of_all_ones};
-ghost use Rattle.ep_ip.specs.Examples.{ipv6_example, two_headers};
+ghost use Rattle.ep_ip.specs.Examples.{ipv4_with_options, ipv4_with_reserved_bit, ipv4_of_all_ones, ipv6_example};
+ghost use Rattle.ep_ip.specs.Examples.{two_headers};
 ghost use Rattle.ep_ip.specs.Ipv4 as v4;
 ghost use Rattle.ep_ip.specs.Ipv4Checksum.{right_checksum, HasRightChecksum};
 ghost use Rattle.ep_ip.specs.Ipv4Fault as v4_fault;

@@ -1,6 +1,5 @@
 //! Laws of IPv6 headers and of the walk over extension headers (RFC 8200, sections 3 and 4).
-ghost use Rattle.std.specs.Prelude.{◌≡◌, ℕ, ◌+◌, ◌*◌, List, [], ◌∷◌, ◌++◌, ◌||◌, ◌==◌, length, ◌↔◌};
-ghost use Rattle.std.specs.Prelude.{IsTrue, IsOkAnd};
+ghost use Rattle.std.specs.Prelude.{◌≡◌, ℕ, ◌+◌, ◌*◌, List, [], ◌∷◌, ◌++◌, ◌||◌, ◌==◌, length, ◌↔◌, IsTrue, IsOkAnd};
 ghost use Rattle.std.specs.List.{concat, list_any};
 ghost use Rattle.ep_base.specs.Bytes.{IsBytes};
 ghost use Rattle.ep_base.specs.IpEcn.{ecn_number};

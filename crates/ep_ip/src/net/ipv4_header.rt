@@ -1,11 +1,9 @@
 //! IPv4 headers as values.
 
-ghost use Rattle.std.specs.Prelude.{◌≡◌, ℕ, ◌+◌, ◌-◌, ◌^◌, ◌<◌, ◌≤◌, ◌↔◌, List, ◌++◌, length, IfOk};
-ghost use Rattle.std.specs.Prelude.{IfErr, IsOkAnd, OnOk, OnErr, IsOk, IsTrue, Ok, Err, vec_len};
-ghost use Rattle.std.specs.Prelude.{vec_capacity};
-ghost use Rattle.ep_ip.specs.Ipv4.{IsIpv4Header, IsRead, default_header, ipv4_header_of};
-ghost use Rattle.ep_ip.specs.Ipv4.{header_len};
-ghost use Rattle.ep_ip.specs.Ipv4.{ihl, flags_and_offset, encoding, Fits, is_fragmenting};
+ghost use Rattle.std.specs.Prelude.{◌≡◌, ℕ, ◌+◌, ◌-◌, ◌^◌, ◌<◌, ◌≤◌, ◌↔◌, List, ◌++◌, length, IfOk, IfErr, IsOkAnd};
+ghost use Rattle.std.specs.Prelude.{OnOk, OnErr, IsOk, IsTrue, Ok, Err, vec_len, vec_capacity};
+ghost use Rattle.ep_ip.specs.Ipv4.{IsIpv4Header, IsRead, default_header, ipv4_header_of, header_len, ihl};
+ghost use Rattle.ep_ip.specs.Ipv4.{flags_and_offset, encoding, Fits, is_fragmenting};
 ghost use Rattle.ep_base.specs.Bounded.{too_big};
 ghost use Rattle.ep_base.specs.Sum.{all_ones};
 ghost use Rattle.ep_ip.specs.Ipv4Checksum.{right_checksum, HasRightChecksum};

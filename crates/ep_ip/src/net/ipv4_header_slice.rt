@@ -4,10 +4,9 @@ ghost use Rattle.std.specs.Prelude.{◌≡◌, ℕ, ◌+◌, ◌*◌, List, ◌+
 ghost use Rattle.std.specs.Cmp.Lexicographic.{pointwise};
 ghost use Rattle.std.specs.Cmp.Rules.{comparing};
 ghost use Rattle.std.proofs.Common.{rules};
-ghost use Rattle.ep_ip.specs.Ipv4.{IsIpv4Header, version_of, ihl_of, dscp_of, ecn_of, total_len_of};
-ghost use Rattle.ep_ip.specs.Ipv4.{identification_of, dont_fragment_of, more_fragments_of};
-ghost use Rattle.ep_ip.specs.Ipv4.{fragment_offset_of, time_to_live_of, protocol_of};
-ghost use Rattle.ep_ip.specs.Ipv4.{header_checksum_of, source_of, destination_of, options_of};
+ghost use Rattle.ep_ip.specs.Ipv4.{IsIpv4Header, version_of, ihl_of, dscp_of, ecn_of, total_len_of, identification_of};
+ghost use Rattle.ep_ip.specs.Ipv4.{dont_fragment_of, more_fragments_of, fragment_offset_of, time_to_live_of};
+ghost use Rattle.ep_ip.specs.Ipv4.{protocol_of, header_checksum_of, source_of, destination_of, options_of};
 ghost use Rattle.ep_ip.specs.Ipv4.{ipv4_header_of, header_len, ihl, is_fragmenting};
 ghost use Rattle.ep_ip.specs.Ipv4Fault.{header_at, IsPayloadLen};
 ghost use Rattle.ep_ip.specs.Ipv4Options.{IsIpv4Options};

@@ -1,14 +1,12 @@
 //! IPv6 headers as values, and the walk over the extension headers after them.
 
-ghost use Rattle.std.specs.Prelude.{◌≡◌, ℕ, ◌+◌, ◌*◌, ◌^◌, ◌/◌, ◌<◌, ◌≤◌, List, ◌++◌, length, IfOk};
-ghost use Rattle.std.specs.Prelude.{IfErr, IsOkAnd, OnOk, OnErr, IsOk, MatchResult, Err, vec_len};
-ghost use Rattle.std.specs.Prelude.{vec_capacity};
+ghost use Rattle.std.specs.Prelude.{◌≡◌, ℕ, ◌+◌, ◌*◌, ◌^◌, ◌/◌, ◌<◌, ◌≤◌, List, ◌++◌, length, IfOk, IfErr, IsOkAnd};
+ghost use Rattle.std.specs.Prelude.{OnOk, OnErr, IsOk, MatchResult, Err, vec_len, vec_capacity};
 ghost use Rattle.std.specs.List.{concat};
 ghost use Rattle.ep_base.specs.Bounded.{too_big};
 ghost use Rattle.ep_base.specs.Bytes.{num};
 ghost use Rattle.ep_ip.specs.Ipv6Fault.{header_at};
-ghost use Rattle.ep_ip.specs.Ipv6.{IsIpv6Header, IsRead, ipv6_header_of, encoding, Fits, dscp_in};
-ghost use Rattle.ep_ip.specs.Ipv6.{ecn_in};
+ghost use Rattle.ep_ip.specs.Ipv6.{IsIpv6Header, IsRead, ipv6_header_of, encoding, Fits, dscp_in, ecn_in};
 ghost use Rattle.ep_ip.specs.Skip as walk;
 
 use crate::Ipv6HeaderSlice;

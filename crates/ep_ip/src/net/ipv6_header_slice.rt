@@ -4,9 +4,9 @@ ghost use Rattle.std.specs.Prelude.{◌≡◌, ℕ, List, ◌++◌, length, IfOk
 ghost use Rattle.std.specs.Cmp.Lexicographic.{pointwise};
 ghost use Rattle.std.specs.Cmp.Rules.{comparing};
 ghost use Rattle.std.proofs.Common.{rules};
-ghost use Rattle.ep_ip.specs.Ipv6.{IsIpv6Header, version_of, traffic_class_of, flow_label_of};
-ghost use Rattle.ep_ip.specs.Ipv6.{payload_length_of, next_header_of, hop_limit_of, source_of};
-ghost use Rattle.ep_ip.specs.Ipv6.{destination_of, ipv6_header_of, dscp_in, ecn_in};
+ghost use Rattle.ep_ip.specs.Ipv6.{IsIpv6Header, version_of, traffic_class_of, flow_label_of, payload_length_of};
+ghost use Rattle.ep_ip.specs.Ipv6.{next_header_of, hop_limit_of, source_of, destination_of, ipv6_header_of, dscp_in};
+ghost use Rattle.ep_ip.specs.Ipv6.{ecn_in};
 ghost use Rattle.ep_ip.specs.Ipv6Fault.{header_at};
 
 use crate::Ipv6Header;

@@ -4,12 +4,11 @@ ghost use Rattle.std.specs.Prelude.{◌≡◌, true, false, [], ◌∷◌, Ok, S
 ghost use Rattle.std.specs.Hash as fed;
 ghost use Rattle.ep_base.specs.declared.len_source.LenSource.TheVariants as source;
 ghost use Rattle.ep_ipslice.specs.Compared.{hashed_as};
-ghost use Rattle.ep_ipslice.specs.Examples.{example_header, example_ipv4, example_ipv4_packet};
-ghost use Rattle.ep_ipslice.specs.Examples.{example_ipv6, example_ipv6_packet, example_pieces};
-ghost use Rattle.ep_ipslice.specs.Examples.{fragment_header};
+ghost use Rattle.ep_ipslice.specs.Examples.{example_header, example_ipv4, example_ipv4_packet, example_ipv6};
+ghost use Rattle.ep_ipslice.specs.Examples.{example_ipv6_packet, example_pieces, fragment_header};
 ghost use Rattle.ep_ipslice.specs.Ipv4Packet.{ipv4_packet_at};
-ghost use Rattle.ep_ipslice.specs.Packet.{IsIpv4Packet, IsIpv6Packet, ipv4_fragment_fields};
-ghost use Rattle.ep_ipslice.specs.Packet.{ipv4_payload, ipv6_fragment_fields, is_ipv4_fragment};
+ghost use Rattle.ep_ipslice.specs.Packet.{IsIpv4Packet, IsIpv6Packet, ipv4_fragment_fields, ipv4_payload};
+ghost use Rattle.ep_ipslice.specs.Packet.{ipv6_fragment_fields, is_ipv4_fragment};
 
 /// The parts of one IPv4 packet with an authentication header and padding, and what it says of its
 /// payload.

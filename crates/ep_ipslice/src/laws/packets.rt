@@ -1,6 +1,6 @@
 //! Laws of the definitions of IP packets.
-ghost use Rattle.std.specs.Prelude.{◌≡◌, ◌↔◌, ◌<◌, ◌≤◌, ◌+◌, ◌-◌, ◌^◌, ℕ, List, [], ◌∷◌, ◌++◌, length};
-ghost use Rattle.std.specs.Prelude.{None, Some, Ok, Err, IsOkAnd, false, replicate};
+ghost use Rattle.std.specs.Prelude.{◌≡◌, ◌↔◌, ◌<◌, ◌≤◌, ◌+◌, ◌-◌, ◌^◌, ℕ, List, [], ◌∷◌, ◌++◌, length, None, Some, Ok};
+ghost use Rattle.std.specs.Prelude.{Err, IsOkAnd, false, replicate};
 ghost use Rattle.std.specs.Option.{option_map, option_map_or};
 ghost use Rattle.ep_ip.specs.Ipv6.{next_header_of};
 ghost use Rattle.ep_ip.specs.Skip.{is_skipped};
@@ -13,17 +13,15 @@ ghost use Rattle.ep_ext.specs.declared.net.ipv6_ext_slot.Ipv6ExtSlot.TheVariants
 ghost use Rattle.ep_ipslice.specs.FaultOffset.{ip_offset, ipv4_offset, ipv6_offset};
 ghost use Rattle.ep_ipslice.specs.IpSlice.{IsIpFault, IsIpFaultIn, IsWhole, ip_packet_at};
 ghost use Rattle.ep_ipslice.specs.Ipv4Packet.{ipv4_packet_at};
-ghost use Rattle.ep_ipslice.specs.Ipv6Packet.{body_of, extensions_in, ipv6_packet_at};
-ghost use Rattle.ep_ipslice.specs.Ipv6Packet.{number_after, rest_after};
+ghost use Rattle.ep_ipslice.specs.Ipv6Packet.{body_of, extensions_in, ipv6_packet_at, number_after, rest_after};
 ghost use Rattle.ep_ipslice.specs.Ipv6Walk.{pieces_within};
 ghost use Rattle.ep_ipslice.specs.Ipv6Fault.{IsFaultIn, IsIpv6Fault, IsRowFault, of_exts_fault};
 ghost use Rattle.ep_ipslice.specs.declared.err.ip.slice_error.SliceError.{SliceError as IpFault};
 ghost use Rattle.ep_ipslice.specs.declared.err.ipv4.slice_error.SliceError.{SliceError as Ipv4Fault};
 ghost use Rattle.ep_ipslice.specs.declared.err.ipv6.slice_error.SliceError.{SliceError as Ipv6Fault};
 ghost use Rattle.ep_ipslice.specs.Ipv6Exts.{is_any_fragmenting, view_order};
-ghost use Rattle.ep_ipslice.specs.Packet.{Ipv4Packet, Ipv6Packet, IsIpv4Packet, IsIpv6Body};
-ghost use Rattle.ep_ipslice.specs.Packet.{IsIpv6Packet, body_len, body_source, fragment_fields};
-ghost use Rattle.ep_ipslice.specs.Packet.{ipv4_fragment_fields, ipv6_fragment_fields};
+ghost use Rattle.ep_ipslice.specs.Packet.{Ipv4Packet, Ipv6Packet, IsIpv4Packet, IsIpv6Body, IsIpv6Packet, body_len};
+ghost use Rattle.ep_ipslice.specs.Packet.{body_source, fragment_fields, ipv4_fragment_fields, ipv6_fragment_fields};
 
 use crate::{IpSlice, Ipv4Slice, Ipv6Slice};
 use ep_base::err::LenError;

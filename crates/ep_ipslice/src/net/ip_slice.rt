@@ -4,9 +4,8 @@ ghost use Rattle.std.specs.Prelude.{◌≡◌, IfOk, IfErr, Ok};
 ghost use Rattle.std.specs.Option.{option_map};
 ghost use Rattle.ep_ipslice.specs.declared.net.ip_slice.IpSlice.{IpSlice};
 ghost use Rattle.ep_ipslice.specs.declared.net.ip_slice.IpSlice.TheVariants as view;
-ghost use Rattle.ep_ipslice.specs.IpSlice.{IsAddress, IsIpFault, IsIpPacket, destination_of};
-ghost use Rattle.ep_ipslice.specs.IpSlice.{fragmented_of, ip_packet_at, ipv4_of, ipv6_of};
-ghost use Rattle.ep_ipslice.specs.IpSlice.{payload_of, source_of};
+ghost use Rattle.ep_ipslice.specs.IpSlice.{IsAddress, IsIpFault, IsIpPacket, destination_of, fragmented_of};
+ghost use Rattle.ep_ipslice.specs.IpSlice.{ip_packet_at, ipv4_of, ipv6_of, payload_of, source_of};
 
 use super::{IpPayloadSlice, Ipv4Slice, Ipv6Slice};
 use crate::err::ip::{HeaderError, HeadersError, SliceError};

@@ -1,7 +1,6 @@
 //! The extension header of an IPv4 packet.
 
-ghost use Rattle.std.specs.Prelude.{◌≡◌, ℕ, List, ◌++◌, IfOk, IsOkAnd, MatchResult, Option, Ok};
-ghost use Rattle.std.specs.Prelude.{Err, is_none};
+ghost use Rattle.std.specs.Prelude.{◌≡◌, ℕ, List, ◌++◌, IfOk, IsOkAnd, MatchResult, Option, Ok, Err, is_none};
 ghost use Rattle.std.specs.Option.{option_map};
 ghost use Rattle.ep_ext.specs.Auth.{auth_of};
 ghost use Rattle.ep_ipslice.specs.Ipv4Lax.{IsLaxAnswer};

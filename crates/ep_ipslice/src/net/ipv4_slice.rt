@@ -1,10 +1,8 @@
 //! The IPv4 packet.
 
-ghost use Rattle.std.specs.Prelude.{◌≡◌, ℕ, List, ◌++◌, IfOk, Ok};
-ghost use Rattle.ep_ipslice.specs.Packet.{Ipv4Packet, IsIpv4Packet, IsWholeIpv4, is_ipv4_fragment};
-ghost use Rattle.ep_ipslice.specs.Packet.{ipv4_payload};
+ghost use Rattle.std.specs.Prelude.{◌≡◌, ℕ, List, ◌++◌, IfOk, Ok, ◌&&◌, nat_eq};
+ghost use Rattle.ep_ipslice.specs.Packet.{Ipv4Packet, IsIpv4Packet, IsWholeIpv4, is_ipv4_fragment, ipv4_payload};
 ghost use Rattle.ep_ipslice.specs.Ipv4Packet.{in_total_len, ipv4_packet_at, packet_with};
-ghost use Rattle.std.specs.Prelude.{◌&&◌, nat_eq};
 ghost use Rattle.std.specs.Cmp.Lexicographic.{pointwise};
 ghost use Rattle.std.specs.Cmp.Rules.{comparing};
 ghost use Rattle.std.specs.Ordering.{on};

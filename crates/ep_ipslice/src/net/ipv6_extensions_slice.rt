@@ -1,7 +1,6 @@
 //! The extension headers of an IPv6 packet.
 
-ghost use Rattle.std.specs.Prelude.{◌≡◌, ◌<◌, ◌+◌, ◌^◌, ℕ, List, [], ◌==◌, length, nat_eq, IfErr};
-ghost use Rattle.std.specs.Prelude.{None};
+ghost use Rattle.std.specs.Prelude.{◌≡◌, ◌<◌, ◌+◌, ◌^◌, ℕ, List, [], ◌==◌, length, nat_eq, IfErr, None};
 ghost use Rattle.std.specs.Cmp.Lexicographic.{pointwise};
 ghost use Rattle.std.specs.Cmp.Rules.{comparing};
 ghost use Rattle.std.specs.Ordering.{on};
@@ -11,8 +10,8 @@ ghost use Rattle.ep_ext.specs.Chain.{Chain, Row, fault_at};
 ghost use Rattle.ep_base.specs.SliceError.{CanMove};
 ghost use Rattle.ep_ext.specs.Value.{Piece, bytes_of, piece_at};
 ghost use Rattle.ep_ext.specs.declared.net.ipv6_ext_slot.Ipv6ExtSlot.TheVariants as slot;
-ghost use Rattle.ep_ipslice.specs.Ipv6Exts.{Answers, Ipv6Exts, IsView, IsViewOf, Stops, exts_of};
-ghost use Rattle.ep_ipslice.specs.Ipv6Exts.{is_any_fragmenting, is_started, slot_after, view_order};
+ghost use Rattle.ep_ipslice.specs.Ipv6Exts.{Answers, Ipv6Exts, IsView, IsViewOf, Stops, exts_of, is_any_fragmenting};
+ghost use Rattle.ep_ipslice.specs.Ipv6Exts.{is_started, slot_after, view_order};
 ghost use Rattle.ep_ipslice.specs.Ipv6Walk.{headers_left};
 
 use super::{Ipv6ExtensionSlice, Ipv6ExtensionSliceIter};

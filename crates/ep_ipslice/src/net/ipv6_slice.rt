@@ -1,7 +1,6 @@
 //! The IPv6 packet.
 
-ghost use Rattle.std.specs.Prelude.{◌≡◌, ℕ, List, ◌++◌, IfOk, IfErr, IsOkAnd, Ok};
-ghost use Rattle.std.specs.Prelude.{◌&&◌, nat_eq};
+ghost use Rattle.std.specs.Prelude.{◌≡◌, ℕ, List, ◌++◌, IfOk, IfErr, IsOkAnd, Ok, ◌&&◌, nat_eq};
 ghost use Rattle.std.specs.Cmp.Lexicographic.{pointwise};
 ghost use Rattle.std.specs.Cmp.Rules.{comparing};
 ghost use Rattle.std.specs.Ordering.{on};
@@ -9,8 +8,7 @@ ghost use Rattle.std.proofs.Common.{rules};
 ghost use Rattle.ep_base.specs.declared.len_source.LenSource.{LenSource};
 ghost use Rattle.ep_ip.specs.Ipv6Fault.{header_at};
 ghost use Rattle.ep_ipslice.specs.Compared.{compared_as, ordered_as};
-ghost use Rattle.ep_ipslice.specs.Packet.{Ipv6Packet, IsIpv6Body, IsIpv6Packet, IsWholeIpv6};
-ghost use Rattle.ep_ipslice.specs.Packet.{body_len, body_source};
+ghost use Rattle.ep_ipslice.specs.Packet.{Ipv6Packet, IsIpv6Body, IsIpv6Packet, IsWholeIpv6, body_len, body_source};
 ghost use Rattle.ep_ipslice.specs.Ipv6Fault.{IsCutOff, IsPrefixFault, IsIpv6Fault};
 ghost use Rattle.ep_ipslice.specs.Ipv6Packet.{ipv6_packet_at};
 

@@ -3,9 +3,8 @@ ghost use Rattle.std.specs.Prelude.{◌≡◌, ℕ, List, [], ◌∷◌, ◌++�
 ghost use Rattle.ep_base.specs.Bytes.{IsBytes};
 ghost use Rattle.ep_link.specs.declared.link.arp_hardware_id.ArpHardwareId.{ArpHardwareId};
 ghost use Rattle.ep_link.specs.declared.link.linux_sll_protocol_type.LinuxSllProtocolType.TheVariants as protocol;
-ghost use Rattle.ep_link.specs.Sll.{IsSllHeader, NamesProtocol, sll_header_of, number_of};
-ghost use Rattle.ep_link.specs.Sll.{protocol_of};
-ghost use Rattle.ep_link.specs.Sll.{encoding, with_number};
+ghost use Rattle.ep_link.specs.Sll.{IsSllHeader, NamesProtocol, sll_header_of, number_of, protocol_of, encoding};
+ghost use Rattle.ep_link.specs.Sll.{with_number};
 
 use crate::err::linux_sll::HeaderSliceError;
 use crate::{LinuxSllHeader, LinuxSllPacketType};

@@ -1,8 +1,8 @@
-ghost use Rattle.std.specs.Prelude.{◌≡◌, ◌+◌, ◌*◌, ◌≤◌, ℕ, List, ◌++◌, length, Ok, Err, OnOk};
-ghost use Rattle.std.specs.Prelude.{OnErr, IsOk, IfOk, IfErr, IsOkAnd, vec_len, vec_capacity};
+ghost use Rattle.std.specs.Prelude.{◌≡◌, ◌+◌, ◌*◌, ◌≤◌, ℕ, List, ◌++◌, length, Ok, Err, OnOk, OnErr, IsOk, IfOk, IfErr};
+ghost use Rattle.std.specs.Prelude.{IsOkAnd, vec_len, vec_capacity};
 ghost use Rattle.arrayvec.specs.ArrayVec.{array_vec_len};
-ghost use Rattle.ep_link.specs.Arp.{ArpFields, IsArp, IsArpPacket, Fits, fields_of, fixed_encoding};
-ghost use Rattle.ep_link.specs.Arp.{packet_at, packet_len_in, encoding, IsRead};
+ghost use Rattle.ep_link.specs.Arp.{ArpFields, IsArp, IsArpPacket, Fits, fields_of, fixed_encoding, packet_at};
+ghost use Rattle.ep_link.specs.Arp.{packet_len_in, encoding, IsRead};
 ghost use Rattle.ep_link.specs.ArpNew.{new_at};
 
 use super::{ArpHardwareId, ArpOperation, ArpPacketSlice};

@@ -2,10 +2,9 @@ ghost use Rattle.std.specs.Prelude.{◌≡◌, ◌≤◌, ◌+◌, ◌*◌, ℕ,
 ghost use Rattle.std.specs.Cmp.Lexicographic.{pointwise};
 ghost use Rattle.std.specs.Cmp.Rules.{comparing};
 ghost use Rattle.std.proofs.Common.{rules};
-ghost use Rattle.ep_link.specs.Arp.{IsArpPacket, packet_at, packet_len_of, hw_len_of, proto_len_of};
-ghost use Rattle.ep_link.specs.Arp.{hw_type_of, proto_type_of, operation_of, addresses_of};
-ghost use Rattle.ep_link.specs.Arp.{after_sender_hw, after_sender, after_target_hw};
-ghost use Rattle.ep_link.specs.Arp.{sender_hw_of, sender_proto_of, target_hw_of, target_proto_of};
+ghost use Rattle.ep_link.specs.Arp.{IsArpPacket, packet_at, packet_len_of, hw_len_of, proto_len_of, hw_type_of};
+ghost use Rattle.ep_link.specs.Arp.{proto_type_of, operation_of, addresses_of, after_sender_hw, after_sender};
+ghost use Rattle.ep_link.specs.Arp.{after_target_hw, sender_hw_of, sender_proto_of, target_hw_of, target_proto_of};
 ghost use Rattle.ep_link.specs.Arp.{addresses_cut, fields_of};
 ghost use Rattle.ep_base.specs.Prefixes.{TakesPrefix};
 

@@ -1,10 +1,7 @@
-ghost use Rattle.std.specs.Prelude.{◌≡◌, ◌+◌, ◌<◌, ◌≤◌, ℕ, List, ◌++◌, length, drop, Err, OnOk};
-ghost use Rattle.std.specs.Prelude.{OnErr, IsOk, IfOk, IfErr, IsOkAnd, MatchResult, vec_len};
-ghost use Rattle.std.specs.Prelude.{vec_capacity};
+ghost use Rattle.std.specs.Prelude.{◌≡◌, ◌+◌, ◌<◌, ◌≤◌, ℕ, List, ◌++◌, length, drop, Err, OnOk, OnErr, IsOk, IfOk};
+ghost use Rattle.std.specs.Prelude.{IfErr, IsOkAnd, MatchResult, vec_len, vec_capacity};
 ghost use Rattle.ep_base.specs.declared.err.layer.Layer.TheVariants as layer;
-ghost use Rattle.ep_link.specs.Ethernet.{ethernet_len, default_header, ethernet_header_of};
-ghost use Rattle.ep_link.specs.Ethernet.{encoding, IsRead};
-ghost use Rattle.ep_link.specs.Ethernet.{Fits};
+ghost use Rattle.ep_link.specs.Ethernet.{ethernet_len, default_header, ethernet_header_of, encoding, IsRead, Fits};
 ghost use Rattle.ep_tag.specs.Prefix.{prefix_at};
 
 use super::Ethernet2HeaderSlice;

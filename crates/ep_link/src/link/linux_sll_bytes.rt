@@ -4,9 +4,8 @@ ghost use Rattle.std.specs.Cmp.Lexicographic.{pointwise};
 ghost use Rattle.std.specs.Cmp.Rules.{comparing};
 ghost use Rattle.std.proofs.Common.{rules};
 ghost use Rattle.ep_base.specs.Bytes.{num};
-ghost use Rattle.ep_link.specs.Sll.{sll_len, greatest_packet_type, packet_type_of};
-ghost use Rattle.ep_link.specs.Sll.{hardware_type_of, address_len_of, address_of, protocol_of};
-ghost use Rattle.ep_link.specs.Sll.{sll_header_of};
+ghost use Rattle.ep_link.specs.Sll.{sll_len, greatest_packet_type, packet_type_of, hardware_type_of, address_len_of};
+ghost use Rattle.ep_link.specs.Sll.{address_of, protocol_of, sll_header_of};
 
 use super::{ArpHardwareId, LinuxSllHeader, LinuxSllPacketType, LinuxSllProtocolType};
 use std::fmt;

@@ -1,9 +1,7 @@
-ghost use Rattle.std.specs.Prelude.{◌≡◌, ◌+◌, ◌≤◌, ℕ, List, ◌++◌, length, Err, OnOk, OnErr, IsOk};
-ghost use Rattle.std.specs.Prelude.{IfOk, IfErr, IsOkAnd, vec_len, vec_capacity};
+ghost use Rattle.std.specs.Prelude.{◌≡◌, ◌+◌, ◌≤◌, ℕ, List, ◌++◌, length, Err, OnOk, OnErr, IsOk, IfOk, IfErr, IsOkAnd};
+ghost use Rattle.std.specs.Prelude.{vec_len, vec_capacity};
 ghost use Rattle.ep_base.specs.SliceError.{content_offset};
-ghost use Rattle.ep_link.specs.Sll.{sll_len, IsSllHeader, NamesProtocol, IsRead, Fits};
-ghost use Rattle.ep_link.specs.Sll.{sll_header_of};
-ghost use Rattle.ep_link.specs.Sll.{encoding};
+ghost use Rattle.ep_link.specs.Sll.{sll_len, IsSllHeader, NamesProtocol, IsRead, Fits, sll_header_of, encoding};
 ghost use Rattle.ep_link.specs.SllFault.{header_at};
 
 use super::{ArpHardwareId, LinuxSllHeaderSlice, LinuxSllPacketType, LinuxSllProtocolType};

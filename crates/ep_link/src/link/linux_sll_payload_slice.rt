@@ -4,8 +4,7 @@ ghost use Rattle.std.specs.Cmp.Rules.{comparing};
 ghost use Rattle.std.specs.Ordering.{on};
 ghost use Rattle.std.proofs.Common.{rules};
 ghost use Rattle.ep_link.specs.declared.link.linux_sll_protocol_type.LinuxSllProtocolType.TheVariants as variant;
-ghost use Rattle.ep_link.specs.SllPayload.{SllPayload, compared_as, as_ether_payload};
-ghost use Rattle.ep_link.specs.SllPayload.{named_payload};
+ghost use Rattle.ep_link.specs.SllPayload.{SllPayload, compared_as, as_ether_payload, named_payload};
 
 use super::LinuxSllProtocolType;
 use ep_base::LenSource;

@@ -4,11 +4,10 @@ ghost use Rattle.std.specs.Prelude.{◌≡◌, [], ◌∷◌, ◌++◌, true, fa
 ghost use Rattle.ep_base.specs.declared.len_source.LenSource.TheVariants as source;
 ghost use Rattle.ep_link.specs.declared.link.link_header.LinkHeader.TheVariants as link_header;
 ghost use Rattle.ep_link.specs.declared.link.link_slice.LinkSlice.TheVariants as link;
-ghost use Rattle.ep_packet.specs.Examples.{eight_bytes, ipv4_packet, tag_1, udp_message};
-ghost use Rattle.ep_packet.specs.Examples.{vlan_named, whole_frame};
+ghost use Rattle.ep_packet.specs.Examples.{eight_bytes, ipv4_packet, tag_1, udp_message, vlan_named, whole_frame};
 ghost use Rattle.ep_packet.specs.Payload.{Empty, Ether, Icmpv4, Icmpv6, Ip, MacsecMod, Tcp, Udp};
-ghost use Rattle.ep_packet.specs.SameHeaders.{after_layers, after_message, after_packet};
-ghost use Rattle.ep_packet.specs.SameHeaders.{after_tags, link_fields, transport_fields};
+ghost use Rattle.ep_packet.specs.SameHeaders.{after_layers, after_message, after_packet, after_tags, link_fields};
+ghost use Rattle.ep_packet.specs.SameHeaders.{transport_fields};
 ghost use Rattle.ep_packet.specs.declared.net.net_slice.NetSlice.TheVariants as net;
 ghost use Rattle.ep_packet.specs.declared.transport.transport_header.TransportHeader.TheVariants as header;
 ghost use Rattle.ep_packet.specs.declared.transport.transport_slice.TransportSlice.TheVariants as message;

@@ -8,16 +8,13 @@ ghost use Rattle.ep_ipslice.specs.declared.err.ip.header_error.HeaderError.TheVa
 ghost use Rattle.ep_link.specs.declared.link.link_slice.LinkSlice.TheVariants as link;
 ghost use Rattle.ep_packet.specs.Class.{class_of};
 ghost use Rattle.ep_packet.specs.Class.Class.{Cut, Other, Refused, Whole};
-ghost use Rattle.ep_packet.specs.Examples.{bounded_packet, cooked_header, cooked_packet};
-ghost use Rattle.ep_packet.specs.Examples.{cooked_without_type, fragment_frame, eight_bytes};
-ghost use Rattle.ep_packet.specs.Examples.{frame_addresses, ipv4_addresses, ipv4_fragment_header};
-ghost use Rattle.ep_packet.specs.Examples.{ipv4_header, ipv4_header_before, ipv4_packet};
-ghost use Rattle.ep_packet.specs.Examples.{ipv6_fragment_frame, ipv6_destination, ipv6_other_frame};
-ghost use Rattle.ep_packet.specs.Examples.{ipv6_source, tag_1, tag_2, tag_3, tag_4, udp_message};
-ghost use Rattle.ep_packet.specs.Examples.{tag_header, vlan_named, whole_frame};
-ghost use Rattle.ep_packet.specs.PacketView.{ether_payload_in, ip_payload_of, is_fragment};
-ghost use Rattle.ep_packet.specs.PacketView.{last_payload, payload_ether_type_in, source_after};
-ghost use Rattle.ep_packet.specs.PacketView.{vlan_slice_of};
+ghost use Rattle.ep_packet.specs.Examples.{bounded_packet, cooked_header, cooked_packet, cooked_without_type};
+ghost use Rattle.ep_packet.specs.Examples.{fragment_frame, eight_bytes, frame_addresses, ipv4_addresses};
+ghost use Rattle.ep_packet.specs.Examples.{ipv4_fragment_header, ipv4_header, ipv4_header_before, ipv4_packet};
+ghost use Rattle.ep_packet.specs.Examples.{ipv6_fragment_frame, ipv6_destination, ipv6_other_frame, ipv6_source, tag_1};
+ghost use Rattle.ep_packet.specs.Examples.{tag_2, tag_3, tag_4, udp_message, tag_header, vlan_named, whole_frame};
+ghost use Rattle.ep_packet.specs.PacketView.{ether_payload_in, ip_payload_of, is_fragment, last_payload};
+ghost use Rattle.ep_packet.specs.PacketView.{payload_ether_type_in, source_after, vlan_slice_of};
 ghost use Rattle.ep_packet.specs.Parts.{headers_len, tags_len};
 ghost use Rattle.ep_packet.specs.Readable.ReadMessage.{Udp};
 ghost use Rattle.ep_packet.specs.SliceFault.{bounded_by, offset_by, within};
@@ -31,8 +28,7 @@ ghost use Rattle.ep_packet.specs.declared.transport.transport_slice.TransportSli
 ghost use Rattle.ep_tag.specs.MacsecPayload.MacsecPayload.{Modified};
 ghost use Rattle.ep_tag.specs.declared.link.link_ext_slice.LinkExtSlice.TheVariants as tag;
 ghost use Rattle.ep_tag.specs.declared.link.vlan_header.VlanHeader.TheVariants.{Double, Single};
-ghost use Rattle.ep_tag.specs.declared.link.vlan_slice.VlanSlice.TheVariants.{DoubleVlan};
-ghost use Rattle.ep_tag.specs.declared.link.vlan_slice.VlanSlice.TheVariants.{SingleVlan};
+ghost use Rattle.ep_tag.specs.declared.link.vlan_slice.VlanSlice.TheVariants.{DoubleVlan, SingleVlan};
 ghost use Rattle.ep_tcpudp.specs.declared.err.tcp.header_error.HeaderError.TheVariants.{DataOffsetTooSmall};
 
 /// The ether types that name a tag.

@@ -13,11 +13,11 @@ ghost use Rattle.ep_packet.specs.declared.addresses.Addresses.TheVariants as ver
 ghost use Rattle.ep_packet.specs.declared.class.Class.{Class as ClassValue};
 ghost use Rattle.ep_packet.specs.declared.class.Class.TheVariants as returned;
 ghost use Rattle.ep_packet.specs.declared.class.IpFragment.{IpFragment as IpFragmentValue};
-ghost use Rattle.ep_packet.specs.declared.class.SlicedFragment.{SlicedFragment as SlicedFragmentValue};
 ghost use Rattle.ep_packet.specs.declared.class.WholeMessage.{WholeMessage as WholeValue};
 ghost use Rattle.ep_packet.specs.declared.message.Message.{Message as MessageValue};
 ghost use Rattle.ep_packet.specs.declared.packet_headers.PacketHeaders.{PacketHeaders};
 ghost use Rattle.ep_packet.specs.declared.payload_slice.PayloadSlice.{PayloadSlice};
+ghost use Rattle.ep_packet.specs.declared.sliced_fragment.SlicedFragment.{SlicedFragment as SlicedFragmentValue};
 
 use crate::err::ip::HeadersWriteError;
 use crate::err::net::NetSetNextHeaderError;

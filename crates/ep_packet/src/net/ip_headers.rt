@@ -1,5 +1,5 @@
-ghost use Rattle.std.specs.Prelude.{◌≡◌, ◌≤◌, ◌<◌, ◌+◌, ℕ, List, length, Ok, Err, IfOk, IfErr};
-ghost use Rattle.std.specs.Prelude.{IsOkAnd, vec_len, vec_capacity};
+ghost use Rattle.std.specs.Prelude.{◌≡◌, ◌≤◌, ◌<◌, ◌+◌, ℕ, List, length, Ok, Err, IfOk, IfErr, IsOkAnd, vec_len};
+ghost use Rattle.std.specs.Prelude.{vec_capacity};
 ghost use Rattle.std.specs.Option.{option_map};
 ghost use Rattle.ep_ext.specs.Follow.{Follows, Names, header_len as exts_len};
 ghost use Rattle.ep_ext.specs.Ipv4Exts.{NamesAfter, ipv4_exts_encoding};
@@ -13,13 +13,11 @@ ghost use Rattle.ep_ext.specs.Slot.{slot_of};
 ghost use Rattle.ep_packet.specs.IpHeadersAt.{ip_headers_at, ipv4_headers_at, ipv6_headers_at};
 ghost use Rattle.ep_ipslice.specs.Ipv6Fault.{IsFaultIn};
 ghost use Rattle.ep_ipslice.specs.Packet.{IpPayload};
-ghost use Rattle.ep_packet.specs.ReadIpHeaders.{IsIpHeaders, IsIpHeadersFault, IsIpv4Headers};
-ghost use Rattle.ep_packet.specs.ReadIpHeaders.{IsIpv6Headers};
+ghost use Rattle.ep_packet.specs.ReadIpHeaders.{IsIpHeaders, IsIpHeadersFault, IsIpv4Headers, IsIpv6Headers};
 ghost use Rattle.ep_packet.specs.declared.net.ip_headers.IpHeaders.{IpHeaders};
-ghost use Rattle.ep_packet.specs.IpHeaders.{AppendsHeaders, AppendsIpv4, AppendsIpv6, IsLinked};
-ghost use Rattle.ep_packet.specs.IpHeaders.{ether_type_of, ip_headers_len, ipv4_in, ipv4_parts};
-ghost use Rattle.ep_packet.specs.IpHeaders.{ipv6_in, is_fragmenting, or_ipv4, or_ipv6};
-ghost use Rattle.ep_packet.specs.IpHeaders.{with_payload_len};
+ghost use Rattle.ep_packet.specs.IpHeaders.{AppendsHeaders, AppendsIpv4, AppendsIpv6, IsLinked, ether_type_of};
+ghost use Rattle.ep_packet.specs.IpHeaders.{ip_headers_len, ipv4_in, ipv4_parts, ipv6_in, is_fragmenting, or_ipv4};
+ghost use Rattle.ep_packet.specs.IpHeaders.{or_ipv6, with_payload_len};
 ghost use Rattle.ep_packet.specs.declared.err.ip.headers_write_error.HeadersWriteError.TheVariants.{Memory};
 ghost use Rattle.ep_packet.specs.declared.net.ip_headers.IpHeaders.TheVariants as headers;
 

@@ -1,7 +1,7 @@
 ghost use Rattle.std.specs.Prelude.{◌≡◌};
 ghost use Rattle.std.specs.Option.{option_map};
-ghost use Rattle.ep_packet.specs.NetHeaders.{IsNetLinked, arp_in, ipv4_in, ipv6_in, is_arp, is_ip};
-ghost use Rattle.ep_packet.specs.NetHeaders.{is_ipv4, is_ipv6, net_headers_len, of_ip};
+ghost use Rattle.ep_packet.specs.NetHeaders.{IsNetLinked, arp_in, ipv4_in, ipv6_in, is_arp, is_ip, is_ipv4, is_ipv6};
+ghost use Rattle.ep_packet.specs.NetHeaders.{net_headers_len, of_ip};
 ghost use Rattle.ep_packet.specs.declared.net.net_headers.NetHeaders.TheVariants as headers;
 
 use super::IpHeaders;

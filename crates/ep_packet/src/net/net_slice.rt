@@ -1,7 +1,7 @@
 ghost use Rattle.std.specs.Prelude.{◌≡◌};
 ghost use Rattle.std.specs.Option.{option_map};
-ghost use Rattle.ep_packet.specs.NetSlice.{arp_in, ip_payload_in, ipv4_in, ipv6_in, is_arp, is_ip};
-ghost use Rattle.ep_packet.specs.NetSlice.{is_ipv4, is_ipv6, of_ip};
+ghost use Rattle.ep_packet.specs.NetSlice.{arp_in, ip_payload_in, ipv4_in, ipv6_in, is_arp, is_ip, is_ipv4, is_ipv6};
+ghost use Rattle.ep_packet.specs.NetSlice.{of_ip};
 ghost use Rattle.ep_packet.specs.declared.net.net_slice.NetSlice.TheVariants as view;
 
 use ep_ipslice::{IpPayloadSlice, IpSlice, Ipv4Slice, Ipv6Slice};

@@ -1,9 +1,8 @@
-ghost use Rattle.std.specs.Prelude.{◌≡◌, ◌+◌, ◌≤◌, ◌++◌, OnOk, OnErr, IfOk, IfErr, IsOk, Ok, Err};
-ghost use Rattle.std.specs.Prelude.{vec_len, vec_capacity};
+ghost use Rattle.std.specs.Prelude.{◌≡◌, ◌+◌, ◌≤◌, ◌++◌, OnOk, OnErr, IfOk, IfErr, IsOk, Ok, Err, vec_len};
+ghost use Rattle.std.specs.Prelude.{vec_capacity};
 ghost use Rattle.std.specs.Option.{option_copied_mut};
 ghost use Rattle.std.specs.Borrow.{sem};
-ghost use Rattle.ep_packet.specs.Transport.{udp_in, tcp_in, icmpv4_in, icmpv6_in, transport_len};
-ghost use Rattle.ep_packet.specs.Transport.{transport_encoding};
+ghost use Rattle.ep_packet.specs.Transport.{udp_in, tcp_in, icmpv4_in, icmpv6_in, transport_len, transport_encoding};
 ghost use Rattle.ep_packet.specs.TransportChecksum.{with_checksum_v4, with_checksum_v6};
 ghost use Rattle.ep_packet.specs.TransportLends.{lends_udp, lends_tcp, lends_icmpv4, lends_icmpv6};
 

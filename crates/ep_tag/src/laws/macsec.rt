@@ -1,6 +1,5 @@
 //! Laws of MACsec headers (IEEE 802.1AE, clause 9).
-ghost use Rattle.std.specs.Prelude.{◌≡◌, ℕ, List, [], ◌∷◌, ◌++◌, true, false, Ok, Err, Some, None};
-ghost use Rattle.std.specs.Prelude.{IsOkAnd};
+ghost use Rattle.std.specs.Prelude.{◌≡◌, ℕ, List, [], ◌∷◌, ◌++◌, true, false, Ok, Err, Some, None, IsOkAnd};
 ghost use Rattle.ep_base.specs.Bytes.{IsBytes};
 ghost use Rattle.ep_base.specs.declared.err.layer.Layer.TheVariants as layer;
 ghost use Rattle.ep_base.specs.declared.len_source.LenSource.TheVariants as source;
@@ -9,11 +8,9 @@ ghost use Rattle.ep_tag.specs.declared.err.macsec.header_error.HeaderError.TheVa
 ghost use Rattle.ep_base.specs.declared.err.slice_error.SliceError.TheVariants.{Len, Content};
 ghost use Rattle.ep_tag.specs.declared.link.macsec_p_type.MacsecPType.TheVariants as ptype;
 ghost use Rattle.ep_base.specs.LenError.{too_few_bytes};
-ghost use Rattle.ep_tag.specs.Macsec.{IsMacsecHeader, HasRoom, has_no_room, macsec_header_of};
-ghost use Rattle.ep_tag.specs.Macsec.{payload_len_in, ptype_of, short_len_of, encoding};
-ghost use Rattle.ep_tag.specs.Macsec.{with_unused_bits_zero};
-ghost use Rattle.ep_tag.specs.MacsecPayload.{IsMacsec, Macsec, Modified, Unmodified, macsec_at};
-ghost use Rattle.ep_tag.specs.MacsecPayload.{payload_len_of};
+ghost use Rattle.ep_tag.specs.Macsec.{IsMacsecHeader, HasRoom, has_no_room, macsec_header_of, payload_len_in, ptype_of};
+ghost use Rattle.ep_tag.specs.Macsec.{short_len_of, encoding, with_unused_bits_zero};
+ghost use Rattle.ep_tag.specs.MacsecPayload.{IsMacsec, Macsec, Modified, Unmodified, macsec_at, payload_len_of};
 
 use crate::MacsecHeader;
 use crate::err::macsec::HeaderSliceError;

@@ -1,5 +1,4 @@
-ghost use Rattle.std.specs.Prelude.{◌≡◌, ◌+◌, ◌≤◌, ◌++◌, length, OnOk, OnErr, IsOk, vec_len};
-ghost use Rattle.std.specs.Prelude.{vec_capacity};
+ghost use Rattle.std.specs.Prelude.{◌≡◌, ◌+◌, ◌≤◌, ◌++◌, length, OnOk, OnErr, IsOk, vec_len, vec_capacity};
 ghost use Rattle.ep_tag.specs.LinkExt.{tag_encoding, next_type_in};
 ghost use Rattle.ep_tag.specs.Vlan.{default_header};
 ghost use Rattle.ep_tag.specs.declared.link.link_ext_header.LinkExtHeader.TheVariants as header;

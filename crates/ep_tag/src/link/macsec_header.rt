@@ -1,13 +1,12 @@
-ghost use Rattle.std.specs.Prelude.{◌≡◌, ◌==◌, ◌&&◌, ℕ, ◌+◌, ◌≤◌, List, [], ◌∷◌, ◌++◌, length};
-ghost use Rattle.std.specs.Prelude.{Bool, true, false, if◌then◌else◌, is_some, Some, None, Err};
-ghost use Rattle.std.specs.Prelude.{OnOk, OnErr, IsOk, IfOk, IfErr, IsOkAnd, vec_len, vec_capacity};
+ghost use Rattle.std.specs.Prelude.{◌≡◌, ◌==◌, ◌&&◌, ℕ, ◌+◌, ◌≤◌, List, [], ◌∷◌, ◌++◌, length, Bool, true, false};
+ghost use Rattle.std.specs.Prelude.{if◌then◌else◌, is_some, Some, None, Err, OnOk, OnErr, IsOk, IfOk, IfErr, IsOkAnd};
+ghost use Rattle.std.specs.Prelude.{vec_len, vec_capacity};
 ghost use Rattle.std.specs.Int.{w32, to_be_bytes};
 ghost use Rattle.arrayvec.specs.ArrayVec.{array_vec_len};
 ghost use Rattle.ep_base.specs.SliceError.{content_offset};
-ghost use Rattle.ep_tag.specs.Macsec.{IsMacsecHeader, IsRead, HasRoom, Fits, SciFits, TypeFits};
-ghost use Rattle.ep_tag.specs.Macsec.{macsec_header_of, encoding, first_byte, ptype_bits};
-ghost use Rattle.ep_tag.specs.Macsec.{ptype_encoding};
-ghost use Rattle.ep_tag.specs.Macsec.{sci_encoding, worth, next_type_in, payload_len_in};
+ghost use Rattle.ep_tag.specs.Macsec.{IsMacsecHeader, IsRead, HasRoom, Fits, SciFits, TypeFits, macsec_header_of};
+ghost use Rattle.ep_tag.specs.Macsec.{encoding, first_byte, ptype_bits, ptype_encoding, sci_encoding, worth};
+ghost use Rattle.ep_tag.specs.Macsec.{next_type_in, payload_len_in};
 ghost use Rattle.ep_tag.specs.MacsecFault.{header_at};
 
 use super::{MacsecAn, MacsecHeaderSlice, MacsecPType, MacsecShortLen};

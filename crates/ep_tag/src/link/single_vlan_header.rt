@@ -1,10 +1,8 @@
-ghost use Rattle.std.specs.Prelude.{◌≡◌, ◌+◌, ◌^◌, ◌≤◌, List, ℕ, if◌then◌else◌, ◌++◌, length, OnOk};
-ghost use Rattle.std.specs.Prelude.{OnErr, IsOk, IfOk, IfErr, IsOkAnd, Err, Bool, false, vec_len};
-ghost use Rattle.std.specs.Prelude.{vec_capacity};
+ghost use Rattle.std.specs.Prelude.{◌≡◌, ◌+◌, ◌^◌, ◌≤◌, List, ℕ, if◌then◌else◌, ◌++◌, length, OnOk, OnErr, IsOk, IfOk};
+ghost use Rattle.std.specs.Prelude.{IfErr, IsOkAnd, Err, Bool, false, vec_len, vec_capacity};
 ghost use Rattle.ep_base.specs.declared.err.layer.Layer.TheVariants as layer;
 ghost use Rattle.ep_tag.specs.Prefix.{prefix_at};
-ghost use Rattle.ep_tag.specs.Vlan.{vlan_len, default_header, single_vlan_header_of, encoding};
-ghost use Rattle.ep_tag.specs.Vlan.{IsRead, Fits};
+ghost use Rattle.ep_tag.specs.Vlan.{vlan_len, default_header, single_vlan_header_of, encoding, IsRead, Fits};
 
 use super::{SingleVlanHeaderSlice, VlanId, VlanPcp};
 use ep_base::EtherType;

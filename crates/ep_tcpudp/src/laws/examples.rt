@@ -1,14 +1,12 @@
 //! The definitions at literal values: each clause is what a standard gives, or was worked out
 //! independently of the code, so that a definition can't change with the code.
 
-ghost use Rattle.std.specs.Prelude.{◌≡◌, ℕ, [], ◌∷◌, ◌++◌, replicate, true, false, None, Some, Ok};
-ghost use Rattle.std.specs.Prelude.{Err};
+ghost use Rattle.std.specs.Prelude.{◌≡◌, ℕ, [], ◌∷◌, ◌++◌, replicate, true, false, None, Some, Ok, Err};
 ghost use Rattle.ep_base.specs.declared.err.layer.Layer.TheVariants as layer;
 ghost use Rattle.ep_base.specs.declared.err.value_type.ValueType.TheVariants as value_type;
 ghost use Rattle.ep_base.specs.declared.len_source.LenSource.TheVariants as len_source;
-ghost use Rattle.ep_tcpudp.specs.Examples.{destination_v4, destination_v6, first_options};
-ghost use Rattle.ep_tcpudp.specs.Examples.{first_segment, one_to_eight, reserved_segment};
-ghost use Rattle.ep_tcpudp.specs.Examples.{source_v4, source_v6, tcp_prefix, tcp_prefix_as_written};
+ghost use Rattle.ep_tcpudp.specs.Examples.{destination_v4, destination_v6, first_options, first_segment, one_to_eight};
+ghost use Rattle.ep_tcpudp.specs.Examples.{reserved_segment, source_v4, source_v6, tcp_prefix, tcp_prefix_as_written};
 ghost use Rattle.ep_tcpudp.specs.Examples.{udp_prefix};
 ghost use Rattle.ep_tcpudp.specs.Limit.{value_up_to};
 ghost use Rattle.ep_tcpudp.specs.Options.{items_of, options_of_elements};

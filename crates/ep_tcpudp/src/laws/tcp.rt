@@ -7,8 +7,7 @@ ghost use Rattle.std.specs.Ordering.{nat_cmp};
 ghost use Rattle.ep_base.specs.Bytes.{IsBytes};
 ghost use Rattle.ep_tcpudp.specs.Elements.{ItemsAreEncoded, NoOtherItems};
 ghost use Rattle.ep_tcpudp.specs.Options.{ElementsComeBack};
-ghost use Rattle.ep_tcpudp.specs.Tcp.{IsTcpHeader, tcp_header_of, encoding};
-ghost use Rattle.ep_tcpudp.specs.Tcp.{with_reserved_bits_zero};
+ghost use Rattle.ep_tcpudp.specs.Tcp.{IsTcpHeader, tcp_header_of, encoding, with_reserved_bits_zero};
 ghost use Rattle.ep_tcpudp.specs.TcpChecksum.{SealedTcpSumsToAllOnes, SealedSegmentSumsToAllOnes};
 
 use crate::err::tcp::HeaderSliceError;

@@ -1,14 +1,13 @@
 //! The TCP header as a value, and its checksum.
 
-ghost use Rattle.std.specs.Prelude.{◌≡◌, ◌↔◌, ℕ, ◌+◌, ◌-◌, ◌*◌, ◌%◌, ◌≤◌, List, ◌++◌, length, take};
-ghost use Rattle.std.specs.Prelude.{drop, IfOk, IfErr, IsOkAnd, OnOk, OnErr, IsOk, Ok, Err};
-ghost use Rattle.std.specs.Prelude.{vec_len, vec_capacity};
+ghost use Rattle.std.specs.Prelude.{◌≡◌, ◌↔◌, ℕ, ◌+◌, ◌-◌, ◌*◌, ◌%◌, ◌≤◌, List, ◌++◌, length, take, drop, IfOk, IfErr};
+ghost use Rattle.std.specs.Prelude.{IsOkAnd, OnOk, OnErr, IsOk, Ok, Err, vec_len, vec_capacity};
 ghost use Rattle.ep_base.specs.MessageSum.{SumsWords};
 ghost use Rattle.ep_base.specs.Sum.{fold, total};
 ghost use Rattle.ep_tcpudp.specs.Limit.{value_up_to};
 ghost use Rattle.ep_tcpudp.specs.Options.{options_of_elements};
-ghost use Rattle.ep_tcpudp.specs.Tcp.{IsTcpHeader, IsRead, Fits, tcp_header_of, new_header};
-ghost use Rattle.ep_tcpudp.specs.Tcp.{data_offset, header_len, flag, flags, encoding};
+ghost use Rattle.ep_tcpudp.specs.Tcp.{IsTcpHeader, IsRead, Fits, tcp_header_of, new_header, data_offset, header_len};
+ghost use Rattle.ep_tcpudp.specs.Tcp.{flag, flags, encoding};
 ghost use Rattle.ep_tcpudp.specs.TcpChecksum.{right_checksum, checksum_v4, checksum_v6};
 ghost use Rattle.ep_tcpudp.specs.TcpFault.{header_at};
 ghost use Rattle.ep_tcpudp.specs.TcpOptions.{IsTcpOptions, whole_options};

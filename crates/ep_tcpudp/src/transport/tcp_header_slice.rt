@@ -7,8 +7,8 @@ ghost use Rattle.ep_ip.specs.Ipv4.{source_of as ipv4_source, destination_of as i
 ghost use Rattle.ep_ip.specs.Ipv6.{source_of as ipv6_source, destination_of as ipv6_destination};
 ghost use Rattle.ep_tcpudp.specs.Limit.{value_up_to};
 ghost use Rattle.ep_tcpudp.specs.Tcp.{IsTcpHeader};
-ghost use Rattle.ep_tcpudp.specs.TcpChecksum.{segment_checksum, segment_checksum_v4};
-ghost use Rattle.ep_tcpudp.specs.TcpChecksum.{segment_checksum_v6, with_checksum};
+ghost use Rattle.ep_tcpudp.specs.TcpChecksum.{segment_checksum, segment_checksum_v4, segment_checksum_v6};
+ghost use Rattle.ep_tcpudp.specs.TcpChecksum.{with_checksum};
 ghost use Rattle.ep_tcpudp.specs.TcpFault.{header_at};
 
 use super::limit::at_most;

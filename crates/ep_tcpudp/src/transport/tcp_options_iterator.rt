@@ -5,9 +5,8 @@ ghost use Rattle.std.specs.Cmp.Lexicographic.{pointwise};
 ghost use Rattle.std.specs.Cmp.Rules.{comparing};
 ghost use Rattle.std.specs.Iterator.{YieldsFirst, item_count, MakesProgress};
 ghost use Rattle.std.proofs.Common.{rules};
-ghost use Rattle.ep_tcpudp.specs.Options.{acknowledgement_at, block_at, block_within, element_at};
-ghost use Rattle.ep_tcpudp.specs.Options.{is_end, item_at, items_of, kind_at, of_size, rest_at};
-ghost use Rattle.ep_tcpudp.specs.Options.{size_at};
+ghost use Rattle.ep_tcpudp.specs.Options.{acknowledgement_at, block_at, block_within, element_at, is_end, item_at};
+ghost use Rattle.ep_tcpudp.specs.Options.{items_of, kind_at, of_size, rest_at, size_at};
 
 use crate::tcp_option::{
     KIND_END, KIND_MAXIMUM_SEGMENT_SIZE, KIND_NOOP, KIND_SELECTIVE_ACK,

@@ -3,10 +3,8 @@
 ghost use Rattle.std.specs.Prelude.{◌≡◌, ◌↔◌, ◌≤◌, ℕ, ◌*◌, List, ◌++◌, length, IfOk, IsOk};
 ghost use Rattle.ep_base.specs.MessageSum.{SumsWords};
 ghost use Rattle.ep_tcpudp.specs.Limit.{value_up_to};
-ghost use Rattle.ep_tcpudp.specs.Tcp.{ReadableTcp, IsTcpHeader, header_bytes, payload_of};
-ghost use Rattle.ep_tcpudp.specs.Tcp.{data_offset_of};
-ghost use Rattle.ep_tcpudp.specs.TcpChecksum.{segment_checksum, segment_checksum_v4};
-ghost use Rattle.ep_tcpudp.specs.TcpChecksum.{segment_checksum_v6};
+ghost use Rattle.ep_tcpudp.specs.Tcp.{ReadableTcp, IsTcpHeader, header_bytes, payload_of, data_offset_of};
+ghost use Rattle.ep_tcpudp.specs.TcpChecksum.{segment_checksum, segment_checksum_v4, segment_checksum_v6};
 ghost use Rattle.ep_tcpudp.specs.TcpFault.{segment_at};
 
 use super::limit::at_most;

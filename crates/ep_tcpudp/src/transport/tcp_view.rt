@@ -6,12 +6,10 @@ ghost use Rattle.std.specs.Cmp.Rules.{comparing};
 ghost use Rattle.std.proofs.Common.{rules};
 ghost use Rattle.ep_base.specs.MessageSum.{SumsWords};
 ghost use Rattle.ep_base.specs.Sum.{fold, total};
-ghost use Rattle.ep_tcpudp.specs.Tcp.{ReadableTcp, source_port_of, destination_port_of};
-ghost use Rattle.ep_tcpudp.specs.Tcp.{sequence_number_of, acknowledgment_number_of, data_offset_of};
-ghost use Rattle.ep_tcpudp.specs.Tcp.{ns_of, fin_of, syn_of, rst_of, psh_of, ack_of, urg_of};
-ghost use Rattle.ep_tcpudp.specs.Tcp.{ece_of, cwr_of, window_size_of, checksum_of};
-ghost use Rattle.ep_tcpudp.specs.Tcp.{urgent_pointer_of, options_of, tcp_header_of, data_offset};
-ghost use Rattle.ep_tcpudp.specs.Tcp.{header_len};
+ghost use Rattle.ep_tcpudp.specs.Tcp.{ReadableTcp, source_port_of, destination_port_of, sequence_number_of};
+ghost use Rattle.ep_tcpudp.specs.Tcp.{acknowledgment_number_of, data_offset_of, ns_of, fin_of, syn_of, rst_of, psh_of};
+ghost use Rattle.ep_tcpudp.specs.Tcp.{ack_of, urg_of, ece_of, cwr_of, window_size_of, checksum_of, urgent_pointer_of};
+ghost use Rattle.ep_tcpudp.specs.Tcp.{options_of, tcp_header_of, data_offset, header_len};
 ghost use Rattle.ep_tcpudp.specs.TcpChecksum.{with_checksum};
 ghost use Rattle.ep_tcpudp.specs.TcpOptions.{IsTcpOptions};
 

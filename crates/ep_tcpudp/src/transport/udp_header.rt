@@ -1,14 +1,12 @@
 //! The UDP header as a value, and its checksum.
 
-ghost use Rattle.std.specs.Prelude.{◌≡◌, ℕ, ◌+◌, ◌≤◌, List, ◌++◌, length, IfOk, IfErr, IsOkAnd};
-ghost use Rattle.std.specs.Prelude.{OnOk, OnErr, IsOk, Err, vec_len, vec_capacity};
+ghost use Rattle.std.specs.Prelude.{◌≡◌, ℕ, ◌+◌, ◌≤◌, List, ◌++◌, length, IfOk, IfErr, IsOkAnd, OnOk, OnErr, IsOk, Err};
+ghost use Rattle.std.specs.Prelude.{vec_len, vec_capacity};
 ghost use Rattle.ep_base.specs.MessageSum.{SumsWords};
 ghost use Rattle.ep_base.specs.Sum.{fold, total};
 ghost use Rattle.ep_tcpudp.specs.Limit.{value_up_to};
-ghost use Rattle.ep_tcpudp.specs.Udp.{IsUdpHeader, IsRead, Fits, udp_header_of, encoding};
-ghost use Rattle.ep_tcpudp.specs.Udp.{unchecked_header};
-ghost use Rattle.ep_tcpudp.specs.UdpChecksum.{right_checksum, checksum_v4, checksum_v6, sealed_v4};
-ghost use Rattle.ep_tcpudp.specs.UdpChecksum.{sealed_v6};
+ghost use Rattle.ep_tcpudp.specs.Udp.{IsUdpHeader, IsRead, Fits, udp_header_of, encoding, unchecked_header};
+ghost use Rattle.ep_tcpudp.specs.UdpChecksum.{right_checksum, checksum_v4, checksum_v6, sealed_v4, sealed_v6};
 ghost use Rattle.ep_tcpudp.specs.UdpFault.{header_at};
 
 use super::limit::at_most;

@@ -1,7 +1,6 @@
 //! A UDP datagram as a view of its bytes.
 
-ghost use Rattle.std.specs.Prelude.{◌≡◌, ◌↔◌, ℕ, ◌==◌, if◌then◌else◌, List, take, drop, IfOk, IsOk};
-ghost use Rattle.std.specs.Prelude.{Ok};
+ghost use Rattle.std.specs.Prelude.{◌≡◌, ◌↔◌, ℕ, ◌==◌, if◌then◌else◌, List, take, drop, IfOk, IsOk, Ok};
 ghost use Rattle.ep_tcpudp.specs.Udp.{IsUdp, ReadableUdp, summed_udp, length_of};
 ghost use Rattle.ep_tcpudp.specs.UdpFault.{udp_at};
 

@@ -4,8 +4,7 @@ ghost use Rattle.std.specs.Prelude.{◌≡◌, ◌≤◌, List, ℕ, length, nat
 ghost use Rattle.std.specs.Cmp.Lexicographic.{pointwise};
 ghost use Rattle.std.specs.Cmp.Rules.{comparing};
 ghost use Rattle.std.proofs.Common.{rules};
-ghost use Rattle.ep_tcpudp.specs.Udp.{source_port_of, destination_port_of, length_of, checksum_of};
-ghost use Rattle.ep_tcpudp.specs.Udp.{udp_header_of};
+ghost use Rattle.ep_tcpudp.specs.Udp.{source_port_of, destination_port_of, length_of, checksum_of, udp_header_of};
 
 use super::view_kind::ViewKind;
 use crate::UdpHeader;

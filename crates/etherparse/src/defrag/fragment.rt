@@ -6,14 +6,14 @@ ghost use Rattle.ep_packet.specs.declared.class.Class.TheVariants as reported;
 ghost use Rattle.etherparse.specs.ReassemblyTable.{fragment_of};
 ghost use Rattle.etherparse.specs.IpFragId.{fragment_in, id_named, spec_id};
 
-use super::{IpFragId, IpFragVersionSpecId, ReceivedFragment};
-use ep_packet::{Addresses, IpFragment};
+use super::{IpFragId, IpFragVersionSpecId};
+use ep_packet::{Addresses, IpFragment, SlicedFragment};
 
 #[inline(always)]
 pub(crate) fn named<'a, CustomChannelId>(
     message: IpFragment<'a>,
     channel_id: CustomChannelId,
-) -> (IpFragId<CustomChannelId>, ReceivedFragment<'a>)
+) -> (IpFragId<CustomChannelId>, SlicedFragment<'a>)
     requires { IdentificationFits message.addresses message.identification }
     ensures { IfSome (fragment_in (as_class (reported.Cut message.entry)))
         (λ named. (result.0 ≡ id_named named.0 channel_id)
@@ -23,20 +23,16 @@ pub(crate) fn named<'a, CustomChannelId>(
         vlan_ids,
         addresses,
         identification,
+        ip_number,
         fragment,
     } = message;
     let id = IpFragId {
         vlan_ids,
         ip: spec_id(addresses, identification),
-        payload_ip_number: fragment.ip_number,
+        payload_ip_number: ip_number,
         channel_id,
     };
-    let received = ReceivedFragment {
-        offset: fragment.offset,
-        more_fragments: fragment.more_fragments,
-        bytes: fragment.bytes,
-    };
-    (id, received)
+    (id, fragment)
 }
 
 #[inline(always)]

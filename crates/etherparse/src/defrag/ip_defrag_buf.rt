@@ -1,9 +1,8 @@
 //! The buffer in which one datagram is reassembled.
 
-ghost use Rattle.std.specs.Prelude.{◌≡◌, ◌+◌, ◌*◌, ◌<◌, ◌≤◌, ◌↔◌, ◌&&◌, List, [], ◌++◌, ◌∷◌};
-ghost use Rattle.std.specs.Prelude.{if◌then◌else◌, length, map, max, nat_eq, vec_len, vec_capacity};
-ghost use Rattle.std.specs.Prelude.{is_some, not, false, None, Some, Ok, Err, OnOk, OnErr, IfOk, IfErr, IfSome};
-ghost use Rattle.std.specs.Prelude.{IsOk, IsTrue};
+ghost use Rattle.std.specs.Prelude.{◌≡◌, ◌+◌, ◌*◌, ◌<◌, ◌≤◌, ◌↔◌, ◌&&◌, List, [], ◌++◌, ◌∷◌, if◌then◌else◌, length};
+ghost use Rattle.std.specs.Prelude.{map, max, nat_eq, vec_len, vec_capacity, is_some, not, false, None, Some, Ok, Err};
+ghost use Rattle.std.specs.Prelude.{OnOk, OnErr, IfOk, IfErr, IfSome, IsOk, IsTrue};
 ghost use Rattle.std.specs.Cmp.Lexicographic.{pointwise};
 ghost use Rattle.std.specs.Cmp.Rules.{comparing};
 ghost use Rattle.std.specs.Option.{option_eq};
@@ -11,12 +10,12 @@ ghost use Rattle.std.specs.Ordering.{on, eq_of_both};
 ghost use Rattle.std.proofs.Common.{rules};
 ghost use Rattle.etherparse.specs.declared.defrag.overlap_rule.OverlapRule.TheVariants.{Overwrites, Refuses};
 ghost use Rattle.etherparse.specs.declared.defrag.stored_fragment.Location.TheVariants.{At};
-ghost use Rattle.etherparse.specs.Fragments.{Fragment, fragment, with_all_accepted, end_of, named_end};
-ghost use Rattle.etherparse.specs.Fragments.{refusal_at, accepted_count, IsRepeat};
-ghost use Rattle.etherparse.specs.Fragments.{refusal_of, with_accepted, is_complete, Complete};
-ghost use Rattle.etherparse.specs.IpDefragBuf.{Contents, Shows, ShowsAccepted, IsSound, AnswersAdd, Stops};
-ghost use Rattle.etherparse.specs.IpDefragBuf.{Writes, unless_refused, is_whole, rule_of, empty_of};
-ghost use Rattle.etherparse.specs.IpDefragBuf.{left_after, none_stored, FindsLocation, HasRoom, SameButRoom};
+ghost use Rattle.etherparse.specs.Fragments.{Fragment, fragment, with_all_accepted, end_of, named_end, refusal_at};
+ghost use Rattle.etherparse.specs.Fragments.{accepted_count, IsRepeat, refusal_of, with_accepted, is_complete};
+ghost use Rattle.etherparse.specs.Fragments.{Complete};
+ghost use Rattle.etherparse.specs.IpDefragBuf.{Contents, Shows, ShowsAccepted, IsSound, AnswersAdd, Stops, Writes};
+ghost use Rattle.etherparse.specs.IpDefragBuf.{unless_refused, is_whole, rule_of, empty_of, left_after, none_stored};
+ghost use Rattle.etherparse.specs.IpDefragBuf.{FindsLocation, HasRoom, SameButRoom};
 ghost use Rattle.etherparse.specs.IpDefragError.{is_out_of_memory};
 ghost use Rattle.etherparse.specs.IpFragRange.{is_one_from_zero, same_range};
 ghost use Rattle.etherparse.specs.StoredFragment.{emptied, listed_in, stored_of, same_stored};

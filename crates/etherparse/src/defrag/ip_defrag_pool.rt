@@ -1,25 +1,22 @@
 //! Reassembly of many datagrams at once.
 
-ghost use Rattle.std.specs.Prelude.{◌≡◌, ◌+◌, ◌≤◌, [], None, Ok, OnOk, OnErr, IfOk, IfErr, IfSome};
-ghost use Rattle.std.specs.Prelude.{◌++◌, ◌∷◌, IsOk, length, vec_capacity};
+ghost use Rattle.std.specs.Prelude.{◌≡◌, ◌+◌, ◌≤◌, [], None, Ok, OnOk, OnErr, IfOk, IfErr, IfSome, ◌++◌, ◌∷◌, IsOk};
+ghost use Rattle.std.specs.Prelude.{length, vec_capacity};
 ghost use Rattle.std.specs.Fn.{FnReturnsAt};
 ghost use Rattle.std.specs.List.{IsDistinct};
 ghost use Rattle.std.specs.Map.{keys_of};
 ghost use Rattle.ep_packet.specs.Class.{IdentificationFits, as_class, packet_parsed};
 ghost use Rattle.ep_packet.specs.declared.class.Class.TheVariants as reported;
-ghost use Rattle.etherparse.specs.Counts.{Bounded, Counts, HasMemoryFor, HasSlot, KeepsMemoryOf};
-ghost use Rattle.etherparse.specs.Counts.{open_in};
+ghost use Rattle.etherparse.specs.Counts.{Bounded, Counts, HasMemoryFor, HasSlot, KeepsMemoryOf, open_in};
 ghost use Rattle.etherparse.specs.IpDefragPool.{Accepts, AcceptsBy, Refuses, same_id};
 ghost use Rattle.etherparse.specs.IpFragId.{fragment_in, id_named};
 ghost use Rattle.etherparse.specs.Repeats.{TakesRepeat};
-ghost use Rattle.etherparse.specs.ReassemblyTable.{MayTest, OthersStay, RefusesBy, Retained, Stays};
-ghost use Rattle.etherparse.specs.ReassemblyTable.{fragment_of, reassembly_at};
+ghost use Rattle.etherparse.specs.ReassemblyTable.{MayTest, OthersStay, RefusesBy, Retained, Stays, fragment_of};
+ghost use Rattle.etherparse.specs.ReassemblyTable.{reassembly_at};
 
 use super::fragment::named;
-use super::{
-    IpDefragError, IpDefragPayloadVec, IpFragId, OverlapRule, ReassemblyTable, ReceivedFragment,
-};
-use ep_packet::{Class, IpFragment, SlicedPacket};
+use super::{IpDefragError, IpDefragPayloadVec, IpFragId, OverlapRule, ReassemblyTable};
+use ep_packet::{Class, IpFragment, SlicedFragment, SlicedPacket};
 use std::alloc::{AllocError, Global};
 use std::hash::{BuildHasher, BuildHasherDefault, FoldHasher, Hash};
 use std::marker::Model;
@@ -197,7 +194,7 @@ impl<Timestamp: Drop, CustomChannelId: Eq + Hash + Drop, S: BuildHasher> IpDefra
         &mut self,
         id: IpFragId<CustomChannelId>,
         rule: OverlapRule,
-        received: &ReceivedFragment<'_>,
+        received: &SlicedFragment<'_>,
         timestamp: Timestamp,
     ) -> Result<Option<IpDefragPayloadVec>, IpDefragError>
         ensures accepted { AcceptsBy rule ⟦<IpFragId<CustomChannelId> as PartialEq>⟧.eq

@@ -9,9 +9,9 @@ ghost use Rattle.ep_packet.specs.declared.err.packet.slice_error.SliceError.{Sli
 ghost use Rattle.etherparse.specs.Counts.{Bounded, open_in};
 ghost use Rattle.etherparse.specs.JoinedCalls.{AreAccepted, JoinAnswers};
 ghost use Rattle.etherparse.specs.OpenReassemblies.{NeverMore};
-ghost use Rattle.etherparse.specs.PoolCalls.{Answered, FrameAnswered, HasMemory, Lists, CallsAnswered};
-ghost use Rattle.etherparse.specs.PoolCalls.{ShowsLists, answers, fault_in, lists_after};
-ghost use Rattle.etherparse.specs.PoolCalls.{retained_from, answer_result, as_call_result};
+ghost use Rattle.etherparse.specs.PoolCalls.{Answered, FrameAnswered, HasMemory, Lists, CallsAnswered, ShowsLists};
+ghost use Rattle.etherparse.specs.PoolCalls.{answers, fault_in, lists_after, retained_from, answer_result};
+ghost use Rattle.etherparse.specs.PoolCalls.{as_call_result};
 ghost use Rattle.etherparse.specs.PoolCalls.CallResult.{Retained};
 
 use super::{IpDefragError, IpDefragPayloadVec, IpDefragPool};

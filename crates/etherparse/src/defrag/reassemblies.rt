@@ -1,7 +1,7 @@
 //! The table of reassemblies.
 
-ghost use Rattle.std.specs.Prelude.{◌≡◌, ◌+◌, ◌≤◌, [], List, OnOk, OnErr, IfOk, IfErr, IfSome};
-ghost use Rattle.std.specs.Prelude.{IsOk, ◌++◌, ◌∷◌, length, option_map, vec_capacity};
+ghost use Rattle.std.specs.Prelude.{◌≡◌, ◌+◌, ◌≤◌, [], List, OnOk, OnErr, IfOk, IfErr, IfSome, IsOk, ◌++◌, ◌∷◌, length};
+ghost use Rattle.std.specs.Prelude.{option_map, vec_capacity};
 ghost use Rattle.std.specs.Fn.{FnReturnsAt};
 ghost use Rattle.std.specs.List.{IsDistinct};
 ghost use Rattle.std.specs.Map.{keys_of};
@@ -9,16 +9,16 @@ ghost use Rattle.etherparse.specs.Counts.{Counts, HasMemoryFor, HasSlot, KeepsMe
 ghost use Rattle.etherparse.specs.Fragments.{Fragment};
 ghost use Rattle.etherparse.specs.Outcome.{outcome};
 ghost use Rattle.etherparse.specs.Repeats.{TakesRepeat};
-ghost use Rattle.etherparse.specs.ReassemblyTable.{Becomes, IsErrorOf, MayTest, OthersStay, Retained};
-ghost use Rattle.etherparse.specs.ReassemblyTable.{ShowsReassembly, Stays, fragment_of, reassembly_at};
+ghost use Rattle.etherparse.specs.ReassemblyTable.{Becomes, IsErrorOf, MayTest, OthersStay, Retained, ShowsReassembly};
+ghost use Rattle.etherparse.specs.ReassemblyTable.{Stays, fragment_of, reassembly_at};
 ghost use Rattle.etherparse.specs.Timestamps.{timestamp_at};
 ghost use Rattle.etherparse.specs.declared.defrag.overlap_rule.OverlapRule.{OverlapRule};
 
-use super::ReceivedFragment;
 use super::reassembly::{Reassembly, add_fragment};
 use super::retain_reassemblies::retain_reassemblies;
 use super::spare_buffers::SpareBuffers;
 use crate::defrag::{IpDefragError, OverlapRule};
+use ep_packet::SlicedFragment;
 use indexmap::IndexMap;
 use std::alloc::Global;
 use std::hash::{BuildHasher, Hash};
@@ -127,7 +127,7 @@ impl<K: Eq + Hash + Drop, T: Drop, S: BuildHasher> ReassemblyTable<K, T, S> {
         &mut self,
         name: K,
         rule: OverlapRule,
-        received: &ReceivedFragment<'_>,
+        received: &SlicedFragment<'_>,
         timestamp: T,
     ) -> Result<Option<Vec<u8>>, IpDefragError>
         ensures accepted { (kept : OverlapRule) (fs : List Fragment)

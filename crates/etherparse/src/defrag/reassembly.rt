@@ -1,11 +1,10 @@
 //! The reassembly of one datagram.
 
-ghost use Rattle.std.specs.Prelude.{◌≡◌, ◌++◌, ◌∷◌, ◌+◌, ◌≤◌, ℕ, [], List, None, false, OnOk};
-ghost use Rattle.std.specs.Prelude.{IfErr, IfOk, IfSome, IsOk, length, option_map, vec_len, vec_capacity};
+ghost use Rattle.std.specs.Prelude.{◌≡◌, ◌++◌, ◌∷◌, ◌+◌, ◌≤◌, ℕ, [], List, None, false, OnOk, IfErr, IfOk, IfSome};
+ghost use Rattle.std.specs.Prelude.{IsOk, length, option_map, vec_len, vec_capacity};
 ghost use Rattle.indexmap.specs.IndexMap.{get, index_map_len, spare as names_room};
 ghost use Rattle.etherparse.specs.Counts.{held_after, sections_after, spare_after};
-ghost use Rattle.etherparse.specs.Fragments.{Fragment, IsRepeat, named_end, refusal_at};
-ghost use Rattle.etherparse.specs.Fragments.{refusal_of};
+ghost use Rattle.etherparse.specs.Fragments.{Fragment, IsRepeat, named_end, refusal_at, refusal_of};
 ghost use Rattle.etherparse.specs.IpDefragBuf.{HasRoom, Shows, rule_of, with_room};
 ghost use Rattle.etherparse.specs.IpDefragError.{is_overlap, is_out_of_memory};
 ghost use Rattle.etherparse.specs.Outcome.{outcome};
@@ -19,9 +18,9 @@ ghost use Rattle.etherparse.specs.ReassemblyTable.{fragment_of};
 ghost use Rattle.etherparse.specs.Refused.{error_in, refused_by};
 ghost use Rattle.etherparse.specs.Repeats.{TakesRepeat};
 
-use super::ReceivedFragment;
 use super::spare_buffers::SpareBuffers;
 use crate::defrag::{IpDefragBuf, IpDefragError, OverlapRule, checked_end};
+use ep_packet::SlicedFragment;
 use indexmap::IndexMap;
 use indexmap::map::Entry;
 use std::alloc::Global;
@@ -39,7 +38,7 @@ pub struct Reassembly<T> {
 
 impl<T: Drop> Reassembly<T> {
     // Takes one more fragment.
-    fn add(&mut self, received: &ReceivedFragment<'_>, timestamp: T) -> Result<(), Refused>
+    fn add(&mut self, received: &SlicedFragment<'_>, timestamp: T) -> Result<(), Refused>
         ensures accepted { let f = fragment_of received.now in (fs : List Fragment)
             → Shows self.old.buf fs →
             IfOk result (λ u. IsReassemblyOf (rule_of self.old.buf) (fs ++ f ∷ []) timestamp self.new) }
@@ -96,7 +95,7 @@ fn refused_by(error: IpDefragError) -> Refused
 
 // Why a fragment that would start a reassembly isn't taken where there is no memory for it: a
 // fragment that breaks a rule is refused for that, and only another one for lack of memory.
-fn first_fragment_error(received: &ReceivedFragment<'_>) -> IpDefragError
+fn first_fragment_error(received: &SlicedFragment<'_>) -> IpDefragError
     ensures error { let f = fragment_of received.now in (rule : OverlapRule)
         → IsErrorOf f (outcome rule [] f) result }
     ensures stays { is_overlap result ≡ false }
@@ -141,7 +140,7 @@ pub(crate) fn add_fragment<K: Eq + Hash + Drop, T: Drop, S: BuildHasher>(
     spare: &mut SpareBuffers,
     name: K,
     rule: OverlapRule,
-    received: &ReceivedFragment<'_>,
+    received: &SlicedFragment<'_>,
     timestamp: T,
 ) -> Result<Option<Vec<u8>>, IpDefragError>
     requires { HasSlots spare.old (index_map_len reassemblies.old) }

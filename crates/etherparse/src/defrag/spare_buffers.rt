@@ -1,7 +1,7 @@
 //! The memory of reassemblies that ended, for those that start.
 
-ghost use Rattle.std.specs.Prelude.{◌≡◌, ◌+◌, ◌-◌, ◌<◌, ◌≤◌, ◌++◌, ◌∷◌, ℕ, [], true, false};
-ghost use Rattle.std.specs.Prelude.{if◌then◌else◌, vec_len, vec_capacity, IfSome};
+ghost use Rattle.std.specs.Prelude.{◌≡◌, ◌+◌, ◌-◌, ◌<◌, ◌≤◌, ◌++◌, ◌∷◌, ℕ, [], true, false, if◌then◌else◌, vec_len};
+ghost use Rattle.std.specs.Prelude.{vec_capacity, IfSome};
 ghost use Rattle.etherparse.specs.Memory.{capacities};
 ghost use Rattle.etherparse.specs.SpareBuffers.{HasSlots, NoFewerSlots, SameBuffers, SameCounts};
 

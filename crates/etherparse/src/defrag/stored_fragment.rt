@@ -4,8 +4,8 @@ ghost use Rattle.std.specs.Prelude.{◌≡◌, ◌≤◌, ◌↔◌, IsTrue, IsO
 ghost use Rattle.std.specs.List.{insert};
 ghost use Rattle.std.specs.List.Sorted.{IsBinarySearchResult, IsSearchInRange};
 ghost use Rattle.etherparse.specs.IpFragRange.{AreOrdered};
-ghost use Rattle.etherparse.specs.StoredFragment.{HasBytes, HasRoomForOne, IsIndexIn, IsLocation, emptied};
-ghost use Rattle.etherparse.specs.StoredFragment.{listed_in, stored_cmp, reach_of};
+ghost use Rattle.etherparse.specs.StoredFragment.{HasBytes, HasRoomForOne, IsIndexIn, IsLocation, emptied, listed_in};
+ghost use Rattle.etherparse.specs.StoredFragment.{stored_cmp, reach_of};
 ghost use Rattle.etherparse.specs.Room.{HasStoredRoom, stored_room};
 
 use super::IpFragRange;

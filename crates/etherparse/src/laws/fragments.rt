@@ -1,13 +1,12 @@
 //! Laws of the definitions: the contract of each function is the law.
 
 ghost use Rattle.std.specs.Prelude.{◌≡◌, ◌↔◌, IsTrue, List};
-ghost use Rattle.etherparse.specs.Fragments.{Fragment, is_complete, Complete, FragmentsAgree};
-ghost use Rattle.etherparse.specs.Fragments.{AcceptedAreDisjoint, Clashes, IsRepeat, clashes, is_repeat};
+ghost use Rattle.etherparse.specs.Fragments.{Fragment, is_complete, Complete, FragmentsAgree, AcceptedAreDisjoint};
+ghost use Rattle.etherparse.specs.Fragments.{Clashes, IsRepeat, clashes, is_repeat};
 ghost use Rattle.etherparse.specs.IpDefragBuf.{Cover};
 ghost use Rattle.etherparse.specs.Joined.{NoOverlap};
 ghost use Rattle.etherparse.specs.FragmentBytes.{LastByteCounts, UncoveredHasNone};
-ghost use Rattle.etherparse.specs.declared.defrag.TheConstants.{MAX_IP_DEFRAG_LEN};
-ghost use Rattle.etherparse.specs.declared.defrag.TheConstants.{MAX_IP_DEFRAG_LEN_U16};
+ghost use Rattle.etherparse.specs.declared.defrag.TheConstants.{MAX_IP_DEFRAG_LEN, MAX_IP_DEFRAG_LEN_U16};
 
 pub mod additions;
 pub mod examples;

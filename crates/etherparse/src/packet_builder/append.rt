@@ -6,8 +6,8 @@ ghost use Rattle.ep_packet.specs.IpHeaders.{ip_headers_len};
 ghost use Rattle.ep_packet.specs.Transport.{transport_len, transport_encoding};
 ghost use Rattle.ep_packet.specs.declared.net.ip_headers.IpHeaders.TheVariants as headers;
 ghost use Rattle.ep_tag.specs.VlanForms.{tags_encoding};
-ghost use Rattle.etherparse.specs.Built.{bytes_if, first_type, ip_bytes, len_if, link_bytes};
-ghost use Rattle.etherparse.specs.Built.{link_naming, with_last_number, tags_naming, vlan_bytes};
+ghost use Rattle.etherparse.specs.Built.{bytes_if, first_type, ip_bytes, len_if, link_bytes, link_naming};
+ghost use Rattle.etherparse.specs.Built.{with_last_number, tags_naming, vlan_bytes};
 
 use ep_base::{EtherType, IpNumber};
 use ep_ext::{Ipv4Extensions, Ipv6Extensions};

@@ -1,8 +1,7 @@
 //! Where a packet starts: a link header, or an IP header alone.
 
 ghost use Rattle.std.specs.Prelude.{◌≡◌, Some};
-ghost use Rattle.etherparse.specs.BuiltSteps.{cooked_link_header, ethernet_between, ipv4_between};
-ghost use Rattle.etherparse.specs.BuiltSteps.{ipv6_between};
+ghost use Rattle.etherparse.specs.BuiltSteps.{cooked_link_header, ethernet_between, ipv4_between, ipv6_between};
 ghost use Rattle.etherparse.specs.BuiltSteps.{no_headers};
 
 use super::packet_state::PacketState;

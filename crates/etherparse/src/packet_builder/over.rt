@@ -1,18 +1,17 @@
 //! A packet over IP headers, written whole.
 
-ghost use Rattle.std.specs.Prelude.{◌≡◌, ◌≢◌, ◌+◌, ◌≤◌, ◌++◌, length, vec_len, vec_capacity, Err};
-ghost use Rattle.std.specs.Prelude.{MatchOption, IfOk, IsOk, IsOkUnless, OnOk, OnErr};
+ghost use Rattle.std.specs.Prelude.{◌≡◌, ◌≢◌, ◌+◌, ◌≤◌, ◌++◌, length, vec_len, vec_capacity, Err, MatchOption, IfOk};
+ghost use Rattle.std.specs.Prelude.{IsOk, IsOkUnless, OnOk, OnErr};
 ghost use Rattle.std.specs.Option.{option_and_then, option_map};
 ghost use Rattle.ep_packet.specs.IpHeaders.{ip_headers_len, with_exts};
 ghost use Rattle.ep_packet.specs.Transport.{transport_len};
-ghost use Rattle.etherparse.specs.Built.{len_if, len_refusal, message_len, packet_with_number};
-ghost use Rattle.etherparse.specs.Built.{refusal_of, seal_refusal, size_of, with_lengths};
-ghost use Rattle.etherparse.specs.Built.{with_message_checksum};
+ghost use Rattle.etherparse.specs.Built.{len_if, len_refusal, message_len, packet_with_number, refusal_of};
+ghost use Rattle.etherparse.specs.Built.{seal_refusal, size_of, with_lengths, with_message_checksum};
 ghost use Rattle.etherparse.specs.PacketState.{packet_over};
 ghost use Rattle.etherparse.specs.declared.err.packet.build_write_error.BuildWriteError.TheVariants.{Memory};
 
 use super::append::{append_link, append_transport, append_vlan};
-use super::ip_part::IpLayer;
+use super::ip_layer::IpLayer;
 use super::prefix::Prefix;
 use crate::err::packet::BuildWriteError;
 use ep_base::IpNumber;

@@ -1,20 +1,19 @@
 //! The headers that were chosen, and the packet that is written of them.
 
-ghost use Rattle.std.specs.Prelude.{◌≡◌, ◌≢◌, ◌+◌, ◌^◌, ◌<◌, ◌≤◌, ◌++◌, length, vec_len};
-ghost use Rattle.std.specs.Prelude.{vec_capacity, Err, MatchOption, IsSome, OnOk, OnErr};
-ghost use Rattle.std.specs.Prelude.{IsOkUnless};
+ghost use Rattle.std.specs.Prelude.{◌≡◌, ◌≢◌, ◌+◌, ◌^◌, ◌<◌, ◌≤◌, ◌++◌, length, vec_len, vec_capacity, Err};
+ghost use Rattle.std.specs.Prelude.{MatchOption, IsSome, OnOk, OnErr, IsOkUnless};
 ghost use Rattle.std.specs.Option.{option_map};
 ghost use Rattle.ep_link.specs.Arp.{packet_len_in};
 ghost use Rattle.ep_packet.specs.IpHeaders.{ip_headers_len};
-ghost use Rattle.etherparse.specs.Built.{arp_size_of, packet_with_number, built_arp, len_if};
-ghost use Rattle.etherparse.specs.Built.{number_in, refusal_of, size_of};
+ghost use Rattle.etherparse.specs.Built.{arp_size_of, packet_with_number, built_arp, len_if, number_in, refusal_of};
+ghost use Rattle.etherparse.specs.Built.{size_of};
 ghost use Rattle.etherparse.specs.BuiltSteps.{no_headers};
 ghost use Rattle.etherparse.specs.PacketState.{chosen, headers_of};
 ghost use Rattle.etherparse.specs.declared.err.packet.build_write_error.BuildWriteError.TheVariants.{Memory};
 
 use super::append::{append_link, append_vlan};
 use super::chosen_ip::ChosenIp;
-use super::ip_part::IpLayer;
+use super::ip_layer::IpLayer;
 use super::last_step::LastStep;
 use super::over::{transport_len, write_over};
 use super::prefix::Prefix;

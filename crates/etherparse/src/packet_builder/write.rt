@@ -1,10 +1,8 @@
 //! The last calls: the packet of a payload is written, or its length returned.
 
-ghost use Rattle.std.specs.Prelude.{◌≡◌, ◌≢◌, ◌+◌, ◌^◌, ◌<◌, ◌≤◌, ◌++◌, length, vec_len};
-ghost use Rattle.std.specs.Prelude.{vec_capacity, Err, MatchOption, IsOkUnless, OnOk, OnErr};
-ghost use Rattle.etherparse.specs.Built.{arp_size_of, packet_with_number, built_arp, number_in};
-ghost use Rattle.etherparse.specs.Built.{refusal_of};
-ghost use Rattle.etherparse.specs.Built.{size_of};
+ghost use Rattle.std.specs.Prelude.{◌≡◌, ◌≢◌, ◌+◌, ◌^◌, ◌<◌, ◌≤◌, ◌++◌, length, vec_len, vec_capacity, Err};
+ghost use Rattle.std.specs.Prelude.{MatchOption, IsOkUnless, OnOk, OnErr};
+ghost use Rattle.etherparse.specs.Built.{arp_size_of, packet_with_number, built_arp, number_in, refusal_of, size_of};
 ghost use Rattle.etherparse.specs.declared.err.packet.build_write_error.BuildWriteError.TheVariants.{Memory};
 
 use super::last_step::TransportStep;

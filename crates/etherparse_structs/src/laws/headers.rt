@@ -1,6 +1,5 @@
 //! The fields that are given of headers, by the layouts of the standards.
-ghost use Rattle.std.specs.Prelude.{◌≡◌, ℕ, List, [], ◌∷◌, ◌++◌, map, replicate, true, false};
-ghost use Rattle.std.specs.Prelude.{Some, None};
+ghost use Rattle.std.specs.Prelude.{◌≡◌, ℕ, List, [], ◌∷◌, ◌++◌, map, replicate, true, false, Some, None};
 ghost use Rattle.etherparse.specs.base.declared.len_source.LenSource.TheVariants as source;
 ghost use Rattle.etherparse.specs.ipslice.Packet.{Ipv4Packet, Ipv6Packet};
 ghost use Rattle.etherparse.specs.link.declared.link.link_slice.LinkSlice.TheVariants as link;
@@ -11,8 +10,7 @@ ghost use Rattle.etherparse.specs.tag.MacsecPayload.{Modified};
 ghost use Rattle.etherparse.specs.tag.declared.link.link_ext_slice.LinkExtSlice.TheVariants as tag;
 ghost use Rattle.etherparse_structs.specs.Link.{link_struct, tag_struct, tags_struct};
 ghost use Rattle.etherparse_structs.specs.Net.{arp_struct_in, ipv4_struct_in, ipv6_struct_in, net_number};
-ghost use Rattle.etherparse_structs.specs.Transport.{icmp_struct_in, tcp_struct_in};
-ghost use Rattle.etherparse_structs.specs.Transport.{transport_number, udp_struct_in};
+ghost use Rattle.etherparse_structs.specs.Transport.{icmp_struct_in, tcp_struct_in, transport_number, udp_struct_in};
 
 /// Link headers: of Ethernet II (RFC 894) and of a cooked capture (LINKTYPE_LINUX_SLL), sent by us,
 /// of generic routing encapsulation, with seven bytes of an address. Without one all fields are 0,

@@ -7,6 +7,7 @@ use std::alloc::Global;
 use std::process::Abort;
 use std::test::*;
 
+#[rattlefmt::skip]
 const TEXTS: &[(Refusal, &str)] = &[
     (
         Unaligned(123, 15),
@@ -20,10 +21,7 @@ const TEXTS: &[(Refusal, &str)] = &[
         Conflict(48, 64),
         "Received a IP fragment (offset + len: 64) which conflicts a package that previously set the end to 48.",
     ),
-    (
-        NoMemory(24),
-        "Failed to allocate 24 bytes of memory to reconstruct the fragmented IP packets.",
-    ),
+    (NoMemory(24), "Failed to allocate 24 bytes of memory to reconstruct the fragmented IP packets."),
     (
         Overlap(123, 15),
         "IP fragment (offset 123, payload len: 15) overlaps an earlier one. The fragments of its message are dropped.",
@@ -47,12 +45,9 @@ fn texts_of_refusals(rt: HostRuntime) {
 }
 
 // A refusal, and one that is greater.
+#[rattlefmt::skip]
 const ORDERED: &[(&str, Refusal, Refusal)] = &[
-    (
-        "the length before the end",
-        Unaligned(5, 9),
-        TooBig(5, 8, 1),
-    ),
+    ("the length before the end", Unaligned(5, 9), TooBig(5, 8, 1)),
     ("the end before a conflict", TooBig(5, 8, 1), Conflict(4, 3)),
     ("a conflict before memory", Conflict(4, 3), NoMemory(2)),
     ("memory by its length", NoMemory(2), NoMemory(3)),

@@ -11,6 +11,7 @@ use std::process::Abort;
 use std::test::*;
 
 /// The halves of a datagram, and the byte of the second one that is of its name.
+#[rattlefmt::skip]
 const NAMES: &[(&str, &[u8], &[u8], usize)] = &[
     ("first byte of the identification", FIRST, SECOND, 18),
     ("last byte of the identification", FIRST, SECOND, 19),
@@ -19,55 +20,15 @@ const NAMES: &[(&str, &[u8], &[u8], usize)] = &[
     ("last byte of the source", FIRST, SECOND, 29),
     ("first byte of the destination", FIRST, SECOND, 30),
     ("last byte of the destination", FIRST, SECOND, 33),
-    (
-        "first byte of the source over IPv6",
-        IPV6_FIRST,
-        IPV6_SECOND,
-        22,
-    ),
-    (
-        "last byte of the source over IPv6",
-        IPV6_FIRST,
-        IPV6_SECOND,
-        37,
-    ),
-    (
-        "first byte of the destination over IPv6",
-        IPV6_FIRST,
-        IPV6_SECOND,
-        38,
-    ),
-    (
-        "last byte of the destination over IPv6",
-        IPV6_FIRST,
-        IPV6_SECOND,
-        53,
-    ),
+    ("first byte of the source over IPv6", IPV6_FIRST, IPV6_SECOND, 22),
+    ("last byte of the source over IPv6", IPV6_FIRST, IPV6_SECOND, 37),
+    ("first byte of the destination over IPv6", IPV6_FIRST, IPV6_SECOND, 38),
+    ("last byte of the destination over IPv6", IPV6_FIRST, IPV6_SECOND, 53),
     ("protocol over IPv6", IPV6_FIRST, IPV6_SECOND, 54),
-    (
-        "identification over IPv6, byte 0",
-        IPV6_FIRST,
-        IPV6_SECOND,
-        58,
-    ),
-    (
-        "identification over IPv6, byte 1",
-        IPV6_FIRST,
-        IPV6_SECOND,
-        59,
-    ),
-    (
-        "identification over IPv6, byte 2",
-        IPV6_FIRST,
-        IPV6_SECOND,
-        60,
-    ),
-    (
-        "identification over IPv6, byte 3",
-        IPV6_FIRST,
-        IPV6_SECOND,
-        61,
-    ),
+    ("identification over IPv6, byte 0", IPV6_FIRST, IPV6_SECOND, 58),
+    ("identification over IPv6, byte 1", IPV6_FIRST, IPV6_SECOND, 59),
+    ("identification over IPv6, byte 2", IPV6_FIRST, IPV6_SECOND, 60),
+    ("identification over IPv6, byte 3", IPV6_FIRST, IPV6_SECOND, 61),
     ("first identifier", TAGGED_FIRST, TAGGED_SECOND, 15),
     ("second identifier", TAGGED_FIRST, TAGGED_SECOND, 19),
     ("third identifier", TAGGED_FIRST, TAGGED_SECOND, 23),
@@ -107,18 +68,10 @@ const OTHER_TIME: &[u8] = &[
     0x07, 0x08,
 ];
 
+#[rattlefmt::skip]
 const SCRIPTS: &[Script] = &[
-    (
-        "the time to live names nothing",
-        &[(FIRST, 1, 0, NOTHING, 1, 0), (OTHER_TIME, 2, 0, UDP, 0, 0)],
-    ),
-    (
-        "tags and none",
-        &[
-            (TAGGED_FIRST, 1, 0, NOTHING, 1, 0),
-            (SECOND, 2, 0, NOTHING, 2, 0),
-        ],
-    ),
+    ("the time to live names nothing", &[(FIRST, 1, 0, NOTHING, 1, 0), (OTHER_TIME, 2, 0, UDP, 0, 0)]),
+    ("tags and none", &[(TAGGED_FIRST, 1, 0, NOTHING, 1, 0), (SECOND, 2, 0, NOTHING, 2, 0)]),
 ];
 
 #[test]

@@ -249,13 +249,9 @@ fn what_is_no_overlap(rt: HostRuntime) {
     runs_all(rt, rt.alloc(), NO_OVERLAPS);
 }
 
+#[rattlefmt::skip]
 const DATAGRAMS: &[Script] = &[
-    Script {
-        name: "a new buffer",
-        rule: OverlapRule::Refuses,
-        steps: &[],
-        left: NEW,
-    },
+    Script { name: "a new buffer", rule: OverlapRule::Refuses, steps: &[], left: NEW },
     Script {
         name: "other bytes at the same place",
         rule: OverlapRule::Refuses,

@@ -26,17 +26,10 @@ fn a_datagram_runs_out_of_memory(rt: HostRuntime) {
     holds(rt, delivers_at_last(rt, &mut pool, FIRST, 1, 8));
 }
 
+#[rattlefmt::skip]
 const TWICE: &[PoolCall<'static>] = &[
-    PoolCall::Frame {
-        frame: FIRST,
-        timestamp: 1,
-        channel: 0,
-    },
-    PoolCall::Frame {
-        frame: FIRST,
-        timestamp: 1,
-        channel: 0,
-    },
+    PoolCall::Frame { frame: FIRST, timestamp: 1, channel: 0 },
+    PoolCall::Frame { frame: FIRST, timestamp: 1, channel: 0 },
 ];
 
 // Whether one of the answers is that nothing is complete; no contract, as tests alone call it.
@@ -100,70 +93,24 @@ fn many_reassemblies_run_out_of_memory(rt: HostRuntime) {
     }
 }
 
+#[rattlefmt::skip]
 const HALVES: &[PoolCall<'static>] = &[
-    PoolCall::Frame {
-        frame: FIRST,
-        timestamp: 1,
-        channel: 0,
-    },
-    PoolCall::Frame {
-        frame: FIRST,
-        timestamp: 1,
-        channel: 1,
-    },
-    PoolCall::Frame {
-        frame: FIRST,
-        timestamp: 1,
-        channel: 2,
-    },
-    PoolCall::Frame {
-        frame: FIRST,
-        timestamp: 1,
-        channel: 3,
-    },
-    PoolCall::Frame {
-        frame: FIRST,
-        timestamp: 1,
-        channel: 4,
-    },
-    PoolCall::Frame {
-        frame: FIRST,
-        timestamp: 1,
-        channel: 5,
-    },
+    PoolCall::Frame { frame: FIRST, timestamp: 1, channel: 0 },
+    PoolCall::Frame { frame: FIRST, timestamp: 1, channel: 1 },
+    PoolCall::Frame { frame: FIRST, timestamp: 1, channel: 2 },
+    PoolCall::Frame { frame: FIRST, timestamp: 1, channel: 3 },
+    PoolCall::Frame { frame: FIRST, timestamp: 1, channel: 4 },
+    PoolCall::Frame { frame: FIRST, timestamp: 1, channel: 5 },
 ];
 
+#[rattlefmt::skip]
 const RESTS: &[PoolCall<'static>] = &[
-    PoolCall::Frame {
-        frame: SECOND,
-        timestamp: 2,
-        channel: 0,
-    },
-    PoolCall::Frame {
-        frame: SECOND,
-        timestamp: 2,
-        channel: 1,
-    },
-    PoolCall::Frame {
-        frame: SECOND,
-        timestamp: 2,
-        channel: 2,
-    },
-    PoolCall::Frame {
-        frame: SECOND,
-        timestamp: 2,
-        channel: 3,
-    },
-    PoolCall::Frame {
-        frame: SECOND,
-        timestamp: 2,
-        channel: 4,
-    },
-    PoolCall::Frame {
-        frame: SECOND,
-        timestamp: 2,
-        channel: 5,
-    },
+    PoolCall::Frame { frame: SECOND, timestamp: 2, channel: 0 },
+    PoolCall::Frame { frame: SECOND, timestamp: 2, channel: 1 },
+    PoolCall::Frame { frame: SECOND, timestamp: 2, channel: 2 },
+    PoolCall::Frame { frame: SECOND, timestamp: 2, channel: 3 },
+    PoolCall::Frame { frame: SECOND, timestamp: 2, channel: 4 },
+    PoolCall::Frame { frame: SECOND, timestamp: 2, channel: 5 },
 ];
 
 // Whether both halves of a datagram found memory: one of them may not have. It has no contract, as

@@ -24,55 +24,14 @@ const TCP: &str = "Payload(IpDefragPayloadVec { ip_number: IpNumber(6), \
     len_source: Ipv4HeaderTotalLen, \
     payload: [0, 1, 0, 2, 0, 0, 0, 3, 0, 0, 0, 0, 80, 2, 4, 0, 151, 218, 0, 0] })";
 
+#[rattlefmt::skip]
 const ORDERS: &[Script] = &[
-    (
-        "1, 2, 3",
-        &[
-            (TCP_FIRST, 1, 0, NOTHING, 1, 0),
-            (TCP_SECOND, 1, 0, NOTHING, 1, 0),
-            (TCP_THIRD, 1, 0, TCP, 0, 0),
-        ],
-    ),
-    (
-        "1, 3, 2",
-        &[
-            (TCP_FIRST, 1, 0, NOTHING, 1, 0),
-            (TCP_THIRD, 1, 0, NOTHING, 1, 0),
-            (TCP_SECOND, 1, 0, TCP, 0, 0),
-        ],
-    ),
-    (
-        "2, 1, 3",
-        &[
-            (TCP_SECOND, 1, 0, NOTHING, 1, 0),
-            (TCP_FIRST, 1, 0, NOTHING, 1, 0),
-            (TCP_THIRD, 1, 0, TCP, 0, 0),
-        ],
-    ),
-    (
-        "2, 3, 1",
-        &[
-            (TCP_SECOND, 1, 0, NOTHING, 1, 0),
-            (TCP_THIRD, 1, 0, NOTHING, 1, 0),
-            (TCP_FIRST, 1, 0, TCP, 0, 0),
-        ],
-    ),
-    (
-        "3, 1, 2",
-        &[
-            (TCP_THIRD, 1, 0, NOTHING, 1, 0),
-            (TCP_FIRST, 1, 0, NOTHING, 1, 0),
-            (TCP_SECOND, 1, 0, TCP, 0, 0),
-        ],
-    ),
-    (
-        "3, 2, 1",
-        &[
-            (TCP_THIRD, 1, 0, NOTHING, 1, 0),
-            (TCP_SECOND, 1, 0, NOTHING, 1, 0),
-            (TCP_FIRST, 1, 0, TCP, 0, 0),
-        ],
-    ),
+    ("1, 2, 3", &[(TCP_FIRST, 1, 0, NOTHING, 1, 0), (TCP_SECOND, 1, 0, NOTHING, 1, 0), (TCP_THIRD, 1, 0, TCP, 0, 0)]),
+    ("1, 3, 2", &[(TCP_FIRST, 1, 0, NOTHING, 1, 0), (TCP_THIRD, 1, 0, NOTHING, 1, 0), (TCP_SECOND, 1, 0, TCP, 0, 0)]),
+    ("2, 1, 3", &[(TCP_SECOND, 1, 0, NOTHING, 1, 0), (TCP_FIRST, 1, 0, NOTHING, 1, 0), (TCP_THIRD, 1, 0, TCP, 0, 0)]),
+    ("2, 3, 1", &[(TCP_SECOND, 1, 0, NOTHING, 1, 0), (TCP_THIRD, 1, 0, NOTHING, 1, 0), (TCP_FIRST, 1, 0, TCP, 0, 0)]),
+    ("3, 1, 2", &[(TCP_THIRD, 1, 0, NOTHING, 1, 0), (TCP_FIRST, 1, 0, NOTHING, 1, 0), (TCP_SECOND, 1, 0, TCP, 0, 0)]),
+    ("3, 2, 1", &[(TCP_THIRD, 1, 0, NOTHING, 1, 0), (TCP_SECOND, 1, 0, NOTHING, 1, 0), (TCP_FIRST, 1, 0, TCP, 0, 0)]),
 ];
 
 // All of them in one pool.

@@ -37,6 +37,7 @@ const FIRST_CLASHES: &str =
 const SECOND_CLASHES: &str =
     "Refused(OverlappingFragment { offset: IpFragOffset(1), payload_len: 8 })";
 
+#[rattlefmt::skip]
 const SCRIPTS: &[Script] = &[
     (
         "an exact repeat waits",
@@ -65,13 +66,7 @@ const SCRIPTS: &[Script] = &[
             (IPV6_SECOND, 4, 0, IPV6_UDP, 0, 0),
         ],
     ),
-    (
-        "an end below an accepted place",
-        &[
-            (IPV6_LATER, 1, 0, NOTHING, 1, 0),
-            (IPV6_SECOND, 2, 0, SECOND_CLASHES, 0, 0),
-        ],
-    ),
+    ("an end below an accepted place", &[(IPV6_LATER, 1, 0, NOTHING, 1, 0), (IPV6_SECOND, 2, 0, SECOND_CLASHES, 0, 0)]),
     (
         "a repeat renews the time",
         &[

@@ -24,31 +24,12 @@ pub const CALLS_IN_A_ROW: Script = (
     ],
 );
 
+#[rattlefmt::skip]
 const SCRIPTS: &[Script] = &[
     CALLS_IN_A_ROW,
-    (
-        "two fragments",
-        &[
-            (FIRST, 1, 0, NOTHING, 1, 0),
-            (SECOND, 2, 0, LENT_UDP, 0, 1),
-            (SECOND, 3, 0, NOTHING, 1, 0),
-        ],
-    ),
-    (
-        "two fragments over IPv6",
-        &[
-            (IPV6_SECOND, 1, 0, NOTHING, 1, 0),
-            (IPV6_FIRST, 2, 0, IPV6_UDP, 0, 0),
-        ],
-    ),
-    (
-        "channels apart",
-        &[
-            (FIRST, 1, 0, NOTHING, 1, 0),
-            (SECOND, 2, 1, NOTHING, 2, 0),
-            (SECOND, 3, 0, UDP, 1, 0),
-        ],
-    ),
+    ("two fragments", &[(FIRST, 1, 0, NOTHING, 1, 0), (SECOND, 2, 0, LENT_UDP, 0, 1), (SECOND, 3, 0, NOTHING, 1, 0)]),
+    ("two fragments over IPv6", &[(IPV6_SECOND, 1, 0, NOTHING, 1, 0), (IPV6_FIRST, 2, 0, IPV6_UDP, 0, 0)]),
+    ("channels apart", &[(FIRST, 1, 0, NOTHING, 1, 0), (SECOND, 2, 1, NOTHING, 2, 0), (SECOND, 3, 0, UDP, 1, 0)]),
     (
         "refused fragments keep the time",
         &[

@@ -1,15 +1,16 @@
 //! Reassemblies with numbers as their names.
 use crate::checks::{equal, equal_bytes, equal_in, fail};
 use ep_base::IpFragOffset;
-use etherparse::defrag::{IpDefragError, OverlapRule, ReassemblyTable, ReceivedFragment};
+use ep_packet::SlicedFragment;
+use etherparse::defrag::{IpDefragError, OverlapRule, ReassemblyTable};
 use std::hash::{BuildHasherDefault, FoldHasher};
 use std::process::Abort;
 use std::test::*;
 
 type Numbered = ReassemblyTable<u32, u64, BuildHasherDefault<FoldHasher>>;
 
-fn received(offset: u16, more_fragments: bool, bytes: &[u8]) -> ReceivedFragment<'_> {
-    ReceivedFragment {
+fn received(offset: u16, more_fragments: bool, bytes: &[u8]) -> SlicedFragment<'_> {
+    SlicedFragment {
         offset: IpFragOffset::try_new(offset).unwrap_or(IpFragOffset::ZERO),
         more_fragments,
         bytes,
@@ -21,7 +22,7 @@ fn take(
     rt: impl Abort + Copy,
     reassemblies: &mut Numbered,
     name: u32,
-    received: &ReceivedFragment<'_>,
+    received: &SlicedFragment<'_>,
     time: u64,
 ) -> Option<Vec<u8>> {
     match reassemblies.add(name, OverlapRule::Refuses, received, time) {

@@ -3,8 +3,8 @@
 use crate::checks::{fail, holds};
 use crate::defrag::frames::{FIRST, SECOND};
 use ep_base::IpFragOffset;
-use ep_packet::Class;
-use etherparse::defrag::{IpDefragPool, ReceivedFragment};
+use ep_packet::{Class, SlicedFragment};
+use etherparse::defrag::IpDefragPool;
 use std::test::*;
 
 #[test]
@@ -16,17 +16,17 @@ fn classes_are_compared(rt: HostRuntime) {
 }
 
 #[test]
-fn received_fragments_are_compared(rt: HostRuntime) {
-    let received = ReceivedFragment {
+fn sliced_fragments_are_compared(rt: HostRuntime) {
+    let first = SlicedFragment {
         offset: IpFragOffset::ZERO,
         more_fragments: true,
         bytes: FIRST,
     };
-    let last = ReceivedFragment {
+    let last = SlicedFragment {
         more_fragments: false,
-        ..received
+        ..first
     };
-    holds(rt, received == received && received != last);
+    holds(rt, first == first && first != last);
 }
 
 #[test]

@@ -40,11 +40,9 @@ fn codes_of_destination_unreachable(rt: HostRuntime) {
 }
 
 // The other types and codes: 258 is 0102, 772 is 0304.
+#[rattlefmt::skip]
 const KINDS: &[([u8; 8], &str)] = &[
-    (
-        [3, 4, 0x12, 0x34, 0, 0, 0x05, 0xdc],
-        "DestinationUnreachable(FragmentationNeeded { next_hop_mtu: 1500 })",
-    ),
+    ([3, 4, 0x12, 0x34, 0, 0, 0x05, 0xdc], "DestinationUnreachable(FragmentationNeeded { next_hop_mtu: 1500 })"),
     (
         [5, 0, 0x12, 0x34, 10, 0, 0, 1],
         "Redirect(RedirectHeader { code: RedirectForNetwork, \
@@ -65,34 +63,13 @@ const KINDS: &[([u8; 8], &str)] = &[
         "Redirect(RedirectHeader { code: RedirectForTypeOfServiceAndHost, \
             gateway_internet_address: [10, 0, 0, 1] })",
     ),
-    (
-        [0, 0, 0x12, 0x34, 1, 2, 3, 4],
-        "EchoReply(IcmpEchoHeader { id: 258, seq: 772 })",
-    ),
-    (
-        [8, 0, 0x12, 0x34, 1, 2, 3, 4],
-        "EchoRequest(IcmpEchoHeader { id: 258, seq: 772 })",
-    ),
-    (
-        [11, 0, 0x12, 0x34, 0, 0, 0, 0],
-        "TimeExceeded(TtlExceededInTransit)",
-    ),
-    (
-        [11, 1, 0x12, 0x34, 0, 0, 0, 0],
-        "TimeExceeded(FragmentReassemblyTimeExceeded)",
-    ),
-    (
-        [12, 0, 0x12, 0x34, 20, 0, 0, 0],
-        "ParameterProblem(PointerIndicatesError(20))",
-    ),
-    (
-        [12, 1, 0x12, 0x34, 0, 0, 0, 0],
-        "ParameterProblem(MissingRequiredOption)",
-    ),
-    (
-        [12, 2, 0x12, 0x34, 0, 0, 0, 0],
-        "ParameterProblem(BadLength)",
-    ),
+    ([0, 0, 0x12, 0x34, 1, 2, 3, 4], "EchoReply(IcmpEchoHeader { id: 258, seq: 772 })"),
+    ([8, 0, 0x12, 0x34, 1, 2, 3, 4], "EchoRequest(IcmpEchoHeader { id: 258, seq: 772 })"),
+    ([11, 0, 0x12, 0x34, 0, 0, 0, 0], "TimeExceeded(TtlExceededInTransit)"),
+    ([11, 1, 0x12, 0x34, 0, 0, 0, 0], "TimeExceeded(FragmentReassemblyTimeExceeded)"),
+    ([12, 0, 0x12, 0x34, 20, 0, 0, 0], "ParameterProblem(PointerIndicatesError(20))"),
+    ([12, 1, 0x12, 0x34, 0, 0, 0, 0], "ParameterProblem(MissingRequiredOption)"),
+    ([12, 2, 0x12, 0x34, 0, 0, 0, 0], "ParameterProblem(BadLength)"),
 ];
 
 #[test]
@@ -103,72 +80,21 @@ fn other_types_and_codes(rt: HostRuntime) {
 }
 
 // One code above those of a type that has variants, and types that have none: a1b2c3d4 in decimals.
+#[rattlefmt::skip]
 const UNKNOWN: &[(u8, u8, &str)] = &[
-    (
-        0,
-        1,
-        "Unknown { type_u8: 0, code_u8: 1, bytes5to8: [161, 178, 195, 212] }",
-    ),
-    (
-        3,
-        16,
-        "Unknown { type_u8: 3, code_u8: 16, bytes5to8: [161, 178, 195, 212] }",
-    ),
-    (
-        5,
-        4,
-        "Unknown { type_u8: 5, code_u8: 4, bytes5to8: [161, 178, 195, 212] }",
-    ),
-    (
-        8,
-        1,
-        "Unknown { type_u8: 8, code_u8: 1, bytes5to8: [161, 178, 195, 212] }",
-    ),
-    (
-        11,
-        2,
-        "Unknown { type_u8: 11, code_u8: 2, bytes5to8: [161, 178, 195, 212] }",
-    ),
-    (
-        12,
-        3,
-        "Unknown { type_u8: 12, code_u8: 3, bytes5to8: [161, 178, 195, 212] }",
-    ),
-    (
-        1,
-        0,
-        "Unknown { type_u8: 1, code_u8: 0, bytes5to8: [161, 178, 195, 212] }",
-    ),
-    (
-        4,
-        0,
-        "Unknown { type_u8: 4, code_u8: 0, bytes5to8: [161, 178, 195, 212] }",
-    ),
-    (
-        10,
-        0,
-        "Unknown { type_u8: 10, code_u8: 0, bytes5to8: [161, 178, 195, 212] }",
-    ),
-    (
-        13,
-        1,
-        "Unknown { type_u8: 13, code_u8: 1, bytes5to8: [161, 178, 195, 212] }",
-    ),
-    (
-        14,
-        1,
-        "Unknown { type_u8: 14, code_u8: 1, bytes5to8: [161, 178, 195, 212] }",
-    ),
-    (
-        15,
-        0,
-        "Unknown { type_u8: 15, code_u8: 0, bytes5to8: [161, 178, 195, 212] }",
-    ),
-    (
-        255,
-        255,
-        "Unknown { type_u8: 255, code_u8: 255, bytes5to8: [161, 178, 195, 212] }",
-    ),
+    (0, 1, "Unknown { type_u8: 0, code_u8: 1, bytes5to8: [161, 178, 195, 212] }"),
+    (3, 16, "Unknown { type_u8: 3, code_u8: 16, bytes5to8: [161, 178, 195, 212] }"),
+    (5, 4, "Unknown { type_u8: 5, code_u8: 4, bytes5to8: [161, 178, 195, 212] }"),
+    (8, 1, "Unknown { type_u8: 8, code_u8: 1, bytes5to8: [161, 178, 195, 212] }"),
+    (11, 2, "Unknown { type_u8: 11, code_u8: 2, bytes5to8: [161, 178, 195, 212] }"),
+    (12, 3, "Unknown { type_u8: 12, code_u8: 3, bytes5to8: [161, 178, 195, 212] }"),
+    (1, 0, "Unknown { type_u8: 1, code_u8: 0, bytes5to8: [161, 178, 195, 212] }"),
+    (4, 0, "Unknown { type_u8: 4, code_u8: 0, bytes5to8: [161, 178, 195, 212] }"),
+    (10, 0, "Unknown { type_u8: 10, code_u8: 0, bytes5to8: [161, 178, 195, 212] }"),
+    (13, 1, "Unknown { type_u8: 13, code_u8: 1, bytes5to8: [161, 178, 195, 212] }"),
+    (14, 1, "Unknown { type_u8: 14, code_u8: 1, bytes5to8: [161, 178, 195, 212] }"),
+    (15, 0, "Unknown { type_u8: 15, code_u8: 0, bytes5to8: [161, 178, 195, 212] }"),
+    (255, 255, "Unknown { type_u8: 255, code_u8: 255, bytes5to8: [161, 178, 195, 212] }"),
 ];
 
 #[test]

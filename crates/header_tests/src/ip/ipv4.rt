@@ -171,17 +171,10 @@ fn every_prefix_of_a_header(rt: HostRuntime) {
 }
 
 // A byte, how often it is repeated, and why that is no header.
+#[rattlefmt::skip]
 const FAULTS: &[(u8, usize, &str)] = &[
-    (
-        0x63,
-        20,
-        "Some(Content(UnexpectedVersion { version_number: 6 }))",
-    ),
-    (
-        0x43,
-        20,
-        "Some(Content(HeaderLengthSmallerThanHeader { ihl: 3 }))",
-    ),
+    (0x63, 20, "Some(Content(UnexpectedVersion { version_number: 6 }))"),
+    (0x43, 20, "Some(Content(HeaderLengthSmallerThanHeader { ihl: 3 }))"),
     (
         0x4f,
         20,

@@ -221,30 +221,15 @@ fn errors_further_on(rt: HostRuntime) {
 }
 
 // The hardware type and the number of a protocol, and what they name.
+#[rattlefmt::skip]
 const PROTOCOLS: &[(u16, u16, LinuxSllProtocolType)] = &[
     (824, 7, LinuxSllProtocolType::NetlinkProtocolType(7)),
-    (
-        778,
-        0x0800,
-        LinuxSllProtocolType::GenericRoutingEncapsulationProtocolType(0x0800),
-    ),
+    (778, 0x0800, LinuxSllProtocolType::GenericRoutingEncapsulationProtocolType(0x0800)),
     (803, 0x0800, LinuxSllProtocolType::Ignored(0x0800)),
     (770, 7, LinuxSllProtocolType::Ignored(7)),
-    (
-        1,
-        0x0600,
-        LinuxSllProtocolType::EtherType(EtherType(0x0600)),
-    ),
-    (
-        1,
-        0x05ff,
-        LinuxSllProtocolType::LinuxNonstandardEtherType(0x05ff),
-    ),
-    (
-        65535,
-        0x86dd,
-        LinuxSllProtocolType::EtherType(EtherType(0x86dd)),
-    ),
+    (1, 0x0600, LinuxSllProtocolType::EtherType(EtherType(0x0600))),
+    (1, 0x05ff, LinuxSllProtocolType::LinuxNonstandardEtherType(0x05ff)),
+    (65535, 0x86dd, LinuxSllProtocolType::EtherType(EtherType(0x86dd))),
 ];
 
 #[test]
@@ -257,32 +242,17 @@ fn protocols_by_hardware_type(rt: HostRuntime) {
 }
 
 // A protocol, its new number, and what it is then.
+#[rattlefmt::skip]
 const CHANGED_PROTOCOLS: &[(LinuxSllProtocolType, u16, LinuxSllProtocolType)] = &[
-    (
-        LinuxSllProtocolType::Ignored(1),
-        9,
-        LinuxSllProtocolType::Ignored(9),
-    ),
-    (
-        LinuxSllProtocolType::NetlinkProtocolType(1),
-        9,
-        LinuxSllProtocolType::NetlinkProtocolType(9),
-    ),
+    (LinuxSllProtocolType::Ignored(1), 9, LinuxSllProtocolType::Ignored(9)),
+    (LinuxSllProtocolType::NetlinkProtocolType(1), 9, LinuxSllProtocolType::NetlinkProtocolType(9)),
     (
         LinuxSllProtocolType::GenericRoutingEncapsulationProtocolType(1),
         9,
         LinuxSllProtocolType::GenericRoutingEncapsulationProtocolType(9),
     ),
-    (
-        LinuxSllProtocolType::EtherType(EtherType::IPV4),
-        9,
-        LinuxSllProtocolType::LinuxNonstandardEtherType(9),
-    ),
-    (
-        LinuxSllProtocolType::LinuxNonstandardEtherType(9),
-        0x86dd,
-        LinuxSllProtocolType::EtherType(EtherType::IPV6),
-    ),
+    (LinuxSllProtocolType::EtherType(EtherType::IPV4), 9, LinuxSllProtocolType::LinuxNonstandardEtherType(9)),
+    (LinuxSllProtocolType::LinuxNonstandardEtherType(9), 0x86dd, LinuxSllProtocolType::EtherType(EtherType::IPV6)),
 ];
 
 #[test]

@@ -130,25 +130,11 @@ fn a_view_of_a_header(rt: HostRuntime) {
 
 // The first byte of a header, and its flags and association: as above, the flag of an end station
 // alone, and that of single copy broadcast alone.
+#[rattlefmt::skip]
 const FLAGS: &[(&str, u8, [bool; 7], u8)] = &[
-    (
-        "above",
-        0x7a,
-        [true, true, true, true, true, false, false],
-        2,
-    ),
-    (
-        "station",
-        0x41,
-        [true, false, false, false, false, false, true],
-        1,
-    ),
-    (
-        "broadcast",
-        0x12,
-        [false, false, true, true, false, false, true],
-        2,
-    ),
+    ("above", 0x7a, [true, true, true, true, true, false, false], 2),
+    ("station", 0x41, [true, false, false, false, false, false, true], 1),
+    ("broadcast", 0x12, [false, false, true, true, false, false, true], 2),
 ];
 
 fn flags_in(bytes: &[u8]) -> Option<([bool; 7], u8)> {
@@ -172,6 +158,7 @@ fn flags_of_a_header(rt: HostRuntime) {
 // A header with its payload, and the length of the header, the ether type after it, the payload
 // and what the ether type names, if there is one: 33024 is 8100, 2048 is IPv4. The same packet
 // follows a header unmodified, and changed.
+#[rattlefmt::skip]
 const PAYLOADS: &[(&[u8], [&str; 4])] = &[
     (
         &CUT_TAG,
@@ -196,10 +183,7 @@ const PAYLOADS: &[(&[u8], [&str; 4])] = &[
                 len_source: Slice, payload: [69, 0, 0, 36] })",
         ],
     ),
-    (
-        &[0x0c, 0, 0, 0, 0, 1, 8, 0, 0x45, 0, 0, 0x24],
-        ["6", "None", "Modified([8, 0, 69, 0, 0, 36])", "None"],
-    ),
+    (&[0x0c, 0, 0, 0, 0, 1, 8, 0, 0x45, 0, 0, 0x24], ["6", "None", "Modified([8, 0, 69, 0, 0, 36])", "None"]),
 ];
 
 fn payload_is(rt: impl Abort + AllocGlobal + Copy, macsec: &MacsecSlice<'_>, wanted: &[&str; 4]) {
@@ -248,6 +232,7 @@ fn a_tag_cut_by_a_short_length(rt: HostRuntime) {
 
 // Version 1 and a short length of 1: in too few bytes, in too few for the identifier, and the
 // latter alone; and each before a packet.
+#[rattlefmt::skip]
 const REFUSED: &[(&[u8], &str)] = &[
     // Too few bytes.
     (
@@ -258,20 +243,11 @@ const REFUSED: &[(&[u8], &str)] = &[
     // Version 1.
     (&[0xa0, 1, 0, 0, 0, 1], "Some(Content(UnexpectedVersion))"),
     // Short length 1.
-    (
-        &[0x20, 1, 0, 0, 0, 1],
-        "Some(Content(InvalidUnmodifiedShortLen))",
-    ),
+    (&[0x20, 1, 0, 0, 0, 1], "Some(Content(InvalidUnmodifiedShortLen))"),
     // Version 1 before a packet.
-    (
-        &[0x80, 0, 0, 0, 0, 1, 8, 0, 0x45, 0, 0, 0x24],
-        "Some(Content(UnexpectedVersion))",
-    ),
+    (&[0x80, 0, 0, 0, 0, 1, 8, 0, 0x45, 0, 0, 0x24], "Some(Content(UnexpectedVersion))"),
     // Short length 1 before a packet.
-    (
-        &[0, 1, 0, 0, 0, 1, 8, 0, 0x45, 0, 0, 0x24],
-        "Some(Content(InvalidUnmodifiedShortLen))",
-    ),
+    (&[0, 1, 0, 0, 0, 1, 8, 0, 0x45, 0, 0, 0x24], "Some(Content(InvalidUnmodifiedShortLen))"),
 ];
 
 fn is_refused(rt: impl Abort + AllocGlobal + Copy, bytes: &[u8], wanted: &str) {

@@ -1,6 +1,5 @@
 //! The texts of answers.
-ghost use Rattle.std.specs.Prelude.{◌≡◌, ◌+◌, ◌*◌, ◌≤◌, ◌<◌, ◌++◌, codes, length, take, IfSome};
-ghost use Rattle.std.specs.Prelude.{MatchOption};
+ghost use Rattle.std.specs.Prelude.{◌≡◌, ◌+◌, ◌*◌, ◌≤◌, ◌<◌, ◌++◌, codes, length, take, IfSome, MatchOption};
 ghost use Rattle.etherparse.specs.PoolCalls.{HasMemory};
 ghost use Rattle.etherparse.specs.PoolCalls.CallResult.{Refused};
 ghost use Rattle.netlines.specs.Answers.{message_answer, refusal_answer, verdict_word};

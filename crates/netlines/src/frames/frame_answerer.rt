@@ -1,9 +1,7 @@
 //! Answers to lines by their frames and those of the lines before them.
-ghost use Rattle.std.specs.Prelude.{◌≡◌, ◌≤◌, ◌<◌, ◌*◌, ◌+◌, ℕ, List, [], vec_len, length, take};
-ghost use Rattle.std.specs.Prelude.{IfOk, vec_capacity};
+ghost use Rattle.std.specs.Prelude.{◌≡◌, ◌≤◌, ◌<◌, ◌*◌, ◌+◌, ℕ, List, [], vec_len, length, take, IfOk, vec_capacity};
 ghost use Rattle.etherparse.specs.PoolCalls.{ShowsLists};
-ghost use Rattle.etherparse.specs.packet.Class.{IdentificationFits, as_class, class_of};
-ghost use Rattle.etherparse.specs.packet.Class.{packet_parsed};
+ghost use Rattle.etherparse.specs.packet.Class.{IdentificationFits, as_class, class_of, packet_parsed};
 ghost use Rattle.etherparse.specs.packet.Class.Class.{Whole};
 ghost use Rattle.etherparse.specs.packet.Readable.{ReadMessage, as_read, message_at};
 ghost use Rattle.etherparse.specs.packet.declared.addresses.Addresses.{Addresses as AddressesValue};

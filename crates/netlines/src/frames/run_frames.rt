@@ -3,7 +3,7 @@ ghost use Rattle.std.specs.Prelude.{◌≡◌, ◌≤◌, length, OnOk, IfOk, If
 ghost use Rattle.std.specs.Io.KnownBytes.{Appends, IsAtEnd};
 ghost use Rattle.device_runs.specs.Known.{KnownCall, known_of};
 ghost use Rattle.netlines.specs.Answers.{answers_of};
-ghost use Rattle.netlines.specs.Runs.{Runs, Transfers};
+ghost use Rattle.netlines.specs.FrameRuns.{Runs, RunsWithin, Transfers};
 
 use crate::frames::frame_answerer::FrameAnswerer;
 use device_runs::{Device, ReaderWriter};
@@ -53,16 +53,8 @@ pub fn run_bounded<R: Read, W: Write>(
     reads: u64,
 ) -> Result<(), RunError>
     requires { reads ≤ READ_COUNT_LIMIT }
-    ensures ok { OnOk result (IfSome (R.remaining reader.old) (λ bytes.
-        Appends (W.contents writer.old) (W.contents writer.new) (answers_of bytes))) }
-    ensures end { OnOk result (IsAtEnd (R.remaining reader.new)) }
-    ensures bytes { Transfers (R.remaining reader.old) (R.remaining reader.new)
+    ensures { RunsWithin reads (R.remaining reader.old) (R.remaining reader.new)
         (W.contents writer.old) (W.contents writer.new) result }
-    ensures calls { Runs KnownCall reads
-        (known_of (R.remaining reader.old) (W.contents writer.old))
-        (known_of (R.remaining reader.new) (W.contents writer.new)) result }
-    ensures too_many { IsErrOf result RunError.TooManyReads
-        → IfSome (R.remaining reader.old) (λ bytes. reads ≤ length bytes) }
 {
     run_with_hasher(
         alloc,
@@ -84,23 +76,8 @@ pub fn run_with_hasher<S: BuildHasher + Drop, R: Read, W: Write>(
     reads: u64,
 ) -> Result<(), RunError>
     requires { reads ≤ READ_COUNT_LIMIT }
-    // All lines are answered, and no byte is left to read.
-    ensures ok { OnOk result (IfSome (R.remaining reader.old) (λ bytes.
-        Appends (W.contents writer.old) (W.contents writer.new) (answers_of bytes))) }
-    ensures end { OnOk result (IsAtEnd (R.remaining reader.new)) }
-
-    // However reads and writes cut the bytes, what is written is the output for the bytes read.
-    ensures bytes { Transfers (R.remaining reader.old) (R.remaining reader.new)
+    ensures { RunsWithin reads (R.remaining reader.old) (R.remaining reader.new)
         (W.contents writer.old) (W.contents writer.new) result }
-
-    // The calls, one by one, as far as they show in the known bytes.
-    ensures calls { Runs KnownCall reads
-        (known_of (R.remaining reader.old) (W.contents writer.old))
-        (known_of (R.remaining reader.new) (W.contents writer.new)) result }
-
-    // Each of these reads gave a byte at least.
-    ensures too_many { IsErrOf result RunError.TooManyReads
-        → IfSome (R.remaining reader.old) (λ bytes. reads ≤ length bytes) }
 {
     let mut device = ReaderWriter { reader, writer };
     let result = run_over_with_hasher(alloc, state, &mut device, reads);

@@ -9,8 +9,8 @@ ghost use Rattle.etherparse.specs.packet.Readable.{ReadMessage};
 ghost use Rattle.etherparse.specs.packet.declared.addresses.Addresses.{Addresses};
 ghost use Rattle.line_grammar.specs.Commands.{command_of};
 ghost use Rattle.line_grammar.specs.Commands.Command.{Bad, Frame};
-ghost use Rattle.netlines.specs.Alone.{IsInert, IsRefused, alone, answers_to, lines_that_matter};
-ghost use Rattle.netlines.specs.Alone.{HasNoForget, on_channel, texts_that_matter};
+ghost use Rattle.netlines.specs.Alone.{IsInert, IsRefused, alone, answers_to, lines_that_matter, HasNoForget};
+ghost use Rattle.netlines.specs.Alone.{on_channel, texts_that_matter};
 ghost use Rattle.netlines.specs.Answers.{answer_after};
 ghost use Rattle.netlines.specs.Arrivals.{HasFragment, lists_after_lines};
 

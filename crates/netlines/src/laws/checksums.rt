@@ -1,6 +1,6 @@
 //! Laws of checksums. All addresses and headers meet their conditions (`super::values`).
-ghost use Rattle.std.specs.Prelude.{◌≡◌, ◌≢◌, ◌↔◌, ◌+◌, ◌*◌, ◌≤◌, ◌<◌, ℕ, true, false, List};
-ghost use Rattle.std.specs.Prelude.{[], ◌∷◌, ◌++◌, length, None, Some, Ok};
+ghost use Rattle.std.specs.Prelude.{◌≡◌, ◌≢◌, ◌↔◌, ◌+◌, ◌*◌, ◌≤◌, ◌<◌, ℕ, true, false, List, [], ◌∷◌, ◌++◌, length};
+ghost use Rattle.std.specs.Prelude.{None, Some, Ok};
 ghost use Rattle.netlines.specs.Alone.{answers_after};
 ghost use Rattle.netlines.specs.Answers.{answer_after, message_answer};
 ghost use Rattle.netlines.specs.Arrivals.{HasFragment};
@@ -10,21 +10,18 @@ ghost use Rattle.etherparse.specs.IpFragId.{rule_over};
 ghost use Rattle.etherparse.specs.declared.defrag.overlap_rule.OverlapRule.TheVariants.{Overwrites};
 ghost use Rattle.etherparse.specs.packet.Class.{FragmentName};
 ghost use Rattle.etherparse.specs.packet.Readable.{ReadMessage, message_at, udp as udp_number};
-ghost use Rattle.etherparse.specs.Built.{with_message_checksum as built_header};
+ghost use Rattle.etherparse.specs.Built.{number_of, with_message_checksum as built_header};
 ghost use Rattle.etherparse.specs.declared.defrag.ip_frag_version_spec_id.IpFragVersionSpecId.{IpFragVersionSpecId};
 ghost use Rattle.etherparse.specs.packet.Transport.{transport_len, transport_encoding};
 ghost use Rattle.etherparse.specs.packet.declared.addresses.Addresses.{Addresses};
 ghost use Rattle.etherparse.specs.packet.declared.net.ip_headers.IpHeaders.{IpHeaders};
 ghost use Rattle.etherparse.specs.packet.declared.transport.transport_header.TransportHeader.{TransportHeader};
-ghost use Rattle.netlines.specs.Sealed.{AddressesFit, HeaderFits, IsSealable, addresses_of};
-ghost use Rattle.netlines.specs.Sealed.{is_icmp_of_other_version};
-ghost use Rattle.netlines.specs.Sealed.{number_of, seal_refusal, sealed_message_bytes};
-ghost use Rattle.netlines.specs.Sealed.{version_id_of};
+ghost use Rattle.netlines.specs.Sealed.{AddressesFit, HeaderFits, IsSealable, addresses_of, is_icmp_of_other_version};
+ghost use Rattle.netlines.specs.Sealed.{seal_refusal, sealed_message_bytes, version_id_of};
 ghost use Rattle.checksum_verdicts.specs.Verdict.{summed_bytes, summed_text, verdict_of};
-ghost use Rattle.netlines.specs.Waiting.{Completes, ReturnsMessage, ReturnsChanged, lines_for};
-ghost use Rattle.netlines.specs.Waiting.{texts_for, waiting_lines};
-ghost use Rattle.netlines.specs.declared.seal_error.SealError.TheVariants.{IcmpOfOtherVersion};
-ghost use Rattle.netlines.specs.declared.seal_error.SealError.TheVariants.{TooLong};
+ghost use Rattle.netlines.specs.Waiting.{Completes, ReturnsMessage, ReturnsChanged, lines_for, texts_for};
+ghost use Rattle.netlines.specs.Waiting.{waiting_lines};
+ghost use Rattle.netlines.specs.declared.seal_error.SealError.TheVariants.{IcmpOfOtherVersion, TooLong};
 ghost use Rattle.checksum_verdicts.specs.declared.verdict.Verdict.TheVariants as verdict;
 
 use etherparse::laws::defrag::fragments_agree;

@@ -1,9 +1,7 @@
 //! Worked examples of the definitions. The answers were worked out by hand after RFC 768, 791,
 //! 1071, 8200 and 9293.
-ghost use Rattle.std.specs.Prelude.{◌≡◌, ℕ, List, [], ◌∷◌, ◌++◌, codes, map, true, false, Some};
-ghost use Rattle.std.specs.Prelude.{None};
-ghost use Rattle.etherparse.specs.declared.defrag.ip_frag_version_spec_id.IpFragVersionSpecId.TheVariants.{Ipv4};
-ghost use Rattle.etherparse.specs.declared.defrag.ip_frag_version_spec_id.IpFragVersionSpecId.TheVariants.{Ipv6};
+ghost use Rattle.std.specs.Prelude.{◌≡◌, ℕ, List, [], ◌∷◌, ◌++◌, codes, map, true, false, Some, None};
+ghost use Rattle.etherparse.specs.declared.defrag.ip_frag_version_spec_id.IpFragVersionSpecId.TheVariants.{Ipv4, Ipv6};
 ghost use Rattle.hex.specs.Hex.{encode_lower};
 ghost use Rattle.netlines.specs.Answers.{answer_after, message_answer, takes_memory};
 ghost use Rattle.netlines.specs.PostRefusal.{bad_cut};

@@ -1,6 +1,5 @@
 //! Laws of the list of accepted fragments that each message has after lines.
-ghost use Rattle.std.specs.Prelude.{◌≡◌, ◌≢◌, ◌<◌, ◌≤◌, ◌+◌, ◌-◌, ◌^◌, ℕ, Bool, false, List, []};
-ghost use Rattle.std.specs.Prelude.{◌∷◌, ◌++◌, None, Err};
+ghost use Rattle.std.specs.Prelude.{◌≡◌, ◌≢◌, ◌<◌, ◌≤◌, ◌+◌, ◌-◌, ◌^◌, ℕ, Bool, false, List, [], ◌∷◌, ◌++◌, None, Err};
 ghost use Rattle.etherparse.specs.Fragments.{Fragment};
 ghost use Rattle.etherparse.specs.Outcome.{held_after};
 ghost use Rattle.etherparse.specs.PoolCalls.{no_lists, outcome_at};
@@ -10,7 +9,7 @@ ghost use Rattle.netlines.specs.Arrivals.{HasFragment, LastAccepted, lists_after
 ghost use Rattle.line_grammar.specs.Commands.{command_of};
 ghost use Rattle.line_grammar.specs.Commands.Command.{Forget};
 ghost use Rattle.lines.specs.LineAnswers.{number_after, whole_lines_of};
-ghost use Rattle.lines.specs.Runs.{IsOutput};
+ghost use Rattle.lines.specs.AnswerRuns.{IsOutput};
 ghost use Rattle.lines.specs.declared.run_error.RunError.TheVariants.{Memory};
 
 use etherparse::laws::defrag::names::equal_names;

@@ -5,9 +5,9 @@ ghost use Rattle.netlines.specs.Arrivals.{HasFragment};
 ghost use Rattle.netlines.specs.ChangedWord.{DifferInOneWord, IsChangedFragment};
 ghost use Rattle.netlines.specs.Posted.{posted_frames};
 ghost use Rattle.netlines.specs.PostedInput.{AreAllPosted, IsFirstCover, IsPostedOn};
-ghost use Rattle.netlines.specs.TwoFragments.{changed_fragment, first_fragment, first_frame};
-ghost use Rattle.netlines.specs.TwoFragments.{first_line, second_fragment, second_frame};
-ghost use Rattle.netlines.specs.TwoFragments.{second_line, udp_letter, udp_message, udp_name};
+ghost use Rattle.netlines.specs.TwoFragments.{changed_fragment, first_fragment, first_frame, first_line};
+ghost use Rattle.netlines.specs.TwoFragments.{second_fragment, second_frame, second_line, udp_letter, udp_message};
+ghost use Rattle.netlines.specs.TwoFragments.{udp_name};
 ghost use Rattle.netlines.specs.Waiting.{Completes};
 
 /// Each of two lines has a fragment of one message, which the second one completes.

@@ -1,10 +1,8 @@
 //! Frames made of a message.
-ghost use Rattle.std.specs.Prelude.{◌≡◌, ◌≤◌, ◌/◌, length, map, None, IfOk, IsOk, IsOkUnless};
-ghost use Rattle.std.specs.Prelude.{MatchOption, OnOk};
+ghost use Rattle.std.specs.Prelude.{◌≡◌, ◌≤◌, ◌/◌, length, map, None, IfOk, IsOk, IsOkUnless, MatchOption, OnOk};
 ghost use Rattle.netlines.specs.Posted.{is_fragmented, fragments_from, posted_frames};
-ghost use Rattle.netlines.specs.PostRefusal.{bad_cut, is_good_cut, is_icmp_of_other_version};
-ghost use Rattle.netlines.specs.PostRefusal.{long_fragment, long_fragment_from, names_extension};
-ghost use Rattle.netlines.specs.PostRefusal.{post_refusal, room};
+ghost use Rattle.netlines.specs.PostRefusal.{bad_cut, is_good_cut, is_icmp_of_other_version, long_fragment};
+ghost use Rattle.netlines.specs.PostRefusal.{long_fragment_from, names_extension, post_refusal, room};
 
 use crate::messages::posted_frame::frame;
 use crate::{IpFragVersionSpecId, Letter, PostError};

@@ -1,8 +1,7 @@
 //! Messages made of headers and payloads.
 ghost use Rattle.std.specs.Prelude.{◌≡◌, IfOk, IsOk, IsOkUnless, MatchOption};
 ghost use Rattle.etherparse.specs.packet.declared.transport.transport_header.TransportHeader.{TransportHeader};
-ghost use Rattle.netlines.specs.Sealed.{addresses_of, seal_refusal, sealed_message_bytes};
-ghost use Rattle.netlines.specs.Sealed.{sealed_header};
+ghost use Rattle.netlines.specs.Sealed.{addresses_of, seal_refusal, sealed_message_bytes, sealed_header};
 
 use crate::{IpFragVersionSpecId, SealError};
 use etherparse::err::packet::TransportChecksumError;

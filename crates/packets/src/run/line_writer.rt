@@ -1,7 +1,7 @@
 //! Writes the packets of a capture, a line for each.
 ghost use Rattle.std.specs.Prelude.{◌≡◌, ◌++◌, true, List, [], ℕ, IfOk, MatchResult};
 ghost use Rattle.std.specs.Io.KnownBytes.{Appends};
-ghost use Rattle.packets.specs.Runs.{BreaksBy};
+ghost use Rattle.packets.specs.PacketRuns.{BreaksBy};
 ghost use Rattle.packets.specs.Written.{AreLines, WritesLines, one_line};
 ghost use Rattle.packets.specs.declared.dissection.Dissection.{Dissection};
 

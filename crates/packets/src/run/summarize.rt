@@ -6,7 +6,7 @@ ghost use Rattle.etherparse.specs.OpenReassemblies.{IsOpenCount};
 ghost use Rattle.packets.specs.Counts.{Counts};
 ghost use Rattle.packets.specs.Courses.{AreDissected, course_after, no_course, shown};
 ghost use Rattle.packets.specs.Outlines.{outline_of};
-ghost use Rattle.packets.specs.Runs.{EndsBy, UnlessOutOfMemory};
+ghost use Rattle.packets.specs.PacketRuns.{EndsBy, UnlessOutOfMemory};
 ghost use Rattle.packets.specs.declared.dissection.Dissection.{Dissection};
 ghost use Rattle.packets.specs.declared.outline.Outline.{Outline};
 

@@ -1,6 +1,5 @@
 //! A walk over the packets of a capture.
-ghost use Rattle.std.specs.Prelude.{◌≡◌, ◌≤◌, ◌∷◌, ◌++◌, Bool, Ok, Err, List, [], ℕ};
-ghost use Rattle.std.specs.Prelude.{MatchResult, None, filter};
+ghost use Rattle.std.specs.Prelude.{◌≡◌, ◌≤◌, ◌∷◌, ◌++◌, Bool, Ok, Err, List, [], ℕ, MatchResult, None, filter};
 ghost use Rattle.std.specs.Io.KnownBytes.{Consumes};
 ghost use Rattle.captures.specs.Readers.{ComesTo, HasRead, skipped_by, source_of};
 ghost use Rattle.captures.specs.declared.packet.Packet.{Packet};
@@ -8,9 +7,9 @@ ghost use Rattle.captures.specs.declared.unfit.Unfit.{Unfit};
 ghost use Rattle.etherparse.specs.PoolCalls.{no_lists};
 ghost use Rattle.packets.specs.Started.{ShowsStarted, ShowsFragments, none_started};
 ghost use Rattle.packets.specs.Conditions.{lets_through};
-ghost use Rattle.packets.specs.Courses.{AreDissected, Course, HasCourse, IsDissected, course_after};
-ghost use Rattle.packets.specs.Courses.{forgotten, next_course, no_course, shown};
-ghost use Rattle.packets.specs.Runs.{BreaksBy, EndsBy, Unbroken, UnlessOutOfMemory};
+ghost use Rattle.packets.specs.Courses.{AreDissected, Course, HasCourse, IsDissected, course_after, forgotten};
+ghost use Rattle.packets.specs.Courses.{next_course, no_course, shown};
+ghost use Rattle.packets.specs.PacketRuns.{BreaksBy, EndsBy, Unbroken, UnlessOutOfMemory};
 ghost use Rattle.packets.specs.declared.dissection.Dissection.{Dissection};
 
 use crate::run::progress::{Progress, notify_step};

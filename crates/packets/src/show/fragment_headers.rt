@@ -11,7 +11,7 @@ use std::alloc::AllocError;
 pub(crate) fn fragment(line: &mut Line<'_>, cut: &IpFragment<'_>) -> Result<(), AllocError> {
     endpoints(line, &cut.addresses, None)?;
     line.text(" ")?;
-    names::protocol(line, cut.fragment.ip_number)?;
+    names::protocol(line, cut.ip_number)?;
     line.text(" ")?;
     position(line, &cut.fragment)?;
     line.text(" (id 0x")?;

@@ -1,6 +1,6 @@
 //! Counts of packets by what they have in common.
-ghost use Rattle.std.specs.Prelude.{◌≡◌, ◌<◌, ◌++◌, ◌∷◌, [], List, Option, Some, true, OnOk};
-ghost use Rattle.std.specs.Prelude.{◌↔◌, IsTrue, length, option_map, slice_get};
+ghost use Rattle.std.specs.Prelude.{◌≡◌, ◌<◌, ◌++◌, ◌∷◌, [], List, Option, Some, true, OnOk, ◌↔◌, IsTrue, length};
+ghost use Rattle.std.specs.Prelude.{option_map, slice_get};
 ghost use Rattle.std.specs.Map.Iter.{deref_pair};
 
 use crate::Outline;

@@ -2,13 +2,10 @@
 //! LINKTYPE_NULL, ETHERNET, RAW, LOOP, LINUX_SLL and LINUX_SLL2.
 
 ghost use Rattle.std.specs.Prelude.{◌≡◌, ℕ, List, [], ◌∷◌, length, replicate, Some, None, Ok, Err};
-ghost use Rattle.captures.specs.Framed.{address_at, captured_limit, cooked_type, family_type};
-ghost use Rattle.captures.specs.Framed.{frame_bytes, frame_parts, link_for, link_of, own_frame};
-ghost use Rattle.captures.specs.Framed.{taken_limit, reported_frame, reported_of};
-ghost use Rattle.captures.specs.declared.link.kind.Link.TheVariants.{Ethernet, Ip, Null, Loop};
-ghost use Rattle.captures.specs.declared.link.kind.Link.TheVariants.{Other, Sll, Sll2};
-ghost use Rattle.captures.specs.declared.translation.skipped.Reason.TheVariants.{NoFrame, TooLong};
-ghost use Rattle.captures.specs.declared.translation.skipped.Reason.TheVariants.{OtherLink};
+ghost use Rattle.captures.specs.Framed.{address_at, captured_limit, cooked_type, family_type, frame_bytes, frame_parts};
+ghost use Rattle.captures.specs.Framed.{link_for, link_of, own_frame, taken_limit, reported_frame, reported_of};
+ghost use Rattle.captures.specs.declared.link.kind.Link.TheVariants.{Ethernet, Ip, Null, Loop, Other, Sll, Sll2};
+ghost use Rattle.captures.specs.declared.translation.skipped.Reason.TheVariants.{NoFrame, TooLong, OtherLink};
 ghost use Rattle.captures.specs.declared.unfit.Unfit.TheVariants.{Refuse, Skip};
 
 /// The numbers of the links that are read, among them DLT_RAW of BSD (12 and 14) and each IP version

@@ -1,13 +1,12 @@
 //! Classic captures (draft-ietf-opsawg-pcap, sections 4 and 5).
 
-ghost use Rattle.std.specs.Prelude.{◌≡◌, ◌^◌, ℕ, List, [], ◌∷◌, ◌++◌, replicate, length, codes};
-ghost use Rattle.std.specs.Prelude.{true, false, None};
+ghost use Rattle.std.specs.Prelude.{◌≡◌, ◌^◌, ℕ, List, [], ◌∷◌, ◌++◌, replicate, length, codes, true, false, None};
 ghost use Rattle.line_grammar.specs.TimedLines.{TimedFrame};
 ghost use Rattle.captures.specs.Examples.{file_header, opened_file, packet_at, packet_record};
 ghost use Rattle.captures.specs.Lines.{blank};
 ghost use Rattle.captures.specs.Numbers.{half, word};
 ghost use Rattle.captures.specs.Pcap.{IsFileHeader, IsPacketRecord, is_magic, link_type};
-ghost use Rattle.captures.specs.Runs.{IsCapture};
+ghost use Rattle.captures.specs.CaptureRuns.{IsCapture};
 ghost use Rattle.captures.specs.Skipping.{none_skipped};
 ghost use Rattle.captures.specs.Encoding.{IsWritable};
 ghost use Rattle.captures.specs.Units.{HasLinkType, HasLongFrame, HasNoFrame, IsShortRecord, Takes};

@@ -1,23 +1,21 @@
 //! Pcapng files (draft-ietf-opsawg-pcapng).
 
-ghost use Rattle.std.specs.Prelude.{◌≡◌, ◌≢◌, ◌⊎◌, ℕ, List, [], ◌∷◌, ◌++◌, length, true, false};
-ghost use Rattle.std.specs.Prelude.{slice_set, take, Some, None};
-ghost use Rattle.captures.specs.Examples.{cooked_packet, cut_simple_block, described_section};
-ghost use Rattle.captures.specs.Examples.{enhanced_block, interface_block, longer_packet};
-ghost use Rattle.captures.specs.Examples.{obsolete_block, origin_at, packet_at, section_block};
-ghost use Rattle.captures.specs.Examples.{simple_block};
+ghost use Rattle.std.specs.Prelude.{◌≡◌, ◌≢◌, ◌⊎◌, ℕ, List, [], ◌∷◌, ◌++◌, length, true, false, slice_set, take, Some};
+ghost use Rattle.std.specs.Prelude.{None};
+ghost use Rattle.captures.specs.Examples.{cooked_packet, cut_simple_block, described_section, enhanced_block};
+ghost use Rattle.captures.specs.Examples.{interface_block, longer_packet, obsolete_block, origin_at, packet_at};
+ghost use Rattle.captures.specs.Examples.{section_block, simple_block};
 ghost use Rattle.captures.specs.Numbers.{word};
-ghost use Rattle.captures.specs.Pcapng.{Becomes, IsEnhancedPacket, IsObsoletePacket};
-ghost use Rattle.captures.specs.Pcapng.{IsSimplePacket, IsTaken, IsTimedPacket, Says};
-ghost use Rattle.captures.specs.Pcapng.{byte_order_magic, captured_len, enhanced_packet};
-ghost use Rattle.captures.specs.Pcapng.{interface_description, is_read_version, links_with};
-ghost use Rattle.captures.specs.Pcapng.{obsolete_packet, section_header, simple_packet};
+ghost use Rattle.captures.specs.Pcapng.{Becomes, IsEnhancedPacket, IsObsoletePacket, IsSimplePacket, IsTaken};
+ghost use Rattle.captures.specs.Pcapng.{IsTimedPacket, Says, byte_order_magic, captured_len, enhanced_packet};
+ghost use Rattle.captures.specs.Pcapng.{interface_description, is_read_version, links_with, obsolete_packet};
+ghost use Rattle.captures.specs.Pcapng.{section_header, simple_packet};
 ghost use Rattle.captures.specs.Pcapng.Content.{Describes, Holds};
-ghost use Rattle.captures.specs.Runs.{IsCapture};
+ghost use Rattle.captures.specs.CaptureRuns.{IsCapture};
 ghost use Rattle.captures.specs.Skipping.{none_skipped, passing_from};
 ghost use Rattle.captures.specs.Times.{usual_clock};
-ghost use Rattle.captures.specs.Units.{HasBadLength, HasLongBlock, HasOtherBack, HasRefusedBlock};
-ghost use Rattle.captures.specs.Units.{IsShortBlock, no_section};
+ghost use Rattle.captures.specs.Units.{HasBadLength, HasLongBlock, HasOtherBack, HasRefusedBlock, IsShortBlock};
+ghost use Rattle.captures.specs.Units.{no_section};
 ghost use Rattle.captures.specs.declared.byte_order.ByteOrder.{ByteOrder};
 ghost use Rattle.captures.specs.declared.byte_order.ByteOrder.TheVariants.{Big, Little};
 ghost use Rattle.captures.specs.declared.capture_error.CaptureError.TheVariants.{BadBlock, LinkType};

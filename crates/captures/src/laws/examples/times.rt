@@ -2,11 +2,9 @@
 //! draft-ietf-opsawg-pcapng, sections 4.2 and 4.3).
 
 ghost use Rattle.std.specs.Prelude.{◌≡◌, ◌+◌, ◌-◌, ◌*◌, ◌^◌, [], ◌∷◌};
-ghost use Rattle.captures.specs.Times.{clock_of, clock_time, moved, nanoseconds_of, record_time};
-ghost use Rattle.captures.specs.Times.{unit_of, usual_clock};
+ghost use Rattle.captures.specs.Times.{clock_of, clock_time, moved, nanoseconds_of, record_time, unit_of, usual_clock};
 ghost use Rattle.captures.specs.declared.byte_order.ByteOrder.TheVariants.{Big, Little};
-ghost use Rattle.captures.specs.declared.time.time_unit.TimeUnit.TheVariants.{Microseconds};
-ghost use Rattle.captures.specs.declared.time.time_unit.TimeUnit.TheVariants.{Nanoseconds};
+ghost use Rattle.captures.specs.declared.time.time_unit.TimeUnit.TheVariants.{Microseconds, Nanoseconds};
 
 /// Times of classic captures, by the magic number: the fraction of a second may be more than one
 /// second, and the last time is that of 32 bits of seconds.

@@ -1,7 +1,6 @@
 //! Why a destination can't be reached over IPv4.
 ghost use Rattle.std.specs.Prelude.{◌≡◌, ◌≤◌, MatchOption};
-ghost use Rattle.ep_icmp.specs.Icmpv4.{HasNextHopMtu, UnreachableFits, unreachable_code};
-ghost use Rattle.ep_icmp.specs.Icmpv4.{unreachable_fields};
+ghost use Rattle.ep_icmp.specs.Icmpv4.{HasNextHopMtu, UnreachableFits, unreachable_code, unreachable_fields};
 ghost use Rattle.ep_icmp.specs.Layout.{bytes_of_fields};
 
 /// The code of a destination unreachable message and what goes with it (RFC 792, "Destination

@@ -1,6 +1,6 @@
 ghost use Rattle.std.specs.Prelude.{◌≡◌};
-ghost use Rattle.etherparse.specs.BuildWriteError.{is_icmpv6_in_ipv4, is_memory, ipv4_exts_in};
-ghost use Rattle.etherparse.specs.BuildWriteError.{ipv6_exts_in, payload_len_in};
+ghost use Rattle.etherparse.specs.BuildWriteError.{is_icmpv6_in_ipv4, is_memory, ipv4_exts_in, ipv6_exts_in};
+ghost use Rattle.etherparse.specs.BuildWriteError.{payload_len_in};
 
 use ep_base::err::ValueTooBigError;
 use ep_ext::err::{ipv4_exts, ipv6_exts};

@@ -1,7 +1,6 @@
 //! How many reassemblies there are at once, at literal values.
 ghost use denote.Ref.{Bor};
-ghost use Rattle.std.specs.Prelude.{◌≡◌, ◌&&◌, ◌||◌, ◌==◌, ℕ, true, if◌then◌else◌, List, [], ◌∷◌};
-ghost use Rattle.std.specs.Prelude.{replicate};
+ghost use Rattle.std.specs.Prelude.{◌≡◌, ◌&&◌, ◌||◌, ◌==◌, ℕ, true, if◌then◌else◌, List, [], ◌∷◌, replicate};
 ghost use Rattle.ep_packet.specs.Class.{FragmentName, class_of};
 ghost use Rattle.ep_packet.specs.Class.Class.{Cut};
 ghost use Rattle.etherparse.specs.Fragments.{fragment};

@@ -1,11 +1,9 @@
 //! The definitions of names, of lists of calls and of what is answered to them, at literal
 //! fragments after RFC 791 and 8200.
-ghost use Rattle.std.specs.Prelude.{◌≡◌, ℕ, true, false, [], ◌∷◌, ◌++◌, List, None, Some};
-ghost use Rattle.std.specs.Prelude.{nat_eq, replicate};
+ghost use Rattle.std.specs.Prelude.{◌≡◌, ℕ, true, false, [], ◌∷◌, ◌++◌, List, None, Some, nat_eq, replicate};
 ghost use Rattle.std.specs.List.{IsDistinct};
 ghost use Rattle.std.specs.Map.{keys_of};
-ghost use Rattle.ep_base.specs.declared.len_source.LenSource.TheVariants.{Ipv4HeaderTotalLen};
-ghost use Rattle.ep_base.specs.declared.len_source.LenSource.TheVariants.{Ipv6HeaderPayloadLen};
+ghost use Rattle.ep_base.specs.declared.len_source.LenSource.TheVariants.{Ipv4HeaderTotalLen, Ipv6HeaderPayloadLen};
 ghost use Rattle.ep_base.specs.declared.net.ip_number.IpNumber.{IpNumber};
 ghost use Rattle.ep_packet.specs.Class.{FragmentName};
 ghost use Rattle.ep_packet.specs.Class.Class.{Cut, Other, Whole, Refused as Faulty};
@@ -20,20 +18,18 @@ ghost use Rattle.etherparse.specs.Room.{Room};
 ghost use Rattle.etherparse.specs.IpDefragPool.{same_id};
 ghost use Rattle.etherparse.specs.IpFragId.{id_named, same_name};
 ghost use Rattle.etherparse.specs.OpenReassemblies.{IsOpenCount};
-ghost use Rattle.etherparse.specs.PoolCalls.{FrameAnswered, HasMemory, Lists, CallsAnswered, ShowsLists};
-ghost use Rattle.etherparse.specs.PoolCalls.{after_frame, answer_to_frame, no_lists, retained_from};
-ghost use Rattle.etherparse.specs.PoolCalls.{memory_error_at, memory_error_at_frame};
+ghost use Rattle.etherparse.specs.PoolCalls.{FrameAnswered, HasMemory, Lists, CallsAnswered, ShowsLists, after_frame};
+ghost use Rattle.etherparse.specs.PoolCalls.{answer_to_frame, no_lists, retained_from, memory_error_at};
+ghost use Rattle.etherparse.specs.PoolCalls.{memory_error_at_frame};
 ghost use Rattle.etherparse.specs.Processed.{PacketsAreAnswered, MemoryErrorsAreReported};
 ghost use Rattle.etherparse.specs.ReassemblyTable.{Pool};
-ghost use Rattle.etherparse.specs.PoolCalls.CallResult.{Delivered, NoMemory, NotSliced, Nothing, Refused};
-ghost use Rattle.etherparse.specs.PoolCalls.CallResult.{Retained};
+ghost use Rattle.etherparse.specs.PoolCalls.CallResult.{Delivered, NoMemory, NotSliced, Nothing, Refused, Retained};
 ghost use Rattle.etherparse.specs.declared.defrag.ip_defrag_error.IpDefragError.TheVariants.{AllocationFailure};
 ghost use Rattle.etherparse.specs.declared.defrag.ip_defrag_error.IpDefragError.TheVariants.{ConflictingEnd};
 ghost use Rattle.etherparse.specs.declared.defrag.ip_defrag_error.IpDefragError.TheVariants.{OverlappingFragment};
 ghost use Rattle.etherparse.specs.declared.defrag.ip_frag_id.IpFragId.{IpFragId};
 ghost use Rattle.etherparse.specs.declared.defrag.pool_calls.PoolCall.TheVariants.{RetainFrom};
-ghost use Rattle.etherparse.specs.declared.defrag.ip_frag_version_spec_id.IpFragVersionSpecId.TheVariants.{Ipv4};
-ghost use Rattle.etherparse.specs.declared.defrag.ip_frag_version_spec_id.IpFragVersionSpecId.TheVariants.{Ipv6};
+ghost use Rattle.etherparse.specs.declared.defrag.ip_frag_version_spec_id.IpFragVersionSpecId.TheVariants.{Ipv4, Ipv6};
 
 use super::names::equal_names;
 

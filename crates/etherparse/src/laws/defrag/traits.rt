@@ -7,8 +7,7 @@ ghost use Rattle.etherparse.specs.IpDefragPool.{payload_parsed};
 ghost use Rattle.etherparse.specs.PoolCalls.{answer_result, request_of_call};
 ghost use Rattle.etherparse.specs.declared.defrag.ip_defrag_payload_vec.IpDefragPayloadVec.{IpDefragPayloadVec};
 ghost use Rattle.etherparse.specs.declared.defrag.ip_frag_id.IpFragId.{IpFragId};
-ghost use Rattle.etherparse.specs.declared.defrag.ip_frag_version_spec_id.IpFragVersionSpecId.TheVariants.{Ipv4};
-ghost use Rattle.etherparse.specs.declared.defrag.ip_frag_version_spec_id.IpFragVersionSpecId.TheVariants.{Ipv6};
+ghost use Rattle.etherparse.specs.declared.defrag.ip_frag_version_spec_id.IpFragVersionSpecId.TheVariants.{Ipv4, Ipv6};
 ghost use Rattle.etherparse.specs.declared.defrag.pool_calls.PoolCall.{PoolCall};
 ghost use Rattle.etherparse.specs.declared.defrag.pool_calls.PoolAnswer.{PoolAnswer};
 

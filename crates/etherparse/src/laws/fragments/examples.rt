@@ -1,8 +1,7 @@
 //! The definitions at literal fragments.
 ghost use Rattle.std.specs.Prelude.{◌≡◌, ◌≤◌, ℕ, true, false, [], ◌∷◌, ◌++◌, None, Some, replicate};
 ghost use Rattle.std.specs.List.{range_with_len};
-ghost use Rattle.etherparse.specs.Fragments.{accepted_count, fragment, with_all_accepted, greatest_end};
-ghost use Rattle.etherparse.specs.Fragments.{is_complete};
+ghost use Rattle.etherparse.specs.Fragments.{accepted_count, fragment, with_all_accepted, greatest_end, is_complete};
 ghost use Rattle.etherparse.specs.Fragments.{named_end, refusal_of, Covered};
 ghost use Rattle.etherparse.specs.Outcome.{outcome};
 ghost use Rattle.etherparse.specs.Outcome.Outcome.{Clash, Waiting};

@@ -1,6 +1,6 @@
 //! Laws of frames and packets whose IP packet was built.
-ghost use Rattle.std.specs.Prelude.{◌≡◌, ◌≤◌, ◌++◌, ℕ, true, false, List, [], ◌∷◌, length, Option};
-ghost use Rattle.std.specs.Prelude.{None, Some, Ok, Err, IsErr};
+ghost use Rattle.std.specs.Prelude.{◌≡◌, ◌≤◌, ◌++◌, ℕ, true, false, List, [], ◌∷◌, length, Option, None, Some, Ok, Err};
+ghost use Rattle.std.specs.Prelude.{IsErr};
 ghost use Rattle.ep_ext.specs.Chain.{Row};
 ghost use Rattle.ep_ext.specs.Link.{all_slots, first_named, pieces_in, with_links};
 ghost use Rattle.ep_ext.specs.Slot.{slot_of};
@@ -12,8 +12,8 @@ ghost use Rattle.ep_link.specs.Sll.{greatest_packet_type};
 ghost use Rattle.ep_link.specs.declared.link.ethernet2_header.Ethernet2Header.{Ethernet2Header};
 ghost use Rattle.ep_packet.specs.Class.{class_of, sliced_class};
 ghost use Rattle.ep_packet.specs.Class.Class.{Cut, Refused, Whole};
-ghost use Rattle.ep_packet.specs.Examples.{eight_bytes, frame_addresses, ipv4_addresses};
-ghost use Rattle.ep_packet.specs.Examples.{ipv6_fragment_frame, ipv6_destination, ipv6_source};
+ghost use Rattle.ep_packet.specs.Examples.{eight_bytes, frame_addresses, ipv4_addresses, ipv6_fragment_frame};
+ghost use Rattle.ep_packet.specs.Examples.{ipv6_destination, ipv6_source};
 ghost use Rattle.ep_packet.specs.IpHeaders.{is_fragmenting};
 ghost use Rattle.ep_packet.specs.Readable.{ReadMessage, message_at};
 ghost use Rattle.ep_packet.specs.declared.addresses.Addresses.TheVariants.{V6};
@@ -23,11 +23,9 @@ ghost use Rattle.ep_tag.specs.Vlan as vlan;
 ghost use Rattle.ep_tag.specs.declared.link.vlan_header.VlanHeader.{VlanHeader};
 ghost use Rattle.etherparse.specs.Built.{packet_with_number};
 ghost use Rattle.etherparse.specs.BuiltFrameExamples.{ipv4_part, ipv6_part, link_at_literals, two_tags};
-ghost use Rattle.etherparse.specs.BuiltFrames.{AuthFits, CookedPackets, FragmentFits, Frames};
-ghost use Rattle.etherparse.specs.BuiltFrames.{IpFits, NamesNone, Packets, TagsFit, addresses_in};
-ghost use Rattle.etherparse.specs.BuiltFrames.{after_cooked, fields_in, ethernet_packet, ids_in};
-ghost use Rattle.etherparse.specs.BuiltFrames.{fragment_with};
-ghost use Rattle.etherparse.specs.BuiltFrames.{without_link};
+ghost use Rattle.etherparse.specs.BuiltFrames.{AuthFits, CookedPackets, FragmentFits, Frames, IpFits, NamesNone};
+ghost use Rattle.etherparse.specs.BuiltFrames.{Packets, TagsFit, addresses_in, after_cooked, fields_in};
+ghost use Rattle.etherparse.specs.BuiltFrames.{ethernet_packet, ids_in, fragment_with, without_link};
 
 use super::builder::{ipv4_address_is_whole, ipv6_address_is_whole};
 use ep_base::IpNumber;

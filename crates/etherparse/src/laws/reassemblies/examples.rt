@@ -1,12 +1,11 @@
 //! The definitions at literal counts and times: the contract of each function is the law.
 ghost use denote.Ref.{Bor};
-ghost use Rattle.std.specs.Prelude.{◌≡◌, ◌≢◌, ◌≤◌, ℕ, Bool, true, false, [], ◌∷◌, None, Some, Ok, Err};
-ghost use Rattle.std.specs.Prelude.{nat_eq, nat_le, List};
+ghost use Rattle.std.specs.Prelude.{◌≡◌, ◌≢◌, ◌≤◌, ℕ, Bool, true, false, [], ◌∷◌, None, Some, Ok, Err, nat_eq, nat_le};
+ghost use Rattle.std.specs.Prelude.{List};
 ghost use Rattle.etherparse.specs.declared.defrag.ip_defrag_error.IpDefragError.TheVariants.{AllocationFailure};
 ghost use Rattle.etherparse.specs.declared.defrag.ip_defrag_error.IpDefragError.TheVariants.{ConflictingEnd};
 ghost use Rattle.etherparse.specs.declared.defrag.ip_defrag_error.IpDefragError.TheVariants.{OverlappingFragment};
-ghost use Rattle.etherparse.specs.Counts.{Bounded, Counts, held_after, open_in, sections_after};
-ghost use Rattle.etherparse.specs.Counts.{spare_after};
+ghost use Rattle.etherparse.specs.Counts.{Bounded, Counts, held_after, open_in, sections_after, spare_after};
 ghost use Rattle.etherparse.specs.ReassemblyTable.{MayTest, Pool, Retained};
 ghost use Rattle.etherparse.specs.declared.defrag.reassembly.Reassembly.{Reassembly};
 

@@ -1,8 +1,7 @@
 use Rattle.std.proofs.Common.{◌∙◌, length, sym}
 use Rattle.std.specs.Option.{option_map, option_or}
 use Rattle.etherparse.specs.Built.{refusal_of}
-use Rattle.etherparse_structs.specs.Plan.{field_of, lower_headers_in, headers_in, wrong_lower_headers}
-use Rattle.etherparse_structs.specs.Plan.{wrong_transport}
+use Rattle.etherparse_structs.specs.Plan.{field_of, lower_headers_in, headers_in, wrong_lower_headers, wrong_transport}
 use Rattle.etherparse_structs.proofs.PlanLemmas.{at_fault_after}
 use Rattle.etherparse_structs.proofs.build.append.Goals as goal
 

@@ -1,5 +1,4 @@
-use Rattle.std.proofs.Common.{rules, ◌∙◌, ◌++◌, ◌+◌, ◌-◌, sym, ap, drop, take, length}
-use Rattle.std.proofs.Common.{List, ℕ, arith, length-take}
+use Rattle.std.proofs.Common.{rules, ◌∙◌, ◌++◌, ◌+◌, ◌-◌, sym, ap, drop, take, length, List, ℕ, arith, length-take}
 use Rattle.std.proofs.lemmas.List.{take_rest}
 use Rattle.line_grammar.proofs.WordLemmas.{prefix_of_word, no_word, other_prefix, whole_word}
 use Rattle.line_grammar.proofs.line_head.read_word.Goals as goal

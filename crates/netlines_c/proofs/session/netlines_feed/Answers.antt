@@ -1,6 +1,5 @@
 use Rattle.std.proofs.Common.{◌∙◌, ap, length}
-use Rattle.netlines_c.proofs.FrameSessionLemmas.{answers_ended, taken_took, taken_written}
-use Rattle.netlines_c.proofs.FrameSessionLemmas.{ended_alike, took_of}
+use Rattle.netlines_c.proofs.FrameSessionLemmas.{answers_ended, taken_took, taken_written, ended_alike, took_of}
 use Rattle.netlines_c.proofs.session.netlines_feed.Goals as goal
 
 pub returns-then-has_ended-clause-session : goal.returns-then-has_ended-clause-session

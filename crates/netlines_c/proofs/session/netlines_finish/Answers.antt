@@ -1,6 +1,6 @@
 use Rattle.std.proofs.Common.{◌∙◌, ap, length, sym}
-use Rattle.netlines_c.proofs.FrameSessionLemmas.{ended_of, nothing_left, answers_ended}
-use Rattle.netlines_c.proofs.FrameSessionLemmas.{taken_took, ended_alike, took_of}
+use Rattle.netlines_c.proofs.FrameSessionLemmas.{ended_of, nothing_left, answers_ended, taken_took, ended_alike}
+use Rattle.netlines_c.proofs.FrameSessionLemmas.{took_of}
 use Rattle.netlines_c.proofs.session.netlines_finish.Goals as goal
 
 pub returns-then-has_ended-clause-answered : goal.returns-then-has_ended-clause-answered

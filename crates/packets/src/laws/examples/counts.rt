@@ -3,10 +3,8 @@
 ghost use Rattle.std.specs.Prelude.{◌≡◌, ℕ, [], ◌∷◌, true, false, None, Some, slice_index};
 ghost use Rattle.std.specs.Map.{keys_of};
 ghost use Rattle.ep_base.specs.declared.err.layer.Layer.TheVariants as layer;
-ghost use Rattle.packets.specs.Counts.{Counts, is_bad, is_completing, is_good, is_refused_fragment};
-ghost use Rattle.packets.specs.Counts.{is_unchecked};
-ghost use Rattle.packets.specs.Examples.{back_ends, ipv4_ends, ipv6_ends, page, outline_of_fragment};
-ghost use Rattle.packets.specs.Examples.{tally};
+ghost use Rattle.packets.specs.Counts.{Counts, is_bad, is_completing, is_good, is_refused_fragment, is_unchecked};
+ghost use Rattle.packets.specs.Examples.{back_ends, ipv4_ends, ipv6_ends, page, outline_of_fragment, tally};
 ghost use Rattle.packets.specs.Numbers.{number_tally};
 ghost use Rattle.packets.specs.Rate.{is_past_spans, span_at};
 ghost use Rattle.packets.specs.Table.{no_tally, tally_at};

@@ -1,8 +1,7 @@
 //! The headers of frames, those of Ethernet II frames by their own bytes, and those after a header
 //! that was made (RFC 894).
 
-ghost use Rattle.std.specs.Prelude.{◌≡◌, ◌-◌, ◌^◌, ◌++◌, [], ◌∷◌, replicate, None, Some, Ok, Err, IfOk};
-ghost use Rattle.std.specs.Prelude.{IsOk};
+ghost use Rattle.std.specs.Prelude.{◌≡◌, ◌-◌, ◌^◌, ◌++◌, [], ◌∷◌, replicate, None, Some, Ok, Err, IfOk, IsOk};
 ghost use Rattle.ep_base.specs.declared.err.layer.Layer.TheVariants as layer;
 ghost use Rattle.ep_base.specs.declared.len_source.LenSource.TheVariants as source;
 ghost use Rattle.ep_packet.specs.declared.err.packet.slice_error.SliceError.TheVariants as fault;

@@ -14,12 +14,10 @@ ghost use Rattle.ep_packet.specs.declared.sliced_packet.SlicedPacket.{SlicedPack
 ghost use Rattle.ep_tag.specs.declared.link.link_ext_slice.LinkExtSlice.TheVariants as tag;
 ghost use Rattle.ep_tag.specs.declared.link.macsec_slice.MacsecSlice.{MacsecSlice};
 ghost use Rattle.ep_tcpudp.specs.declared.err.tcp.header_error.HeaderError.TheVariants as tcp;
-ghost use Rattle.packets.specs.Examples.{arp_request, datagram_with, headers_over, ipv4_ends};
-ghost use Rattle.packets.specs.Examples.{ipv4_header, ipv6_ends, ipv6_header, message, no_headers};
-ghost use Rattle.packets.specs.Examples.{outline_of_fragment, refused, segment_with};
-ghost use Rattle.packets.specs.Outlines.{headers_of, is_ethernet, is_macsec, is_vlan};
-ghost use Rattle.packets.specs.Outlines.{message_refusal, net_of, outline_of, fragment_state_of, fragment_refusal};
-ghost use Rattle.packets.specs.Outlines.{refusal_of};
+ghost use Rattle.packets.specs.Examples.{arp_request, datagram_with, headers_over, ipv4_ends, ipv4_header, ipv6_ends};
+ghost use Rattle.packets.specs.Examples.{ipv6_header, message, no_headers, outline_of_fragment, refused, segment_with};
+ghost use Rattle.packets.specs.Outlines.{headers_of, is_ethernet, is_macsec, is_vlan, message_refusal, net_of};
+ghost use Rattle.packets.specs.Outlines.{outline_of, fragment_state_of, fragment_refusal, refusal_of};
 ghost use Rattle.packets.specs.declared.dissection.Fragment.TheVariants as fragment;
 ghost use Rattle.packets.specs.declared.outline.Net.TheVariants as net;
 ghost use Rattle.packets.specs.declared.outline.FragmentState.TheVariants as state;

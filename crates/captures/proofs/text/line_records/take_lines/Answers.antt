@@ -1,9 +1,8 @@
-use Rattle.std.proofs.Common.{rules, arith, ◌≡◌, ◌∙◌, ◌+◌, ◌-◌, ◌<◌, sym, ap, subst, refl, length}
-use Rattle.std.proofs.Common.{take, drop, ℕ, List, Some, None}
+use Rattle.std.proofs.Common.{rules, arith, ◌≡◌, ◌∙◌, ◌+◌, ◌-◌, ◌<◌, sym, ap, subst, refl, length, take, drop, ℕ, List}
+use Rattle.std.proofs.Common.{Some, None}
 use Rattle.std.proofs.lemmas.List.{length-drop}
 use Rattle.line_grammar.specs.TimedLines.{timed_frame_of}
-use Rattle.captures.proofs.TextLemmas.{taking_line, found_line, none_found, left_line, left_bad}
-use Rattle.captures.proofs.TextLemmas.{after_line}
+use Rattle.captures.proofs.TextLemmas.{taking_line, found_line, none_found, left_line, left_bad, after_line}
 use Rattle.captures.proofs.text.line_records.take_lines.Goals as goal
 
 pub returns-in_default-append_record-clause-takes : goal.returns-in_default-append_record-clause-takes

@@ -1,5 +1,5 @@
-use Rattle.std.proofs.Common.{◌∙◌, ◌++◌, sym, ap, subst, arith, append_assoc, length-append, length}
-use Rattle.std.proofs.Common.{List, [], ℕ, None, Some}
+use Rattle.std.proofs.Common.{◌∙◌, ◌++◌, sym, ap, subst, arith, append_assoc, length-append, length, List, [], ℕ, None}
+use Rattle.std.proofs.Common.{Some}
 use Rattle.captures.specs.Dropped.{last_of}
 use Rattle.captures.specs.Units.{HasUnit}
 use Rattle.captures.specs.declared.capture_error.CaptureError.TheVariants.{BadBlock}

@@ -1,9 +1,8 @@
 use Rattle.std.proofs.Common.{rules}
-use Rattle.device_runs.proofs.KnownLemmas.{Goes-reader_writer, goes_memory, goes_end, goes_transfer}
-use Rattle.device_runs.proofs.KnownLemmas.{goes_too_many}
+use Rattle.device_runs.proofs.KnownLemmas.{Goes-reader_writer, goes_memory, goes_end, goes_transfer, goes_too_many}
 use Rattle.device_runs.specs.declared.limits.TheConstants.{READ_COUNT_LIMIT}
 use Rattle.captures.specs.Endings.{cause, ending_of}
-use Rattle.captures.specs.Runs.{capture_to_lines}
+use Rattle.captures.specs.CaptureRuns.{capture_to_lines}
 use Rattle.captures.proofs.KnownLemmas.{passed_known, runs_ok}
 use Rattle.captures.proofs.translation.run_captures.run.Goals as goal
 

@@ -1,13 +1,12 @@
-use Rattle.std.proofs.Common.{rules, arith, ◌≡◌, ◌∙◌, ◌<◌, ◌≤◌, ◌+◌, ◌-◌, sym, ap, refl, subst, ℕ, List}
-use Rattle.std.proofs.Common.{take, drop, length, length-take, length-append}
+use Rattle.std.proofs.Common.{rules, arith, ◌≡◌, ◌∙◌, ◌<◌, ◌≤◌, ◌+◌, ◌-◌, sym, ap, refl, subst, ℕ, List, take, drop}
+use Rattle.std.proofs.Common.{length, length-take, length-append}
 use Rattle.std.proofs.lemmas.Result.{err_from_is_err_and}
 use borrow.Rule.Slice.PartMut.{put_mid}
 use Rattle.captures.specs.declared.limits.TheConstants.{INPUT_CAPACITY}
 use Rattle.captures.proofs.BufferLemmas.{some_read, read_nothing, moved_to_start}
-use Rattle.captures.proofs.Translating.{Translated, translating_start, header_stops}
-use Rattle.captures.proofs.Translating.{translating_more, translating_stops, translating_refused}
-use Rattle.captures.proofs.Translating.{translating_fails, finish_stops, finish_ends}
-use Rattle.captures.proofs.Translating.{translating_all, translating_by}
+use Rattle.captures.proofs.Translating.{Translated, translating_start, header_stops, translating_more}
+use Rattle.captures.proofs.Translating.{translating_stops, translating_refused, translating_fails, finish_stops}
+use Rattle.captures.proofs.Translating.{finish_ends, translating_all, translating_by}
 use Rattle.captures.proofs.translation.translator.translate_reads.Goals as goal
 
 pub returns-in_err-write_whole-clause-ends : goal.returns-in_err-write_whole-clause-ends

@@ -1,11 +1,9 @@
-use Rattle.std.proofs.Common.{◌≡◌, ℕ, ◌-◌, ◌≤◌, length, drop, arith, rules, inr, ap, subst, sym}
-use Rattle.std.proofs.Common.{◌∙◌}
+use Rattle.std.proofs.Common.{◌≡◌, ℕ, ◌-◌, ◌≤◌, length, drop, arith, rules, inr, ap, subst, sym, ◌∙◌}
 use Rattle.ep_ext.specs.Auth.{auth_len}
 use Rattle.ep_ext.specs.Limited.{Refuses}
 use Rattle.ep_ext.specs.Reads.{RefusesAuthWithin}
 use Rattle.ep_ext.specs.declared.err.ip_auth.header_limited_read_error.HeaderLimitedReadError.{HeaderLimitedReadError}
-use Rattle.ep_ext.proofs.Reading.{requested, auth_written, auth_len_again, takes_both}
-use Rattle.ep_ext.proofs.Reading.{auth_within}
+use Rattle.ep_ext.proofs.Reading.{requested, auth_written, auth_len_again, takes_both, auth_within}
 use Rattle.ep_ext.proofs.net.ip_auth_header_read.read_bytes_limited.Goals as goal
 
 pub returns-in-Ok-read_exact-clause-found : goal.returns-in-Ok-read_exact-clause-found

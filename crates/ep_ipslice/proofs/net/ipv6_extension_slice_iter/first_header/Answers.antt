@@ -1,13 +1,12 @@
-use Rattle.std.proofs.Common.{◌≡◌, ◌∙◌, ℕ, List, Option, IsSome, get_or, length, eqb-true, sym, ap}
-use Rattle.std.proofs.Common.{subst, refl, arith}
+use Rattle.std.proofs.Common.{◌≡◌, ◌∙◌, ℕ, List, Option, IsSome, get_or, length, eqb-true, sym, ap, subst, refl, arith}
 use Rattle.std.proofs.lemmas.Bool.{eqb-false}
 use Rattle.ep_ext.specs.Chain.{IsPiece}
 use Rattle.ep_ext.specs.Value.{Piece, bytes_of}
 use Rattle.ep_ext.specs.declared.net.ipv6_ext_slot.Ipv6ExtSlot.{Ipv6ExtSlot}
 use Rattle.ep_ipslice.specs.Ipv6Ext.{ext_len, ext_of, piece_of}
 use Rattle.ep_ipslice.proofs.Cuts.{split_prefix, drop_is}
-use Rattle.ep_ipslice.proofs.Left.{first_of, first_has_slot, first_len, first_fits, first_piece}
-use Rattle.ep_ipslice.proofs.Left.{none_left, some_slot, left_after}
+use Rattle.ep_ipslice.proofs.Left.{first_of, first_has_slot, first_len, first_fits, first_piece, none_left, some_slot}
+use Rattle.ep_ipslice.proofs.Left.{left_after}
 use Rattle.ep_ipslice.proofs.net.ipv6_extension_slice_iter.first_header.Goals as goal
 
 pub returns-then-is_empty : goal.returns-then-is_empty

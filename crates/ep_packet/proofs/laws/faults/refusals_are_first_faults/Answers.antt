@@ -1,6 +1,5 @@
-use Rattle.ep_packet.proofs.FrameFaults.{FaultsAreFirst, cooked_fault, ether_type_fault}
-use Rattle.ep_packet.proofs.FrameFaults.{ether_type_headers_fault, ethernet_fault}
-use Rattle.ep_packet.proofs.FrameFaults.{ethernet_headers_fault, ip_packet_fault}
+use Rattle.ep_packet.proofs.FrameFaults.{FaultsAreFirst, cooked_fault, ether_type_fault, ether_type_headers_fault}
+use Rattle.ep_packet.proofs.FrameFaults.{ethernet_fault, ethernet_headers_fault, ip_packet_fault}
 use Rattle.ep_packet.proofs.FrameFaults.{ip_packet_headers_fault}
 use Rattle.ep_packet.proofs.laws.faults.refusals_are_first_faults.Goals as goal
 

@@ -1,14 +1,13 @@
-use Rattle.std.proofs.Common.{◌≡◌, ◌∙◌, List, [], sym, ap, subst, Ok, Err, ◌+◌, ◌-◌, ◌≤◌, length}
-use Rattle.std.proofs.Common.{arith}
+use Rattle.std.proofs.Common.{◌≡◌, ◌∙◌, List, [], sym, ap, subst, Ok, Err, ◌+◌, ◌-◌, ◌≤◌, length, arith}
 use Rattle.ep_packet.specs.SliceFault.{fault_offset}
 use Rattle.ep_packet.specs.Tags.{tags_in}
 use Rattle.ep_tag.specs.declared.link.link_ext_slice.LinkExtSlice.{LinkExtSlice}
 use Rattle.ep_packet.specs.declared.err.packet.slice_error.SliceError.{SliceError}
 use Rattle.ep_packet.proofs.FaultLemmas.{offset_moved}
-use Rattle.ep_packet.proofs.PartsLemmas.{Passed, ended_with, ended_without, next_at, nothing_passed}
-use Rattle.ep_packet.proofs.PartsLemmas.{passed_fits, passed_more, tag_found}
-use Rattle.ep_packet.proofs.TagsLemmas.{ends_faulty, ends_full, ends_untagged, goes_on_none}
-use Rattle.ep_packet.proofs.TagsLemmas.{goes_on_some, joined, joined_nothing}
+use Rattle.ep_packet.proofs.PartsLemmas.{Passed, ended_with, ended_without, next_at, nothing_passed, passed_fits}
+use Rattle.ep_packet.proofs.PartsLemmas.{passed_more, tag_found}
+use Rattle.ep_packet.proofs.TagsLemmas.{ends_faulty, ends_full, ends_untagged, goes_on_none, goes_on_some, joined}
+use Rattle.ep_packet.proofs.TagsLemmas.{joined_nothing}
 use Rattle.ep_packet.proofs.tagged_slice.TaggedSlice.from_ether_payload.Goals as goal
 
 pub returns-in-Ok-None-clause-tags : goal.returns-in-Ok-None-clause-tags

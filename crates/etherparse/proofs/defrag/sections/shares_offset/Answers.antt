@@ -1,6 +1,5 @@
 use Rattle.std.proofs.Common.{arith, refl}
-use Rattle.etherparse.proofs.Sharing.{none_before, none_more, shared_at, none_at_all, none_after}
-use Rattle.etherparse.proofs.Sharing.{none_past}
+use Rattle.etherparse.proofs.Sharing.{none_before, none_more, shared_at, none_at_all, none_after, none_past}
 use Rattle.etherparse.proofs.defrag.sections.shares_offset.Goals as goal
 
 pub returns-then-sections-len : goal.returns-then-sections-len

@@ -1,6 +1,5 @@
 use Rattle.std.proofs.Common.{None, Some}
-use Rattle.etherparse_structs.proofs.PoolLemmas.{answered_then, kept_none, kept_some, put_keeps}
-use Rattle.etherparse_structs.proofs.PoolLemmas.{show_of, taken_show}
+use Rattle.etherparse_structs.proofs.PoolLemmas.{answered_then, kept_none, kept_some, put_keeps, show_of, taken_show}
 use Rattle.etherparse_structs.proofs.pool.EpPool.add.Goals as goal
 
 pub returns-clause-answered : goal.returns-clause-answered

@@ -2,11 +2,10 @@ use Rattle.std.proofs.Common.{◌∙◌, subst, refl, List, ℕ}
 use Rattle.std.proofs.lemmas.Result.{err_from_is_err_and}
 use Rattle.device_runs.specs.Writes.{Written, Delivers}
 use Rattle.lines.specs.Endings.{cause}
-use Rattle.lines.proofs.WriteLemmas.{Left, Left-all, Left-none, Gathers-left, Gathers-memory}
-use Rattle.lines.proofs.WriteLemmas.{Gathers-stops, cause_fails}
+use Rattle.lines.proofs.WriteLemmas.{Left, Left-all, Left-none, Gathers-left, Gathers-memory, Gathers-stops}
+use Rattle.lines.proofs.WriteLemmas.{cause_fails}
 use Rattle.lines.proofs.answer_buffer.AnswerBuffer.push.Goals as goal
-use Rattle.lines.proofs.answer_buffer.AnswerBuffer.push.Goals.{then-not-has_room+in_ok-write_out}
-use Rattle.lines.proofs.answer_buffer.AnswerBuffer.push.Goals.{else-not-has_room}
+use Rattle.lines.proofs.answer_buffer.AnswerBuffer.push.Goals.{then-not-has_room+in_ok-write_out, else-not-has_room}
 
 pub returns-in-Ok-clause-gathers : goal.returns-in-Ok-clause-gathers
 returns-in-Ok-clause-gathers g c earlier line shows numbered =

@@ -1,8 +1,8 @@
-use Rattle.std.proofs.Common.{◌≡◌, ◌++◌, ◌+◌, ◌-◌, ◌∷◌, ◌∙◌, sym, ap, subst, take, drop, length}
-use Rattle.std.proofs.Common.{get_or, List, [], ℕ, eqb-true, arith, length-drop}
+use Rattle.std.proofs.Common.{◌≡◌, ◌++◌, ◌+◌, ◌-◌, ◌∷◌, ◌∙◌, sym, ap, subst, take, drop, length, get_or, List, [], ℕ}
+use Rattle.std.proofs.Common.{eqb-true, arith, length-drop}
 use Rattle.std.proofs.lemmas.Result.{err_from_is_err_and}
-use Rattle.lines.proofs.Feeding.{Fed, fed_start, fed_line, fed_fails, fed_written, fed_started}
-use Rattle.lines.proofs.Feeding.{found_end, found_none, after_line}
+use Rattle.lines.proofs.Feeding.{Fed, fed_start, fed_line, fed_fails, fed_written, fed_started, found_end, found_none}
+use Rattle.lines.proofs.Feeding.{after_line}
 use Rattle.lines.proofs.LineLemmas.{on_ok}
 use Rattle.device_runs.specs.Endings.{Done}
 use Rattle.device_runs.specs.Writes.{Delivers}

@@ -3,10 +3,9 @@ use Rattle.std.proofs.KnownBytes.{Appends-nil, Consumes-nil}
 use Rattle.std.specs.Io.KnownBytes.{Consumes}
 use Rattle.captures.specs.Readers.{source_of}
 use Rattle.packets.specs.Courses.{shown}
-use Rattle.packets.specs.Runs.{AreTaken, EndsBy}
+use Rattle.packets.specs.PacketRuns.{AreTaken, EndsBy}
 use Rattle.packets.specs.Written.{WritesLines}
-use Rattle.packets.proofs.EndLemmas.{break_ends, either_way, ends_taken, nothing_first}
-use Rattle.packets.proofs.EndLemmas.{weaker_unbroken}
+use Rattle.packets.proofs.EndLemmas.{break_ends, either_way, ends_taken, nothing_first, weaker_unbroken}
 use Rattle.packets.proofs.LineLemmas.{Break, Wait, ended_broken, ended_whole}
 use Rattle.packets.proofs.run.line_writer.write_lines.Goals as goal
 

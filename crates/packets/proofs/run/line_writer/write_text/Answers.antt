@@ -1,7 +1,7 @@
 use Rattle.std.proofs.Common.{rules, subst, true, ◌≡◌, ◌++◌, List, ℕ}
 use Rattle.std.specs.Io.KnownBytes.{Appends}
 use Rattle.std.specs.contracts.io.impls.EmptyRead.TheImpl.{ghosts}
-use Rattle.packets.specs.Runs.{BreaksBy}
+use Rattle.packets.specs.PacketRuns.{BreaksBy}
 use Rattle.packets.proofs.EndLemmas.{weaker_break}
 use Rattle.packets.proofs.WriteLemmas.{stops_appends, written_appends}
 use Rattle.packets.proofs.run.line_writer.write_text.Goals as goal

@@ -2,7 +2,7 @@ use Rattle.std.proofs.Common.{refl, sym, subst, [], false}
 use Rattle.std.proofs.KnownBytes.{Consumes-nil}
 use Rattle.std.specs.Io.KnownBytes.{Consumes}
 use Rattle.captures.specs.Readers.{source_of}
-use Rattle.packets.specs.Runs.{EndsBy}
+use Rattle.packets.specs.PacketRuns.{EndsBy}
 use Rattle.packets.proofs.EndLemmas.{nothing_first, unbroken_always, weaker_out_of_memory}
 use Rattle.packets.proofs.WalkLemmas.{counted_none}
 use Rattle.packets.proofs.run.summarize.summarize.Goals as goal

@@ -2,7 +2,7 @@ use Rattle.std.proofs.Common.{sym, subst, ◌++◌, append-nil, List, [], ℕ, O
 use Rattle.std.proofs.KnownBytes.{Consumes-nil}
 use Rattle.std.specs.Io.KnownBytes.{Consumes}
 use Rattle.captures.specs.Readers.{ComesTo, skipped_by, source_of}
-use Rattle.packets.specs.Runs.{AreTaken}
+use Rattle.packets.specs.PacketRuns.{AreTaken}
 use Rattle.packets.proofs.EndLemmas.{break_ends, broken}
 use Rattle.packets.proofs.WalkLemmas.{given_but_none, reader_ends, unbroken_by_read}
 use Rattle.packets.proofs.run.walk.go_on.Goals as goal

@@ -1,5 +1,4 @@
-use Rattle.std.proofs.Common.{◌∙◌, sym, ap, subst, ◌+◌, ◌++◌, ◌∷◌, [], ℕ, Option, Some}
-use Rattle.std.proofs.Common.{append-nil, cond}
+use Rattle.std.proofs.Common.{◌∙◌, sym, ap, subst, ◌+◌, ◌++◌, ◌∷◌, [], ℕ, Option, Some, append-nil, cond}
 use Rattle.captures.specs.Numbers.{capped}
 use Rattle.etherparse.specs.PoolCalls.{lists_with_frame}
 use Rattle.ep_packet.specs.Class.{sliced_class}

@@ -1,13 +1,11 @@
-use Rattle.std.proofs.Common.{◌∙◌, sym, refl, subst, ◌++◌, ◌∷◌, List, [], Err}
-use Rattle.std.proofs.Common.{arith, length-append, inr}
+use Rattle.std.proofs.Common.{◌∙◌, sym, refl, subst, ◌++◌, ◌∷◌, List, [], Err, arith, length-append, inr}
 use Rattle.std.proofs.KnownBytes.{Consumes-nil, Consumes-trans}
 use Rattle.captures.specs.Readers.{HasRead, source_of}
 use Rattle.captures.specs.declared.packet.Packet.{Packet}
 use Rattle.packets.specs.Courses.{Course, HasCourse, course_after, no_course, shown}
 use Rattle.packets.specs.declared.dissection.Dissection.{Dissection}
 use Rattle.packets.proofs.EndLemmas.{unless_out_of_memory}
-use Rattle.packets.proofs.WalkLemmas.{course_more, dissected_more, first_but_last, first_given}
-use Rattle.packets.proofs.WalkLemmas.{same_packet, shown_more}
+use Rattle.packets.proofs.WalkLemmas.{course_more, dissected_more, first_but_last, first_given, same_packet, shown_more}
 use Rattle.packets.proofs.run.walk.walk.Goals as goal
 
 pub packets-init : goal.packets-init

@@ -1,5 +1,4 @@
-use Rattle.std.proofs.Common.{◌≢◌, ◌<◌, arith, rules, length, below_more}
-use Rattle.std.proofs.Common.{get_or-set_other, get_or-set_same}
+use Rattle.std.proofs.Common.{◌≢◌, ◌<◌, arith, rules, length, below_more, get_or-set_other, get_or-set_same}
 use Rattle.packets.proofs.summary.rate.joined.Goals as goal
 
 pub pairs-preserved : goal.pairs-preserved

@@ -1,8 +1,7 @@
 use Rattle.std.proofs.Common.{arith, drop, inl, inr, refl, take, List, [], ◌∷◌, ℕ, ◌≡◌}
 use Rattle.std.specs.Prelude.{replicate, slice_set}
-use Rattle.captures.specs.Examples.{cooked_packet, cut_simple_block, described_section}
-use Rattle.captures.specs.Examples.{enhanced_block, interface_block, longer_packet, origin_at}
-use Rattle.captures.specs.Examples.{packet_at, section_block, simple_block}
+use Rattle.captures.specs.Examples.{cooked_packet, cut_simple_block, described_section, enhanced_block, interface_block}
+use Rattle.captures.specs.Examples.{longer_packet, origin_at, packet_at, section_block, simple_block}
 use Rattle.captures.specs.Lines.{Packet}
 use Rattle.captures.specs.Pcapng.Content.{Opens, Describes, Holds}
 use Rattle.captures.specs.Skipping.{passing_from}

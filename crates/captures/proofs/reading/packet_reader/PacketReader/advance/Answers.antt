@@ -1,10 +1,8 @@
-use Rattle.std.proofs.Common.{◌∙◌, ap, refl, subst, ℕ, ◌+◌, ◌<◌, arith, List, ◌++◌, length}
-use Rattle.std.proofs.Common.{append_assoc, append-nil}
+use Rattle.std.proofs.Common.{◌∙◌, ap, refl, subst, ℕ, ◌+◌, ◌<◌, arith, List, ◌++◌, length, append_assoc, append-nil}
 use Rattle.captures.specs.Readers.{HasRead}
-use Rattle.captures.proofs.AdvanceLemmas.{comes_end, comes_failed, comes_refused, comes_too_many}
-use Rattle.captures.proofs.AdvanceLemmas.{same_refused, same_stopped}
-use Rattle.captures.proofs.ReadLemmas.{consumes_end, consumes_kept, consumes_more, no_chunk}
-use Rattle.captures.proofs.ReadLemmas.{reads_more}
+use Rattle.captures.proofs.AdvanceLemmas.{comes_end, comes_failed, comes_refused, comes_too_many, same_refused}
+use Rattle.captures.proofs.AdvanceLemmas.{same_stopped}
+use Rattle.captures.proofs.ReadLemmas.{consumes_end, consumes_kept, consumes_more, no_chunk, reads_more}
 use Rattle.captures.proofs.reading.packet_reader.PacketReader.advance.Goals as goal
 
 pub returns-in-Ok-true-clause-comes : goal.returns-in-Ok-true-clause-comes

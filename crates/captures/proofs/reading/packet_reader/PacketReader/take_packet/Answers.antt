@@ -1,5 +1,5 @@
-use Rattle.std.proofs.Common.{◌∙◌, sym, ap, refl, subst, ℕ, ◌+◌, ◌-◌, ◌^◌, List, [], ◌++◌}
-use Rattle.std.proofs.Common.{length, append-nil, Option, Some}
+use Rattle.std.proofs.Common.{◌∙◌, sym, ap, refl, subst, ℕ, ◌+◌, ◌-◌, ◌^◌, List, [], ◌++◌, length, append-nil, Option}
+use Rattle.std.proofs.Common.{Some}
 use Rattle.std.specs.Prelude.{min}
 use Rattle.captures.specs.Dropped.{IsDropped, last_of}
 use Rattle.captures.specs.PacketSteps.{IsFirst}

@@ -1,5 +1,4 @@
-use Rattle.std.proofs.Common.{rules, arith, ◌≡◌, ◌∙◌, sym, ap}
-use Rattle.std.proofs.Common.{drop}
+use Rattle.std.proofs.Common.{rules, arith, ◌≡◌, ◌∙◌, sym, ap, drop}
 use Rattle.captures.proofs.ClockLemmas.{long_enough, options_end, options_more}
 use Rattle.captures.proofs.time.clock.Clock.of.Goals as goal
 

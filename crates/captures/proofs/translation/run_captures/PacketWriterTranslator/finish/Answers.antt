@@ -1,6 +1,6 @@
 use Rattle.std.proofs.Common.{arith, sym, ap, ◌∙◌, ◌≡◌, length, take}
 use Rattle.std.proofs.lemmas.List.{length-take-le}
-use Rattle.captures.specs.Runs.{at_position}
+use Rattle.captures.specs.CaptureRuns.{at_position}
 use Rattle.captures.proofs.Reporting.{reports_end}
 use Rattle.captures.proofs.translation.run_captures.PacketWriterTranslator.finish.Goals as goal
 

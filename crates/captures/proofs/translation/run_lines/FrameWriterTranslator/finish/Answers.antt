@@ -1,5 +1,5 @@
-use Rattle.std.proofs.Common.{arith, ◌≡◌, ◌<◌, ◌+◌, ◌++◌, ◌∷◌, [], sym, ap, subst, List, ℕ, length}
-use Rattle.std.proofs.Common.{take, slice_set, append-nil, Ok}
+use Rattle.std.proofs.Common.{arith, ◌≡◌, ◌<◌, ◌+◌, ◌++◌, ◌∷◌, [], sym, ap, subst, List, ℕ, length, take, slice_set}
+use Rattle.std.proofs.Common.{append-nil, Ok}
 use Rattle.std.proofs.lemmas.List.{length-take-le, take_more_set}
 use Rattle.captures.specs.Texts.{lines_to_capture}
 use Rattle.captures.specs.Translations.{Finishes}

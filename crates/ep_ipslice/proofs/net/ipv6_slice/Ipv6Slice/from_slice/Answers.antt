@@ -6,9 +6,8 @@ use Rattle.ep_ipslice.specs.Ipv6Exts.{exts_of, view_order}
 use Rattle.ep_ipslice.specs.Ipv6Fault.{IsIpv6Fault, IsRowFault, OfExtensions}
 use Rattle.ep_ipslice.specs.Packet.{Ipv6Packet, IsIpv6Packet, body_source}
 use Rattle.ep_ipslice.proofs.Ipv6At.{found_exactly}
-use Rattle.ep_ipslice.proofs.Ipv6Parts.{body_fits, prefix_fault, never_refused, packet_body}
-use Rattle.ep_ipslice.proofs.Ipv6Parts.{packet_by_itself, packet_chain, packet_found, packet_same}
-use Rattle.ep_ipslice.proofs.Ipv6Parts.{payload_same, row_fault}
+use Rattle.ep_ipslice.proofs.Ipv6Parts.{body_fits, prefix_fault, never_refused, packet_body, packet_by_itself}
+use Rattle.ep_ipslice.proofs.Ipv6Parts.{packet_chain, packet_found, packet_same, payload_same, row_fault}
 use Rattle.ep_ipslice.proofs.net.ipv6_slice.Ipv6Slice.from_slice.Goals as goal
 
 abbrev packet : goal.After-is_fragmenting_payload-fragmented → Ipv6Packet

@@ -5,8 +5,7 @@ use Rattle.ep_ipslice.specs.Ipv6Fault.{IsFaultIn, IsRowFault, OfExtensions}
 use Rattle.ep_packet.specs.ReadIpHeaders.{IsIpv6Headers}
 use Rattle.ep_packet.specs.declared.net.ip_headers.IpHeaders.TheVariants.{Ipv6}
 use Rattle.ep_packet.proofs.HeadersAt.{found_exactly}
-use Rattle.ep_packet.proofs.ReadHeaders.{Parts, chain_same, prefix_fault, ipv6_found, ipv6_only}
-use Rattle.ep_packet.proofs.ReadHeaders.{never_refused}
+use Rattle.ep_packet.proofs.ReadHeaders.{Parts, chain_same, prefix_fault, ipv6_found, ipv6_only, never_refused}
 use Rattle.ep_packet.proofs.net.ip_headers.IpHeaders.from_ipv6_slice.Goals as goal
 
 abbrev parts : goal.After-to_header → Parts

@@ -6,8 +6,7 @@ use Rattle.ep_ipslice.specs.declared.err.ip.headers_error.HeadersError.TheVarian
 use Rattle.ep_ipslice.specs.declared.err.ip.headers_slice_error.HeadersSliceError.TheVariants as headers
 use Rattle.ep_ipslice.specs.declared.err.ip.slice_error.SliceError.TheVariants.{Len, IpHeaders}
 use Rattle.ep_ipslice.specs.IpSlice.{no_version, NoBytes, OtherVersion, OfIpv4, OfIpv6}
-use Rattle.ep_packet.proofs.ReadHeaders.{ipv4_refused, of_four, of_six, refusal_as, same_as}
-use Rattle.ep_packet.proofs.ReadHeaders.{some_bytes}
+use Rattle.ep_packet.proofs.ReadHeaders.{ipv4_refused, of_four, of_six, refusal_as, same_as, some_bytes}
 use Rattle.ep_packet.proofs.net.ip_headers.IpHeaders.from_slice.Goals as goal
 
 pub returns-then-is_empty-clause-refused : goal.returns-then-is_empty-clause-refused

@@ -1,7 +1,6 @@
 use Rattle.std.proofs.Common.{ap, sym, ◌∙◌}
 use Rattle.ep_tcpudp.specs.Options.{items_of}
-use Rattle.ep_tcpudp.proofs.OptionsItems.{items-end, none_after, step_ok, step_err, rest_ok}
-use Rattle.ep_tcpudp.proofs.OptionsItems.{progress}
+use Rattle.ep_tcpudp.proofs.OptionsItems.{items-end, none_after, step_ok, step_err, rest_ok, progress}
 use Rattle.ep_tcpudp.proofs.transport.tcp_options_iterator.TcpOptionsIteratorIterator.next.Goals as goal
 
 pub returns-then-is_end-clause-steps : goal.returns-then-is_end-clause-steps

@@ -1,8 +1,7 @@
 use Rattle.std.proofs.Common.{arith, ap, inl, subst}
 use Rattle.etherparse.specs.Fragments.{fragment}
 use Rattle.etherparse.specs.IpDefragBuf.{Contents, ShowsAccepted}
-use Rattle.etherparse.proofs.Found.{accepted_again, at_index, looked, only_again, refused_at_clash}
-use Rattle.etherparse.proofs.Found.{shows_repeat}
+use Rattle.etherparse.proofs.Found.{accepted_again, at_index, looked, only_again, refused_at_clash, shows_repeat}
 use Rattle.etherparse.proofs.defrag.ip_defrag_buf.IpDefragBuf.add.Goals as goal
 
 pub returns-in-Repeat-clause-accepted : goal.returns-in-Repeat-clause-accepted

@@ -3,13 +3,11 @@ use Rattle.std.proofs.lemmas.List.{take_all}
 use Rattle.std.proofs.lemmas.Result.{err_from_is_err_and}
 use Rattle.etherparse.specs.Fragments.{Fragment, fragment, with_all_accepted}
 use Rattle.etherparse.specs.IpDefragBuf.{Shows, rule_of}
-use Rattle.etherparse.proofs.Accepted.{accepted_more, count_more, counted_more, stops}
-use Rattle.etherparse.proofs.Accepted.{same_refusal, same_shown}
+use Rattle.etherparse.proofs.Accepted.{accepted_more, count_more, counted_more, stops, same_refusal, same_shown}
 use Rattle.etherparse.proofs.Complete.{whole_iff}
 use Rattle.etherparse.proofs.Rooms.{no_less_more}
 use Rattle.etherparse.proofs.defrag.ip_defrag_buf.IpDefragBuf.add_all.Goals as goal
-use Rattle.etherparse.proofs.defrag.ip_defrag_buf.IpDefragBuf.add_all.Goals.{then-branch}
-use Rattle.etherparse.proofs.defrag.ip_defrag_buf.IpDefragBuf.add_all.Goals.{else-branch}
+use Rattle.etherparse.proofs.defrag.ip_defrag_buf.IpDefragBuf.add_all.Goals.{then-branch, else-branch}
 
 pub returns-in_err-accept-clause-err : goal.returns-in_err-accept-clause-err
 returns-in_err-accept-clause-err c fs shows =

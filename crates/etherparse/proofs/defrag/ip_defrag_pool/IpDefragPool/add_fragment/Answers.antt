@@ -2,8 +2,7 @@ use Rattle.std.proofs.Common.{refl}
 use Rattle.etherparse.proofs.Returned.{none_reported, whole_reported}
 use Rattle.etherparse.proofs.KeptMemory.{keeps_error, keeps_returned, keeps_nothing}
 use Rattle.etherparse.proofs.defrag.ip_defrag_pool.IpDefragPool.add_fragment.Goals as goal
-use Rattle.etherparse.proofs.defrag.ip_defrag_pool.IpDefragPool.add_fragment.Goals.{in-Ok-Some, in-Ok-None}
-use Rattle.etherparse.proofs.defrag.ip_defrag_pool.IpDefragPool.add_fragment.Goals.{in-Err}
+use Rattle.etherparse.proofs.defrag.ip_defrag_pool.IpDefragPool.add_fragment.Goals.{in-Ok-Some, in-Ok-None, in-Err}
 
 pub returns-clause-accepted : goal.returns-clause-accepted
 returns-clause-accepted g c fs shows =

@@ -1,5 +1,4 @@
-use Rattle.std.proofs.Common.{◌≡◌, subst, sym, refl, inl, inr, true, ℕ, List, [], ◌∷◌, Option, None, Some}
-use Rattle.std.proofs.Common.{replicate}
+use Rattle.std.proofs.Common.{◌≡◌, subst, sym, refl, inl, inr, true, ℕ, List, [], ◌∷◌, Option, None, Some, replicate}
 use Rattle.std.specs.Map.{lookup}
 use Rattle.std.specs.Prelude.{nat_eq}
 use Rattle.etherparse.specs.declared.defrag.ip_defrag_error.IpDefragError.TheVariants.{UnalignedFragmentPayloadLen}

@@ -1,5 +1,5 @@
-use Rattle.std.proofs.Common.{◌≡◌, ◌∙◌, ap, arith, inl, inr, refl, zero, suc, ◌<◌, ℕ, true, false}
-use Rattle.std.proofs.Common.{get_or, replicate, List, [], ◌∷◌}
+use Rattle.std.proofs.Common.{◌≡◌, ◌∙◌, ap, arith, inl, inr, refl, zero, suc, ◌<◌, ℕ, true, false, get_or, replicate}
+use Rattle.std.proofs.Common.{List, [], ◌∷◌}
 use Rattle.std.specs.Prelude.{Contains}
 use Rattle.std.specs.declared.cmp.Ordering.TheVariants.{Less}
 use Rattle.etherparse.specs.declared.defrag.stored_fragment.StoredFragment.{StoredFragment}

@@ -1,0 +1,10 @@
+//! Captures of each format: their blocks, links and times, and captures that are written.
+
+pub mod blocks;
+pub mod classic;
+mod limits;
+pub mod links;
+pub mod long_blocks;
+pub mod text;
+mod times;
+mod written;

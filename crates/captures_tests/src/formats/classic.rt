@@ -1,0 +1,145 @@
+//! Classic captures. The files were written by scapy 2.5.0.
+ghost use Rattle.std.specs.Prelude.{◌+◌, ◌≤◌, length};
+
+use crate::checks::joined;
+use crate::packet_lines::{LINES, refused, reports};
+use captures::CaptureError;
+
+pub(crate) const LITTLE_MICROSECONDS: &[u8; 148] = b"\
+    \xd4\xc3\xb2\xa1\x02\x00\x04\x00\x00\x00\x00\x00\x00\x00\x00\x00\xff\xff\x00\x00\
+    \x01\x00\x00\x00\x00\xf1\x53\x65\x90\xd0\x03\x00\x32\x00\x00\x00\x32\x00\x00\x00\
+    \x02\x00\x00\x00\x00\x02\x02\x00\x00\x00\x00\x01\x08\x00\x45\x00\x00\x24\x00\x01\
+    \x00\x00\x40\x11\x66\xc6\x0a\x00\x00\x01\x0a\x00\x00\x02\x00\x01\x00\x02\x00\x10\
+    \xdb\xb4\x01\x02\x03\x04\x05\x06\x07\x08\x01\xf1\x53\x65\x90\xd0\x03\x00\x2a\x00\
+    \x00\x00\x2a\x00\x00\x00\xff\xff\xff\xff\xff\xff\x02\x00\x00\x00\x00\x01\x08\x06\
+    \x00\x01\x08\x00\x06\x04\x00\x01\x02\x00\x00\x00\x00\x01\x0a\x00\x00\x01\x00\x00\
+    \x00\x00\x00\x00\x0a\x00\x00\x02\
+";
+
+pub(crate) const BIG_MICROSECONDS: &[u8; 148] = b"\
+    \xa1\xb2\xc3\xd4\x00\x02\x00\x04\x00\x00\x00\x00\x00\x00\x00\x00\x00\x00\xff\xff\
+    \x00\x00\x00\x01\x65\x53\xf1\x00\x00\x03\xd0\x90\x00\x00\x00\x32\x00\x00\x00\x32\
+    \x02\x00\x00\x00\x00\x02\x02\x00\x00\x00\x00\x01\x08\x00\x45\x00\x00\x24\x00\x01\
+    \x00\x00\x40\x11\x66\xc6\x0a\x00\x00\x01\x0a\x00\x00\x02\x00\x01\x00\x02\x00\x10\
+    \xdb\xb4\x01\x02\x03\x04\x05\x06\x07\x08\x65\x53\xf1\x01\x00\x03\xd0\x90\x00\x00\
+    \x00\x2a\x00\x00\x00\x2a\xff\xff\xff\xff\xff\xff\x02\x00\x00\x00\x00\x01\x08\x06\
+    \x00\x01\x08\x00\x06\x04\x00\x01\x02\x00\x00\x00\x00\x01\x0a\x00\x00\x01\x00\x00\
+    \x00\x00\x00\x00\x0a\x00\x00\x02\
+";
+
+pub(crate) const LITTLE_NANOSECONDS: &[u8; 148] = b"\
+    \x4d\x3c\xb2\xa1\x02\x00\x04\x00\x00\x00\x00\x00\x00\x00\x00\x00\xff\xff\x00\x00\
+    \x01\x00\x00\x00\x00\xf1\x53\x65\x80\xb2\xe6\x0e\x32\x00\x00\x00\x32\x00\x00\x00\
+    \x02\x00\x00\x00\x00\x02\x02\x00\x00\x00\x00\x01\x08\x00\x45\x00\x00\x24\x00\x01\
+    \x00\x00\x40\x11\x66\xc6\x0a\x00\x00\x01\x0a\x00\x00\x02\x00\x01\x00\x02\x00\x10\
+    \xdb\xb4\x01\x02\x03\x04\x05\x06\x07\x08\x01\xf1\x53\x65\x80\xb2\xe6\x0e\x2a\x00\
+    \x00\x00\x2a\x00\x00\x00\xff\xff\xff\xff\xff\xff\x02\x00\x00\x00\x00\x01\x08\x06\
+    \x00\x01\x08\x00\x06\x04\x00\x01\x02\x00\x00\x00\x00\x01\x0a\x00\x00\x01\x00\x00\
+    \x00\x00\x00\x00\x0a\x00\x00\x02\
+";
+
+pub(crate) const BIG_NANOSECONDS: &[u8; 148] = b"\
+    \xa1\xb2\x3c\x4d\x00\x02\x00\x04\x00\x00\x00\x00\x00\x00\x00\x00\x00\x00\xff\xff\
+    \x00\x00\x00\x01\x65\x53\xf1\x00\x0e\xe6\xb2\x80\x00\x00\x00\x32\x00\x00\x00\x32\
+    \x02\x00\x00\x00\x00\x02\x02\x00\x00\x00\x00\x01\x08\x00\x45\x00\x00\x24\x00\x01\
+    \x00\x00\x40\x11\x66\xc6\x0a\x00\x00\x01\x0a\x00\x00\x02\x00\x01\x00\x02\x00\x10\
+    \xdb\xb4\x01\x02\x03\x04\x05\x06\x07\x08\x65\x53\xf1\x01\x0e\xe6\xb2\x80\x00\x00\
+    \x00\x2a\x00\x00\x00\x2a\xff\xff\xff\xff\xff\xff\x02\x00\x00\x00\x00\x01\x08\x06\
+    \x00\x01\x08\x00\x06\x04\x00\x01\x02\x00\x00\x00\x00\x01\x0a\x00\x00\x01\x00\x00\
+    \x00\x00\x00\x00\x0a\x00\x00\x02\
+";
+
+#[test]
+fn each_byte_order_and_time_unit(rt: HostRuntime) {
+    for file in [
+        LITTLE_MICROSECONDS,
+        BIG_MICROSECONDS,
+        LITTLE_NANOSECONDS,
+        BIG_NANOSECONDS,
+    ] {
+        reports(rt, file, Ok(()), LINES);
+    }
+}
+
+// The file header has 24 bytes, the packet records 16 + 50 and 16 + 42; the lines 109 and 93.
+#[test]
+fn each_prefix(rt: HostRuntime) {
+    for n in 0..=148 {
+        let (wanted, lines) = match n {
+            0..=23 => (
+                refused(CaptureError::NotCapture, 1, 0, None),
+                b"".as_slice(),
+            ),
+            24 => (Ok(()), b"".as_slice()),
+            25..=89 => (refused(CaptureError::CutOff, 1, 24, None), b"".as_slice()),
+            90 => (Ok(()), &LINES[..109]),
+            91..=147 => (refused(CaptureError::CutOff, 2, 90, None), &LINES[..109]),
+            _ => (Ok(()), LINES.as_slice()),
+        };
+        reports(rt, &BIG_MICROSECONDS[..n], wanted, lines);
+    }
+}
+
+// The file with other bytes at an offset.
+fn with_bytes(at: usize, bytes: &[u8]) -> [u8; 148]
+    requires { at + length bytes.now ≤ 148 }
+{
+    let mut file = *BIG_MICROSECONDS;
+    file[at..at + bytes.len()].copy_from_slice(bytes);
+    file
+}
+
+#[test]
+fn each_refusal(rt: HostRuntime) {
+    let none = b"".as_slice();
+    let first = &LINES[..109];
+    for &(at, bytes, error, lines, packet, offset) in &[
+        // Another magic number.
+        (3, b"\xd5".as_slice(), CaptureError::NotCapture, none, 1, 0),
+        // Version 2.3.
+        (7, b"\x03", CaptureError::NotCapture, none, 1, 0),
+        // Version 1.4.
+        (5, b"\x01", CaptureError::NotCapture, none, 1, 0),
+        // The link type of PPP.
+        (23, b"\x09", CaptureError::LinkType(9), none, 1, 0),
+        // 99,992 bytes of the second packet.
+        (
+            98,
+            b"\x00\x01\x86\x98",
+            CaptureError::FrameTooLong(99_992),
+            first,
+            2,
+            90,
+        ),
+        // 99,991 bytes, which aren't there.
+        (98, b"\x00\x01\x86\x97", CaptureError::CutOff, first, 2, 90),
+    ] {
+        let wanted = refused(error, packet, offset, None);
+        reports(rt, &with_bytes(at, bytes), wanted, lines);
+    }
+}
+
+#[test]
+fn fields_that_are_ignored(rt: HostRuntime) {
+    for (at, bytes) in [
+        // The two reserved numbers of the file header.
+        (8, b"\xff\xff\xff\xff\xff\xff\xff\xff".as_slice()),
+        // The upper half of its last number, which may give the length of frame check sequences.
+        (20, b"\x24\x00"),
+        // The time of the first packet.
+        (24, b"\xff\xff\xff\xff\xff\xff\xff\xff"),
+        // Its length on the wire: 50 bytes follow whatever it is.
+        (36, b"\x00\x00\x05\xdc"),
+        (36, b"\x00\x00\x00\x01"),
+    ] {
+        reports(rt, &with_bytes(at, bytes), Ok(()), LINES);
+    }
+}
+
+// A packet of which no byte was captured follows the header, and nothing else does.
+#[test]
+fn packet_of_no_bytes(rt: HostRuntime) {
+    let record = b"\0\0\0\0\0\0\0\0\0\0\0\0\x3c\0\0\0";
+    let file = joined(rt, &[&LITTLE_MICROSECONDS[..24], record]);
+    reports(rt, file.as_slice(), Ok(()), b"");
+}
