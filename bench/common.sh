@@ -45,14 +45,14 @@ per_second() {
     echo $(($1 * 1000000 / $2))
 }
 
-# quotient A B: with three digits behind the point.
+# quotient A B: with three digits after the point.
 quotient() {
     printf '%d.%03d' $(($1 / $2)) $(($1 * 1000 / $2 % 1000))
 }
 
 # race_by_name OURS PLAIN ITEMS HEADING NAME...: nanoseconds an item of our program and of the plain one of the
-# same jobs, a name a line, and their ratio. Of a name both tell a
-# sum, which has to agree, and behind --timed also the nanoseconds of their fastest turn over so many items. They
+# same jobs, a name a line, and their ratio. Of a name both print a
+# sum, which has to agree, and with --timed also the nanoseconds of their fastest turn over so many items. They
 # run in turns, the best of all rounds of each.
 race_by_name() {
     local ours=$1 plain=$2 items=$3 round program name sum nanoseconds names

@@ -13,7 +13,7 @@ to_pipe() {
     "$1" <"$2" | cat >/dev/null
 }
 
-# The plain programs give what the worked rows want. (One row is wrong on purpose.)
+# The plain programs give what the worked rows expect. (One row is wrong on purpose.)
 compare_rows() {
     local program input
     for program in "$plain" "$tuned"; do

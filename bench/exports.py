@@ -47,15 +47,15 @@ def measure(name, call, wanted):
     for _ in range(5):
         start = time.perf_counter_ns()
         for _ in range(CALLS):
-            told = call()
+            found = call()
         best = min(best, (time.perf_counter_ns() - start) / CALLS)
-        assert told == wanted, (name, told)
+        assert found == wanted, (name, found)
     print(f"{name:44} {best:8.0f}")
 
 
-told = "10.0.0.1", 2
-measure("Python: slice_ethernet, 64 bytes", ours, told)
-measure("Python: dpkt", by_dpkt, told)
-measure("Python: scapy", by_scapy, told)
+expected = "10.0.0.1", 2
+measure("Python: slice_ethernet, 64 bytes", ours, expected)
+measure("Python: dpkt", by_dpkt, expected)
+measure("Python: scapy", by_scapy, expected)
 measure("Python: build, 50 bytes", built, 50)
 measure("Python: scapy builds", built_by_scapy, 50)

@@ -1,6 +1,6 @@
 #!/usr/bin/env bash
 # Nanoseconds a call of the exports from C, beside like calls in Rattle (benchmarks of calls.sh and reassembly.sh: there all
-# that is told is read, payloads are of 1 to 64 bytes, and 100,000 messages are on their way at once), and from Python,
+# that is returned is read, payloads are of 1 to 64 bytes, and 100,000 messages are reassembled at once), and from Python,
 # beside dpkt and scapy (apt-get install python3-dpkt python3-scapy).
 # Usage: bench/exports.sh [FOLDER], where FOLDER has the libraries already (tools/build_libraries).
 set -euo pipefail

@@ -82,9 +82,9 @@ impl Part {
 pub struct Packet<'a> {
     pub vlan_ids: VlanIds,
     pub addresses: Addresses,
-    /// What the IPv4 header or the first fragment header tells, if that is of a part.
+    /// What the IPv4 header or the first fragment header says, if that is of a part.
     pub part: Option<Part>,
-    /// Whether any header tells of a part.
+    /// Whether any header says that this is a part.
     pub is_fragment: bool,
     pub protocol: u8,
     pub payload: &'a [u8],
@@ -100,11 +100,11 @@ pub fn read_frame(frame: &[u8]) -> Result<Packet<'_>, Unread> {
     for _ in 0..MOST_TAGS {
         (ether_type, rest) = match ether_type {
             VLAN_TYPE | SERVICE_VLAN_TYPE | DOUBLE_VLAN_TYPE => {
-                let (tag, behind) = rest
+                let (tag, payload) = rest
                     .split_first_chunk::<VLAN_LEN>()
                     .ok_or(Unread::Refused)?;
                 vlan_ids.push(u16::from_be_bytes([tag[0], tag[1]]) & 0xfff);
-                (u16::from_be_bytes([tag[2], tag[3]]), behind)
+                (u16::from_be_bytes([tag[2], tag[3]]), payload)
             }
             MACSEC_TYPE => read_macsec(rest)?,
             _ => break,
@@ -118,7 +118,7 @@ pub fn read_frame(frame: &[u8]) -> Result<Packet<'_>, Unread> {
     }
 }
 
-/// The ether type and the bytes that stand behind a MACsec header (IEEE 802.1AE, clause 9).
+/// The ether type and the bytes that stand after a MACsec header (IEEE 802.1AE, clause 9).
 fn read_macsec(bytes: &[u8]) -> Result<(u16, &[u8]), Unread> {
     let (fixed, rest) = bytes
         .split_first_chunk::<MACSEC_MIN_LEN>()
@@ -148,7 +148,7 @@ fn read_macsec(bytes: &[u8]) -> Result<(u16, &[u8]), Unread> {
     Ok((u16::from_be_bytes(*ether_type), payload))
 }
 
-/// Whether an ARP packet stands at the front (RFC 826).
+/// Whether the first bytes are an ARP packet (RFC 826).
 fn is_arp(bytes: &[u8]) -> bool {
     bytes
         .split_first_chunk::<ARP_MIN_LEN>()
@@ -157,7 +157,7 @@ fn is_arp(bytes: &[u8]) -> bool {
         })
 }
 
-/// The packet at the front (RFC 791, 3.1).
+/// The packet at the start of the bytes (RFC 791, 3.1).
 fn read_ipv4(vlan_ids: VlanIds, bytes: &[u8]) -> Option<Packet<'_>> {
     let (header, _) = bytes.split_first_chunk::<IPV4_MIN_LEN>()?;
     let header_len = 4 * usize::from(header[0] & 0xf);
@@ -165,7 +165,7 @@ fn read_ipv4(vlan_ids: VlanIds, bytes: &[u8]) -> Option<Packet<'_>> {
     if header[0] >> 4 != 4 || header_len < IPV4_MIN_LEN {
         return None;
     }
-    // What lies behind the total length is padding.
+    // What follows the total length is padding.
     let body = bytes.get(header_len..total_len)?;
     let (protocol, payload) = match header[9] {
         AUTHENTICATION => (*body.first()?, body.get(authentication_len(body)?..)?),
@@ -187,16 +187,16 @@ fn read_ipv4(vlan_ids: VlanIds, bytes: &[u8]) -> Option<Packet<'_>> {
     })
 }
 
-/// The packet at the front (RFC 8200, 3 and 4).
+/// The packet at the start of the bytes (RFC 8200, 3 and 4).
 fn read_ipv6(vlan_ids: VlanIds, bytes: &[u8]) -> Option<Packet<'_>> {
-    let (header, behind) = bytes.split_first_chunk::<IPV6_LEN>()?;
+    let (header, payload) = bytes.split_first_chunk::<IPV6_LEN>()?;
     if header[0] >> 4 != 6 {
         return None;
     }
-    // What lies behind the payload length is padding. A length of 0 takes all.
+    // What follows the payload length is padding. A length of 0 takes all.
     let mut rest = match usize::from(u16::from_be_bytes([header[4], header[5]])) {
-        0 => behind,
-        len => behind.get(..len)?,
+        0 => payload,
+        len => payload.get(..len)?,
     };
     let mut protocol = header[6];
     let mut is_first = true;
@@ -210,14 +210,14 @@ fn read_ipv6(vlan_ids: VlanIds, bytes: &[u8]) -> Option<Packet<'_>> {
             AUTHENTICATION => authentication_len(rest)?,
             _ => break,
         };
-        let (extension, behind) = rest.split_at_checked(len)?;
+        let (extension, following) = rest.split_at_checked(len)?;
         if protocol == FRAGMENT {
             let part = read_fragment_header(extension.first_chunk()?);
             is_fragment |= part.is_fragment();
             first_part.get_or_insert(part);
         }
         protocol = extension[0];
-        rest = behind;
+        rest = following;
         is_first = false;
     }
     Some(Packet {

@@ -4,7 +4,7 @@
 //! `whole COUNT SIZE`: COUNT datagrams over IPv4, each in a frame of SIZE bytes.
 //!
 //! `cut VERSION COUNT SIZE TOGETHER`: COUNT datagrams over IPv4 (4) or IPv6 (6), each cut in four
-//! fragments of SIZE bytes. So many datagrams are on their way at once: the first fragments of all
+//! fragments of SIZE bytes. So many datagrams are incomplete at once: the first fragments of all
 //! of them, then the second ones, and so on.
 //!
 //! `ordered ORDER COUNT`: COUNT datagrams of 65,504 bytes over IPv4, one after another, each in
@@ -42,15 +42,15 @@ impl Random {
     }
 
     fn fill(&mut self, bytes: &mut [u8]) {
-        for piece in bytes.chunks_mut(8) {
-            piece.copy_from_slice(&self.next().to_be_bytes()[..piece.len()]);
+        for part in bytes.chunks_mut(8) {
+            part.copy_from_slice(&self.next().to_be_bytes()[..part.len()]);
         }
     }
 }
 
-/// The Internet checksum of the pieces joined, each of even length but the last (RFC 1071).
-fn checksum(pieces: &[&[u8]]) -> u16 {
-    let words = pieces.iter().flat_map(|piece| piece.chunks(2));
+/// The Internet checksum of the parts joined, each of even length but the last (RFC 1071).
+fn checksum(parts: &[&[u8]]) -> u16 {
+    let words = parts.iter().flat_map(|part| part.chunks(2));
     let total: u64 = words
         .map(|w| u64::from(w[0]) << 8 | u64::from(*w.get(1).unwrap_or(&0)))
         .sum();
@@ -73,7 +73,7 @@ fn set_ipv4(header: &mut [u8], payload_len: usize, flags_and_offset: u16) {
     header[10..12].copy_from_slice(&sum.to_be_bytes());
 }
 
-/// Sets all but the addresses of an IPv6 header in front of a fragment header.
+/// Sets all but the addresses of an IPv6 header before a fragment header.
 fn set_ipv6(header: &mut [u8], payload_len: usize) {
     header[..4].copy_from_slice(&[0x60, 0, 0, 0]);
     let body_len = FRAGMENT_HEADER.len() + payload_len;
@@ -203,19 +203,19 @@ fn write_cut(
 
 /// The fragments of a datagram in the order of this number.
 fn order(random: &mut Random, number: usize) -> Option<Vec<usize>> {
-    let mut places: Vec<usize> = (0..UNITS).collect();
+    let mut indices: Vec<usize> = (0..UNITS).collect();
     match number {
         0 => {}
-        1 => places.reverse(),
-        2 => places.sort_by_key(|place| place % 2),
+        1 => indices.reverse(),
+        2 => indices.sort_by_key(|index| index % 2),
         3 => {
             for last in (1..UNITS).rev() {
-                places.swap(last, random.next() as usize % (last + 1));
+                indices.swap(last, random.next() as usize % (last + 1));
             }
         }
         _ => return None,
     }
-    Some(places)
+    Some(indices)
 }
 
 fn write_ordered(out: &mut impl Write, number: usize, count: usize) -> Option<io::Result<()>> {
@@ -231,7 +231,7 @@ fn write_ordered(out: &mut impl Write, number: usize, count: usize) -> Option<io
     Some(Ok(()))
 }
 
-/// Writes what the arguments ask for, if they do.
+/// Writes the lines that the arguments request, if they request any.
 fn write_lines(out: &mut impl Write, words: &[&str]) -> Option<io::Result<()>> {
     let (kind, numbers) = words.split_first()?;
     let numbers: Option<Vec<usize>> = numbers.iter().map(|word| word.parse().ok()).collect();

@@ -11,8 +11,8 @@ rounds=20
 ours=netlines_cli
 peer=peer_libtins
 
-# A count or time of what the peer tells: frames, messages, bytes, nanoseconds.
-told() {
+# A count or time that the peer reports: frames, messages, bytes, nanoseconds.
+reported() {
     "$work/$peer" "$1" <"$work/lines.in" | cut -d ' ' -f "$2"
 }
 
@@ -22,14 +22,14 @@ race() {
     "$work/make_lines" "${@:2}" >"$work/lines.in"
     lines=$(wc -l <"$work/lines.in")
     messages=$("$work/$ours" <"$work/lines.in" | grep -c '^message 17 good ' || true)
-    [[ $(told reassemble 2) == "$messages" ]] || fail "not the same messages: $1"
+    [[ $(reported reassemble 2) == "$messages" ]] || fail "not the same messages: $1"
     best=()
     for ((round = 0; round < rounds; round++)); do
         began=${EPOCHREALTIME//./}
         "$work/$ours" <"$work/lines.in" >/dev/null
         keep_best "$ours" $((${EPOCHREALTIME//./} - began))
-        keep_best read "$(told read 4)"
-        keep_best reassemble "$(told reassemble 4)"
+        keep_best read "$(reported read 4)"
+        keep_best reassemble "$(reported reassemble 4)"
     done
     ours_ns=$((${best[$ours]} * 1000))
     printf '%-44s %9d %9d %9d %7s %7s\n' "$1" $((ours_ns / lines)) $((${best[read]} / lines)) \

@@ -29,11 +29,11 @@ const PAIRS: [[u8; 2]; 256] = {
 };
 
 fn word(big: bool, bytes: &[u8], at: usize) -> u32 {
-    let spelled = bytes[at..at + 4].try_into().unwrap();
+    let encoded = bytes[at..at + 4].try_into().unwrap();
     if big {
-        u32::from_be_bytes(spelled)
+        u32::from_be_bytes(encoded)
     } else {
-        u32::from_le_bytes(spelled)
+        u32::from_le_bytes(encoded)
     }
 }
 
@@ -41,7 +41,7 @@ fn is_magic(number: u32) -> bool {
     number == 0xa1b2_c3d4 || number == 0xa1b2_3c4d
 }
 
-/// A frame's digits behind those of a header that was made for it, if one was.
+/// A frame's digits after those of a header that was made for it, if one was.
 fn push_line(lines: &mut Vec<u8>, header: &[u8], frame: &[u8]) {
     lines.extend_from_slice(b"frame 0 ");
     for bytes in [header, frame] {
@@ -80,7 +80,7 @@ struct Blocks {
     big: bool,
 }
 
-/// Pushes the lines of all whole units, and tells where they end.
+/// Pushes the lines of all whole units, and returns where they end.
 trait Units {
     fn push_lines(&self, bytes: &[u8], lines: &mut Vec<u8>) -> usize;
 }
@@ -129,7 +129,7 @@ impl Units for Blocks {
     }
 }
 
-/// What the front of a capture says, with its length.
+/// What the header of a capture says, with its length.
 fn units(input: &mut File) -> io::Result<Box<dyn Units>> {
     let mut header = [0; FILE_HEADER_LEN];
     input.read_exact(&mut header)?;

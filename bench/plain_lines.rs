@@ -54,35 +54,35 @@ fn main() -> io::Result<()> {
 }
 
 fn run(input: &mut impl Read, output: &mut impl Write) -> io::Result<()> {
-    let mut piece = vec![0; READ_LEN];
-    let mut begun = Vec::with_capacity(LONGEST_LINE + 1);
+    let mut chunk = vec![0; READ_LEN];
+    let mut partial = Vec::with_capacity(LONGEST_LINE + 1);
     let mut answerer = Answerer::new();
     let mut answers = Vec::with_capacity(ANSWERS_LEN + LONGEST_LINE);
     loop {
         write_out(&mut answers, output)?;
-        let count = input.read(&mut piece)?;
+        let count = input.read(&mut chunk)?;
         if count == 0 {
             break;
         }
-        let mut rest = &piece[..count];
+        let mut rest = &chunk[..count];
         while let Some(end) = line_end(rest) {
-            let line = if begun.is_empty() {
+            let line = if partial.is_empty() {
                 &rest[..end]
             } else {
-                store(&mut begun, &rest[..end]);
-                &begun
+                store(&mut partial, &rest[..end]);
+                &partial
             };
             append_answer(&mut answers, &answerer.answer(line));
-            begun.clear();
+            partial.clear();
             rest = &rest[end + 1..];
             if answers.len() >= ANSWERS_LEN {
                 write_out(&mut answers, output)?;
             }
         }
-        store(&mut begun, rest);
+        store(&mut partial, rest);
     }
-    if !begun.is_empty() {
-        append_answer(&mut answers, &answerer.answer(&begun));
+    if !partial.is_empty() {
+        append_answer(&mut answers, &answerer.answer(&partial));
     }
     write_out(&mut answers, output)
 }
@@ -100,11 +100,11 @@ fn line_end(bytes: &[u8]) -> Option<usize> {
     bytes[..skipped].ends_with(b"\n").then(|| skipped - 1)
 }
 
-/// Adds bytes to the line begun. Of a line that is too long one byte too many is kept, so that it
+/// Adds bytes to the partial line. Of a line that is too long one byte too many is kept, so that it
 /// shows.
-fn store(begun: &mut Vec<u8>, bytes: &[u8]) {
-    let room = LONGEST_LINE + 1 - begun.len();
-    begun.extend_from_slice(&bytes[..bytes.len().min(room)]);
+fn store(partial: &mut Vec<u8>, bytes: &[u8]) {
+    let room = LONGEST_LINE + 1 - partial.len();
+    partial.extend_from_slice(&bytes[..bytes.len().min(room)]);
 }
 
 enum Answer<'a> {
@@ -166,8 +166,8 @@ fn hex_digit(value: u8) -> u8 {
     }
 }
 
-/// The messages on their way, by channel, each with the line of the fragment that was accepted last.
-type Streams = Pool<u32, u64>;
+/// The incomplete messages, by channel, each with the line of the fragment that was accepted last.
+type LinePool = Pool<u32, u64>;
 
 /// Answers lines, one after another.
 struct Answerer {
@@ -175,7 +175,7 @@ struct Answerer {
     lines: u64,
     /// Room for the bytes of a line's frame.
     frame: Vec<u8>,
-    streams: Streams,
+    pool: LinePool,
 }
 
 impl Answerer {
@@ -183,7 +183,7 @@ impl Answerer {
         Answerer {
             lines: 0,
             frame: vec![0; LONGEST_LINE / 2],
-            streams: Streams::default(),
+            pool: LinePool::default(),
         }
     }
 
@@ -194,12 +194,12 @@ impl Answerer {
         }
         if let Some((channel, digits)) = frame_request(line) {
             return match decode_hex(digits, &mut self.frame) {
-                Some(frame) => answer_frame(frame, channel, self.lines, &mut self.streams),
+                Some(frame) => answer_frame(frame, channel, self.lines, &mut self.pool),
                 None => Answer::Text("bad line"),
             };
         }
         if let Some(from) = forget_request(line) {
-            self.streams.retain(|_, stream| stream.timestamp >= from);
+            self.pool.retain(|_, message| message.timestamp >= from);
             return Answer::Text("ok");
         }
         Answer::Text("bad line")
@@ -230,7 +230,7 @@ fn number(digits: &[u8], most: usize) -> Option<u64> {
     })
 }
 
-/// The bytes that the digits spell, where they are whole pairs, one at least.
+/// The bytes that the digits encode, where they are whole pairs, one at least.
 fn decode_hex<'a>(digits: &[u8], bytes: &'a mut [u8]) -> Option<&'a [u8]> {
     let (pairs, odd) = digits.as_chunks::<2>();
     if pairs.is_empty() || !odd.is_empty() {
@@ -246,14 +246,14 @@ fn decode_hex<'a>(digits: &[u8], bytes: &'a mut [u8]) -> Option<&'a [u8]> {
     (seen < NO_DIGIT).then_some(bytes)
 }
 
-fn answer_frame<'a>(frame: &'a [u8], channel: u32, line: u64, streams: &mut Streams) -> Answer<'a> {
+fn answer_frame<'a>(frame: &'a [u8], channel: u32, line: u64, pool: &mut LinePool) -> Answer<'a> {
     let packet = match read_frame(frame) {
         Ok(packet) => packet,
         Err(Unread::Refused) => return Answer::Text("refused frame"),
         Err(Unread::Other) => return Answer::Text("other"),
     };
     match packet.part {
-        Some(part) => answer_part(&packet, part, channel, line, streams),
+        Some(part) => answer_part(&packet, part, channel, line, pool),
         None if packet.is_fragment => Answer::Text("other"),
         None => answer_message(
             &packet.addresses,
@@ -286,9 +286,9 @@ fn answer_part<'a>(
     part: Part,
     channel: u32,
     line: u64,
-    streams: &mut Streams,
+    pool: &mut LinePool,
 ) -> Answer<'a> {
-    match add_part(streams, packet, part, channel, line) {
+    match add_part(pool, packet, part, channel, line) {
         Ok(Some(message)) => answer_message(
             &packet.addresses,
             packet.protocol,

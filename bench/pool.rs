@@ -16,16 +16,16 @@ pub struct Name<C> {
     protocol: u8,
 }
 
-/// A message on its way.
-pub struct Stream<T> {
+/// An incomplete message.
+pub struct Incomplete<T> {
     reassembly: Reassembly,
     /// Of the fragment that was accepted last.
     pub timestamp: T,
 }
 
-pub type Pool<C, T, S = BuildHasherDefault<FoldHasher>> = HashMap<Name<C>, Stream<T>, S>;
+pub type Pool<C, T, S = BuildHasherDefault<FoldHasher>> = HashMap<Name<C>, Incomplete<T>, S>;
 
-/// Adds a packet, which is this part of a message, to the others of it. The message is handed out if it is complete now.
+/// Adds a packet, which is this part of a message, to the others of it. The message is returned if it is complete now.
 /// Over IPv6 a part that overlaps another drops it.
 pub fn add_part<C: Eq + Hash, T, S: BuildHasher>(
     pool: &mut Pool<C, T, S>,
@@ -43,14 +43,14 @@ pub fn add_part<C: Eq + Hash, T, S: BuildHasher>(
     };
     match pool.entry(name) {
         Entry::Occupied(mut entry) => {
-            let stream = entry.get_mut();
-            match stream
+            let incomplete = entry.get_mut();
+            match incomplete
                 .reassembly
                 .add(part.units, part.more, packet.payload)
             {
                 Ok(()) => {
-                    stream.timestamp = timestamp;
-                    let is_complete = stream.reassembly.is_complete();
+                    incomplete.timestamp = timestamp;
+                    let is_complete = incomplete.reassembly.is_complete();
                     Ok(is_complete.then(|| entry.remove().reassembly.data))
                 }
                 Err(refusal) => {
@@ -68,7 +68,7 @@ pub fn add_part<C: Eq + Hash, T, S: BuildHasher>(
             };
             reassembly.add(part.units, part.more, packet.payload)?;
             // One fragment is no message: more follow it, or bytes before it are missing.
-            place.insert(Stream {
+            place.insert(Incomplete {
                 reassembly,
                 timestamp,
             });

@@ -94,7 +94,7 @@ def cited(text, module, known):
         first, _, last = word.rpartition(".")
         for name in {first or last, last}:
             path, there = known.get(name, (module, name))
-            # A name behind a module, a definition, or a constructor of one.
+            # A name after a module, a definition, or a constructor of one.
             for target in ((path, there or last), (path[:-1], path[-1]) if path else None):
                 if target in found:
                     yield target

@@ -18,7 +18,7 @@ def number(data, at, size=2):
     return int.from_bytes(data[at : at + size], "big")
 
 
-def want(data, layer, at, size, end):
+def need(data, layer, at, size, end):
     if end - at < size:
         raise Fault(layer, at, size, end - at)
 
@@ -30,44 +30,44 @@ def content(layer):
 def check_transport(data, protocol, at, end):
     here = end - at
     if protocol == 17:
-        want(data, "UdpHeader", at, 8, end)
+        need(data, "UdpHeader", at, 8, end)
         length = number(data, at + 4)
-        want(data, "UdpPayload", at, length, end)
+        need(data, "UdpPayload", at, length, end)
         if 0 < length < 8:
             raise Fault("UdpHeader", at, 8, length)
     elif protocol == 6:
-        want(data, "TcpHeader", at, 20, end)
+        need(data, "TcpHeader", at, 20, end)
         words = data[at + 12] >> 4
         if words < 5:
             content("Tcp")
-        want(data, "TcpHeader", at, 4 * words, end)
+        need(data, "TcpHeader", at, 4 * words, end)
     elif protocol == 1:
-        want(data, "Icmpv4", at, 8, end)
+        need(data, "Icmpv4", at, 8, end)
         if data[at] in (13, 14) and data[at + 1] == 0 and here != 20:
             # RFC 792: a timestamp message has 20 bytes.
             raise Fault({13: "Icmpv4Timestamp", 14: "Icmpv4TimestampReply"}[data[at]], at, 20, here)
     elif protocol == 58:
-        want(data, "Icmpv6", at, 8, end)
+        need(data, "Icmpv6", at, 8, end)
 
 
 def check_auth(data, at, end, layer):
-    want(data, "IpAuthHeader", at, 12, end)
+    need(data, "IpAuthHeader", at, 12, end)
     if data[at + 1] == 0:
         content(layer)
-    want(data, "IpAuthHeader", at, 4 * (data[at + 1] + 2), end)
+    need(data, "IpAuthHeader", at, 4 * (data[at + 1] + 2), end)
     return data[at], at + 4 * (data[at + 1] + 2)
 
 
 def check_ipv4(data, at, end):
-    want(data, "Ipv4Header", at, 20, end)
+    need(data, "Ipv4Header", at, 20, end)
     size = 4 * (data[at] & 15)
     if data[at] >> 4 != 4 or size < 20:
         content("Ipv4")
-    want(data, "Ipv4Header", at, size, end)
+    need(data, "Ipv4Header", at, size, end)
     total = number(data, at + 2)
     if total < size:
         raise Fault("Ipv4Packet", at, size, total)
-    want(data, "Ipv4Packet", at, total, end)
+    need(data, "Ipv4Packet", at, total, end)
     protocol, body, end = data[at + 9], at + size, at + total
     if protocol == 51:
         protocol, body = check_auth(data, body, end, "Ipv4Exts")
@@ -76,24 +76,24 @@ def check_ipv4(data, at, end):
 
 
 def check_ipv6(data, at, end):
-    want(data, "Ipv6Header", at, 40, end)
+    need(data, "Ipv6Header", at, 40, end)
     if data[at] >> 4 != 6:
         content("Ipv6")
     length = number(data, at + 4)
     if length:
-        want(data, "Ipv6Packet", at, 40 + length, end)
+        need(data, "Ipv6Packet", at, 40 + length, end)
         end = at + 40 + length
     protocol, at, cut, first = data[at + 6], at + 40, False, True
     while True:
         if protocol == 0 and not first:
             content("Ipv6Exts")
         if protocol in RAW_EXTENSIONS:
-            want(data, "Ipv6ExtHeader", at, 8, end)
+            need(data, "Ipv6ExtHeader", at, 8, end)
             size = 8 * (data[at + 1] + 1)
-            want(data, "Ipv6ExtHeader", at, size, end)
+            need(data, "Ipv6ExtHeader", at, size, end)
             protocol, at = data[at], at + size
         elif protocol == 44:
-            want(data, "Ipv6FragHeader", at, 8, end)
+            need(data, "Ipv6FragHeader", at, 8, end)
             cut |= bool(number(data, at + 2) & 0xFFF9)
             protocol, at = data[at], at + 8
         elif protocol == 51:
@@ -106,23 +106,23 @@ def check_ipv6(data, at, end):
 
 
 def check_arp(data, at, end):
-    want(data, "Arp", at, 8, end)
-    want(data, "Arp", at, 8 + 2 * data[at + 4] + 2 * data[at + 5], end)
+    need(data, "Arp", at, 8, end)
+    need(data, "Arp", at, 8 + 2 * data[at + 4] + 2 * data[at + 5], end)
 
 
 def check_macsec(data, at, end):
     """Returns the ether type of what is protected, or None, and where that begins and ends."""
-    want(data, "MacsecHeader", at, 6, end)
+    need(data, "MacsecHeader", at, 6, end)
     flags, short = data[at], data[at + 1] & 63
     is_plain = not flags & 0x0C
     if flags & 0x80 or (is_plain and short == 1):
         content("Macsec")
     size = 6 + 8 * bool(flags & 0x20) + 2 * is_plain
-    want(data, "MacsecHeader", at, size, end)
+    need(data, "MacsecHeader", at, size, end)
     if short:
         # The ether type is part of what the short length counts.
         whole = size + short - 2 * is_plain
-        want(data, "MacsecPacket", at, whole, end)
+        need(data, "MacsecPacket", at, whole, end)
         end = at + whole
     return (number(data, at + size - 2) if is_plain else None), at + size, end
 
@@ -130,7 +130,7 @@ def check_macsec(data, at, end):
 def check(kind, data):
     """Raises the first fault of an Ethernet II frame (kind E) or a Linux cooked capture (kind L)."""
     at, end = (14 if kind == "E" else 16), len(data)
-    want(data, "Ethernet2Header" if kind == "E" else "LinuxSllHeader", 0, at, end)
+    need(data, "Ethernet2Header" if kind == "E" else "LinuxSllHeader", 0, at, end)
     ether_type = number(data, at - 2)
     if kind == "L":
         if number(data, 0) > 4:
@@ -140,7 +140,7 @@ def check(kind, data):
             return
     for _ in range(3):
         if ether_type in VLAN:
-            want(data, "VlanHeader", at, 4, end)
+            need(data, "VlanHeader", at, 4, end)
             ether_type, at = number(data, at + 2), at + 4
         elif ether_type == MACSEC:
             ether_type, at, end = check_macsec(data, at, end)

@@ -43,20 +43,20 @@ class Item:
                 self.head, self.body = lines[: opened + 1], dedented(lines[opened + 1 : -1])
 
     def split_function(self, hidden):
-        depth, begun = 0, None
+        depth, start = 0, None
         for at, line in enumerate(hidden):
-            if depth == 0 and begun is None and CLAUSE.match(self.lines[at]):
-                begun = at
+            if depth == 0 and start is None and CLAUSE.match(self.lines[at]):
+                start = at
             bare = line.rstrip()
             if depth == 0 and bare in ("{", "{}"):
-                self.head, self.contract = self.lines[: begun or at], self.lines[begun or at : at]
+                self.head, self.contract = self.lines[: start or at], self.lines[start or at : at]
                 return
             depth += sum((sign in "([{") - (sign in ")]}") for sign in line)
-            if begun is None and (depth == 1 and bare.endswith("{") or depth == 0 and bare.endswith(("{}", ";"))):
+            if start is None and (depth == 1 and bare.endswith("{") or depth == 0 and bare.endswith(("{}", ";"))):
                 self.head = [re.sub(r" (\{\}?|;)$|;$", "", it) for it in self.lines[: at + 1]]
                 return
         # A function of a trait has no body, and its last clause ends it.
-        self.head, self.contract = self.lines[:begun], self.lines[begun:]
+        self.head, self.contract = self.lines[:start], self.lines[start:]
 
     def inner(self):
         """Returns the items in its braces."""
@@ -83,12 +83,12 @@ def ghost_entries(lines):
 
 
 def end_of_item(kind, lines, hidden, begin):
-    """Returns the line behind an item's last one."""
+    """Returns the line after an item's last one."""
     depth = 0
     for at in range(begin, len(lines)):
         depth += sum((sign in "([{") - (sign in ")]}") for sign in hidden[at])
         bare = hidden[at].rstrip()
-        # A contract's clauses end in braces, too, and behind them comes the body.
+        # A contract's clauses end in braces, too, and after them comes the body.
         if depth == 0 and (bare.endswith(";") or bare in ("}", "{}")):
             return at + 1
         if depth == 0 and kind in ("fn", "impl", "trait", "struct", "enum") and at == begin and bare.endswith("}"):

@@ -1,4 +1,4 @@
-"""What the crates' files name: modules, what they hand out, and functions with their text."""
+"""What the crates' files name: modules, what they export, and functions with their text."""
 
 import functools
 import glob
@@ -58,7 +58,7 @@ def home(crate, path, written):
 
 @functools.lru_cache(maxsize=None)
 def outside(crate, path):
-    """Returns the names that a module hands out: of each where it stands."""
+    """Returns the names that a module exports: of each where it stands."""
     text = read(crate, path)
     if text is None:
         return None

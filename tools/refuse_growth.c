@@ -1,6 +1,6 @@
 /* Refuses growths of the program into which it is loaded: the one with the number in REFUSED_GROWTH, counted from 1, or all from
  * that number on where two dots follow it. At the end it writes to standard error how many there were, and how many bytes the
- * greatest of them asked for. */
+ * greatest of them requested. */
 #include <stddef.h>
 #include <stdio.h>
 #include <stdlib.h>
@@ -29,6 +29,6 @@ void *malloc(size_t size) { return is_refused(size) ? NULL : __libc_malloc(size)
 
 void *realloc(void *old, size_t size) { return is_refused(size) ? NULL : __libc_realloc(old, size); }
 
-__attribute__((destructor)) static void tell(void) {
+__attribute__((destructor)) static void report(void) {
     dprintf(2, "growths: %ld, the greatest of %zu bytes\n", growths, greatest);
 }

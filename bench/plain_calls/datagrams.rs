@@ -38,7 +38,7 @@ const HEADER: usize = 8;
 impl<'a> Datagram<'a> {
     /// As RFC 768 has it; a length of 0 stands for all bytes (RFC 2675, section 4).
     pub fn parse(bytes: &'a [u8]) -> Result<Datagram<'a>, Fault> {
-        let Some((header, behind)) = bytes.split_first_chunk() else {
+        let Some((header, rest)) = bytes.split_first_chunk() else {
             return Err(Fault::Short {
                 needed: HEADER,
                 found: bytes.len(),
@@ -50,7 +50,7 @@ impl<'a> Datagram<'a> {
         if length == 0 {
             return Ok(Datagram {
                 header,
-                payload: behind,
+                payload: rest,
                 len_source: 0,
             });
         }
@@ -63,7 +63,7 @@ impl<'a> Datagram<'a> {
         }
         Ok(Datagram {
             header,
-            payload: &behind[..length - HEADER],
+            payload: &rest[..length - HEADER],
             len_source: 4,
         })
     }

@@ -1,6 +1,6 @@
 //! Why bytes are refused.
 
-/// A refusal, with what a caller may want to know of it.
+/// A refusal, with what a caller may need to know of it.
 #[allow(dead_code)]
 pub enum Fault {
     /// So many bytes are needed, and so many are there, from this place on.
@@ -13,7 +13,7 @@ pub enum Fault {
     HeaderWords(u8),
     Length(usize),
     EmptyAuthentication,
-    HopByHopBehindOthers,
+    HopByHopNotAtStart,
 }
 
 impl Fault {

@@ -165,10 +165,10 @@ impl<'a> Ipv4<'a> {
         need(total_len, bytes, 0)?;
         let body = &bytes[header.len()..total_len];
         let is_fragment = u16::from_be_bytes([header[6], header[7]]) & 0x3fff != 0;
-        let (authentication, number, behind) = match header[9] {
+        let (authentication, number, payload) = match header[9] {
             AUTHENTICATION => {
-                let (front, behind) = body.split_at(authentication_len(body, header.len())?);
-                (Some(front), front[0], behind)
+                let (extension, payload) = body.split_at(authentication_len(body, header.len())?);
+                (Some(extension), extension[0], payload)
             }
             number => (None, number, body),
         };
@@ -179,7 +179,7 @@ impl<'a> Ipv4<'a> {
                 number,
                 is_fragment,
                 source: LenSource::TotalLen,
-                bytes: behind,
+                bytes: payload,
             },
         })
     }
@@ -196,7 +196,7 @@ impl<'a> Ipv4<'a> {
 
 impl<'a> Ipv6<'a> {
     pub fn parse(bytes: &'a [u8]) -> Result<Ipv6<'a>, Fault> {
-        let Some((header, behind)) = bytes.split_first_chunk() else {
+        let Some((header, rest)) = bytes.split_first_chunk() else {
             return Err(Fault::Short {
                 needed: IPV6_HEADER,
                 found: bytes.len(),
@@ -207,11 +207,11 @@ impl<'a> Ipv6<'a> {
             return Err(Fault::Version(header[0] >> 4));
         }
         let payload_length = usize::from(u16::from_be_bytes([header[4], header[5]]));
-        let (source, body) = if payload_length == 0 && !behind.is_empty() {
-            (LenSource::Slice, behind)
+        let (source, body) = if payload_length == 0 && !rest.is_empty() {
+            (LenSource::Slice, rest)
         } else {
-            need(payload_length, behind, IPV6_HEADER)?;
-            (LenSource::PayloadLength, &behind[..payload_length])
+            need(payload_length, rest, IPV6_HEADER)?;
+            (LenSource::PayloadLength, &rest[..payload_length])
         };
         let (extensions, number, payload) = Extensions::parse(header[6], body)?;
         let is_fragment = extensions.is_fragment;
@@ -235,13 +235,13 @@ impl<'a> Ipv6<'a> {
 }
 
 impl<'a> Extensions<'a> {
-    /// The extension headers in front of the bytes, and the number and the bytes behind them.
+    /// The extension headers at the start of the bytes, and the number and the bytes after them.
     fn parse(first: u8, bytes: &'a [u8]) -> Result<(Extensions<'a>, u8, &'a [u8]), Fault> {
         let (mut number, mut rest, mut is_fragment) = (first, bytes, false);
         loop {
             let at = IPV6_HEADER + bytes.len() - rest.len();
             let len = match number {
-                HOP_BY_HOP if rest.len() < bytes.len() => return Err(Fault::HopByHopBehindOthers),
+                HOP_BY_HOP if rest.len() < bytes.len() => return Err(Fault::HopByHopNotAtStart),
                 HOP_BY_HOP | ROUTING | DESTINATION_OPTIONS => options_len(rest, at)?,
                 AUTHENTICATION => authentication_len(rest, at)?,
                 FRAGMENT => {
@@ -364,9 +364,9 @@ fn sum_of_extensions(extensions: &Extensions) -> u64 {
             AUTHENTICATION => 4 * (usize::from(rest[1]) + 2),
             _ => 8 * (usize::from(rest[1]) + 1),
         };
-        let (header, behind) = rest.split_at(len);
+        let (header, following) = rest.split_at(len);
         sum = sum.wrapping_add(sum_of_extension(number, header));
-        (number, rest) = (header[0], behind);
+        (number, rest) = (header[0], following);
     }
     sum
 }

@@ -4,7 +4,7 @@ use crate::fault::{Fault, need};
 use crate::job::Job;
 use crate::random::Random;
 
-/// Headers of 20 to 60 bytes, with other bytes behind them.
+/// Headers of 20 to 60 bytes, with other bytes after them.
 pub struct Ipv4Headers;
 
 impl Job for Ipv4Headers {
@@ -24,7 +24,7 @@ impl Job for Ipv4Headers {
 
 pub const SHORTEST: usize = 20;
 
-/// The header at the front, tested as RFC 791 asks (section 3.1).
+/// The header at the start, tested as RFC 791 requires (section 3.1).
 pub fn whole_header(bytes: &[u8]) -> Result<&[u8], Fault> {
     need(SHORTEST, bytes, 0)?;
     let (version, words) = (bytes[0] >> 4, bytes[0] & 0xf);

@@ -65,8 +65,8 @@ fn row(random: &mut Random, headers: u8) -> Vec<u8> {
             append_options(random, 17, &mut row);
         }
     }
-    let behind = random.below(64);
-    random.append(usize::from(behind), &mut row);
+    let payload_len = random.below(64);
+    random.append(usize::from(payload_len), &mut row);
     row
 }
 
@@ -80,7 +80,7 @@ const MOBILITY: u8 = 135;
 const HIP: u8 = 139;
 const SHIM6: u8 = 140;
 
-/// The number and the bytes behind the extension headers in front of the bytes.
+/// The number and the bytes after the extension headers at the start of the bytes.
 fn skip(first: u8, bytes: &[u8]) -> Result<(u8, &[u8]), Fault> {
     let (mut number, mut rest) = (first, bytes);
     loop {
@@ -105,7 +105,7 @@ fn skip(first: u8, bytes: &[u8]) -> Result<(u8, &[u8]), Fault> {
     }
 }
 
-/// Extension headers that own their bytes, each at its place (RFC 8200, section 4.1).
+/// Extension headers that own their bytes, each in its slot (RFC 8200, section 4.1).
 #[derive(Default)]
 struct Extensions {
     hop_by_hop: Option<Options>,
@@ -138,14 +138,14 @@ struct Authentication {
 }
 
 impl Extensions {
-    /// The extension headers in front of the bytes, and the number and the bytes behind them.
+    /// The extension headers at the start of the bytes, and the number and the bytes after them.
     fn read(first: u8, bytes: &[u8]) -> Result<(Extensions, u8, &[u8]), Fault> {
         let mut extensions = Extensions::default();
         let (mut number, mut rest) = (first, bytes);
         loop {
             let at = bytes.len() - rest.len();
-            let place = match number {
-                HOP_BY_HOP if at > 0 => return Err(Fault::HopByHopBehindOthers),
+            let slot = match number {
+                HOP_BY_HOP if at > 0 => return Err(Fault::HopByHopNotAtStart),
                 HOP_BY_HOP => &mut extensions.hop_by_hop,
                 ROUTING => &mut extensions.routing,
                 DESTINATION_OPTIONS if extensions.routing.is_some() => {
@@ -161,22 +161,22 @@ impl Extensions {
                     continue;
                 }
                 AUTHENTICATION if extensions.authentication.is_none() => {
-                    let (header, behind) = rest.split_at(authentication_len(rest, at)?);
+                    let (header, following) = rest.split_at(authentication_len(rest, at)?);
                     let authentication = Authentication::of(header);
                     number = authentication.next;
-                    rest = behind;
+                    rest = following;
                     extensions.authentication = Some(authentication);
                     continue;
                 }
                 _ => return Ok((extensions, number, rest)),
             };
-            if place.is_some() {
+            if slot.is_some() {
                 return Ok((extensions, number, rest));
             }
-            let (header, behind) = rest.split_at(options_len(rest, at)?);
-            *place = Some(Options::of(header));
+            let (header, following) = rest.split_at(options_len(rest, at)?);
+            *slot = Some(Options::of(header));
             number = header[0];
-            rest = behind;
+            rest = following;
         }
     }
 }
@@ -230,7 +230,7 @@ impl Authentication {
 
 fn sum_of_extensions(extensions: &Extensions) -> u64 {
     let routing = match &extensions.routing {
-        Some(routing) => sum_of_options(routing) + sum_of_place(&extensions.final_destination),
+        Some(routing) => sum_of_options(routing) + sum_of_slot(&extensions.final_destination),
         None => 2,
     };
     let fragment = match &extensions.fragment {
@@ -251,15 +251,15 @@ fn sum_of_extensions(extensions: &Extensions) -> u64 {
         }
         None => 4,
     };
-    sum_of_place(&extensions.hop_by_hop)
-        + sum_of_place(&extensions.destination)
+    sum_of_slot(&extensions.hop_by_hop)
+        + sum_of_slot(&extensions.destination)
         + routing
         + fragment
         + authentication
 }
 
-fn sum_of_place(place: &Option<Options>) -> u64 {
-    place.as_ref().map_or(1, sum_of_options)
+fn sum_of_slot(slot: &Option<Options>) -> u64 {
+    slot.as_ref().map_or(1, sum_of_options)
 }
 
 fn sum_of_options(options: &Options) -> u64 {

@@ -7,7 +7,7 @@ use crate::random::Random;
 /// Frames of 14 to 77 bytes.
 pub struct EthernetFrames;
 
-/// VLAN tags with 0 to 63 bytes behind them.
+/// VLAN tags with 0 to 63 bytes after them.
 pub struct VlanTags;
 
 /// ARP packets of Ethernet and IPv4, with padding.

@@ -64,7 +64,7 @@ const FIXED: usize = 20;
 impl<'a> Segment<'a> {
     /// As RFC 9293 has it (section 3.1).
     pub fn parse(bytes: &'a [u8]) -> Result<Segment<'a>, Fault> {
-        let Some((fixed, behind)) = bytes.split_first_chunk::<FIXED>() else {
+        let Some((fixed, rest)) = bytes.split_first_chunk::<FIXED>() else {
             return Err(Fault::Short {
                 needed: FIXED,
                 found: bytes.len(),
@@ -77,7 +77,7 @@ impl<'a> Segment<'a> {
         }
         let header_len = 4 * usize::from(words);
         need(header_len, bytes, 0)?;
-        let (options, payload) = behind.split_at(header_len - FIXED);
+        let (options, payload) = rest.split_at(header_len - FIXED);
         Ok(Segment {
             fixed,
             options,
@@ -177,7 +177,7 @@ impl Iterator for TcpOptions<'_> {
     }
 }
 
-/// The option at the front, which has a length byte, and what is behind it (RFC 9293, section 3.2; RFC
+/// The option at the start, which has a length byte, and what follows it (RFC 9293, section 3.2; RFC
 /// 7323, sections 2.2 and 3.2; RFC 2018, sections 2 and 3).
 fn sized_option(options: &[u8]) -> Result<(TcpOption, &[u8]), OptionFault> {
     match *options {

@@ -10,7 +10,7 @@ use crate::random::Random;
 use crate::segments::Segment;
 
 /// Ethernet II frames of one kind: UDP over IPv4 (0), TCP with options over IPv4 (1), UDP over IPv6 (2),
-/// UDP over IPv4 behind one VLAN tag (3) and behind two (4), UDP over IPv6 with hop-by-hop and destination
+/// UDP over IPv4 after one VLAN tag (3) and after two (4), UDP over IPv6 with hop-by-hop and destination
 /// options (5), ARP (6), and frames that are refused (7).
 pub struct SlicedFrames<const KIND: u8>;
 
@@ -214,12 +214,12 @@ impl<'a> Packet<'a> {
             at: ETHERNET_HEADER,
         });
         let mut tags = [const { None }; 3];
-        for place in &mut tags {
-            let Some((tag, behind)) = rest.as_ref().map_or(Ok(None), LinkTag::parse)? else {
+        for slot in &mut tags {
+            let Some((tag, following)) = rest.as_ref().map_or(Ok(None), LinkTag::parse)? else {
                 break;
             };
-            *place = Some(tag);
-            rest = behind;
+            *slot = Some(tag);
+            rest = following;
         }
         let (net, transport) = match rest {
             Some(rest) => layers(&rest)?,
@@ -235,26 +235,26 @@ impl<'a> Packet<'a> {
 }
 
 impl<'a> LinkTag<'a> {
-    /// The tag that the ether type names, if it names one, and what stands behind it.
+    /// The tag that the ether type names, if it names one, and what follows it.
     fn parse(rest: &Rest<'a>) -> Result<Option<(LinkTag<'a>, Option<Rest<'a>>)>, Fault> {
         match rest.ether_type {
             0x8100 | 0x88a8 | 0x9100 => {
                 let tag = Tag::parse(rest.bytes).map_err(|fault| fault.moved(rest.at))?;
-                let behind = Rest {
+                let following = Rest {
                     ether_type: u16::from_be_bytes([tag.header[2], tag.header[3]]),
                     bytes: tag.payload,
                     at: rest.at + VLAN_HEADER,
                 };
-                Ok(Some((LinkTag::Vlan(tag), Some(behind))))
+                Ok(Some((LinkTag::Vlan(tag), Some(following))))
             }
             0x88e5 => {
                 let macsec = Macsec::parse(rest.bytes).map_err(|fault| fault.moved(rest.at))?;
-                let behind = macsec.ether_type.map(|ether_type| Rest {
+                let following = macsec.ether_type.map(|ether_type| Rest {
                     ether_type,
                     bytes: macsec.payload,
                     at: rest.at + macsec.header.len(),
                 });
-                Ok(Some((LinkTag::Macsec(macsec), behind)))
+                Ok(Some((LinkTag::Macsec(macsec), following)))
             }
             _ => Ok(None),
         }
@@ -277,13 +277,13 @@ impl<'a> Macsec<'a> {
         let ether_type_len = if is_modified { 0 } else { 2 };
         let header_len = 6 + identifier_len + ether_type_len;
         need(header_len, bytes, 0)?;
-        let (header, behind) = bytes.split_at(header_len);
+        let (header, rest) = bytes.split_at(header_len);
         let payload = if short_len == 0 {
-            behind
+            rest
         } else {
             let payload_len = short_len - ether_type_len;
             need(header_len + payload_len, bytes, 0)?;
-            &behind[..payload_len]
+            &rest[..payload_len]
         };
         let ether_type = if is_modified {
             None

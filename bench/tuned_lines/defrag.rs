@@ -1,5 +1,5 @@
-//! Reassembly: merged ranges, one data buffer for each stream, buffers used again
-//! (RFC 791, RFC 8200; over IPv6 RFC 5722's rule, if it is asked for).
+//! Reassembly: merged ranges, one data buffer for each datagram, buffers used again
+//! (RFC 791, RFC 8200; over IPv6 RFC 5722's rule, if it is requested).
 
 use crate::sliced::{Addresses, FragInfo, IpSlice, VlanIds};
 use std::collections::HashMap;
@@ -88,7 +88,7 @@ impl RangeList {
 #[derive(Debug, Default)]
 pub struct IpDefragBuf {
     /// At least as long as the greatest end. Bytes that no range holds are zeros or those
-    /// of an earlier packet; they are never handed out.
+    /// of an earlier packet; they are never returned.
     data: Vec<u8>,
     /// Sorted by start. Merged ranges, no two of which share a number; or, where overlaps
     /// are refused, the fragments that aren't empty, no two of which share a byte.
@@ -220,7 +220,7 @@ impl IpDefragBuf {
     }
 }
 
-/// Name of a stream: addresses 32 (IPv4: 8, rest 0), identification 4, channel 4,
+/// Name of a datagram: addresses 32 (IPv4: 8, rest 0), identification 4, channel 4,
 /// VLAN ids 6, number 1, version 1.
 #[derive(Debug, Clone, PartialEq, Eq)]
 pub struct IpFragId([u8; 48]);
@@ -255,19 +255,19 @@ impl Hash for IpFragId {
 }
 
 #[derive(Debug, Default)]
-struct Stream {
+struct Reassembly {
     buf: IpDefragBuf,
     timestamp: u64,
 }
 
-/// Streams that are being reassembled. Their buffers stand in one vector, the map holds
-/// their indices; a finished stream is used again with its memory.
+/// The reassemblies. Their buffers stand in one vector, the map holds
+/// their indices; a finished one is used again with its memory.
 #[derive(Debug)]
 pub struct IpDefragPool<S = RandomState> {
     active: HashMap<IpFragId, u32, S>,
-    streams: Vec<Stream>,
+    reassemblies: Vec<Reassembly>,
     free: Vec<u32>,
-    /// An overlap ends an IPv6 stream (RFC 5722).
+    /// An overlap ends an IPv6 reassembly (RFC 5722).
     ipv6_refuses_overlap: bool,
 }
 
@@ -281,7 +281,7 @@ impl<S: BuildHasher> IpDefragPool<S> {
     pub fn with_hasher(ipv6_refuses_overlap: bool, state: S) -> IpDefragPool<S> {
         IpDefragPool {
             active: HashMap::with_hasher(state),
-            streams: Vec::new(),
+            reassemblies: Vec::new(),
             free: Vec::new(),
             ipv6_refuses_overlap,
         }
@@ -301,9 +301,9 @@ impl<S: BuildHasher> IpDefragPool<S> {
         match self.active.entry(id) {
             Entry::Occupied(entry) => {
                 let index = *entry.get();
-                let stream = &mut self.streams[index as usize];
-                match stream.buf.add(info.offset, info.more, ip.payload) {
-                    Ok(()) => stream.timestamp = timestamp,
+                let reassembly = &mut self.reassemblies[index as usize];
+                match reassembly.buf.add(info.offset, info.more, ip.payload) {
+                    Ok(()) => reassembly.timestamp = timestamp,
                     Err(err) => {
                         if err == IpDefragError::OverlappingFragment {
                             entry.remove();
@@ -312,31 +312,31 @@ impl<S: BuildHasher> IpDefragPool<S> {
                         return Err(err);
                     }
                 }
-                if !stream.buf.is_complete() {
+                if !reassembly.buf.is_complete() {
                     return Ok(None);
                 }
                 entry.remove();
                 self.free.push(index);
-                Ok(Some(self.streams[index as usize].buf.text()))
+                Ok(Some(self.reassemblies[index as usize].buf.text()))
             }
             Entry::Vacant(entry) => {
                 let index = match self.free.last() {
                     Some(&index) => index,
                     None => {
-                        // no more than 2^32 streams fit any memory
-                        let index = self.streams.len() as u32;
-                        self.streams.push(Stream::default());
+                        // no more than 2^32 reassemblies fit any memory
+                        let index = self.reassemblies.len() as u32;
+                        self.reassemblies.push(Reassembly::default());
                         self.free.push(index);
                         index
                     }
                 };
-                let stream = &mut self.streams[index as usize];
-                stream
+                let reassembly = &mut self.reassemblies[index as usize];
+                reassembly
                     .buf
                     .reset(self.ipv6_refuses_overlap && matches!(ip.addresses, Addresses::V6(_)));
                 // a lone fragment completes nothing: something before or after it is open
-                stream.buf.add(info.offset, info.more, ip.payload)?;
-                stream.timestamp = timestamp;
+                reassembly.buf.add(info.offset, info.more, ip.payload)?;
+                reassembly.timestamp = timestamp;
                 entry.insert(index);
                 self.free.pop();
                 Ok(None)
@@ -344,14 +344,14 @@ impl<S: BuildHasher> IpDefragPool<S> {
         }
     }
 
-    /// Keeps exactly the streams whose timestamp is at least `first`.
+    /// Keeps exactly the reassemblies whose timestamp is at least `first`.
     pub fn retain_from(&mut self, first: u64) {
-        let (streams, free) = (&self.streams, &mut self.free);
+        let (reassemblies, free) = (&self.reassemblies, &mut self.free);
         if self.active.is_empty() {
             return;
         }
         self.active.retain(|_, index| {
-            let keep = streams[*index as usize].timestamp >= first;
+            let keep = reassemblies[*index as usize].timestamp >= first;
             if !keep {
                 free.push(*index);
             }

@@ -40,7 +40,7 @@ impl<'a> Command<'a> {
     }
 }
 
-/// The number at the front of `text` and the count of its digits; None without a
+/// The number at the start of `text` and the count of its digits; None without a
 /// digit, with more than `max` digits, or above 2^64 - 1.
 #[inline]
 fn number(text: &[u8], max: usize) -> (Option<u64>, usize) {

@@ -1,6 +1,6 @@
 //! The whole job of `netlines::run` in plain Rust, tuned: lines are read where they stand in the
 //! read buffer, uncut frames take no memory, answers are encoded into the write buffer, messages
-//! on their way stand in one vector and their memory is used again, ranges are found by bisection,
+//! being reassembled stand in one vector and their memory is used again, ranges are found by bisection,
 //! hex and sums are chosen at run time. It leaves its pool to the end of the process.
 
 mod defrag;

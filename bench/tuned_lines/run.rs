@@ -9,7 +9,7 @@ use crate::line::{Command, MAX_LINE, find_newline};
 use crate::sliced::{Addresses, NetSlice, SlicedPacket};
 use std::io::{Read, Write};
 
-/// Bytes asked for in one read.
+/// Bytes requested in one read.
 pub const READ_SIZE: usize = 65536;
 /// Reads until `run` gives up.
 pub const MAX_READS: u64 = 1 << 40;
@@ -17,7 +17,7 @@ pub const MAX_READS: u64 = 1 << 40;
 const FRAME_SIZE: usize = 100_000;
 /// Answers are handed to the writer when this many bytes wait.
 const WRITE_SIZE: usize = 65536;
-/// Room for the longest answer line behind `WRITE_SIZE` bytes.
+/// Room for the longest answer line after `WRITE_SIZE` bytes.
 const ANSWER_SIZE: usize = 2 * FRAME_SIZE + 64;
 
 #[derive(Debug)]

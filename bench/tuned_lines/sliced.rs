@@ -3,7 +3,7 @@
 /// Why a frame is refused. `run` prints all of these as `refused frame`.
 #[derive(Debug, Clone, Copy, PartialEq, Eq)]
 pub enum SliceError {
-    /// Fewer bytes than a header or a length field asks for, or more than it allows.
+    /// Fewer bytes than a header or a length field requires, or more than it allows.
     Len,
     MacsecVersion,
     MacsecShortLen,
@@ -88,12 +88,12 @@ impl FragInfo {
 #[derive(Debug, Clone, Copy, PartialEq, Eq)]
 pub struct IpSlice<'a> {
     pub addresses: Addresses<'a>,
-    /// The number behind the extension headers.
+    /// The number after the extension headers.
     pub number: u8,
     pub payload: &'a [u8],
     /// Set where the packet is cut: IPv4's own fields, or the first fragment header.
     pub fragment: Option<FragInfo>,
-    /// A fragment header behind the first one fragments, the first one doesn't.
+    /// A fragment header after the first one fragments, the first one doesn't.
     pub later_fragment: bool,
 }
 
@@ -132,12 +132,12 @@ impl<'a> SlicedPacket<'a> {
                 | ether_type::VLAN_DOUBLE_TAGGED_FRAME
                     if link_exts < Self::LINK_EXTS_CAP =>
                 {
-                    let Some((tag, behind)) = rest.split_first_chunk::<4>() else {
+                    let Some((tag, payload)) = rest.split_first_chunk::<4>() else {
                         return Err(Len);
                     };
                     vlan_ids.push(be16(tag, 0) & 0x0fff);
                     ether_type = be16(tag, 2);
-                    rest = behind;
+                    rest = payload;
                 }
                 ether_type::MACSEC if link_exts < Self::LINK_EXTS_CAP => match macsec(rest)? {
                     Some((next, payload)) => {
@@ -192,7 +192,7 @@ fn arp(s: &[u8]) -> Result<&[u8], SliceError> {
     s.get(..len).ok_or(Len)
 }
 
-/// Length of the authentication header at the front of `s`.
+/// Length of the authentication header at the start of `s`.
 #[inline]
 fn auth_len(s: &[u8]) -> Result<usize, SliceError> {
     if s.len() < 12 {
@@ -248,15 +248,15 @@ impl<'a> IpSlice<'a> {
 
     #[inline]
     pub fn from_ipv6(s: &'a [u8]) -> Result<IpSlice<'a>, SliceError> {
-        let Some((header, behind)) = s.split_first_chunk::<40>() else {
+        let Some((header, rest)) = s.split_first_chunk::<40>() else {
             return Err(Len);
         };
         if header[0] >> 4 != 6 {
             return Err(Ipv6Version);
         }
         let mut payload = match usize::from(be16(header, 4)) {
-            0 => behind,
-            len => behind.get(..len).ok_or(Len)?,
+            0 => rest,
+            len => rest.get(..len).ok_or(Len)?,
         };
         let mut number = header[6];
         let mut first_fragment = None;

@@ -1,4 +1,4 @@
-/* Answers the lines of standard input: asks how much room the answers need, and asks again. */
+/* Answers the lines of standard input: a first call says how much room the answers need, the next one has it. */
 #include "netlines.h"
 #include <stdio.h>
 #include <stdlib.h>

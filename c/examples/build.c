@@ -1,4 +1,4 @@
-/* Builds an Ethernet II frame with a UDP datagram and tells it in hex. */
+/* Builds an Ethernet II frame with a UDP datagram and prints it in hex. */
 #include "etherparse.h"
 #include <stdio.h>
 #include <string.h>

@@ -1,4 +1,4 @@
-/* Tells the fields of a frame. */
+/* Prints the fields of a frame. */
 #include "etherparse.h"
 #include <stdio.h>
 

@@ -1,4 +1,4 @@
-// Tells the fields of a frame, from C++.
+// Prints the fields of a frame, from C++.
 #include "etherparse.h"
 #include "netlines.h"
 #include <array>
@@ -18,9 +18,9 @@ static std::string answers(const std::string &text) {
 int main() {
     const std::array<std::uint8_t, 28> packet = {0x45, 0,  0, 28, 0, 7, 0,  0, 0x40, 0x11, 0x66, 0xc8, 10, 0,
                                                  0,    1, 10, 0,  0, 2, 0x9c, 0x40, 0, 53,   0,    8,    0,  0};
-    const ep_packet told = ep_slice_ip(packet.data(), packet.size());
-    if (told.refusal.kind != 0) return 1;
-    std::cout << "port " << told.udp.source_port << " to " << told.udp.destination_port << '\n'
+    const ep_packet fields = ep_slice_ip(packet.data(), packet.size());
+    if (fields.refusal.kind != 0) return 1;
+    std::cout << "port " << fields.udp.source_port << " to " << fields.udp.destination_port << '\n'
               << answers("frame 0 0200000000020200000000010806\n");
     return 0;
 }

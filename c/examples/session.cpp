@@ -11,8 +11,8 @@ class Session {
     netlines_session session{};
     std::vector<std::uint8_t> output = std::vector<std::uint8_t>(4096);
 
-    // Calls until the output has room, with a piece that was taken already from the second time on.
-    template <class Call> std::string handed_out(Call call) {
+    // Calls until the output has room, with a chunk that was taken already from the second time on.
+    template <class Call> std::string answered(Call call) {
         std::size_t written = 0;
         std::uint32_t status;
         while ((status = call(output.data(), output.size(), &written)) == NETLINES_NO_ROOM) output.resize(written);
@@ -29,17 +29,17 @@ class Session {
     Session &operator=(const Session &) = delete;
     ~Session() { netlines_close(&session); }
 
-    std::string feed(const std::string &piece) {
-        auto len = piece.size();
-        return handed_out([&](std::uint8_t *room, std::size_t room_len, std::size_t *written) {
-            const auto *bytes = reinterpret_cast<const std::uint8_t *>(piece.data());
+    std::string feed(const std::string &chunk) {
+        auto len = chunk.size();
+        return answered([&](std::uint8_t *room, std::size_t room_len, std::size_t *written) {
+            const auto *bytes = reinterpret_cast<const std::uint8_t *>(chunk.data());
             const auto status = netlines_feed(&session, bytes, len, room, room_len, written);
             len = 0;
             return status;
         });
     }
     std::string finish() {
-        return handed_out([&](std::uint8_t *room, std::size_t room_len, std::size_t *written) {
+        return answered([&](std::uint8_t *room, std::size_t room_len, std::size_t *written) {
             return netlines_finish(&session, room, room_len, written);
         });
     }

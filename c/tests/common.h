@@ -15,13 +15,13 @@ static inline void check(int right, const char *what) {
     }
 }
 
-/* Tells how many checks passed, and is the program's status. */
+/* Prints how many checks passed, and returns the program's status. */
 static inline int counted(void) {
     printf("%d passed, %d failed\n", passed, failed);
     return failed != 0;
 }
 
-/* Memory of this length at the end of a block, so that a sanitizer sees a step behind it. */
+/* Memory of this length at the end of a block, so that a sanitizer sees a step beyond it. */
 static inline uint8_t *block(size_t len) {
     uint8_t *bytes = malloc(len ? len : 1);
     if (!bytes) exit(2);

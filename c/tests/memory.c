@@ -1,5 +1,5 @@
 /* What pools and sessions hold of memory, that they give all of it back when they are closed and where a call has no more, and
-   that messages behind the first ones take none. The linker puts these calls in the place of those of the C library
+   that messages after the first ones take none. The linker puts these calls in the place of those of the C library
    (-Wl,--wrap). */
 #include "common.h"
 #include "etherparse.h"
@@ -13,8 +13,8 @@ void __real_free(void *at);
 /* The bytes that are held, the calls that took memory, and how many more may. */
 static size_t held, calls, left = SIZE_MAX;
 
-/* In front of each block stands its length. */
-enum { FRONT = 16 };
+/* Before each block stands its length. */
+enum { PREFIX = 16 };
 
 static int refused(void) {
     if (!left) return 1;
@@ -28,22 +28,22 @@ static void *given(uint8_t *at, size_t size) {
     if (!at) return NULL;
     memcpy(at, &size, sizeof size);
     held += size;
-    return at + FRONT;
+    return at + PREFIX;
 }
 
 static size_t length_of(const uint8_t *block) {
     size_t size;
-    memcpy(&size, block - FRONT, sizeof size);
+    memcpy(&size, block - PREFIX, sizeof size);
     return size;
 }
 
-void *__wrap_malloc(size_t size) { return refused() ? NULL : given(__real_malloc(FRONT + size), size); }
+void *__wrap_malloc(size_t size) { return refused() ? NULL : given(__real_malloc(PREFIX + size), size); }
 
 void *__wrap_realloc(void *old, size_t size) {
     if (!old) return __wrap_malloc(size);
     if (refused()) return NULL;
     const size_t before = length_of(old);
-    void *at = given(__real_realloc((uint8_t *)old - FRONT, FRONT + size), size);
+    void *at = given(__real_realloc((uint8_t *)old - PREFIX, PREFIX + size), size);
     held -= at ? before : 0;
     return at;
 }
@@ -51,7 +51,7 @@ void *__wrap_realloc(void *old, size_t size) {
 void __wrap_free(void *at) {
     if (!at) return;
     held -= length_of(at);
-    __real_free((uint8_t *)at - FRONT);
+    __real_free((uint8_t *)at - PREFIX);
 }
 
 static uint8_t room[256];
@@ -78,7 +78,7 @@ static void pool_rounds(void) {
     const size_t warm = calls;
     int right = 1;
     for (int i = 0; i < 10; i++) right &= goes_round(&pool);
-    check(right && calls == warm, "the messages behind them take none");
+    check(right && calls == warm, "the messages after them take none");
     ep_pool_free(&pool);
     check(held == before, "a pool with spare memory gives it back");
 }

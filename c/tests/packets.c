@@ -1,4 +1,4 @@
-/* What is told of the packets of a table: c/tests/packets.txt says how its lines read. */
+/* What is returned for the packets of a table: c/tests/packets.txt says how its lines read. */
 #include "common.h"
 #include "etherparse.h"
 #include "fields.h"

@@ -39,8 +39,8 @@ static uint8_t *room_of(size_t len) {
     return room;
 }
 
-/* Whether the pool keeps the message, takes no frame, and hands it out once. */
-static int hands_out_later(ep_pool *pool, const uint8_t *frame, size_t len, ep_added wanted, const uint8_t *message) {
+/* Whether the pool keeps the message, takes no frame, and returns it once. */
+static int returned_later(ep_pool *pool, const uint8_t *frame, size_t len, ep_added wanted, const uint8_t *message) {
     const ep_added wrong_state = {.status = EP_WRONG_STATE};
     uint8_t *room = room_of(wanted.message.len), none = 7;
     size_t open = ep_pool_open(pool);
@@ -67,13 +67,13 @@ static int answers(ep_pool *pool, const uint8_t *frame, size_t len, uint64_t tim
     size_t written = lacks ? 0 : wanted.message.len;
     right &= !memcmp(room, message, written) && is_filled(room + written, size - written);
     free(room);
-    return right && (!lacks || hands_out_later(pool, frame, len, wanted, message));
+    return right && (!lacks || returned_later(pool, frame, len, wanted, message));
 }
 
-static void read_address(const char *hex, uint8_t *address, size_t wants) {
+static void read_address(const char *hex, uint8_t *address, size_t needed) {
     size_t len;
     uint8_t *bytes = block_of(hex, &len);
-    if (len != wants) exit(2);
+    if (len != needed) exit(2);
     memcpy(address, bytes, len);
     free(bytes);
 }
@@ -99,17 +99,17 @@ static ep_added wanted_of(const uint8_t *frame, size_t len, uint8_t **message) {
         wanted.part.end = (uint16_t)number[3];
         wanted.part.len = number[4];
     } else {
-        ep_message *told = &wanted.message;
+        ep_message *expected = &wanted.message;
         wanted.status = EP_COMPLETED;
-        told->len = strlen(word[4]) / 2;
-        told->ip_version = (uint32_t)atoi(word[0]);
-        told->number = (uint8_t)atoi(word[1]);
-        if (told->ip_version == 4) {
-            read_address(word[2], told->ipv4_source, 4);
-            read_address(word[3], told->ipv4_destination, 4);
+        expected->len = strlen(word[4]) / 2;
+        expected->ip_version = (uint32_t)atoi(word[0]);
+        expected->number = (uint8_t)atoi(word[1]);
+        if (expected->ip_version == 4) {
+            read_address(word[2], expected->ipv4_source, 4);
+            read_address(word[3], expected->ipv4_destination, 4);
         } else {
-            read_address(word[2], told->ipv6_source, 16);
-            read_address(word[3], told->ipv6_destination, 16);
+            read_address(word[2], expected->ipv6_source, 16);
+            read_address(word[3], expected->ipv6_destination, 16);
         }
     }
     return wanted;

@@ -97,7 +97,7 @@ class Refused(ValueError):
 
 
 class Verdict(enum.Enum):
-    """What the checksum of a message tells."""
+    """What the checksum of a message says."""
 
     NONE = 0
     GOOD = 1
@@ -455,7 +455,7 @@ def _number(name: str, number: int, bits: int) -> int:
 
 
 class Pool:
-    """The messages that are on their way in parts. It stays on the thread that made it.
+    """The messages that are incomplete. It stays on the thread that made it.
 
     One that never completes is held until `forget_before` drops it. So a caller whose input isn't trusted calls that
     regularly: a receiver gives a message up by a timer (RFC 791, section 3.2), over IPv6 60 seconds after its first
@@ -503,7 +503,7 @@ class Pool:
         _etherparse.ep_pool_forget_before(self._opened(), _number("time", time, 64))
 
     def __len__(self) -> int:
-        """How many messages are on their way."""
+        """How many messages are incomplete."""
         return _etherparse.ep_pool_open(_c.byref(self._raw))
 
     def close(self) -> None:
@@ -542,11 +542,11 @@ def answers(text: bytes) -> bytes:
 class Session:
     """Lines that come in chunks of any length, and the answers to them as they come. It stays on the thread that made it.
 
-    Fed in any pieces, the answers are `answers` of the whole. After a MemoryError it is closed.
+    Fed in any chunks, the answers are `answers` of the whole. After a MemoryError it is closed.
 
         with Session() as session:
-            for piece in pieces:
-                output.write(session.feed(piece))
+            for chunk in chunks:
+                output.write(session.feed(chunk))
             output.write(session.finish())
     """
 
@@ -556,7 +556,7 @@ class Session:
             raise MemoryError
 
     def feed(self, piece: bytes) -> bytes:
-        """Takes a piece, and gives the answers to all lines that ended since the last call."""
+        """Takes a chunk, and gives the answers to all lines that ended since the last call."""
         left = [piece]
 
         def call(*room):

@@ -90,7 +90,7 @@ class Packets(unittest.TestCase):
     def test_refusal_text(self):
         with self.assertRaisesRegex(ep.Refused, "^ethernet2 header at byte 0 needs 14 bytes, and 13 are there$"):
             ep.slice_ethernet(bytes(13))
-        # Destination options, and behind them hop-by-hop options (RFC 8200, section 4.1).
+        # Destination options, and after them hop-by-hop options (RFC 8200, section 4.1).
         packet = bytes.fromhex("60000000 0010 3c 40") + bytes(32) + bytes([0] + [0] * 7) + bytes([59] + [0] * 7)
         with self.assertRaisesRegex(ep.Refused, "^hop-by-hop options not at the start$"):
             ep.slice_ip(packet)
@@ -202,8 +202,8 @@ class Pools(unittest.TestCase):
                     pool = ep.Pool()
                 elif call == "add":
                     time, channel, digits, *wanted = words
-                    told = self.answer(pool, bytes.fromhex(digits.strip("-")), int(time), int(channel))
-                    self.assertEqual([str(word) for word in told], wanted)
+                    found = self.answer(pool, bytes.fromhex(digits.strip("-")), int(time), int(channel))
+                    self.assertEqual([str(word) for word in found], wanted)
                 elif call == "forget":
                     pool.forget_before(int(words[0]))
                 elif call == "open":
@@ -241,8 +241,8 @@ class Answers(unittest.TestCase):
             whole, wanted = text.read_bytes(), text.with_suffix(".out").read_bytes()
             for size in 1, 7, 65536:
                 with self.subTest(text.name, size=size), ep.Session() as session:
-                    told = [session.feed(whole[at : at + size]) for at in range(0, len(whole), size)]
-                    self.assertEqual(b"".join(told) + session.finish(), wanted)
+                    found = [session.feed(whole[at : at + size]) for at in range(0, len(whole), size)]
+                    self.assertEqual(b"".join(found) + session.finish(), wanted)
 
     def test_no_lines(self):
         self.assertEqual(ep.answers(b""), b"")

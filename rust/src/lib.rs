@@ -35,7 +35,7 @@ pub fn slice_ip(packet: &[u8]) -> Result<Packet<'_>, Refusal> {
     Packet::from_raw(packet, unsafe { raw::ep_slice_ip(packet.as_ptr(), packet.len()) })
 }
 
-/// What the checksum of a message tells.
+/// What the checksum of a message says.
 #[derive(Clone, Copy, Debug, PartialEq, Eq, Hash)]
 pub enum Verdict {
     /// There is no checksum, or none that is known.

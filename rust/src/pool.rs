@@ -6,7 +6,7 @@ use std::error::Error;
 use std::fmt;
 use std::net::{IpAddr, Ipv4Addr, Ipv6Addr};
 
-/// The messages that are on their way in parts.
+/// The messages that are incomplete.
 ///
 /// One that never completes is held until [`Pool::forget_before`] drops it. So a caller whose input isn't
 /// trusted calls that regularly: a receiver gives a message up by a timer (RFC 791, section 3.2), over IPv6
@@ -177,7 +177,7 @@ impl Pool {
         unsafe { raw::ep_pool_forget_before(&mut self.raw, time) };
     }
 
-    /// How many messages are on their way.
+    /// How many messages are incomplete.
     #[must_use]
     pub fn open_len(&mut self) -> usize {
         // SAFETY: as above.

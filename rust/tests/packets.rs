@@ -1,4 +1,4 @@
-//! What the wrapper tells of packets, and the answers to the worked rows.
+//! What the wrapper returns for packets, and the answers to the worked rows.
 
 use etherparse_proved::{
     Fault, Layer, LenSource, Link, Net, Refusal, Session, Transport, Verdict, answers, checksum, checksum_is_right, raw,
@@ -16,7 +16,7 @@ fn bytes(hex: &str) -> Vec<u8> {
     (0..hex.len() / 2).map(|i| u8::from_str_radix(&hex[2 * i..2 * i + 2], 16).unwrap()).collect()
 }
 
-/// The rows of the table: the call, the bytes, and the fields that are told.
+/// The rows of the table: the call, the bytes, and the expected fields.
 fn rows() -> Vec<(String, Vec<u8>, Vec<(String, String)>)> {
     let table = fs::read_to_string(Path::new(TOP).join("c/tests/packets.txt")).unwrap();
     let rows = table.lines().filter(|line| !line.starts_with('#'));
@@ -38,7 +38,7 @@ fn number(fields: &[(String, String)], name: &str) -> Option<usize> {
 fn table() {
     let mut refused = 0;
     for (call, frame, fields) in rows() {
-        let (told, verdict) = match call.as_str() {
+        let (found, verdict) = match call.as_str() {
             "ethernet" => (slice_ethernet(&frame), verdict_ethernet(&frame)),
             "linux_sll" => (slice_linux_sll(&frame), verdict_linux_sll(&frame)),
             _ => (slice_ip(&frame), verdict_ip(&frame)),
@@ -46,15 +46,15 @@ fn table() {
         let wanted = [Some(Verdict::None), Some(Verdict::Good), Some(Verdict::Bad), None];
         assert_eq!(verdict, wanted[number(&fields, "verdict").unwrap_or(3)]);
         let kind = fields.iter().find(|field| field.0 == "refusal.kind").map_or("NONE", |field| field.1.as_str());
-        let Err(refusal) = told else {
+        let Err(refusal) = found else {
             assert_eq!(kind, "NONE");
             continue;
         };
         refused += 1;
         let layer = Layer(number(&fields, "refusal.layer").unwrap() as u32);
         match refusal {
-            Refusal::TooFewBytes { needed, there, place, source, layer: told } => {
-                assert_eq!((kind, layer), ("TOO_FEW_BYTES", told));
+            Refusal::TooFewBytes { needed, there, place, source, layer: found } => {
+                assert_eq!((kind, layer), ("TOO_FEW_BYTES", found));
                 assert_eq!(Some(needed), number(&fields, "refusal.needed"));
                 assert_eq!(Some(there), number(&fields, "refusal.there"));
                 assert_eq!(Some(place), number(&fields, "refusal.place"));
@@ -63,8 +63,8 @@ fn table() {
                 let index = number(&fields, "refusal.source").unwrap();
                 assert_eq!(source, [sources[0], sources[0], sources[0], sources[1], sources[2], others[0], others[0], others[1]][index]);
             }
-            Refusal::Header { layer: told, fault, value } => {
-                assert_eq!((kind.replace('_', ""), layer), (format!("{fault:?}").to_uppercase(), told));
+            Refusal::Header { layer: found, fault, value } => {
+                assert_eq!((kind.replace('_', ""), layer), (format!("{fault:?}").to_uppercase(), found));
                 assert_eq!(Some(value as usize), number(&fields, "refusal.value"));
             }
         }
@@ -120,12 +120,12 @@ fn rows_are_answered() {
             assert!(answers(&text).unwrap() == wanted, "{}", path.display());
             for size in [1, 7, 65536] {
                 let mut session = Session::open().unwrap();
-                let mut told = Vec::new();
+                let mut found = Vec::new();
                 for piece in text.chunks(size) {
-                    told.extend(session.feed(piece).unwrap());
+                    found.extend(session.feed(piece).unwrap());
                 }
-                told.extend(session.finish().unwrap());
-                assert!(told == wanted, "{} in pieces of {size}", path.display());
+                found.extend(session.finish().unwrap());
+                assert!(found == wanted, "{} in pieces of {size}", path.display());
             }
             count += 1;
         }

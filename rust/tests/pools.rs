@@ -18,7 +18,7 @@ fn address(hex: &str) -> IpAddr {
     }
 }
 
-/// What the words of an answer in the table ask for.
+/// What the words of an answer in the table expect.
 fn wanted(frame: &[u8], answer: &[&str]) -> Result<Option<Message>, AddError> {
     match *answer {
         ["none"] => Ok(None),
@@ -53,8 +53,8 @@ fn table() {
             ["pool"] => pool = Pool::new().unwrap(),
             ["add", time, channel, frame, ref answer @ ..] => {
                 let frame = bytes(frame);
-                let told = pool.add(&frame, time.parse().unwrap(), channel.parse().unwrap());
-                assert_eq!(told, wanted(&frame, answer), "{line}");
+                let found = pool.add(&frame, time.parse().unwrap(), channel.parse().unwrap());
+                assert_eq!(found, wanted(&frame, answer), "{line}");
             }
             ["forget", time] => pool.forget_before(time.parse().unwrap()),
             ["open", count] => assert_eq!(pool.open_len(), count.parse().unwrap(), "{line}"),

@@ -105,7 +105,7 @@ class Blocks:
         self.block(INTERFACE, self.pack("HHI", link, 0, snap_len) + options)
 
     def stamp(self):
-        """The halves of a time that all interfaces tell in the same parts of a second."""
+        """The halves of a time that all interfaces state in the same parts of a second."""
         second = random.Random(len(self.times)).choice([0, 1_000_000_000, 1_700_000_000])
         count = (second * self.parts + (len(self.times) * 123_456_789_123) % self.parts) % 2**64
         time = count * BILLION // self.parts + self.offset * BILLION
@@ -225,8 +225,8 @@ def passed_over(order, draw):
             times.append(file.times[-1])
         else:
             counts[reason] += 1
-    told = "captures_cli: passed over: {} of other links, {} too long, {} without a frame\n".format(*counts)
-    return file.bytes, packets, wanted, told, times
+    message = "passed over: {} of other links, {} too long, {} without a frame\n".format(*counts)
+    return file.bytes, packets, wanted, message, times
 
 
 KINDS = ["enhanced", "simple", "simple, cut", "obsolete", "mixed", "comments", "long options", *RESOLUTIONS]
@@ -234,8 +234,8 @@ KINDS += ["other blocks", "sections"]
 
 
 class Capture:
-    """A file, the packets in it and their times. `wanted` are the frames that `captures_cli lines` has to tell where these aren't
-    the packets themselves; `words` are its further words, and `message` is what it has to say."""
+    """A file, the packets in it and their times. `wanted` are the frames that `captures lines` has to print where these aren't
+    the packets themselves; `words` are its further words, and `message` is what it has to say, after its name and the file's."""
 
     def __init__(self, label, kind, file, packets, times, wanted=None, words=(), message=""):
         self.label, self.kind, self.file, self.packets, self.times = label, kind, file, packets, times
@@ -262,8 +262,8 @@ def captures(seed, path):
             yield classic_capture(f"pcap, {name}, link type {link}", "link", order, False, packets, link, wanted)
         file, packets, wanted, times = links_of_a_section(order, draw)
         yield Capture(f"pcapng, {name}, links", "links", file, packets, times, wanted)
-        file, packets, wanted, told, times = passed_over(order, draw)
-        yield Capture(f"pcapng, {name}, --skip", "skip", file, packets, times, wanted, ("--skip",), told)
+        file, packets, wanted, message, times = passed_over(order, draw)
+        yield Capture(f"pcapng, {name}, --skip", "skip", file, packets, times, wanted, ("--skip",), message)
         for kind in KINDS:
             file, packets, times = pcapng(order, kind, draw)
             yield Capture(f"pcapng, {name}, {kind}", kind, file, packets, times)

@@ -1,4 +1,4 @@
-"""What tshark and scapy tell of a capture: its packets, and their times in nanoseconds. It takes Debian's `tshark` and
+"""What tshark and scapy report of a capture: its packets, and their times in nanoseconds. It takes Debian's `tshark` and
 `python3-scapy`."""
 import json
 import logging
@@ -30,12 +30,12 @@ def by_tshark(path):
 def by_scapy(path, classic_file):
     reader = RawPcapReader(path) if classic_file else RawPcapNgReader(path)
     packets, times = [], []
-    for packet, told in reader:
+    for packet, header in reader:
         packets.append(bytes(packet))
         if classic_file:
-            times.append(told.sec * BILLION + told.usec * (1 if reader.nano else 1000))
+            times.append(header.sec * BILLION + header.usec * (1 if reader.nano else 1000))
         else:
-            times.append(((told.tshigh or 0) * 2**32 + (told.tslow or 0)) * BILLION // told.tsresol)
+            times.append(((header.tshigh or 0) * 2**32 + (header.tslow or 0)) * BILLION // header.tsresol)
     return packets, times
 
 
@@ -43,7 +43,7 @@ def by_scapy(path, classic_file):
 # tshark's JSON of random bytes on other links has its bytes elsewhere: those are compared with what was put in alone.
 NOT_SCAPY = {"simple", "skip"}
 NOT_TSHARK = {"skip"}
-# scapy reads no offset, and no resolution behind long options. tshark has times before 1970, and its count of nanoseconds
+# scapy reads no offset, and no resolution after long options. tshark has times before 1970, and its count of nanoseconds
 # overflows where parts are finer.
 NOT_THEIR_TIMES = {
     "scapy": {"an hour later", "earlier than 1970", "long options"},
@@ -51,41 +51,41 @@ NOT_THEIR_TIMES = {
 }
 
 
-def told_of(capture, path):
-    """What each peer tells of a capture, by its name: packets, and times but where it has others."""
+def reports_of(capture, path):
+    """What each peer reports of a capture, by its name: packets, and times but where it has others."""
     with open(path, "wb") as file:
         file.write(capture.file)
-    told = {}
+    reports = {}
     if capture.kind not in NOT_TSHARK:
-        told["tshark"] = by_tshark(path)
+        reports["tshark"] = by_tshark(path)
     if capture.kind not in NOT_SCAPY:
-        told["scapy"] = by_scapy(path, capture.kind in ("classic", "link"))
+        reports["scapy"] = by_scapy(path, capture.kind in ("classic", "link"))
     for name, kinds in NOT_THEIR_TIMES.items():
-        if name in told and capture.kind in kinds:
-            told[name] = told[name][0], None
-    return told
+        if name in reports and capture.kind in kinds:
+            reports[name] = reports[name][0], None
+    return reports
 
 
 def records(seed, path, step=1):
-    """Each capture, or each of so many, with what was put in and what the peers tell of it. Frames of other links are scapy's reading of them: there the
-    peers have to tell the packets that were put in."""
+    """Each capture, or each of so many, with what was put in and what the peers report of it. Frames of other links are scapy's reading of them: there the
+    peers have to report the packets that were put in."""
     for number, capture in enumerate(captures.captures(seed, path)):
         if number % step:
             continue
-        told = {"made": (capture.packets, capture.times), **told_of(capture, path)}
+        reports = {"made": (capture.packets, capture.times), **reports_of(capture, path)}
         if capture.wanted is not None:
-            for name, (packets, times) in told.items():
+            for name, (packets, times) in reports.items():
                 if packets != capture.packets:
-                    raise SystemExit(f"{capture.label}: {name} tells other packets than were put in")
-                told[name] = None, times
-            told["frames"] = capture.wanted, None
+                    raise SystemExit(f"{capture.label}: {name} reports other packets than were put in")
+                reports[name] = None, times
+            reports["frames"] = capture.wanted, None
         yield {
             "label": capture.label,
             "words": list(capture.words),
             "message": capture.message,
             "file": capture.file.hex(),
-            "frames": {name: [it.hex() for it in frames] for name, (frames, _) in told.items() if frames is not None},
-            "times": {name: times for name, (_, times) in told.items() if times is not None},
+            "frames": {name: [it.hex() for it in frames] for name, (frames, _) in reports.items() if frames is not None},
+            "times": {name: times for name, (_, times) in reports.items() if times is not None},
         }
 
 

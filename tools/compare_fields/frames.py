@@ -1,4 +1,4 @@
-"""Frames of every layer, drawn by a seeded generator and spelled after the standards."""
+"""Frames of every layer, drawn by a seeded generator and encoded after the standards."""
 
 import struct
 
@@ -9,8 +9,8 @@ def data(draw, most):
     return draw.randbytes(draw.randrange(most + 1))
 
 
-def told(draw, size, least):
-    """Returns the length that a header tells: mostly the true one, else a smaller one."""
+def stated(draw, size, least):
+    """Returns the length that a header states: mostly the true one, else a smaller one."""
     return size if draw.random() < 0.92 else draw.randrange(least, size + 1)
 
 
@@ -68,7 +68,7 @@ def ipv4(draw):
     options = b"" if draw.random() < 0.6 else draw.choice((b"\1" * 4, b"\7\7\4" + draw.randbytes(4) + b"\0", draw.randbytes(4 * draw.randrange(11))))
     size = 20 + len(options)
     flags = draw.choices((0, 0x4000, draw.randrange(65536)), (50, 35, 15))[0]
-    head = struct.pack("!BBHHHBB", 0x40 | size // 4, draw.randrange(256), told(draw, size + len(body), size), draw.randrange(65536), flags, draw.randrange(256), number)
+    head = struct.pack("!BBHHHBB", 0x40 | size // 4, draw.randrange(256), stated(draw, size + len(body), size), draw.randrange(65536), flags, draw.randrange(256), number)
     return head + draw.randbytes(10) + options + body
 
 
@@ -87,7 +87,7 @@ def ipv6(draw):
             units = draw.choices((0, 1, 2), (70, 20, 10))[0]
             body = bytes([number, units]) + options6(draw, 6 + 8 * units) + body
         number = kind
-    length = 0 if draw.random() < 0.05 else told(draw, len(body), 0)
+    length = 0 if draw.random() < 0.05 else stated(draw, len(body), 0)
     return struct.pack("!IHBB", 6 << 28 | draw.getrandbits(28), length, number, draw.randrange(256)) + draw.randbytes(32) + body
 
 

@@ -15,20 +15,20 @@ from scapy.layers.ipsec import AH
 from scapy.layers.l2 import ARP, CookedLinux, Dot1AD, Dot1Q, Ether
 from scapy.packet import Raw, bind_layers
 
-# The ether type of a tag in front of another one, as 802.1Q's earlier drafts had it, is not among scapy's.
+# The ether type of a tag before another one, as 802.1Q's earlier drafts had it, is not among scapy's.
 for below in (Ether, CookedLinux, Dot1Q, Dot1AD, macsec.MACsec):
     for name, number in (("type", 0x8100), ("type", 0x88A8), ("type", 0x9100), ("type", 0x88E5)):
         above = {0x8100: Dot1Q, 0x88A8: Dot1AD, 0x9100: Dot1Q, 0x88E5: macsec.MACsec}[number]
         bind_layers(below, above, **{"proto" if below is CookedLinux else name: number})
 
 
-# Nor is what stands behind such a tag.
+# Nor is what stands after such a tag.
 for above, number in ((IP, 0x0800), (IPv6, 0x86DD), (ARP, 0x0806)):
     bind_layers(Dot1AD, above, type=number)
 
 
 def raw(packet):
-    """The bytes of a layer and of what it holds, without what stands behind them."""
+    """The bytes of a layer and of what it holds, without what stands after them."""
     return packet.do_build()
 
 
@@ -44,18 +44,18 @@ def read(kind, frame):
     """Yields the layers, each as its name and fields."""
     layer = Ether(frame) if kind == "E" else CookedLinux(frame)
     while layer:
-        told = fields_of(layer)
-        if told is None:
+        found = fields_of(layer)
+        if found is None:
             break
-        yield told
-        if told[0] in ("udp", "tcp", "icmp"):
+        yield found
+        if found[0] in ("udp", "tcp", "icmp"):
             # What stands in a message, as the packet that an ICMP error quotes, is its payload.
             yield "rest", {"bytes": raw(layer)[header_len(layer) :]}
             return
-        if isinstance(layer, macsec.MACsec) and told[1]["ether_type"] is not None and len(protected(layer)) > 1:
+        if isinstance(layer, macsec.MACsec) and found[1]["ether_type"] is not None and len(protected(layer)) > 1:
             layer = Ether(bytes(12) + protected(layer)).payload
         elif isinstance(layer, AH):
-            layer = behind_auth(layer)
+            layer = after_auth(layer)
         else:
             layer = layer.payload
     yield "rest", {"bytes": raw(layer) if layer else b""}
@@ -73,7 +73,7 @@ def protected(layer):
     return raw(layer.payload)[: layer.SL or None]
 
 
-def behind_auth(layer):
+def after_auth(layer):
     """What an authentication header names: scapy reads it where the header is the first one of IPv4 or IPv6 alone."""
     held = raw(layer.payload)
     if not held:
@@ -124,7 +124,7 @@ def fields_of(it):
             ("target_hw_addr", it.hwdst),
             ("target_protocol_addr", it.pdst),
         ):
-            # scapy spells an address of 6 or 4 bytes as a text, and others are bytes.
+            # scapy writes an address of 6 or 4 bytes as a text, and others are bytes.
             found[name] = address(value) if isinstance(value, str) and (":" in value or "." in value) else bytes(value) if value else b""
         return "arp", found
     if isinstance(it, IP):

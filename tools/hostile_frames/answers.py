@@ -2,7 +2,7 @@
 """Answers the lines on standard input as docs/LINES.md says.
 
 Written after that page, IEEE 802.1Q (clause 9), 802.1AE (clause 9) and RFC 768, 791, 792, 826, 1071, 4302, 4443, 8200 and 9293,
-and not after these crates. It is plain and not fast: each message on its way is an array of its bytes, and one of which
+and not after these crates. It is plain and not fast: each incomplete message is an array of its bytes, and one of which
 of these have come.
 
 usage: tools/hostile_frames/answers.py <LINES >ANSWERS
@@ -36,13 +36,13 @@ def number(data):
 
 
 def split(data, size):
-    """Cuts so many bytes off the front."""
+    """Cuts so many bytes off the start."""
     if len(data) < size:
         raise Refused
     return data[:size], data[size:]
 
 
-def behind_tags(frame):
+def after_tags(frame):
     """Returns the identifiers of the VLAN tags, the last ether type, and what follows it."""
     link, rest = split(frame, 14)
     ether_type, identifiers, tags = link[12:], (), 0
@@ -51,7 +51,7 @@ def behind_tags(frame):
             raise Other
         tags += 1
         if ether_type == MACSEC:
-            ether_type, rest = behind_macsec(rest)
+            ether_type, rest = after_macsec(rest)
         else:
             tag, rest = split(rest, 4)
             identifiers += (number(tag[:2]) % 4096,)
@@ -59,7 +59,7 @@ def behind_tags(frame):
     return identifiers, ether_type, rest
 
 
-def behind_macsec(data):
+def after_macsec(data):
     tag, rest = split(data, 6)
     version, has_identifier, changed = tag[0] & 0x80, tag[0] & 0x20, tag[0] & 0x0C
     short_length = tag[1] % 64
@@ -80,7 +80,7 @@ def check_arp(packet):
     split(rest, 2 * head[4] + 2 * head[5])
 
 
-def behind_authentication(data):
+def after_authentication(data):
     """Returns the next number and what follows."""
     head, _ = split(data, 12)
     if head[1] == 0:
@@ -97,37 +97,37 @@ def ipv4(packet):
     packet, _ = split(packet, total)
     protocol, payload = head[9], packet[size:]
     if protocol == AUTHENTICATION:
-        protocol, payload = behind_authentication(payload)
+        protocol, payload = after_authentication(payload)
     place = number(head[6:8])
     return (4, head[12:20]), protocol, payload, (head[4:6], place % 8192, place & 0x2000 != 0)
 
 
 def ipv6(packet):
-    """The same. The place is told by the first fragment header."""
+    """The same. The place is that of the first fragment header."""
     head, payload = split(packet, 40)
     if head[0] // 16 != 6:
         raise Refused
     length = number(head[4:6])
     if length:
         payload, _ = split(payload, length)
-    following, payload, is_first, places = head[6], memoryview(payload), True, []
+    following, payload, is_first, fragments = head[6], memoryview(payload), True, []
     while following in EXTENSIONS:
         if following == HOP_BY_HOP and not is_first:
             raise Refused
         if following == AUTHENTICATION:
-            following, payload = behind_authentication(payload)
+            following, payload = after_authentication(payload)
         else:
             header, _ = split(payload, 8)
             if following == FRAGMENT:
                 place = number(header[2:4])
-                places.append((bytes(header[4:]), place // 8, place % 2 == 1))
+                fragments.append((bytes(header[4:]), place // 8, place % 2 == 1))
                 payload = payload[8:]
             else:
                 _, payload = split(payload, 8 * header[1] + 8)
             following = header[0]
         is_first = False
-    place = places[0] if places else (b"", 0, False)
-    if not is_part(place) and any(map(is_part, places)):
+    place = fragments[0] if fragments else (b"", 0, False)
+    if not is_part(place) and any(map(is_part, fragments)):
         raise Other
     return (6, head[8:40]), following, bytes(payload), place
 
@@ -234,7 +234,7 @@ class Answerer:
         return "bad line"
 
     def of_frame(self, channel, frame):
-        identifiers, ether_type, packet = behind_tags(frame)
+        identifiers, ether_type, packet = after_tags(frame)
         if ether_type == ARP:
             check_arp(packet)
         if ether_type not in (IPV4, IPV6):

@@ -1,4 +1,4 @@
-"""Lines of hostile frames, drawn by a seeded generator and spelled after the standards.
+"""Lines of hostile frames, drawn by a seeded generator and encoded after the standards.
 
 A block of lines has several stories at once, of which each is a list of lines: one frame, or the fragments of a message with
 what disturbs them, or a frame cut off at every byte.
@@ -18,17 +18,17 @@ LONGEST_LINE, LONGEST_FRAME = 200_000, 99_996
 LONGEST_MESSAGE = 65_535
 
 
-def spelled(value, size):
+def encoded(value, size):
     return value.to_bytes(size, "big")
 
 
 class Draw(random.Random):
-    """A generator, with the part of the length fields that tell a wrong length."""
+    """A generator, with the part of the length fields that state a wrong length."""
 
     lies = 0.0
 
-    def told(self, size, most, unit=1):
-        """What a field tells of a length: the true one, or one near it or at an end of its range."""
+    def stated(self, size, most, unit=1):
+        """What a field states of a length: the true one, or one near it or at an end of its range."""
         wrong = size
         if self.random() < self.lies:
             wrong = self.choice((0, 1, most, size - 8 // unit, size - 2, size - 1, size + 1, size + 2, size + 8 // unit, self.randint(0, most)))
@@ -75,7 +75,7 @@ class Sender:
 
 
 def udp(draw, payload):
-    return draw.randbytes(4) + spelled(0 if draw.random() < 0.05 else draw.told(8 + len(payload), 65535), 2) + bytes(2) + payload
+    return draw.randbytes(4) + encoded(0 if draw.random() < 0.05 else draw.stated(8 + len(payload), 65535), 2) + bytes(2) + payload
 
 
 def tcp(draw, payload):
@@ -85,7 +85,7 @@ def tcp(draw, payload):
             (b"\1", b"\2\4\5\xb4", b"\3\3\7", b"\4\2", b"\5\12" + draw.randbytes(8), b"\10\12" + draw.randbytes(8), b"\0", draw.randbytes(3))
         )
     options += bytes(-len(options) % 4)
-    words = draw.told(5 + len(options) // 4, 15, 4)
+    words = draw.stated(5 + len(options) // 4, 15, 4)
     return draw.randbytes(12) + bytes([words * 16 + draw.randrange(16), draw.randrange(256)]) + draw.randbytes(2) + bytes(2) + draw.randbytes(2) + options + payload
 
 
@@ -107,13 +107,13 @@ def sealed(draw, sender, message):
             summed = message[: int.from_bytes(message[4:6], "big") or len(message)]
         length = len(summed)
         if sender.protocol != ICMP:
-            summed += bytes(length % 2) + sender.addresses + spelled(length, 4) + spelled(sender.protocol, 4)
+            summed += bytes(length % 2) + sender.addresses + encoded(length, 4) + encoded(sender.protocol, 4)
         value = 65535 - int.from_bytes(summed + bytes(len(summed) % 2), "big") % 65535
     elif kind == "random":
         value = draw.getrandbits(16)
     else:
         value = kind
-    return message[:at] + spelled(value, 2) + message[at + 2 :]
+    return message[:at] + encoded(value, 2) + message[at + 2 :]
 
 
 def message_of(draw, sender, size=None):
@@ -132,12 +132,12 @@ def message_of(draw, sender, size=None):
 
 def authentication(draw, following):
     value = draw.randbytes(4 * draw.choice((0, 1, 3, 4, 253, draw.randrange(10)))) if draw.random() < 0.9 else b""
-    return bytes([following, draw.told(len(value) // 4 + 1, 255, 4)]) + draw.randbytes(10) + value
+    return bytes([following, draw.stated(len(value) // 4 + 1, 255, 4)]) + draw.randbytes(10) + value
 
 
 def extension(draw, following):
     units = draw.choices((0, 1, 2, draw.randrange(256)), (70, 15, 10, 5))[0]
-    return bytes([following, draw.told(units, 255, 8)]) + draw.randbytes(6 + 8 * units)
+    return bytes([following, draw.stated(units, 255, 8)]) + draw.randbytes(6 + 8 * units)
 
 
 def ipv4(draw, sender, part, units, more):
@@ -145,11 +145,11 @@ def ipv4(draw, sender, part, units, more):
     if draw.random() < 0.04:
         part, protocol = authentication(draw, protocol) + part, AUTHENTICATION
     options = draw.randbytes(4 * draw.choices((0, 1, 5, 10, draw.randrange(11)), (60, 10, 5, 10, 15))[0])
-    words = draw.told(5 + len(options) // 4, 15, 4)
+    words = draw.stated(5 + len(options) // 4, 15, 4)
     flags = draw.choice((0, 0, 0x4000, 0x8000)) | 0x2000 * more | units
-    total = draw.told(20 + len(options) + len(part), 65535)
-    head = bytes([(4 if draw.random() < 0.99 else draw.randrange(16)) * 16 + words, draw.randrange(256)]) + spelled(total, 2)
-    head += spelled(sender.identification % 65536, 2) + spelled(flags, 2) + bytes([draw.randrange(256), protocol])
+    total = draw.stated(20 + len(options) + len(part), 65535)
+    head = bytes([(4 if draw.random() < 0.99 else draw.randrange(16)) * 16 + words, draw.randrange(256)]) + encoded(total, 2)
+    head += encoded(sender.identification % 65536, 2) + encoded(flags, 2) + bytes([draw.randrange(256), protocol])
     return head + draw.randbytes(2) + sender.addresses + options + part
 
 
@@ -161,14 +161,14 @@ def ipv6(draw, sender, part, units, more):
         kind = draw.choices((ROUTING, DESTINATION, AUTHENTICATION, FRAGMENT, HOP_BY_HOP), (35, 40, 15, 10, 4))[0]
         if kind == FRAGMENT:
             place = 0 if draw.random() < 0.6 else draw.getrandbits(16)
-            chain = bytes([following, draw.randrange(256)]) + spelled(place, 2) + draw.randbytes(4) + chain
+            chain = bytes([following, draw.randrange(256)]) + encoded(place, 2) + draw.randbytes(4) + chain
         else:
             chain = (authentication if kind == AUTHENTICATION else extension)(draw, following) + chain
         following = kind
     if is_part:
         unused = draw.choice((0, 0, 2, 4, 6))
         place = 8 * units | unused | more
-        chain = bytes([following, draw.randrange(256)]) + spelled(place, 2) + spelled(sender.identification % 2**32, 4) + chain
+        chain = bytes([following, draw.randrange(256)]) + encoded(place, 2) + encoded(sender.identification % 2**32, 4) + chain
         following = FRAGMENT
         for _ in range(draw.choices((0, 1, 2), (80, 15, 5))[0]):
             kind = draw.choice((ROUTING, DESTINATION, AUTHENTICATION))
@@ -177,24 +177,24 @@ def ipv6(draw, sender, part, units, more):
     if draw.random() < 0.05:
         chain, following = extension(draw, following) + chain, HOP_BY_HOP
     length = len(chain) + len(part)
-    length = 0 if length > 65535 or draw.random() < 0.04 else draw.told(length, 65535)
+    length = 0 if length > 65535 or draw.random() < 0.04 else draw.stated(length, 65535)
     version = 6 if draw.random() < 0.99 else draw.randrange(16)
-    head = spelled(version << 28 | draw.getrandbits(28), 4) + spelled(length, 2) + bytes([following, draw.randrange(256)])
+    head = encoded(version << 28 | draw.getrandbits(28), 4) + encoded(length, 2) + bytes([following, draw.randrange(256)])
     return head + sender.addresses + chain + part
 
 
 def arp(draw):
     hardware, protocol = draw.choice(((6, 4), (6, 4), (0, 0), (255, 255), (draw.randrange(20), draw.randrange(20))))
-    told = bytes([draw.told(hardware, 255), draw.told(protocol, 255)])
-    return draw.randbytes(4) + told + draw.randbytes(2 + 2 * hardware + 2 * protocol)
+    lengths = bytes([draw.stated(hardware, 255), draw.stated(protocol, 255)])
+    return draw.randbytes(4) + lengths + draw.randbytes(2 + 2 * hardware + 2 * protocol)
 
 
 def macsec(draw, ether_type, rest):
     flags = draw.choice((0, 0, 0x20, 0x40, 0x10)) | draw.randrange(4)
     if draw.random() < 0.15:
         flags |= draw.choice((0x04, 0x08, 0x0C, 0x80))
-    secured = (b"" if flags & 0x0C and draw.random() < 0.5 else spelled(ether_type, 2)) + rest
-    short = draw.told(len(secured), 63) if len(secured) < 64 and draw.random() < 0.7 else 0
+    secured = (b"" if flags & 0x0C and draw.random() < 0.5 else encoded(ether_type, 2)) + rest
+    short = draw.stated(len(secured), 63) if len(secured) < 64 and draw.random() < 0.7 else 0
     if draw.random() < 0.1:
         short = draw.choice((1, 2, 3, draw.randrange(64)))
     return bytes([flags, short | draw.choice((0, 0, 0x40, 0xC0))]) + draw.randbytes(4) + draw.randbytes(8 if flags & 0x20 else 0) + secured
@@ -211,11 +211,11 @@ def frame_of(draw, identifiers, ether_type, packet):
             tags.insert(draw.randrange(len(tags) + 1), ("macsec", None))
     for kind, identifier in reversed(tags):
         if kind == "vlan":
-            packet = spelled(draw.randrange(16) << 12 | identifier, 2) + spelled(ether_type, 2) + packet
+            packet = encoded(draw.randrange(16) << 12 | identifier, 2) + encoded(ether_type, 2) + packet
             ether_type = draw.choice(VLAN)
         else:
             packet, ether_type = macsec(draw, ether_type, packet), MACSEC
-    return draw.randbytes(12) + spelled(ether_type, 2) + packet
+    return draw.randbytes(12) + encoded(ether_type, 2) + packet
 
 
 def part_frame(draw, sender, part, units=0, more=False):
@@ -242,7 +242,7 @@ def broken(draw, frame):
     if kind < 0.06 and frame:
         del frame[draw.randrange(len(frame)) :]
     elif kind < 0.12 and frame:
-        # Most of what is read lies in front.
+        # Most of what is read lies at the start.
         frame[draw.randrange(min(len(frame), draw.choice((30, 60, 99999))))] = draw.randrange(256)
     elif kind < 0.14:
         at = draw.randrange(len(frame) + 1)
@@ -263,16 +263,16 @@ def whole(draw):
     yield "frame", frame_line(draw, sender.channel, broken(draw, frame))
 
 
-def every_front(draw):
+def every_prefix(draw):
     """A frame cut off at every byte."""
     sender = Sender(draw)
     frame = part_frame(draw, sender, message_of(draw, sender))
     for end in range(1, min(len(frame), 200) + 1):
-        yield "front", frame_line(draw, sender.channel, frame[:end])
+        yield "prefix", frame_line(draw, sender.channel, frame[:end])
 
 
 def cut(message, cuts):
-    """The pieces of a message: where each begins, in units of eight bytes, whether more come, and its bytes."""
+    """The fragments of a message: where each begins, in units of eight bytes, whether more come, and its bytes."""
     return [(start, end is not None, message[8 * start : end and 8 * end]) for start, end in zip([0, *cuts], [*cuts, None])]
 
 
@@ -282,7 +282,7 @@ def pieces_of(draw, message):
 
 
 def disturbance(draw, piece, message):
-    """A fragment that has to do with a piece of the message, and what it is called."""
+    """A fragment that has to do with a part of the message, and what it is called."""
     start, more, part = piece
     units, end = len(part) // 8, start + (len(part) + 7) // 8
     length = len(message)
@@ -401,7 +401,7 @@ def long_chain(draw):
     )
     rest = (chain + message)[: LONGEST_FRAME - 54]
     length = draw.choice((0, len(rest), 65535)) if len(rest) < 65536 else draw.choice((0, 65535))
-    head = draw.randbytes(12) + b"\x86\xdd\x60\0\0\0" + spelled(length, 2) + bytes([numbers[0], 64]) + sender.addresses
+    head = draw.randbytes(12) + b"\x86\xdd\x60\0\0\0" + encoded(length, 2) + bytes([numbers[0], 64]) + sender.addresses
     yield "long chain", frame_line(draw, 0, head + rest)
 
 
@@ -431,18 +431,18 @@ def bad_line(draw):
     yield "bad line", line.replace(b"\n", b"")
 
 
-STORIES = {whole: 40, parts: 40, datagram: 8, every_front: 0.4, bad_line: 6, great_message: 0.08, long_chain: 0.12, long_line: 0.08}
+STORIES = {whole: 40, parts: 40, datagram: 8, every_prefix: 0.4, bad_line: 6, great_message: 0.08, long_chain: 0.12, long_line: 0.08}
 
 
 def block(draw, count):
     """So many lines, of several stories in turns: what each is called, and the line."""
-    active, told = [], 0
-    while told < count:
+    active, made = [], 0
+    while made < count:
         while len(active) < 6:
             make = draw.choices(list(STORIES), list(STORIES.values()))[0]
             active.append((draw.choice((0, 0, 0, 0.03, 0.1)), make(draw)))
         if draw.random() < 0.01:
-            line = "forget", b"forget %d" % max(0, told + 2 - draw.choice((0, 1, 2, 4, 8, 30)))
+            line = "forget", b"forget %d" % max(0, made + 2 - draw.choice((0, 1, 2, 4, 8, 30)))
         else:
             story = draw.choice(active)
             draw.lies = story[0]
@@ -450,5 +450,5 @@ def block(draw, count):
             if line is None:
                 active.remove(story)
                 continue
-        told += 1
+        made += 1
         yield line

@@ -98,7 +98,7 @@ OF_OTHERS = (
     (("port=51234",), (5,)),
 )
 UNKNOWN = (
-    "no protocol, and not `bad`, `refused`, `fragments`, `host=ADDRESS` or `port=NUMBER`"
+    "no protocol, and not `bad`, `refused`, `fragments`, `cut`, `host=ADDRESS` or `port=NUMBER`"
 )
 ADDRESS = "no IP address behind `host`"
 PORT = "no number up to 65535 behind `port`"

@@ -1,10 +1,14 @@
 """What packets_cli does by what its input and its outputs are, by docs/PACKETS.md: standard input, terminals, a pipe that
-grows, outputs that take nothing more, and files that aren't there."""
+grows, outputs that take nothing more or that nobody reads, and files that aren't there."""
 
+import contextlib
 import os
 import pty
+import struct
 import subprocess
 import tempfile
+
+import outputs
 
 PLAIN = b"    1   0.000000 10.0.0.1.53 > 10.0.0.2.4000 UDP len 3  bad checksum\n"
 COLORED = (
@@ -12,6 +16,20 @@ COLORED = (
     b"\x1b[1;31mbad checksum\x1b[0m\n"
 )
 FILE = "forms.pcap"
+# Words for a file, the status, and what is told behind the program's name. The cause is in the C library's words.
+REFUSED = (
+    ((), 3, "standard input: no capture file: the input is empty"),
+    (("-",), 3, "standard input: no capture file: the input is empty"),
+    (("empty.pcap",), 3, "empty.pcap: no capture file: the input is empty"),
+    (("./empty.pcap",), 3, "./empty.pcap: no capture file: the input is empty"),
+    (("nothing.pcap",), 1, "nothing.pcap: cannot be opened: No such file or directory (os error 2)"),
+    (("forms.pcap/x",), 1, "forms.pcap/x: cannot be opened: Not a directory (os error 20)"),
+    ((".",), 4, ".: the input cannot be read: it is a directory"),
+)
+
+
+def version():
+    return bytes_of(os.path.join(os.path.dirname(os.path.abspath(__file__)), "..", ".."), "VERSION").decode().strip()
 
 
 def bytes_of(folder, name):
@@ -46,15 +64,18 @@ def inputs(program, folder):
     for words in (["show"], ["show", "-"]):
         done = run(program, folder, *words, stdin=None, input=data)
         yield "standard input", (done.returncode, done.stdout) == (0, PLAIN)
-    done = run(program, folder, "show", "nothing.pcap")
-    told = done.stderr.startswith(b"Error: the file cannot be opened\n")
-    yield "a file that isn't there", (done.returncode, done.stdout, told) == (1, b"", True)
+    for name, status, wanted in REFUSED:
+        done = run(program, folder, "show", *name)
+        told = done.returncode, done.stdout, done.stderr.decode()
+        yield f"refused: {name}", told == (status, b"", f"packets: {wanted}\n")
+    yield "the version", run(program, folder, "--version").stdout == f"packets {version()}\n".encode()
     for words in ([], ["list"], ["show", "--width"], ["json", "--utc"], ["summary", "--only", "tcq"]):
         done = run(program, folder, *words)
         yield f"no command: {words}", done.returncode == 2 and done.stderr.startswith(b"error: ")
     for words in (["--help"], ["show", "--help"], ["json", "--help"], ["summary", "--help"]):
         done = run(program, folder, *words)
-        yield f"help: {words}", done.returncode == 0 and b"\nUsage: " in done.stdout
+        usage = "\nUsage: " + " ".join(["packets", *words[:-1]])
+        yield f"help: {words}", done.returncode == 0 and usage.encode() in done.stdout
 
 
 def terminals(program, folder):
@@ -69,26 +90,33 @@ def terminals(program, folder):
     yield "no terminal", run(program, folder, "summary", FILE).stderr == b""
 
 
-def progress(program, folder):
-    """What is told on a terminal of a file of 9 MiB: after each 4 MiB how many are read, and at the end nothing any more."""
+@contextlib.contextmanager
+def long_capture(folder):
+    """A file of 9 MiB."""
     data = bytes_of(folder, "mixed.pcap")
     with tempfile.NamedTemporaryFile() as file:
         file.write(data + 15_000 * data[24:])
         file.flush()
-        return on_terminal(program, folder, ["summary", file.name], errors=True)
+        yield file.name
 
 
-def outputs(program, folder):
-    wanted = b"packets_cli: the output cannot be written\n"
-    with open("/dev/full", "wb") as full:
-        for words in (["show"], ["json"], ["summary"]):
-            done = run(program, folder, *words, FILE, capture_output=False, stdout=full, stderr=subprocess.PIPE)
-            yield f"an output that is full: {words}", (done.returncode, done.stderr) == (4, wanted)
-    reader, writer = os.pipe()
-    os.close(reader)
-    done = run(program, folder, "show", FILE, capture_output=False, stdout=writer, stderr=subprocess.PIPE)
-    os.close(writer)
-    yield "an output that is closed", (done.returncode, done.stderr) == (4, wanted)
+def progress(program, folder):
+    """What is told on a terminal of a file of 9 MiB: after each 4 MiB how many are read, and at the end nothing any more."""
+    with long_capture(folder) as name:
+        return on_terminal(program, folder, ["summary", name], errors=True)
+
+
+def takers(program, folder):
+    """Outputs that are full, that nobody reads, and whose reader ends."""
+    shown = (["show", FILE], ["json", FILE], ["summary", FILE])
+    wanted = 4, b"packets: the output cannot be written\n"
+    for words in (*shown, ["--help"], ["--version"]):
+        yield f"a full output: {words}", outputs.on_full_device(program, words, folder) == wanted
+    for words in (*shown, ["show", "--skip", "no_frame.pcap"], ["--help"]):
+        yield f"a closed output: {words}", outputs.on_closed_pipe(program, words, folder) == outputs.SILENCE
+    with long_capture(folder) as name:
+        for words in (["show", name], ["json", name]):
+            yield f"before head: {words[0]}", outputs.before_head(program, words, folder) == outputs.SILENCE
 
 
 def growing(program, folder):
@@ -105,7 +133,33 @@ def growing(program, folder):
     yield "a capture that grows", (child.wait(60), told, rest) == (0, [PLAIN, PLAIN.replace(b"1  ", b"2  ", 1)], b"")
 
 
+def limited(program, folder):
+    """A run that came to its limit ends, though its input doesn't."""
+    data = bytes_of(folder, FILE)
+    seconds = struct.unpack(">I", data[24:28])[0]
+    later = struct.pack(">I", seconds + 5) + data[28:]
+    counted = b"   packets   share           bytes   share     first  protocol\n         1 100.0 % "
+    for words, known in (
+        (["show", "--count", "1"], PLAIN),
+        (["show", "--duration", "5"], PLAIN),
+        (["summary", "--count", "1"], counted),
+        (["summary", "--duration", "5"], counted),
+    ):
+        child = subprocess.Popen([program, *words], stdin=subprocess.PIPE, stdout=subprocess.PIPE)
+        child.stdin.write(data + (later if "--duration" in words else b""))
+        child.stdin.flush()
+        try:
+            status = child.wait(60)
+        except subprocess.TimeoutExpired:
+            status = None
+            child.kill()
+        told = child.stdout.read()
+        child.stdin.close()
+        is_known = told == known if words[0] == "show" else told.startswith(known)
+        yield f"an input that stays open: {words}", (status, is_known) == (0, True)
+
+
 def checked(program, folder):
     """The name of each check, and whether all was well."""
-    for checks in (inputs, terminals, outputs, growing):
+    for checks in (inputs, terminals, takers, growing, limited):
         yield from checks(program, folder)

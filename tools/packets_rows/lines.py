@@ -175,6 +175,14 @@ COMPLETED = (
 )
 
 
+# Packets of which no byte was captured have a number, too.
+NUMBERED = (
+    "    2   0.000000 10.0.0.1 > 10.0.0.2 UDP fragment at 0 len 16, more follow (id 0x1234)",
+    "    4   0.003000 10.0.0.1 > 10.0.0.2 UDP fragment at 16 len 16, last (id 0x1234), "
+    "completes a message of 32 bytes begun in packet 2: 53 > 5353 UDP len 24  good",
+)
+
+
 def ether_types():
     for ether_type, name in ETHER_TYPES:
         line = f"02:00:00:00:00:01 > 02:00:00:00:00:02 {name} len 2"
@@ -204,6 +212,7 @@ CAPTURES = (
     worked("refusals", 1, REFUSALS),
     worked("raw_refusals", 101, RAW_REFUSALS),
     Worked("parts", 1, frames.PARTS, [(["show"], PARTS)]),
+    Worked("numbered", 1, ["", frames.MIXED[4], "", frames.MIXED[5]], [(["show"], NUMBERED)]),
     # Parts, and ARP packets.
     spans(
         "dropped",

@@ -36,10 +36,17 @@ def of_no_frame():
     yield ["show"], [LINE, f"packet 2, byte {at}: a packet has no ether type"]
 
 
+def of_some_frames():
+    # Those that are passed over, and those of which no byte was captured, have a number, too.
+    note = passed_over(0, 0, 2)
+    yield ["show", "--skip", "--width", "5"], ["    2", "    5", note]
+    yield ["show", "--skip", "--width", "5", "--count", "1"], ["    2", passed_over(0, 0, 1)]
+
+
 def of_another_link(number, name):
     note = passed_over(2, 0, 0)
     told = [
-        (["show"], [f"packet 1, byte 0: link type {number} is not read{name}"]),
+        (["show"], [f"packet 1, byte 24: link type {number} is not read{name}; --skip passes over its packets"]),
         (["json", "--skip"], [note]),
         (["summary", "--skip"], [*EMPTY, note, note]),
     ]
@@ -48,6 +55,7 @@ def of_another_link(number, name):
 
 CAPTURES = (
     Worked("no_frame", 0, NULL, of_no_frame()),
+    Worked("some_frames", 0, [NULL[1], NULL[0], "", NULL[2], NULL[0]], of_some_frames()),
     *(of_another_link(number, name) for number, name in LINKS),
     # What is no capture, by its first bytes.
     Worked("empty", 1, (), [(["show"], ["no capture file: the input is empty"])], end=0),

@@ -12,7 +12,7 @@ HEADERS = (
     (
         "0200000000020200000000018100600508004500001f00010000401166cb0a0000010a00000200350f"
         "a0000b179e616263",
-        '"Ethernet","len":49,"link":{"Ethernet2":{"source":"02:00:00:00:00:01",'
+        '"Ethernet","len":49,"wire_len":49,"link":{"Ethernet2":{"source":"02:00:00:00:00:01",'
         '"destination":"02:00:00:00:00:02","ether_type":33024}},'
         '"link_exts":[{"Vlan":{"pcp":3,"drop_eligible_indicator":false,"vlan_id":5,"ether_t'
         'ype":2048}}],"net":{"Ipv4":{"dscp":0,"ecn":0,"total_len":31,"identification":1,"do'
@@ -25,7 +25,7 @@ HEADERS = (
         "02000000000202000000000108004500004c00010000400666a90a0000010a00000201bbc822000000"
         "64000000c8d01003e878bb00000101080a000000050000000601010512000000010000000200000005"
         "0000000961626364",
-        '"Ethernet","len":90,"link":{"Ethernet2":{"source":"02:00:00:00:00:01",'
+        '"Ethernet","len":90,"wire_len":90,"link":{"Ethernet2":{"source":"02:00:00:00:00:01",'
         '"destination":"02:00:00:00:00:02","ether_type":2048}},"link_exts":[],'
         '"net":{"Ipv4":{"dscp":0,"ecn":0,"total_len":76,"identification":1,"dont_fragment":'
         'false,"more_fragments":false,"fragment_offset":0,"time_to_live":64,"protocol":6,"h'
@@ -40,7 +40,7 @@ HEADERS = (
     (
         "02000000000202000000000186dd600000000012004020010db800000000000000000000000120010d"
         "b800000000000000000000000211000104000000000009000a000a42f06162",
-        '"Ethernet","len":72,"link":{"Ethernet2":{"source":"02:00:00:00:00:01",'
+        '"Ethernet","len":72,"wire_len":72,"link":{"Ethernet2":{"source":"02:00:00:00:00:01",'
         '"destination":"02:00:00:00:00:02","ether_type":34525}},"link_exts":[],'
         '"net":{"Ipv6":{"traffic_class":0,"flow_label":0,"payload_length":18,"next_header":'
         '0,"hop_limit":64,"source":"2001:db8::1","destination":"2001:db8::2",'
@@ -52,26 +52,26 @@ HEADERS = (
 ERRORS = (
     (
         "02000000000202000000000108004500001c000100",
-        '"Ethernet","len":21,"error":{"Len":{"required_len":20,"len":7,'
+        '"Ethernet","len":21,"wire_len":21,"error":{"Len":{"required_len":20,"len":7,'
         '"len_source":"Slice","layer":"Ipv4Header","layer_start_offset":14}}',
     ),
     (
         "02000000000202000000000108004500002800010000400666cd0a0000010a00000200140050000000"
         "0000000000400220008b7c0000",
-        '"Ethernet","len":54,"error":{"Tcp":{"DataOffsetTooSmall":{"data_offset":4}}}',
+        '"Ethernet","len":54,"wire_len":54,"error":{"Tcp":{"DataOffsetTooSmall":{"data_offset":4}}}',
     ),
 )
 RAW_ERRORS = (
     (
         "4500001c000100",
-        '"Ip","len":21,"error":{"Len":{"required_len":20,"len":7,"len_source":"Slice",'
+        '"Ip","len":21,"wire_len":7,"error":{"Len":{"required_len":20,"len":7,"len_source":"Slice",'
         '"layer":"Ipv4Header","layer_start_offset":14}}',
     ),
 )
 PARTS = (
     (
         frames.PARTS[0],
-        '"Ethernet","len":50,"link":{"Ethernet2":{"source":"02:00:00:00:00:01",'
+        '"Ethernet","len":50,"wire_len":50,"link":{"Ethernet2":{"source":"02:00:00:00:00:01",'
         '"destination":"02:00:00:00:00:02","ether_type":2048}},"link_exts":[],'
         '"net":{"Ipv4":{"dscp":0,"ecn":0,"total_len":36,"identification":4660,"dont_fragmen'
         't":false,"more_fragments":true,"fragment_offset":0,"time_to_live":64,"protocol":17'
@@ -80,7 +80,7 @@ PARTS = (
     ),
     (
         frames.PARTS[2],
-        '"Ethernet","len":46,"link":{"Ethernet2":{"source":"02:00:00:00:00:01",'
+        '"Ethernet","len":46,"wire_len":46,"link":{"Ethernet2":{"source":"02:00:00:00:00:01",'
         '"destination":"02:00:00:00:00:02","ether_type":2048}},"link_exts":[],'
         '"net":{"Ipv4":{"dscp":0,"ecn":0,"total_len":32,"identification":4660,"dont_fragmen'
         't":false,"more_fragments":false,"fragment_offset":2,"time_to_live":64,"protocol":1'

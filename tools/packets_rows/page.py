@@ -9,14 +9,14 @@ from worked import Worked
 PAGE = os.path.join(os.path.dirname(os.path.abspath(__file__)), "..", "..", "docs", "PACKETS.md")
 # The object, which the page cuts and wraps.
 OBJECT = (
-    '{"number":3,"time":1700000000500000000,"interface":0,"link_type":"Ethernet","len":42,'
+    '{"number":3,"time":1700000000500000000,"interface":0,"link_type":"Ethernet","len":42,"wire_len":42,'
     '"link":{"Ethernet2":{"source":"02:00:00:00:00:01","destination":"ff:ff:ff:ff:ff:ff",'
     '"ether_type":2054}},"link_exts":[],"net":{"Arp":{"hw_addr_type":1,"proto_addr_type":2048,'
     '"operation":1,"sender_hw_addr":"02:00:00:00:00:01","sender_protocol_addr":"10.0.0.1",'
     '"target_hw_addr":"00:00:00:00:00:00","target_protocol_addr":"10.0.0.2"}},"payload_len":0}'
 )
 # A command line of the capture of the page, and the block behind it.
-EXAMPLE = r"    \$ packets_cli (.+) mixed\.pcap\n((?:(?:    .*)?\n)+)"
+EXAMPLE = r"    \$ packets (.+) mixed\.pcap\n((?:(?:    .*)?\n)+)"
 
 
 def whole(lines, rest):

@@ -16,6 +16,7 @@ CONDITIONS = {
     "bad": lambda it: it.check == "bad",
     "refused": lambda it: it.refused,
     "fragments": lambda it: it.part,
+    "cut": lambda it: it.cut,
 }
 EIGHTHS = " ▏▎▍▌▋▊▉█"
 HEIGHTS = " ▁▂▃▄▅▆▇█"
@@ -44,17 +45,28 @@ class Packet:
     number: int = 0
     # The bytes of the header that was captured, and stands in the frame as one of 14 bytes.
     replaced: int = 14
+    # The bytes on the wire, if others than those that were captured.
+    wire: int = None
 
     @property
     def len(self):
         return len(self.data) - self.replaced + 14
+
+    @property
+    def wire_len(self):
+        return len(self.data) if self.wire is None else self.wire
+
+    @property
+    def cut(self):
+        return len(self.data) < self.wire_len
 
 
 def shown(packets):
     for it in packets:
         seconds = decimal.Decimal(it.time - packets[0].time) / 10**9
         time = seconds.quantize(decimal.Decimal("0.000001"), decimal.ROUND_DOWN)
-        yield f"{it.number:5} {time:10} {it.line}"
+        cut = f", cut at {len(it.data)} of {it.wire_len} bytes" if it.cut else ""
+        yield f"{it.number:5} {time:10} {it.line}{cut}"
 
 
 def objects(packets, link_type):
@@ -65,6 +77,7 @@ def objects(packets, link_type):
             "interface": it.interface,
             "link_type": link_type,
             "len": it.len,
+            "wire_len": it.wire_len,
         }
         told |= it.told | ({"verdict": VERDICTS[it.check]} if it.check else {})
         yield json.dumps(told, separators=(",", ":"))
@@ -134,17 +147,43 @@ def rate(packets):
     yield "".join(HEIGHTS[steps(count, max(counts), 8)] for count in counts)
 
 
+def lengths(packets):
+    """The packets that were cut, and all bytes, if not all were captured."""
+    wire, captured = sum(it.wire_len for it in packets), sum(len(it.data) for it in packets)
+    if any(it.cut for it in packets) or wire != captured:
+        yield from list(table(packets, "captured in part", [("cut", [it for it in packets if it.cut])]))[:-1]
+        yield f"bytes on the wire: {wire}, captured: {captured}"
+        yield ""
+
+
+def offload(packets):
+    """That one sender's checksums are mostly bad, and no other's are."""
+    senders = by(
+        [it for it in packets if it.check in ("good", "bad")], lambda it: it.talk.split(" > ")[0]
+    )
+    counts = [(sender, sum(it.check == "bad" for it in sent), len(sent)) for sender, sent in senders]
+    found = [it for it in counts if it[1]]
+    if len(found) == 1:
+        ((sender, bad, verified),) = found
+        if 2 * bad > verified:
+            yield (
+                f"checksums: {bad} of {verified} of {sender} are bad, and none of others: "
+                "probably captured on that host before its network card filled them in "
+                "(--no-checksums)"
+            )
+
+
 def summary(packets, still_open):
     order = LINKS + tuple(sorted(OVER_IP, key=OVER_IP.get))
     assert all(kind in order for it in packets for kind in it.kinds)
     kinds = [(kind, [it for it in packets if kind in it.kinds]) for kind in order]
     yield from table(packets, "protocol", [("all packets", packets), *kinds])
+    yield from lengths(packets)
     yield from table(packets, "refused because", by(packets, lambda it: it.refused))
-    yield from table(
-        packets,
-        "checksum",
-        [(kind, [it for it in packets if it.check == kind]) for kind in VERDICTS],
-    )
+    checked = [(kind, [it for it in packets if it.check == kind]) for kind in VERDICTS]
+    if any(chosen for _, chosen in checked):
+        *lines, _ = table(packets, "checksum", checked)
+        yield from [*lines, *offload(packets), ""]
     parts = [it for it in packets if it.part]
     if parts:
         named = {"completing a message": "completes", "refused": "refused"}
@@ -172,5 +211,5 @@ def outputs(packets, link_type, still_open):
     yield ["show"], shown(packets)
     yield ["json", "--payload"], objects(packets, link_type)
     yield ["summary"], summary(packets, still_open)
-    if any(it.part for it in packets):
+    if any(it.part or it.cut for it in packets):
         yield from met(packets)

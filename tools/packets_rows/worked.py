@@ -14,7 +14,8 @@ class Worked:
     """A classic capture, high byte first, in microseconds.
 
     `told` has words in front of the file's name, and the lines that they tell; `seconds` are the
-    packets' times since the first, if not a step apart; of the file, `end` bytes are kept.
+    packets' times since the first, if not a step apart; `wire` how many bytes they had on the wire,
+    if not those of the frames; of the file, `end` bytes are kept.
     """
 
     name: str
@@ -22,6 +23,7 @@ class Worked:
     frames: list
     told: list
     seconds: list = None
+    wire: list = None
     end: int = None
 
     def data(self):
@@ -31,7 +33,8 @@ class Worked:
             since = int(self.seconds[at] * 10**9) if self.seconds else at * STEP
             time = telling.BEGIN + since
             size = len(data)
-            parts.append(struct.pack(">IIII", time // 10**9, time % 10**9 // 1000, size, size))
+            wire = self.wire[at] if self.wire else size
+            parts.append(struct.pack(">IIII", time // 10**9, time % 10**9 // 1000, size, wire))
             parts.append(data)
         return b"".join(parts)[: self.end]
 

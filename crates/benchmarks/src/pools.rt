@@ -1,5 +1,6 @@
 //! Datagrams that are reassembled by a pool. It is given fragments, and no frames: a second call of
 //! `SlicedPacket::from_ethernet` in the program would slow the benchmarks of sliced packets.
+ghost use Rattle.std.specs.Prelude.{◌≡◌, []};
 ghost use Rattle.ep_packet.specs.Class.{IdentificationFits};
 
 use crate::measured::Measured;
@@ -59,7 +60,12 @@ pub fn udp_fragment(
     bytes: &[u8],
 ) -> IpFragment<'_>
     requires { IdentificationFits addresses identification }
-    ensures { IdentificationFits result.addresses result.identification }
+    ensures datagram { (result.vlan_ids.items ≡ []) × (result.addresses ≡ addresses)
+        × (result.identification ≡ identification) × (result.ip_number.0 ≡ 17) }
+    ensures fragment { (result.fragment.offset ≡ offset)
+        × (result.fragment.more_fragments ≡ more_fragments)
+        × (result.fragment.bytes.now ≡ bytes.now) }
+    ensures fits { IdentificationFits result.addresses result.identification }
 {
     IpFragment {
         vlan_ids: ArrayVec::new(),

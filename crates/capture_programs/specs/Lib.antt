@@ -1,3 +1,4 @@
+pub mod Closings
 pub mod ErrorStatus
 pub mod Inputs
 pub mod Looks

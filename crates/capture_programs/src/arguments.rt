@@ -2,12 +2,18 @@
 use clap::{Arg, ArgAction, Command, value_parser};
 use std::alloc::{AllocError, Global};
 
-/// A program that needs a command. It has no contract: tests compare what words request.
-pub fn program<'a>(alloc: Global, name: &'a str, about: &'a str) -> Command<'a> {
+/// A program that needs a command, and has this name under whatever name it is called. It has no
+/// contract: tests compare what words request.
+pub fn program<'a>(
+    alloc: Global,
+    name: &'a str,
+    about: &'a str,
+) -> Result<Command<'a>, AllocError> {
     Command::new(alloc, name)
         .about(about)
         .version("1.0.0")
         .subcommand_required(true)
+        .bin_name(name)
 }
 
 /// The program with one more command. It has no contract, as `program`.

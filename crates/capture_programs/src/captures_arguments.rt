@@ -1,26 +1,29 @@
-//! The command line of `captures_cli`.
+//! The command line of the program `captures`.
 use crate::arguments::{file, flag, number, program, with_command};
 use clap::{Arg, Command};
 use std::alloc::{AllocError, Global};
+
+/// The program's name, as it is installed.
+pub const PROGRAM: &str = "captures";
 
 /// The command line. It has no contract: tests compare what words request.
 pub fn command<'a>(alloc: Global) -> Result<Command<'a>, AllocError> {
     let program = program(
         alloc,
-        "captures_cli",
-        "Capture files as lines, and lines as capture files",
-    );
+        PROGRAM,
+        "Turns capture files into lines, and lines into capture files",
+    )?;
     let program = with_command(program, lines(alloc))?;
     with_command(program, capture(alloc))
 }
 
 fn lines<'a>(alloc: Global) -> Result<Command<'a>, AllocError> {
     let command = Command::new(alloc, "lines")
-        .about("Writes a line for each packet of a capture")
+        .about("Reads a capture, pcap or pcapng, and writes a line for each packet")
         .arg(flag(
             alloc,
             "skip",
-            "Passes over packets of other links, without a frame or too long for a line",
+            "Passes over packets of link types that are not read, without a frame or too long",
         ))?;
     with_times(alloc, command)?.arg(input(alloc))
 }
@@ -30,18 +33,18 @@ fn with_times<'a>(alloc: Global, command: Command<'a>) -> Result<Command<'a>, Al
         alloc,
         "forget",
         "SECONDS",
-        "Drops incomplete messages after one to two spans of SECONDS of packet time",
+        "Has `netlines` drop messages that got no fragment for one to two times SECONDS",
     ))
 }
 
 fn times<'a>(alloc: Global) -> Result<Arg<'a>, AllocError> {
-    let help = "Writes the time of each packet, as `capture` reads it";
+    let help = "Adds the time of each packet, as `capture` reads it";
     flag(alloc, "times", help).conflicts_with("forget")
 }
 
 fn capture<'a>(alloc: Global) -> Result<Command<'a>, AllocError> {
     Command::new(alloc, "capture")
-        .about("Writes a capture of the frames of such lines")
+        .about("Reads lines as `lines` writes them, and writes a capture, pcap, of their frames")
         .arg(flag(
             alloc,
             "nanoseconds",
@@ -51,5 +54,5 @@ fn capture<'a>(alloc: Global) -> Result<Command<'a>, AllocError> {
 }
 
 fn input<'a>(alloc: Global) -> Arg<'a> {
-    file(alloc, "A file, or - for standard input")
+    file(alloc, "The file to read, or - for standard input")
 }

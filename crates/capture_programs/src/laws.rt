@@ -1,19 +1,26 @@
 //! What `Clone` and `PartialEq` of the types here mean, and the definitions at literal values.
-ghost use Rattle.std.specs.Prelude.{◌≡◌, ℕ, [], ◌∷◌, ◌++◌, codes};
+ghost use Rattle.std.specs.Prelude.{◌≡◌, ◌≢◌, ℕ, Bool, true, false, [], ◌∷◌, ◌++◌, codes, Ok, Err};
 ghost use Rattle.captures.specs.declared.capture_error.CaptureError.{CaptureError};
 ghost use Rattle.captures.specs.declared.position.Position.{Position};
+ghost use Rattle.captures.specs.declared.translation.run_error.RunError.{RunError};
 ghost use Rattle.captures.specs.declared.translation.run_error.RunError.TheVariants as run_error;
-ghost use Rattle.capture_programs.specs.ErrorStatus.{status_of};
+ghost use Rattle.capture_programs.specs.ErrorStatus.{run_status, status_of};
 ghost use Rattle.capture_programs.specs.Looks.{look_of};
 ghost use Rattle.capture_programs.specs.declared.looks.Look.TheVariants as look;
-ghost use Rattle.ep_base.specs.Traits.{IsPlainData};
+ghost use Rattle.ep_base.specs.Traits.{CopyIsValue, CopyNeverFails, IsPlainData};
 
-use crate::Look;
+use crate::{Look, Subject};
 use ep_base::laws::traits::Value;
 
 /// A copy is the value and takes no memory. Equal are the values that are the same.
 pub fn types_are_plain_data()
     ensures look { IsPlainData ⟦<Look as Value>⟧ }
+{}
+
+/// A copy is the value and takes no memory.
+pub fn copies_are_values<'a>()
+    ensures copies { CopyIsValue ⟦<Subject<'a> as Clone>⟧.is_clone }
+    ensures never_fails { CopyNeverFails ⟦<Subject<'a> as Clone>⟧.is_infallible }
 {}
 
 /// What inputs look like by their first bytes: files of gzip (RFC 1952, section 2.3.1), Zstandard (RFC
@@ -38,7 +45,7 @@ pub fn looks_by_first_bytes()
 {}
 
 /// The exit status of each error: 3 where the input is refused, 4 where a read or a write fails, and 5
-/// out of memory or of reads.
+/// out of memory or of reads. A failed write to an output that was closed has status 0.
 pub fn statuses()
     ensures refused { (error : CaptureError) (position : Position)
         → status_of (run_error.Capture error position) ≡ 3 }
@@ -47,4 +54,9 @@ pub fn statuses()
     ensures write { (status_of run_error.Write ≡ 4) × (status_of run_error.WriteZero ≡ 4) }
     ensures memory { status_of run_error.Memory ≡ 5 }
     ensures reads { status_of run_error.TooManyReads ≡ 5 }
+    ensures done { (closed : Bool) (done : Unit) → run_status closed (Ok done) ≡ 0 }
+    ensures closed { run_status true (Err run_error.Write) ≡ 0 }
+    ensures open { (error : RunError) → run_status false (Err error) ≡ status_of error }
+    ensures other { (error : RunError) → error ≢ run_error.Write
+        → run_status true (Err error) ≡ status_of error }
 {}

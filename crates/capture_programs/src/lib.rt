@@ -1,10 +1,11 @@
 //! What the programs that read captures share: the arguments of each (`captures_arguments`,
-//! `packets_arguments`); their inputs, what one looks like by its first bytes; the notes about inputs
-//! that are refused and packets that are passed over; and the exit status.
+//! `packets_arguments`); their inputs, what one looks like by its first bytes; an output that may be
+//! closed; what they report on standard error; and the exit status.
 #![tactic(auto)]
 
 mod arguments;
 pub mod captures_arguments;
+mod closable_writer;
 mod ending;
 mod exit_status;
 mod input;
@@ -12,9 +13,12 @@ pub mod laws;
 mod looks;
 mod notes;
 pub mod packets_arguments;
+mod parsing;
 
-pub use ending::{exit_code, report_skipped};
+pub use closable_writer::ClosableWriter;
+pub use ending::{Subject, exit_code, failure, report_skipped, unopened};
 pub use exit_status::status;
 pub use input::Input;
 pub use looks::{Look, look_at};
 pub use notes::{ReportedError, compression_note, note};
+pub use parsing::parse_failure;

@@ -1,4 +1,4 @@
-//! The note after an error: what its input is, or the name of its link type.
+//! The note after an error: what its input is, or the name of its link type and the option for it.
 use crate::looks::Look;
 use captures::{CaptureError, RunError};
 use std::fmt;
@@ -8,7 +8,7 @@ use std::fmt;
 pub struct ReportedError {
     /// The error.
     pub error: RunError,
-    /// Nothing, or a colon and a remark.
+    /// Nothing, or a remark, after a colon or a semicolon.
     pub note: &'static str,
 }
 
@@ -25,8 +25,8 @@ impl fmt::Display for ReportedError {
 }
 
 /// The note after an error that ends a reader of captures, where the input looks like this:
-/// nothing, or a colon and what the input is or what link the error is about. It has no contract:
-/// tests compare the texts.
+/// nothing, or a colon and what the input is, or what link the error is about and the option that
+/// passes over its packets. It has no contract: tests compare the texts.
 pub fn note(error: RunError, look: Look) -> &'static str {
     match error {
         RunError::Capture(CaptureError::NotCapture, _) => match look {
@@ -54,17 +54,19 @@ pub fn compression_note(look: Look) -> &'static str {
     }
 }
 
-// The names of the registry of link types, without their prefix.
+// The names of the registry of link types, without their prefix, and the option.
 fn link_note(number: u16) -> &'static str {
     match number {
-        9 => ": it is PPP",
-        105 => ": it is IEEE802_11, of wireless networks",
-        127 => ": it is IEEE802_11_RADIOTAP, of wireless networks",
-        189 => ": it is USB_LINUX",
-        220 => ": it is USB_LINUX_MMAPPED",
-        251 => ": it is BLUETOOTH_LE_LL",
-        252 => ": it is WIRESHARK_UPPER_PDU, of exported packets",
-        253 => ": it is NETLINK",
-        _ => "",
+        9 => ": it is PPP; --skip passes over its packets",
+        105 => ": it is IEEE802_11, of wireless networks; --skip passes over its packets",
+        127 => {
+            ": it is IEEE802_11_RADIOTAP, of wireless networks; --skip passes over its packets"
+        }
+        189 => ": it is USB_LINUX; --skip passes over its packets",
+        220 => ": it is USB_LINUX_MMAPPED; --skip passes over its packets",
+        251 => ": it is BLUETOOTH_LE_LL; --skip passes over its packets",
+        252 => ": it is WIRESHARK_UPPER_PDU, of exported packets; --skip passes over its packets",
+        253 => ": it is NETLINK; --skip passes over its packets",
+        _ => "; --skip passes over its packets",
     }
 }

@@ -42,7 +42,6 @@ has_read_without unfit reader read given h = record {
   dropped = h.dropped;
   is_dropped = h.is_dropped;
   gives = h.gives;
-  count = h.count;
   passed = h.passed;
   reads = h.reads;
   going = h.going;
@@ -86,7 +85,7 @@ module _ {R : Type 0} (unfit : Unfit) (prefix new : PacketReader R) (read : List
 
   module _ (f : FindsPacket unfit prefix read given (Ok false)) (ends : IsAtEnd left)
       (mid : PacketReader R) (state : mid.state ≡ prefix.state) (started : mid.started ≡ prefix.started)
-      (count : mid.count ≡ prefix.count) (passed : mid.passed ≡ prefix.passed)
+      (passed : mid.passed ≡ prefix.passed)
       (held : mid.window.held ≡ prefix.window.held) where
     ends_as : (fault : Result Unit CaptureError)
         → fault_at_end prefix.state (length (f.0.dropped ++ prefix.window.held)) ≡ fault

@@ -6,10 +6,10 @@ use Rattle.std.specs.Prelude.{IsTrue, if◌then◌else◌}
 use Rattle.std.proofs.Math.Seq.{take-append_seam, drop-append_seam}
 use Rattle.std.proofs.lemmas.List.{get_or-append-add}
 use Rattle.hex.specs.Hex.{IsBytes}
-use Rattle.captures.specs.Framed.{link_for, reported_frame}
+use Rattle.captures.specs.Framed.{reported_frame}
 use Rattle.captures.specs.Lines.{packets_of}
 use Rattle.captures.specs.Numbers.{half, word}
-use Rattle.captures.specs.Pcap.{is_magic, link_type}
+use Rattle.captures.specs.Pcap.{is_magic}
 use Rattle.captures.specs.Pcapng.{Content, HasOrder, Says, Becomes, captured_len, section_header, is_read_version}
 use Rattle.captures.specs.Pcapng.{enhanced_packet, interface_description, obsolete_packet, simple_packet, link_at}
 use Rattle.captures.specs.Pcapng.{clock_at, clocks_with}
@@ -188,9 +188,7 @@ module _ (bytes u r u' r' : List ℕ) (all : IsBytes bytes) (parts : bytes ≡ u
       (sym (word_of o'.order bytes u' r' 0 parts' (omega arith))) o'.header.magic in
       let unit = prefix_same bytes u r u' r' parts parts' (size ∙ sym size') in
       let order = file_order o.order o'.order bytes all magic magic' in
-      let link = some_same (sym o.known
-      ∙ ap₂ (λ (p : ByteOrder) (l : List ℕ). link_for unfit (link_type p l)) order unit
-      ∙ o'.known) in grind arith
+      grind arith
 
   record_alone : (order : ByteOrder) (time_unit : TimeUnit) (link : Link) (passing : Passing)
       → IsRecordUnit order time_unit link passing u after frame

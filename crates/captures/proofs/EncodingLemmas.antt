@@ -1,10 +1,11 @@
 -- What is written is read again.
 use Rattle.std.proofs.Common.{◌≡◌, refl, ℕ, ◌+◌, ◌*◌, ◌/◌, ◌%◌, ◌^◌, ◌<◌, ◌≤◌, arith, Bool, List, [], ◌∷◌, length, inl}
-use Rattle.std.proofs.Common.{append-nil, Some, Ok}
+use Rattle.std.proofs.Common.{append-nil, None, Some, Ok}
 use Rattle.std.specs.Prelude.{if◌then◌else◌}
 use Rattle.std.specs.List.{AllByRecursion, flat_map}
 use Rattle.std.specs.Option.{option_map}
-use Rattle.captures.specs.Framed.{frame_bytes, link_for, own_frame, taken_limit, reported_by, reported_of}
+use Rattle.captures.specs.Framed.{frame_bytes, own_frame, refused_type, reported_by, reported_of, taken_limit}
+use Rattle.captures.specs.Numbers.{capped}
 use Rattle.captures.specs.Skipping.{none_skipped, passing_from}
 use Rattle.captures.specs.declared.translation.skipped.Passing.{Passing}
 use Rattle.captures.specs.declared.translation.skipped.Reason.TheVariants.{NoFrame}
@@ -50,6 +51,9 @@ either_way none frame = grind arith
 own_reported : (frame : List ℕ) → length frame ≤ FRAME_LIMIT → reported_of Ethernet frame ≡ Ok frame
 own_reported frame short = grind arith
 
+own_read : (unfit : Unfit) → refused_type unfit Ethernet ≡ None
+own_read unfit = grind arith
+
 own_fits : (unfit : Unfit) (frame : List ℕ) → length frame ≤ FRAME_LIMIT
     → length frame ≤ taken_limit unfit Ethernet
 own_fits unfit frame short = grind arith
@@ -57,10 +61,24 @@ own_fits unfit frame short = grind arith
 abbrev at_frames : TimeUnit → Passing → State
 at_frames time_unit passing = Classic Little time_unit Ethernet passing
 
+-- after one more packet
+abbrev one_more : Passing → Passing
+one_more passing = record passing { seen = capped (passing.seen + 1) }
+
+after_frames : Passing → List TimedFrame → Passing
+after_frames passing [] = passing
+after_frames passing (timed ∷ frames) = after_frames (one_more passing) frames
+
+none_more : (passing : Passing) (frames : List TimedFrame)
+    → (after_frames passing frames).skipped ≡ passing.skipped
+unfolding after_frames
+none_more passing [] = refl
+none_more passing (timed ∷ frames) = none_more (one_more passing) frames
+
 is_unit : (time_unit : TimeUnit) (passing : Passing) (timed : TimedFrame) → length timed.frame ≤ FRAME_LIMIT
     → IsRecordUnit Little time_unit Ethernet passing (record_of time_unit timed)
-    (at_frames time_unit passing) timed.frame
-is_unit time_unit passing timed fits = grind (arith, record_is, own_fits, own_reported)
+    (at_frames time_unit (one_more passing)) timed.frame
+is_unit time_unit passing timed fits = grind (arith, record_is, own_read, own_fits, own_reported)
 
 units_of : TimeUnit → List TimedFrame → List (List ℕ)
 units_of time_unit [] = []
@@ -79,36 +97,29 @@ its_origin time_unit timed fits = grind arith
 row_of : (time_unit : TimeUnit) (passing : Passing) (frames : List TimedFrame)
     → AllByRecursion IsWritable frames
     → Row (at_frames time_unit passing) (units_of time_unit frames) (packets_in time_unit frames)
-    (at_frames time_unit passing)
-unfolding units_of
+    (at_frames time_unit (after_frames passing frames))
+unfolding units_of after_frames
 row_of time_unit passing [] all = (refl, refl)
 row_of time_unit passing (timed ∷ frames) all = (
-  at_frames time_unit passing,
+  at_frames time_unit (one_more passing),
   origin_of time_unit timed,
   timed.frame,
   packets_in time_unit frames,
   (is_unit time_unit passing timed all.0.short, its_origin time_unit timed all.0),
-  row_of time_unit passing frames all.1,
+  row_of time_unit (one_more passing) frames all.1,
   refl,
 )
-
-known_link : (unfit : Unfit) → link_for unfit 1 ≡ Some Ethernet
-known_link unfit = grind arith
 
 header_is : (unfit : Unfit) (time_unit : TimeUnit)
     → OpensFile unfit (file_header time_unit) (at_frames time_unit (passing_from unfit))
 header_is unfit Microseconds = record {
   order = Little;
-  link = Ethernet;
   header = record { size = refl; magic = refl; major = refl; minor = refl };
-  known = known_link unfit;
   next = refl;
 }
 header_is unfit Nanoseconds = record {
   order = Little;
-  link = Ethernet;
   header = record { size = refl; magic = refl; major = refl; minor = refl };
-  known = known_link unfit;
   next = refl;
 }
 
@@ -116,7 +127,7 @@ pub capture_is : (unfit : Unfit) (time_unit : TimeUnit) (frames : List TimedFram
     → AllByRecursion IsWritable frames
     → IsCapture unfit (capture_of time_unit frames) (packets_in time_unit frames) none_skipped
 capture_is unfit time_unit frames all = record {
-  state = at_frames time_unit (passing_from unfit);
+  state = at_frames time_unit (after_frames (passing_from unfit) frames);
   passes = record {
     units = file_header time_unit ∷ units_of time_unit frames;
     row = (
@@ -131,5 +142,5 @@ capture_is unfit time_unit frames all = record {
     parts = grind (arith, in_a_row-units_of, append-nil, units_of);
   };
   known = λ e. cc e;
-  counts = refl;
+  counts = none_more (passing_from unfit) frames;
 }

@@ -1,5 +1,5 @@
 -- The first packet of some bytes.
-use Rattle.std.proofs.Common.{◌≡◌, subst, ℕ, ◌+◌, ◌-◌, ◌<◌, ◌==◌, arith, true, false, List, [], ◌∷◌, ◌++◌, length}
+use Rattle.std.proofs.Common.{◌≡◌, subst, ℕ, ◌-◌, ◌<◌, ◌==◌, arith, true, false, List, [], ◌∷◌, ◌++◌, length}
 use Rattle.std.proofs.Common.{append_assoc, length-append, append-nil, Option}
 use Rattle.captures.specs.Framed.{FrameParts, frame_bytes}
 use Rattle.captures.specs.PacketSteps.{HasNone, IsFirst, IsFromEnd, origin_of, taken_of}
@@ -16,10 +16,10 @@ use Rattle.captures.proofs.UnitLemmas.{passes_none, passes_unit}
 
 -- one more unit without a packet
 pub passes_empty : (state mid after : State) (bytes rest rest' : List ℕ) (origin : Origin)
-    (link : Link) (frame : FrameParts) → Passes state bytes [] mid rest
-    → HasPacket mid rest after origin link frame rest' → (length (frame_bytes frame) == 0) ≡ true
+    (link : Link) (wire_len : ℕ) (frame : FrameParts) → Passes state bytes [] mid rest
+    → HasPacket mid rest after origin link wire_len frame rest' → (length (frame_bytes frame) == 0) ≡ true
     → Passes state bytes [] after rest'
-passes_empty state mid after bytes rest rest' origin link frame p h none =
+passes_empty state mid after bytes rest rest' origin link wire_len frame p h none =
     subst (λ (packets : List TakenPacket). Passes state bytes packets after rest')
     (no_packets_of origin (frame_bytes frame) none)
     (passes_unit state mid after bytes rest rest' [] origin (frame_bytes frame) p h.has_unit)
@@ -54,16 +54,15 @@ passes_first state mid after bytes rest rest' packets packet p f =
     (passes_none state mid f.mid bytes rest f.between packets p f.passes) f.has.has_unit)
 
 pub reported_first : (ledger come come' : Ledger) (state mid after : State)
-    (bytes rest rest' text text' : List ℕ) (count : ℕ) (packet : Packet)
-    → Reported ledger state bytes mid rest count text come → IsFirst mid rest after packet rest'
+    (bytes rest rest' text text' : List ℕ) (packet : Packet)
+    → Reported ledger state bytes mid rest text come → IsFirst mid rest after packet rest'
     → text' ≡ text ++ reported come (taken_of packet) → come' ≡ noted come (taken_of packet)
-    → Reported ledger state bytes after rest' (count + 1) text' come'
-reported_first ledger come come' state mid after bytes rest rest' text text' count packet t f all
+    → Reported ledger state bytes after rest' text' come'
+reported_first ledger come come' state mid after bytes rest rest' text text' packet t f all
     next =
     let taken = taken_of packet in
     record {
       packets = t.packets ++ taken ∷ [];
-      number = grind (arith, length-append);
       passes = passes_first state mid after bytes rest rest' t.packets packet t.passes f;
       lines =
           grind (arith, append-nil, lines_from-append);
@@ -72,12 +71,11 @@ reported_first ledger come come' state mid after bytes rest rest' text text' cou
 
 -- no more
 pub reported_all : (ledger come : Ledger) (state mid after : State) (bytes rest rest' text : List ℕ)
-    (count : ℕ) (refusal : Option CaptureError)
-    → Reported ledger state bytes mid rest count text come → HasNone mid rest after rest' refusal
-    → Takes ledger state bytes after rest' count text refusal come
-reported_all ledger come state mid after bytes rest rest' text count refusal t n = record {
+    (refusal : Option CaptureError)
+    → Reported ledger state bytes mid rest text come → HasNone mid rest after rest' refusal
+    → Takes ledger state bytes after rest' text refusal come
+reported_all ledger come state mid after bytes rest rest' text refusal t n = record {
   packets = t.packets;
-  number = t.number;
   passes = passes_none state mid after bytes rest rest' t.packets t.passes n.passes;
   reported = t.lines;
   left = n.left;

@@ -79,7 +79,7 @@ is_made Loop packet frame is other =
     let long = ltb-false (length packet) 4 n.0 in
     after_is Loop packet no_address frame (family_type (word Big packet 0)) refl
     (λ all. no_bytes) (omega arith) n.1
-is_made Other packet frame is other = absurd (let e : None ≡ Some frame = is in cc)
+is_made (Other number) packet frame is other = absurd (let e : None ≡ Some frame = is in cc)
 is_made Sll packet frame is other =
     let n = not_short (nat_lt (length packet) 16) _ frame is in
     let long = ltb-false (length packet) 16 n.0 in
@@ -147,7 +147,7 @@ back_packet Sll2 packet frame is =
     back_after (address_at (slice_index packet 11) packet 12) packet 20
     (cooked_type (half Big packet 8) (half Big packet 0)) frame
     (not_short (nat_lt (length packet) 20) _ frame is).1
-back_packet Other packet frame is = absurd (let e : None ≡ Some frame = is in cc)
+back_packet (Other number) packet frame is = absurd (let e : None ≡ Some frame = is in cc)
 
 back_by : (link : Link) (packet : List ℕ) (frame : FrameParts) (none : Bool)
     → (if none then Some (own_frame packet) else framed_packet link packet) ≡ Some frame

@@ -25,6 +25,7 @@ first_after state mid after bytes rest rest' packet p f = record {
   passes = passes_none state mid f.mid bytes rest f.between [] p f.passes;
   has = f.has;
   some = f.some;
+  number = f.number;
 }
 
 -- one more packet
@@ -70,6 +71,7 @@ first_wide state after bytes rest chunk packet f = record {
     is_on = f.has.is_on;
   };
   some = f.some;
+  number = f.number;
 }
 
 pub gives_wide : (state after : State) (bytes rest chunk : List ℕ) (packets : List Packet)
@@ -123,9 +125,11 @@ from_fits bytes part from e = grind (arith, length-append)
 same_parts : (packet : Packet) (header : Option Header) (bytes : List ℕ)
     → packet.frame.header ≡ header → packet.frame.bytes ≡ bytes
     → packet ≡ packet_with (record {
+      number = packet.number;
       interface = packet.interface;
       time = packet.time;
       link = packet.link;
+      wire_len = packet.wire_len;
       header = header;
     }) bytes
 same_parts packet header bytes h b = grind arith
@@ -136,9 +140,11 @@ pub ahead_found : (state after : State) (bytes rest part : List ℕ) (from : ℕ
     → header ≡ packet.frame.header
     → (length part ≤ from) × (from ≤ length bytes) × IsFirst state bytes after
     (packet_with (record {
+      number = packet.number;
       interface = packet.interface;
       time = packet.time;
       link = packet.link;
+      wire_len = packet.wire_len;
       header = header;
     }) (take (length part) (last_of from bytes))) (last_of (length rest) bytes)
 ahead_found state after bytes rest part from packet header f e same made =

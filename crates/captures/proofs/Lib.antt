@@ -10,6 +10,7 @@ mod CountLemmas
 mod ForgetLemmas
 mod ExampleBlocks
 mod ExampleRecords
+mod FrameLengthLemmas
 mod FramedLemmas
 mod FirstPacketLemmas
 mod GivenLemmas

@@ -10,7 +10,7 @@ use Rattle.captures.specs.Numbers.{capped}
 use Rattle.captures.specs.Positions.{IsPosition, block_type}
 use Rattle.captures.specs.Readers.{FindsPacket, HasRead, IsRefusedAt}
 use Rattle.captures.specs.CaptureRuns.{IsCapture, fault_at_end}
-use Rattle.captures.specs.Units.{HasUnit, IsIncomplete, Refuses, skipped_in}
+use Rattle.captures.specs.Units.{HasUnit, IsIncomplete, Refuses, seen_in, skipped_in}
 use Rattle.captures.specs.declared.capture_error.CaptureError.{CaptureError}
 use Rattle.captures.specs.declared.capture_error.CaptureError.TheVariants.{CutOff, NotCapture}
 use Rattle.captures.specs.declared.limits.TheConstants.{FIRST_UNIT_LEN}
@@ -56,28 +56,27 @@ module _ {R : Type 0} (unfit : Unfit) (old : PacketReader R) (read : List ℕ)
     pub finds_packet : (new : PacketReader R) (packet : Packet) → new.state ≡ after
         → new.started ≡ None → new.passed ≡ passed
         → new.window.held ≡ last_of left old.window.held
-        → new.count ≡ min (old.count + 1) (2 ^ 64 - 1) → new.reads ≡ old.reads
+        → new.reads ≡ old.reads
         → new.ended ≡ old.ended
         → IsFirst old.state old.window.held after packet (last_of left old.window.held)
         → HasRead unfit new read (given ++ packet ∷ [])
-    finds_packet new packet state started passed_new held count reads ended first =
+    finds_packet new packet state started passed_new held reads ended first =
         grind (arith, gives_first, gives_held, capped_more, length-append, left_passed)
 
     -- no packet is
     abbrev pub finds_none : (new : PacketReader R) (dropped : List ℕ) → new.state ≡ after
         → IsDropped after new.started dropped → new.passed ≡ passed
         → dropped ++ new.window.held ≡ last_of left old.window.held
-        → new.count ≡ old.count → new.reads ≡ old.reads → new.ended ≡ old.ended
+        → new.reads ≡ old.reads → new.ended ≡ old.ended
         → (refusal : Option CaptureError)
         → HasNone old.state old.window.held after (last_of left old.window.held) refusal
         → HasRead unfit new read given
-    finds_none new dropped state is_dropped passed_new held count reads ended refusal first =
+    finds_none new dropped state is_dropped passed_new held reads ended refusal first =
         record {
           dropped = dropped;
           is_dropped = subst (λ (s : State). IsDropped s new.started dropped) (sym state) is_dropped;
           gives = rw (state, held) (gives_none (Start unfit) old.state after read old.window.held
               (last_of left old.window.held) given (gives_held none) first.passes);
-          count = count ∙ h.count;
           passed = passed_new ∙ left_passed
               ∙ ap (λ (l : List ℕ). capped (length read - length l)) (sym held);
           reads = subst (λ (n : ℕ). n ≤ length read) (sym reads) h.reads;
@@ -121,7 +120,7 @@ no_chunk (b ∷ bytes) none = absurd (omega arith)
 
 module _ {R : Type 0} (unfit : Unfit) (old new : PacketReader R) (read : List ℕ)
     (given : List Packet) (h : HasRead unfit old read given) (state : new.state ≡ old.state)
-    (started : new.started ≡ old.started) (count : new.count ≡ old.count)
+    (started : new.started ≡ old.started)
     (passed : new.passed ≡ old.passed) where
   dropped_same : IsDropped new.state new.started h.dropped
   dropped_same = rw (state, started) h.is_dropped
@@ -140,12 +139,12 @@ module _ {R : Type 0} (unfit : Unfit) (old new : PacketReader R) (read : List �
 
 module _ {R : Type 0} (unfit : Unfit) (reader : PacketReader R) (read : List ℕ)
     (given : List Packet) (h : HasRead unfit reader read given) (position : Position)
-    (packet : position.packet ≡ capped (reader.count + 1)) (offset : position.offset ≡ reader.passed)
+    (packet : position.packet ≡ capped (seen_in reader.state + 1)) (offset : position.offset ≡ reader.passed)
     (block : (dropped : List ℕ) → IsDropped reader.state reader.started dropped
     → position.block ≡ block_type reader.state (dropped ++ reader.window.held)) where
-  its_position : IsPosition reader.state (length given) read (h.dropped ++ reader.window.held) position
+  its_position : IsPosition reader.state read (h.dropped ++ reader.window.held) position
   its_position = record {
-    packet = grind arith;
+    packet = packet;
     offset = offset ∙ h.passed;
     block = block h.dropped h.is_dropped;
   }
@@ -197,7 +196,7 @@ ends_whole unfit state read rest given g ends =
 module _ {R : Type 0} (unfit : Unfit) (old new : PacketReader R) (read : List ℕ)
     (given : List Packet) (h : HasRead unfit old read given) (left : ℕ)
     (state : new.state ≡ old.state) (held : new.window.held ≡ last_of left old.window.held)
-    (count : new.count ≡ old.count) (reads : new.reads ≡ old.reads)
+    (reads : new.reads ≡ old.reads)
     (ended : new.ended ≡ old.ended) where
   -- more of it is dropped
   module _ (started : LongBlock) (started_is : new.started ≡ Some started)
@@ -212,7 +211,6 @@ module _ {R : Type 0} (unfit : Unfit) (old new : PacketReader R) (read : List �
       is_dropped = rw (state, started_is) d.is_dropped;
       gives = rw state (subst (λ (l : List ℕ). Gives (Start unfit) read given old.state l)
           same_left h.gives);
-      count = count ∙ h.count;
       passed = passed ∙ h.passed
           ∙ ap (λ (l : List ℕ). capped (length read - length l)) same_left;
       reads = subst (λ (n : ℕ). n ≤ length read) (sym reads) h.reads;
@@ -254,7 +252,6 @@ module _ {R : Type 0} (unfit : Unfit) (old new : PacketReader R) (read : List �
         gives = rw (state, held) (gives_none (Start unfit) old.state old.state read rest last given
             h.gives (passes_unit old.state old.state old.state rest rest last [] origin []
             (passes_start old.state rest) unit));
-        count = count ∙ h.count;
         passed =
             grind arith;
         reads = grind arith;

@@ -5,7 +5,7 @@ use Rattle.std.proofs.Common.{inl, ltb-true}
 use Rattle.std.specs.Prelude.{◌⊎◌, min, nat_lt, if◌then◌else◌}
 use Rattle.captures.specs.declared.capture_error.CaptureError.{CaptureError}
 use Rattle.captures.specs.declared.capture_error.CaptureError.TheVariants.{NotCapture, LinkType, FrameTooLong, CutOff}
-use Rattle.captures.specs.declared.capture_error.CaptureError.TheVariants.{BlockTooLong, BadBlock, NoFrame, Version}
+use Rattle.captures.specs.declared.capture_error.CaptureError.TheVariants.{BlockTooLong, BadBlock, InterfaceLimit, NoFrame, Version}
 use Rattle.captures.specs.declared.limits.TheConstants.{FIRST_UNIT_LEN}
 use Rattle.captures.specs.declared.pcapng.long_block.LongBlock.{LongBlock}
 use Rattle.captures.specs.declared.position.Position.{Position}
@@ -19,7 +19,7 @@ use Rattle.captures.specs.Lines.{blank}
 use Rattle.captures.specs.Numbers.{capped}
 use Rattle.captures.specs.Positions.{IsPosition, block_type}
 use Rattle.captures.specs.Skipping.{none_skipped}
-use Rattle.captures.specs.Units.{Takes, skipped_in}
+use Rattle.captures.specs.Units.{Takes, seen_in, skipped_in}
 use Rattle.captures.specs.CaptureRuns.{IsRefused, PassesOver, at_position, result_at_end, capture_to_lines}
 use Rattle.captures.specs.Translations.{Begins, Fills, IsDueBy, Translates, Finishes, IsWhole}
 use Rattle.captures.proofs.CountLemmas.{capped_more}
@@ -33,75 +33,76 @@ use Rattle.device_runs.specs.Endings.{Ending}
 use Rattle.device_runs.specs.Runs.{Goes}
 
 -- the position of the first unit
-first_position : (unfit u : Unfit) (read rest : List ℕ) (count : ℕ) (position : Position) → read ≡ rest
-    → count ≡ 0 → IsPosition (Start u) count read rest position → IsPosition (Start unfit) 0 read read position
-first_position unfit u read rest count position same none at = grind arith
+first_position : (unfit u : Unfit) (read rest : List ℕ) (position : Position) → read ≡ rest
+    → IsPosition (Start u) read rest position → IsPosition (Start unfit) read read position
+first_position unfit u read rest position same at = grind arith
 
 -- what is written where a capture is refused before its end
 refused_outcome : (extra : Extra) (noted : Ledger) (unfit : Unfit) (reported : Bool) (read written : List ℕ) (state : State)
-    (rest : List ℕ) (count : ℕ) (error : CaptureError) (position : Position)
-    → Takes (blank extra) (Start unfit) read state rest count written (Some error) noted
-    → IsPosition state count read rest position
+    (rest : List ℕ) (error : CaptureError) (position : Position)
+    → Takes (blank extra) (Start unfit) read state rest written (Some error) noted
+    → IsPosition state read rest position
     → IsRefused extra unfit (skipped_in state) (InCapture error position) reported read written
-refused_outcome extra noted unfit reported read written (Start u) rest count NotCapture position takes at =
+refused_outcome extra noted unfit reported read written (Start u) rest NotCapture position takes at =
     let same = passes_to_start unfit u read rest takes.packets takes.passes in
     let size = takes.left.0 in grind arith
-refused_outcome extra noted unfit reported read written (Classic order time_unit link passing) rest count NotCapture position
+refused_outcome extra noted unfit reported read written (Classic order time_unit link passing) rest NotCapture position
     takes at = absurd takes.left
-refused_outcome extra noted unfit reported read written (Pcapng section) rest count NotCapture position takes at =
+refused_outcome extra noted unfit reported read written (Pcapng section) rest NotCapture position takes at =
     absurd takes.left
-refused_outcome extra noted unfit reported read written state rest count (BlockTooLong len) position takes at =
-    (state, rest, count, noted, takes, at, refl)
-refused_outcome extra noted unfit reported read written state rest count NoFrame position takes at =
-    (state, rest, count, noted, takes, at, refl)
-refused_outcome extra noted unfit reported read written state rest count (Version major minor) position takes
+refused_outcome extra noted unfit reported read written state rest (BlockTooLong len) position takes at =
+    (state, rest, noted, takes, at, refl)
+refused_outcome extra noted unfit reported read written state rest NoFrame position takes at =
+    (state, rest, noted, takes, at, refl)
+refused_outcome extra noted unfit reported read written state rest (Version major minor) position takes
     at =
-    (state, rest, count, noted, takes, at, refl)
-refused_outcome extra noted unfit reported read written state rest count BadBlock position takes at =
-    (state, rest, count, noted, takes, at, refl)
-refused_outcome extra noted unfit reported read written state rest count (LinkType number) position takes at =
-    (state, rest, count, noted, takes, at, refl)
-refused_outcome extra noted unfit reported read written state rest count (FrameTooLong captured) position takes at =
-    (state, rest, count, noted, takes, at, refl)
-refused_outcome extra noted unfit reported read written (Start u) rest count CutOff position takes at =
+    (state, rest, noted, takes, at, refl)
+refused_outcome extra noted unfit reported read written state rest BadBlock position takes at =
+    (state, rest, noted, takes, at, refl)
+refused_outcome extra noted unfit reported read written state rest (LinkType number) position takes at =
+    (state, rest, noted, takes, at, refl)
+refused_outcome extra noted unfit reported read written state rest (InterfaceLimit number) position
+    takes at =
+    (state, rest, noted, takes, at, refl)
+refused_outcome extra noted unfit reported read written state rest (FrameTooLong captured) position takes at =
+    (state, rest, noted, takes, at, refl)
+refused_outcome extra noted unfit reported read written (Start u) rest CutOff position takes at =
     absurd takes.left.1
-refused_outcome extra noted unfit reported read written (Classic order time_unit link passing) rest count CutOff position
+refused_outcome extra noted unfit reported read written (Classic order time_unit link passing) rest CutOff position
     takes at = absurd takes.left
-refused_outcome extra noted unfit reported read written (Pcapng section) rest count CutOff position takes at =
+refused_outcome extra noted unfit reported read written (Pcapng section) rest CutOff position takes at =
     absurd takes.left
 
--- these bytes are held of what was read, after this many packets and bytes of whole units
-abbrev pub Reports : Ledger → Unfit → State → Option LongBlock → (reported passed : ℕ)
+-- these bytes are held of what was read, after this many bytes of whole units
+abbrev pub Reports : Ledger → Unfit → State → Option LongBlock → (passed : ℕ)
     → (held read written : List ℕ) → Type 0
-Reports ledger unfit state started reported passed held read written = (dropped : List ℕ)
+Reports ledger unfit state started passed held read written = (dropped : List ℕ)
     × IsDropped state started dropped
-    × (count : ℕ)
-    × Takes (blank ledger.extra) (Start unfit) read state (dropped ++ held) count written None ledger
-    × (reported ≡ capped count) × (passed ≡ capped (length read - length (dropped ++ held)))
+    × Takes (blank ledger.extra) (Start unfit) read state (dropped ++ held) written None ledger
+    × (passed ≡ capped (length read - length (dropped ++ held)))
 
 -- nothing is read yet
 pub reports_start : (extra : Extra) (unfit : Unfit)
     → Begins (capture_to_lines extra unfit none_skipped)
-    (Reports (blank extra) unfit (Start unfit) None 0 0) []
+    (Reports (blank extra) unfit (Start unfit) None 0) []
 reports_start extra unfit =
-    let takes : Takes (blank extra) (Start unfit) [] (Start unfit) [] 0 [] None (blank extra) =
+    let takes : Takes (blank extra) (Start unfit) [] (Start unfit) [] [] None (blank extra) =
     grind arith in
     grind arith
 
 module _ (ledger noted : Ledger) (same_extra : noted.extra ≡ ledger.extra) (unfit : Unfit)
     (state after : State) (started started' : Option LongBlock)
-    (reported passed reported' passed' : ℕ) (held chunk bytes rest read written text : List ℕ) (count n : ℕ)
-    (reports : Reports ledger unfit state started reported passed held read written) (parts : bytes ≡ held ++ chunk)
-    (reported_is : reported' ≡ min (reported + count) (2 ^ 64 - 1))
+    (passed passed' : ℕ) (held chunk bytes rest read written text : List ℕ) (n : ℕ)
+    (reports : Reports ledger unfit state started passed held read written) (parts : bytes ≡ held ++ chunk)
     (passed_is : passed' ≡ min (passed + n) (2 ^ 64 - 1))
     (size : n + dropped_len started' + length rest ≡ length reports.0 + length bytes) where
   -- a chunk is read
   all_reported : (refusal : Option CaptureError)
-      (l : Leaves ledger state (reports.0 ++ bytes) after started' rest count text refusal noted)
+      (l : Leaves ledger state (reports.0 ++ bytes) after started' rest text refusal noted)
       → Takes (blank noted.extra) (Start unfit) (read ++ chunk) after (l.dropped ++ rest)
-      (reports.2 + count) (written ++ text) refusal noted
+      (written ++ text) refusal noted
   all_reported refusal l =
-      let whole : Leaves ledger state (reports.0 ++ (held ++ chunk)) after started' rest count text
+      let whole : Leaves ledger state (reports.0 ++ (held ++ chunk)) after started' rest text
       refusal noted =
       record {
         dropped = l.dropped;
@@ -109,28 +110,25 @@ module _ (ledger noted : Ledger) (same_extra : noted.extra ≡ ledger.extra) (un
         takes = grind arith;
       } in
       subst (λ (e : Extra). Takes (blank e) (Start unfit) (read ++ chunk) after (l.dropped ++ rest)
-      (reports.2 + count) (written ++ text) refusal noted) (sym same_extra)
+      (written ++ text) refusal noted) (sym same_extra)
       (takes_more (blank ledger.extra) ledger noted (Start unfit) state after read chunk (reports.0 ++ held)
-      (l.dropped ++ rest) written text reports.2 count refusal reports.3
-      (takes_chunk ledger noted state after reports.0 held chunk started' rest count text refusal whole))
-
-  count_reported : reported' ≡ capped (reports.2 + count)
-  count_reported = grind arith
+      (l.dropped ++ rest) written text refusal reports.2
+      (takes_chunk ledger noted state after reports.0 held chunk started' rest text refusal whole))
 
   all_passed : (dropped : List ℕ) → IsDropped after started' dropped
       → passed' ≡ capped (length (read ++ chunk) - length (dropped ++ rest))
   all_passed dropped d = grind (arith, length-append, dropped_size, capped_more)
 
-  pub reports_more : Leaves ledger state (reports.0 ++ bytes) after started' rest count text None noted
+  pub reports_more : Leaves ledger state (reports.0 ++ bytes) after started' rest text None noted
       → Translates (capture_to_lines noted.extra unfit (skipped_in after))
-      (Reports noted unfit after started' reported' passed') rest (read ++ chunk) (written ++ text) None
+      (Reports noted unfit after started' passed') rest (read ++ chunk) (written ++ text) None
   reports_more l =
       let takes = all_reported None l in
-      grind (arith, count_reported, all_passed)
+      grind (arith, all_passed)
 
   pub reports_refused : (shown : List ℕ → List ℕ → List ℕ → Type 0) (error : CaptureError)
-      (position : Position) → Leaves ledger state (reports.0 ++ bytes) after started' rest count text (Some error) noted
-      → position.packet ≡ capped (reported' + 1) → position.offset ≡ passed'
+      (position : Position) → Leaves ledger state (reports.0 ++ bytes) after started' rest text (Some error) noted
+      → position.packet ≡ capped (seen_in after + 1) → position.offset ≡ passed'
       → ((dropped : List ℕ) → IsDropped after started' dropped
       → position.block ≡ block_type after (dropped ++ rest))
       → Translates (capture_to_lines noted.extra unfit (skipped_in after)) shown rest (read ++ chunk)
@@ -138,10 +136,10 @@ module _ (ledger noted : Ledger) (same_extra : noted.extra ≡ ledger.extra) (un
   reports_refused shown error position l packet offset block =
       let takes = all_reported (Some error) l in
       record {
-        full = (after, l.dropped ++ rest, reports.2 + count, Some error, noted, takes, refl);
+        full = (after, l.dropped ++ rest, Some error, noted, takes, refl);
         follows = refused_outcome noted.extra noted unfit false (read ++ chunk) (written ++ text) after
-            (l.dropped ++ rest) (reports.2 + count) error position takes (record {
-              packet = grind arith;
+            (l.dropped ++ rest) error position takes (record {
+              packet = packet;
               offset = grind (arith, all_passed);
               block = block l.dropped l.is_dropped;
             });
@@ -149,62 +147,62 @@ module _ (ledger noted : Ledger) (same_extra : noted.extra ≡ ledger.extra) (un
 
 -- the end is reported
 module _ (ledger : Ledger) (unfit : Unfit) (read written : List ℕ) (position : Position) where
-  ends_cut : (state : State) (rest : List ℕ) (count : ℕ)
-      → Takes (blank ledger.extra) (Start unfit) read state rest count written None ledger → IsPosition state count read rest position
+  ends_cut : (state : State) (rest : List ℕ)
+      → Takes (blank ledger.extra) (Start unfit) read state rest written None ledger → IsPosition state read rest position
       → 0 < length rest → (state ≢ Start unfit) ⊎ (FIRST_UNIT_LEN ≤ length rest)
       → IsWhole (capture_to_lines ledger.extra unfit (skipped_in state)) read written
       (Err (InCapture CutOff position))
-  ends_cut state rest count takes at some known = grind arith
+  ends_cut state rest takes at some known = grind arith
 
-  at_start : (u : Unfit) (rest : List ℕ) (count : ℕ)
-      → Takes (blank ledger.extra) (Start unfit) read (Start u) rest count written None ledger
-      → IsPosition (Start u) count read rest position → (few : Bool)
+  at_start : (u : Unfit) (rest : List ℕ)
+      → Takes (blank ledger.extra) (Start unfit) read (Start u) rest written None ledger
+      → IsPosition (Start u) read rest position → (few : Bool)
       → nat_lt (length rest) FIRST_UNIT_LEN ≡ few
       → IsWhole (capture_to_lines ledger.extra unfit none_skipped) read written
       (at_position position (if few then Err NotCapture else Err CutOff))
-  at_start u rest count takes at true few =
+  at_start u rest takes at true few =
       let same = passes_to_start unfit u read rest takes.packets takes.passes in
       grind (arith, no_capture_by_length, ltb-true, first_position)
-  at_start u rest count takes at false few = grind arith
+  at_start u rest takes at false few = grind arith
 
-  at_end : (state : State) (rest : List ℕ) (count : ℕ)
-      → Takes (blank ledger.extra) (Start unfit) read state rest count written None ledger → IsPosition state count read rest position
+  at_end : (state : State) (rest : List ℕ)
+      → Takes (blank ledger.extra) (Start unfit) read state rest written None ledger → IsPosition state read rest position
       → IsWhole (capture_to_lines ledger.extra unfit (skipped_in state)) read written
       (result_at_end state (length rest) position)
-  at_end (Start u) rest count takes at =
-      at_start u rest count takes at (nat_lt (length rest) FIRST_UNIT_LEN) refl
-  at_end (Classic order time_unit link passing) [] count takes at = (
+  at_end (Start u) rest takes at =
+      at_start u rest takes at (nat_lt (length rest) FIRST_UNIT_LEN) refl
+  at_end (Classic order time_unit link passing) [] takes at = (
     takes.packets,
     grind arith,
     takes.reported,
   )
-  at_end (Classic order time_unit link passing) (b ∷ bytes) count takes at =
-      ends_cut (Classic order time_unit link passing) (b ∷ bytes) count takes at (omega arith)
+  at_end (Classic order time_unit link passing) (b ∷ bytes) takes at =
+      ends_cut (Classic order time_unit link passing) (b ∷ bytes) takes at (omega arith)
       (inl (λ e. cc e))
-  at_end (Pcapng section) [] count takes at = (
+  at_end (Pcapng section) [] takes at = (
     takes.packets,
     grind arith,
     takes.reported,
   )
-  at_end (Pcapng section) (b ∷ bytes) count takes at =
-      ends_cut (Pcapng section) (b ∷ bytes) count takes at (omega arith) (inl (λ e. cc e))
+  at_end (Pcapng section) (b ∷ bytes) takes at =
+      ends_cut (Pcapng section) (b ∷ bytes) takes at (omega arith) (inl (λ e. cc e))
 
-  pub reports_end : (state : State) (started : Option LongBlock) (reported passed : ℕ) (held : List ℕ)
-      (left : ℕ) (reports : Reports ledger unfit state started reported passed held read written)
+  pub reports_end : (state : State) (started : Option LongBlock) (passed : ℕ) (held : List ℕ)
+      (left : ℕ) (reports : Reports ledger unfit state started passed held read written)
       → left ≡ length held
-      → position.packet ≡ capped (reported + 1) → position.offset ≡ passed
+      → position.packet ≡ capped (seen_in state + 1) → position.offset ≡ passed
       → position.block ≡ block_type state (reports.0 ++ held)
       → (result : Result Unit Refusal) → result ≡ result_at_end state (length reports.0 + left) position
       → Finishes (capture_to_lines ledger.extra unfit (skipped_in state)) read (written ++ []) result
-  reports_end state started reported passed held left reports size packet offset block result is =
+  reports_end state started passed held left reports size packet offset block result is =
       let whole : length (reports.0 ++ held) ≡ length reports.0 + left =
       omega (arith, length-append reports.0 held) in
       subst (λ (text : List ℕ). Finishes (capture_to_lines ledger.extra unfit (skipped_in state)) read text
       result) (sym (append-nil written)) (record {
-        full = (state, reports.0 ++ held, reports.2, None, ledger, reports.3, refl);
-        whole = rw (is, sym whole) (at_end state (reports.0 ++ held) reports.2 reports.3 (record {
-          packet = grind arith;
-          offset = offset ∙ reports.5;
+        full = (state, reports.0 ++ held, None, ledger, reports.2, refl);
+        whole = rw (is, sym whole) (at_end state (reports.0 ++ held) reports.2 (record {
+          packet = packet;
+          offset = offset ∙ reports.3;
           block = block;
         }));
       })
@@ -228,12 +226,12 @@ passes_over fills = record {
   made = fills.made;
   passed = record {
     state = fills.full.0;
-    packets = fills.full.5.packets;
+    packets = fills.full.4.packets;
     rest = fills.full.1;
-    refusal = fills.full.3;
-    passes = fills.full.5.passes;
-    left = fills.full.5.left;
-    counts = fills.full.6;
+    refusal = fills.full.2;
+    passes = fills.full.4.passes;
+    left = fills.full.4.left;
+    counts = fills.full.5;
   };
 }
 

@@ -110,13 +110,11 @@ module _ (block : LongBlock) (section : Section) (dropped back later : List ℕ)
 
 -- a unit without a packet before others
 takes_after : (ledger noted : Ledger) (state mid after : State) (bytes rest rest' : List ℕ)
-    (count : ℕ) (text : List ℕ)
-    (origin : Origin) (refusal : Option CaptureError) → HasUnit state bytes mid origin [] rest
-    → Takes ledger mid rest after rest' count text refusal noted
-    → Takes ledger state bytes after rest' count text refusal noted
-takes_after ledger noted state mid after bytes rest rest' count text origin refusal h t = record {
+    (text : List ℕ) (origin : Origin) (refusal : Option CaptureError) → HasUnit state bytes mid origin [] rest
+    → Takes ledger mid rest after rest' text refusal noted
+    → Takes ledger state bytes after rest' text refusal noted
+takes_after ledger noted state mid after bytes rest rest' text origin refusal h t = record {
   packets = t.packets;
-  number = t.number;
   passes = record {
     units = h.unit ∷ t.passes.units;
     row = (mid, origin, [], t.packets, h.is_unit, t.passes.row, refl);
@@ -217,7 +215,7 @@ passed_here state block n left dropped bytes prefix rest d parts size all long s
 pub leaves_more : (ledger : Ledger) (state : State) (dropped bytes : List ℕ) (started : LongBlock)
     (left : ℕ) (refusal : Option CaptureError) → DropsMore state dropped bytes started left
     → IsLeft state (dropped ++ bytes) refusal
-    → Leaves ledger state (dropped ++ bytes) state (Some started) (last_of left bytes) 0 [] refusal
+    → Leaves ledger state (dropped ++ bytes) state (Some started) (last_of left bytes) [] refusal
     ledger
 leaves_more ledger state dropped bytes started left refusal d is_left =
     let last = last_of left bytes in
@@ -227,26 +225,26 @@ leaves_more ledger state dropped bytes started left refusal d is_left =
 
 -- what follows the block is taken
 pub leaves_after : (ledger noted : Ledger) (state after : State) (bytes later : List ℕ)
-    (started : Option LongBlock) (rest : List ℕ) (count : ℕ) (text : List ℕ) (origin : Origin)
+    (started : Option LongBlock) (rest text : List ℕ) (origin : Origin)
     (refusal : Option CaptureError) → HasUnit state bytes state origin [] later
-    → Leaves ledger state later after started rest count text refusal noted
-    → Leaves ledger state bytes after started rest count text refusal noted
-leaves_after ledger noted state after bytes later started rest count text origin refusal h l =
+    → Leaves ledger state later after started rest text refusal noted
+    → Leaves ledger state bytes after started rest text refusal noted
+leaves_after ledger noted state after bytes later started rest text origin refusal h l =
     record {
       dropped = l.dropped;
       is_dropped = l.is_dropped;
-      takes = takes_after ledger noted state state after bytes later (l.dropped ++ rest) count text
+      takes = takes_after ledger noted state state after bytes later (l.dropped ++ rest) text
           origin refusal h l.takes;
     }
 
 -- what is taken of a chunk that was read after what is held
 pub takes_chunk : (ledger noted : Ledger) (state after : State) (dropped held chunk : List ℕ) (started : Option LongBlock)
-    (rest : List ℕ) (count : ℕ) (text : List ℕ) (refusal : Option CaptureError)
-    → (l : Leaves ledger state (dropped ++ (held ++ chunk)) after started rest count text refusal noted)
-    → Takes ledger state ((dropped ++ held) ++ chunk) after (l.dropped ++ rest) count text refusal
+    (rest text : List ℕ) (refusal : Option CaptureError)
+    → (l : Leaves ledger state (dropped ++ (held ++ chunk)) after started rest text refusal noted)
+    → Takes ledger state ((dropped ++ held) ++ chunk) after (l.dropped ++ rest) text refusal
     noted
-takes_chunk ledger noted state after dropped held chunk started rest count text refusal l =
-    subst (λ (bytes : List ℕ). Takes ledger state bytes after (l.dropped ++ rest) count text
+takes_chunk ledger noted state after dropped held chunk started rest text refusal l =
+    subst (λ (bytes : List ℕ). Takes ledger state bytes after (l.dropped ++ rest) text
     refusal noted)
     (sym (append_assoc dropped held chunk)) l.takes
 

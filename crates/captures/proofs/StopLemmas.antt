@@ -9,13 +9,13 @@ use Rattle.captures.specs.Pcap.{is_magic}
 use Rattle.captures.specs.Pcapng.{Content, HasOrder, Says, Reads, RefusesBlock, section_header}
 use Rattle.captures.specs.CaptureRuns.{ArePassedOver, IsCapture}
 use Rattle.captures.specs.Units.{IsUnit, IsBlockUnit, IsRecordUnit, OpensFile, Row, in_a_row, no_section, HasNoFrame}
-use Rattle.captures.specs.Units.{IsShortBlock, IsShortRecord, HasLongFrame, HasLinkType, HasBadLength, HasRefusedBlock}
+use Rattle.captures.specs.Units.{IsShortBlock, IsShortRecord, HasLongFrame, HasBadLength, HasRefusedBlock}
 use Rattle.captures.specs.Units.{RefusesAt, RefusesFirst, BeginsSection, IsLeft, Takes}
 use Rattle.captures.specs.declared.byte_order.ByteOrder.{ByteOrder}
 use Rattle.captures.specs.declared.byte_order.ByteOrder.TheVariants.{Big}
 use Rattle.captures.specs.declared.capture_error.CaptureError.{CaptureError}
 use Rattle.captures.specs.declared.capture_error.CaptureError.TheVariants.{NotCapture, LinkType, FrameTooLong, CutOff}
-use Rattle.captures.specs.declared.capture_error.CaptureError.TheVariants.{BlockTooLong, BadBlock, NoFrame, Version}
+use Rattle.captures.specs.declared.capture_error.CaptureError.TheVariants.{BlockTooLong, BadBlock, InterfaceLimit, NoFrame, Version}
 use Rattle.captures.specs.declared.link.kind.Link.{Link}
 use Rattle.captures.specs.declared.pcapng.section.Section.{Section}
 use Rattle.captures.specs.declared.translation.skipped.Passing.{Passing}
@@ -23,7 +23,7 @@ use Rattle.captures.specs.declared.translation.skipped.Skipped.{Skipped}
 use Rattle.captures.specs.declared.translation.state.State.{State}
 use Rattle.captures.specs.declared.unfit.Unfit.{Unfit}
 use Rattle.captures.specs.declared.translation.state.State.TheVariants.{Start, Classic, Pcapng}
-use Rattle.captures.proofs.AloneLemmas.{prefix_same, rest_same, bytes_after, order_alone, order_more, file_order}
+use Rattle.captures.proofs.AloneLemmas.{prefix_same, rest_same, bytes_after, order_alone, order_more}
 use Rattle.captures.proofs.AloneLemmas.{no_section_in, unit_alone}
 use Rattle.captures.proofs.BlockLemmas.{word_of, skipped_prefix}
 use Rattle.captures.specs.declared.extra.Extra.{Extra}
@@ -111,6 +111,7 @@ module _ (bytes u r : List ℕ) (all : IsBytes bytes) (parts : bytes ≡ u ++ r)
     not_at : (error : CaptureError) → RefusesAt section bytes error → ⊥
     not_at NotCapture refuses = refuses
     not_at (LinkType number) refuses = not_refused (LinkType number) refuses
+    not_at (InterfaceLimit number) refuses = not_refused (InterfaceLimit number) refuses
     not_at (FrameTooLong captured) refuses = not_refused (FrameTooLong captured) refuses
     not_at NoFrame refuses = not_refused NoFrame refuses
     not_at CutOff refuses = refuses
@@ -130,21 +131,8 @@ module _ (bytes u r : List ℕ) (all : IsBytes bytes) (parts : bytes ≡ u ++ r)
         (subst (λ (n : ℕ). IsTrue (is_magic n))
         (sym (word_of o.order bytes u r 0 parts (omega arith))) o.header.magic) kind
 
-    not_link_type : (number : ℕ) → HasLinkType unfit bytes number → ⊥
-    not_link_type number h =
-        let size = o.header.size in
-        let size' = h.is_header.size in
-        let same = prefix_same bytes u r h.header h.rest parts h.parts (size ∙ sym size') in
-        let magic = subst (λ (n : ℕ). IsTrue (is_magic n))
-        (sym (word_of o.order bytes u r 0 parts (omega arith))) o.header.magic in
-        let magic' = subst (λ (n : ℕ). IsTrue (is_magic n))
-        (sym (word_of h.order bytes h.header h.rest 0 h.parts (omega arith)))
-        h.is_header.magic in
-        let order = file_order o.order h.order bytes all magic magic' in
-        grind arith
-
     not_first : (error : CaptureError) → RefusesFirst unfit bytes error → ⊥
-    not_first error refuses = grind (arith, not_link_type, no_kind)
+    not_first error refuses = grind (arith, no_kind)
 
   -- a section header
   module _ (kind : word Big u 0 ≡ section_header)
@@ -167,14 +155,12 @@ module _ (bytes u r : List ℕ) (all : IsBytes bytes) (parts : bytes ≡ u ++ r)
 
     not_section : (error : CaptureError) → RefusesFirst unfit bytes error → ⊥
     not_section NotCapture refuses = grind (arith, long_enough, fits, begins)
-    not_section (LinkType number) (inl h) =
-        let size = h.is_header.size in
-        no_section_in h.order bytes all
-        (subst (λ (n : ℕ). IsTrue (is_magic n))
-        (sym (word_of h.order bytes h.header h.rest 0 h.parts (omega arith)))
-        h.is_header.magic) kind_in
-    not_section (LinkType number) (inr h) = not_at (no_section unfit) b (LinkType number) h.1
-    not_section (FrameTooLong captured) refuses = grind arith
+    not_section (LinkType number) refuses =
+        not_at (no_section unfit) b (LinkType number) refuses.1
+    not_section (InterfaceLimit number) refuses =
+        not_at (no_section unfit) b (InterfaceLimit number) refuses.1
+    not_section (FrameTooLong captured) refuses =
+        not_at (no_section unfit) b (FrameTooLong captured) refuses.1
     not_section NoFrame refuses = not_at (no_section unfit) b NoFrame refuses.1
     not_section CutOff refuses = refuses
     not_section (BlockTooLong len) refuses =
@@ -251,7 +237,9 @@ left_no_unit (Classic order time_unit link passing) bytes u r all parts after or
 left_no_unit (Classic order time_unit link passing) bytes u r all parts after origin frame i
     (Some NotCapture) refuses = refuses
 left_no_unit (Classic order time_unit link passing) bytes u r all parts after origin frame i
-    (Some (LinkType number)) refuses = refuses
+    (Some (LinkType number)) refuses = cc (i.0.read, refuses.other)
+left_no_unit (Classic order time_unit link passing) bytes u r all parts after origin frame i
+    (Some (InterfaceLimit number)) refuses = refuses
 left_no_unit (Classic order time_unit link passing) bytes u r all parts after origin frame i
     (Some (FrameTooLong captured)) refuses =
     not_long bytes u r all parts after origin frame order time_unit link passing i.0 captured refuses
@@ -307,13 +295,12 @@ rows_alone state (u ∷ us) (v ∷ vs) ps qs after after' rest rest' refusal ref
     (bytes_after u (in_a_row us ++ rest) bytes') following row.5 later' left left' in
     grind arith
 
-pub reported_alone : (extra : Extra) (unfit : Unfit) (bytes rest rest' text text' : List ℕ) (count count' : ℕ)
-    (state state' : State) (refusal refusal' : Option CaptureError) (noted noted' : Ledger)
+pub reported_alone : (extra : Extra) (unfit : Unfit) (bytes rest rest' text text' : List ℕ) (state state' : State) (refusal refusal' : Option CaptureError) (noted noted' : Ledger)
     → IsBytes bytes
-    → Takes (blank extra) (Start unfit) bytes state rest count text refusal noted
-    → Takes (blank extra) (Start unfit) bytes state' rest' count' text' refusal' noted'
+    → Takes (blank extra) (Start unfit) bytes state rest text refusal noted
+    → Takes (blank extra) (Start unfit) bytes state' rest' text' refusal' noted'
     → text ≡ text'
-reported_alone extra unfit bytes rest rest' text text' count count' state state' refusal refusal' noted
+reported_alone extra unfit bytes rest rest' text text' state state' refusal refusal' noted
     noted' all t t' =
     let p = t.passes in
     let p' = t'.passes in

@@ -1,8 +1,7 @@
 -- A capture that is reported whole where packets that can't be reported are refused is reported the
 -- same where they are passed over.
-use Rattle.std.proofs.Common.{◌≡◌, ap, subst, ℕ, ◌≤◌, arith, List, [], ◌∷◌, inl, inr, Option, Some, Result, Ok}
-use Rattle.std.specs.Prelude.{unwrap_or}
-use Rattle.captures.specs.Framed.{captured_limit, frame_by, link_for, reported_frame, reported_of}
+use Rattle.std.proofs.Common.{◌≡◌, subst, ℕ, ◌≤◌, arith, List, [], ◌∷◌, inl, inr, Some, Result, Ok}
+use Rattle.captures.specs.Framed.{captured_limit, frame_by, reported_frame, reported_of}
 use Rattle.captures.specs.Lines.{Packet}
 use Rattle.captures.specs.Pcapng.{Content, Says, Becomes, IsTimedPacket}
 use Rattle.captures.specs.Pcapng.Content.{Opens, OpensOther, Describes, Holds, Nothing}
@@ -11,7 +10,6 @@ use Rattle.captures.specs.Units.{IsUnit, IsBlockUnit, Row}
 use Rattle.captures.specs.declared.byte_order.ByteOrder.{ByteOrder}
 use Rattle.captures.specs.declared.limits.TheConstants.{SKIPPED_LIMIT}
 use Rattle.captures.specs.declared.link.kind.Link.{Link}
-use Rattle.captures.specs.declared.link.kind.Link.TheVariants.{Other}
 use Rattle.captures.specs.declared.origin.Origin.{Origin}
 use Rattle.captures.specs.declared.pcapng.section.Section.{Section}
 use Rattle.captures.specs.declared.translation.skipped.Passing.{Passing}
@@ -51,10 +49,6 @@ limit_more link = grind arith
 
 fits_more : (link : Link) (n : ℕ) → n ≤ captured_limit link → n ≤ SKIPPED_LIMIT
 fits_more link n fits = let more = limit_more link in omega arith
-
-known_more : (number : ℕ) (link : Link) → link_for Refuse number ≡ Some link
-    → link_for Skip number ≡ Some link
-known_more number link is = ap (λ (o : Option Link). Some (unwrap_or o Other)) is
 
 -- ---- a block
 
@@ -115,7 +109,7 @@ unit_kept : (state : State) (unit : List ℕ) (after : State) (origin : Origin) 
     → IsUnit (state_by Skip state) unit (state_by Skip after) origin frame
     × (after ≡ state_by Refuse after)
 unit_kept state unit after origin frame i =
-    grind (arith, known_more, block_kept, reported_ok, fits_more)
+    grind (arith, block_kept, reported_ok, fits_more)
 
 row_kept : (state : State) (units : List (List ℕ)) (packets : List Packet) (after : State)
     → Row (state_by Refuse state) units packets after

@@ -1,8 +1,8 @@
 -- Units in a row.
-use Rattle.std.proofs.Common.{◌≡◌, ◌∙◌, sym, refl, subst, ℕ, ◌+◌, ◌==◌, true, ◌<◌, arith, List, [], ◌∷◌, ◌++◌, length}
+use Rattle.std.proofs.Common.{◌≡◌, ◌∙◌, sym, refl, subst, ℕ, ◌==◌, true, ◌<◌, arith, List, [], ◌∷◌, ◌++◌, length}
 use Rattle.std.proofs.Common.{take, append_assoc, append-nil, length-append, Option, None}
 use Rattle.std.proofs.Math.Seq.{take-append_seam}
-use Rattle.captures.specs.Lines.{Packet, packets_of, reported, noted, lines_from, noted_all}
+use Rattle.captures.specs.Lines.{Packet, packets_of, noted, lines_from, noted_all}
 use Rattle.captures.specs.Units.{IsUnit, Row, in_a_row, Passes, HasUnit, IsNoCapture, Takes}
 use Rattle.captures.specs.declared.capture_error.CaptureError.{CaptureError}
 use Rattle.captures.specs.declared.translation.state.State.{State}
@@ -90,15 +90,14 @@ passes_none state mid after bytes rest rest' ps p q =
 
 -- units are passed, and their packets are reported
 pub record Reported (ledger : Ledger) (state : State) (bytes : List ℕ) (after : State) (rest : List ℕ)
-    (count : ℕ) (text : List ℕ) (noted : Ledger) : Type 0 where
+    (text : List ℕ) (noted : Ledger) : Type 0 where
   pub packets : List Packet
-  pub number : length packets ≡ count
   pub passes : Passes state bytes packets after rest
   pub lines : text ≡ lines_from ledger packets
   pub come : noted ≡ noted_all ledger packets
 
 pub reported_start : (ledger : Ledger) (state : State) (bytes text : List ℕ) → text ≡ []
-    → Reported ledger state bytes state bytes 0 text ledger
+    → Reported ledger state bytes state bytes text ledger
 reported_start ledger state bytes text none = grind arith
 
 -- bytes that are none are no packet
@@ -140,14 +139,13 @@ no_capture_by_length bytes started = grind (arith, length-append)
 
 -- the units of what was left and of what came then
 pub takes_more : (ledger come noted : Ledger) (state mid after : State)
-    (bytes chunk rest rest' text text' : List ℕ) (count count' : ℕ) (refusal : Option CaptureError)
-    → Takes ledger state bytes mid rest count text None come
-    → Takes come mid (rest ++ chunk) after rest' count' text' refusal noted
-    → Takes ledger state (bytes ++ chunk) after rest' (count + count') (text ++ text') refusal noted
-takes_more ledger come noted state mid after bytes chunk rest rest' text text' count count' refusal
+    (bytes chunk rest rest' text text' : List ℕ) (refusal : Option CaptureError)
+    → Takes ledger state bytes mid rest text None come
+    → Takes come mid (rest ++ chunk) after rest' text' refusal noted
+    → Takes ledger state (bytes ++ chunk) after rest' (text ++ text') refusal noted
+takes_more ledger come noted state mid after bytes chunk rest rest' text text' refusal
     p q = record {
       packets = p.packets ++ q.packets;
-      number = grind (arith, length-append);
       passes = grind (arith, passes_more);
       reported = grind (arith, lines_from-append);
       left = q.left;

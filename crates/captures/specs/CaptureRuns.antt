@@ -5,7 +5,7 @@ use Rattle.std.specs.Prelude.{length, Option, Some, None, Result, Ok, Err}
 use Rattle.device_runs.specs.Calls.{Call, Makes, bytes_read}
 use Rattle.device_runs.specs.Runs.{Task, Goes}
 use Rattle.captures.specs.declared.capture_error.CaptureError.TheVariants.{NotCapture, LinkType, FrameTooLong, CutOff}
-use Rattle.captures.specs.declared.capture_error.CaptureError.TheVariants.{BlockTooLong, BadBlock, NoFrame, Version}
+use Rattle.captures.specs.declared.capture_error.CaptureError.TheVariants.{BlockTooLong, BadBlock, InterfaceLimit, NoFrame, Version}
 use Rattle.captures.specs.declared.capture_error.CaptureError.{CaptureError}
 use Rattle.captures.specs.declared.translation.run_error.RunError.{RunError}
 use Rattle.captures.specs.declared.translation.refusal.Refusal.{Refusal}
@@ -44,16 +44,16 @@ pub record ArePassedOver (unfit : Unfit) (skipped : Skipped) (bytes : List ℕ) 
 
 -- the text is the lines of all whole packets in bytes after which nothing is refused
 abbrev pub AreReported : Extra → Unfit → List ℕ → List ℕ → Type 0
-AreReported extra unfit bytes text = (state : State) × (rest : List ℕ) × (count : ℕ)
-    × (noted : Ledger) × Takes (blank extra) (Start unfit) bytes state rest count text None noted
+AreReported extra unfit bytes text = (state : State) × (rest : List ℕ)
+    × (noted : Ledger) × Takes (blank extra) (Start unfit) bytes state rest text None noted
 
 -- the text is the lines of all whole packets in bytes, this many others were passed over, and then
 -- a capture can't continue, for this reason and at this position
 abbrev pub AreReportedBefore : Extra → Unfit → Skipped → CaptureError → Position → List ℕ → List ℕ → Type 0
-AreReportedBefore extra unfit skipped error position bytes text = (state : State) × (rest : List ℕ) × (count : ℕ)
-    × (noted : Ledger) × Takes (blank extra) (Start unfit) bytes state rest count text (Some error)
+AreReportedBefore extra unfit skipped error position bytes text = (state : State) × (rest : List ℕ)
+    × (noted : Ledger) × Takes (blank extra) (Start unfit) bytes state rest text (Some error)
     noted
-    × IsPosition state count bytes rest position × (skipped_in state ≡ skipped)
+    × IsPosition state bytes rest position × (skipped_in state ≡ skipped)
 
 -- the bytes end within a packet or a block at this position, which may be a section header at the
 -- start, the text is the lines of all packets before it, and this many others were passed over
@@ -61,12 +61,11 @@ pub record EndsWithinPacket (extra : Extra) (unfit : Unfit) (skipped : Skipped) 
     (bytes text : List ℕ) : Type 0 where
   pub state : State
   pub rest : List ℕ
-  pub count : ℕ
   pub some : 0 < length rest
   pub known : (state ≢ Start unfit) ⊎ (FIRST_UNIT_LEN ≤ length rest)
   pub noted : Ledger
-  pub takes : Takes (blank extra) (Start unfit) bytes state rest count text None noted
-  pub is_position : IsPosition state count bytes rest position
+  pub takes : Takes (blank extra) (Start unfit) bytes state rest text None noted
+  pub is_position : IsPosition state bytes rest position
   pub counts : skipped_in state ≡ skipped
 
 -- what is written where the input is refused: as no capture only when a header would be whole, or
@@ -74,11 +73,13 @@ pub record EndsWithinPacket (extra : Extra) (unfit : Unfit) (skipped : Skipped) 
 abbrev pub IsRefused : Extra → Unfit → Skipped → Refusal → Bool → List ℕ → List ℕ → Type 0
 IsRefused extra unfit skipped (InCapture NotCapture position) reported read written =
     ((reported ≡ true) ⊎ (FIRST_UNIT_LEN ≤ length read)) × IsNoCapture read × (written ≡ [])
-    × IsPosition (Start unfit) 0 read read position × (none_skipped ≡ skipped)
+    × IsPosition (Start unfit) read read position × (none_skipped ≡ skipped)
 IsRefused extra unfit skipped (InCapture CutOff position) reported read written = (reported ≡ true)
     × EndsWithinPacket extra unfit skipped position read written
 IsRefused extra unfit skipped (InCapture (LinkType number) position) reported read written =
     AreReportedBefore extra unfit skipped (LinkType number) position read written
+IsRefused extra unfit skipped (InCapture (InterfaceLimit number) position) reported read written =
+    AreReportedBefore extra unfit skipped (InterfaceLimit number) position read written
 IsRefused extra unfit skipped (InCapture (FrameTooLong captured) position) reported read written =
     AreReportedBefore extra unfit skipped (FrameTooLong captured) position read written
 IsRefused extra unfit skipped (InCapture NoFrame position) reported read written =
@@ -97,9 +98,9 @@ abbrev pub capture_to_lines : Extra → Unfit → Skipped → Task Refusal
 capture_to_lines extra unfit skipped = record {
   room = INPUT_CAPACITY;
   due = AreReported extra unfit;
-  full = λ reported read text. (state : State) × (rest : List ℕ) × (count : ℕ)
+  full = λ reported read text. (state : State) × (rest : List ℕ)
       × (refusal : Option CaptureError) × (noted : Ledger)
-      × Takes (blank extra) (Start unfit) read state rest count text refusal noted
+      × Takes (blank extra) (Start unfit) read state rest text refusal noted
       × (skipped_in state ≡ skipped);
   whole = λ read written. (packets : List Packet) × IsCapture unfit read packets skipped
       × (written ≡ lines_of extra packets);

@@ -68,8 +68,8 @@ IsWithin len (Passed left) = left ≤ len
 -- all whole units of the bytes are taken, their lines are this text, and of what is left some bytes
 -- are dropped and the rest is held
 pub record Leaves (ledger : Ledger) (state : State) (bytes : List ℕ) (after : State)
-    (started : Option LongBlock) (rest : List ℕ) (count : ℕ) (text : List ℕ) (refusal : Option CaptureError)
-    (noted : Ledger) : Type 0 where
+    (started : Option LongBlock) (rest text : List ℕ) (refusal : Option CaptureError) (noted : Ledger)
+    : Type 0 where
   pub dropped : List ℕ
   pub is_dropped : IsDropped after started dropped
-  pub takes : Takes ledger state bytes after (dropped ++ rest) count text refusal noted
+  pub takes : Takes ledger state bytes after (dropped ++ rest) text refusal noted

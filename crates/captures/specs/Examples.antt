@@ -1,11 +1,12 @@
 -- Example captures, byte by byte, and the packets in them.
-use Rattle.std.specs.Prelude.{ℕ, List, [], ◌∷◌, replicate, slice_set}
+use Rattle.std.specs.Prelude.{ℕ, List, [], ◌∷◌, replicate, slice_set, Some}
 use Rattle.captures.specs.Lines.{Packet}
 use Rattle.captures.specs.Skipping.{passing_from}
 use Rattle.captures.specs.Times.{usual_clock}
 use Rattle.captures.specs.declared.byte_order.ByteOrder.TheVariants.{Big, Little}
 use Rattle.captures.specs.declared.link.kind.Link.TheVariants.{Ethernet, Sll2}
 use Rattle.captures.specs.declared.origin.Origin.{Origin}
+use Rattle.captures.specs.declared.packet.Packet.{Packet as NumberedPacket}
 use Rattle.captures.specs.declared.pcapng.section.Section.{Section}
 use Rattle.captures.specs.declared.time.time_unit.TimeUnit.TheVariants.{Nanoseconds}
 use Rattle.captures.specs.declared.translation.state.State.{State}
@@ -27,9 +28,15 @@ packet_record =
     0x65 ∷ 0x53 ∷ 0xf1 ∷ 0 ∷ 0x0e ∷ 0xe6 ∷ 0xb2 ∷ 0x80 ∷ 0 ∷ 0 ∷ 0 ∷ 0x15 ∷ 0 ∷ 0 ∷ 5 ∷ 0xdc
     ∷ 8 ∷ 0 ∷ 0 ∷ 0 ∷ 0 ∷ 0 ∷ 0 ∷ 3 ∷ 0 ∷ 1 ∷ 4 ∷ 6 ∷ 2 ∷ 0 ∷ 0 ∷ 0 ∷ 0 ∷ 1 ∷ 0 ∷ 0 ∷ 0x45 ∷ []
 
--- the state of a capture after that header
-abbrev pub opened_file : State
-opened_file = Classic Big Nanoseconds Sll2 (passing_from Refuse)
+-- no byte was captured of a packet of 1500, half a second earlier
+abbrev pub empty_record : List ℕ
+empty_record =
+    0x65 ∷ 0x53 ∷ 0xf0 ∷ 0xff ∷ 0x2c ∷ 0xb4 ∷ 0x17 ∷ 0x80 ∷ 0 ∷ 0 ∷ 0 ∷ 0 ∷ 0 ∷ 0 ∷ 5 ∷ 0xdc ∷ []
+
+-- the state of a capture after that header and so many packets
+abbrev pub file_after : (packets : ℕ) → State
+file_after packets =
+    Classic Big Nanoseconds Sll2 (record (passing_from Refuse) { seen = packets })
 
 -- ---- a pcapng file (draft-ietf-opsawg-pcapng)
 
@@ -82,6 +89,23 @@ obsolete_block =
     ∷ 0x18 ∷ 0x15 ∷ 0 ∷ 0 ∷ 0 ∷ 0xdc ∷ 5 ∷ 0 ∷ 0 ∷ 8 ∷ 0 ∷ 0 ∷ 0 ∷ 0 ∷ 0 ∷ 0 ∷ 3 ∷ 0 ∷ 1 ∷ 4
     ∷ 6 ∷ 2 ∷ 0 ∷ 0 ∷ 0 ∷ 0 ∷ 1 ∷ 0 ∷ 0 ∷ 0x45 ∷ 0 ∷ 0 ∷ 0 ∷ 0x38 ∷ 0 ∷ 0 ∷ 0 ∷ []
 
+-- an interface of IEEE802_11 (105), of whose packets all bytes are captured
+abbrev pub other_interface : List ℕ
+other_interface =
+    1 ∷ 0 ∷ 0 ∷ 0 ∷ 0x14 ∷ 0 ∷ 0 ∷ 0 ∷ 0x69 ∷ 0 ∷ 0 ∷ 0 ∷ 0 ∷ 0 ∷ 0 ∷ 0 ∷ 0x14 ∷ 0 ∷ 0 ∷ 0 ∷ []
+
+-- four bytes on the second interface
+abbrev pub other_block : List ℕ
+other_block =
+    6 ∷ 0 ∷ 0 ∷ 0 ∷ 0x24 ∷ 0 ∷ 0 ∷ 0 ∷ 1 ∷ 0 ∷ 0 ∷ 0 ∷ 0x24 ∷ 0x0a ∷ 6 ∷ 0 ∷ 0x90 ∷ 0x10 ∷ 0x22
+    ∷ 0x18 ∷ 4 ∷ 0 ∷ 0 ∷ 0 ∷ 4 ∷ 0 ∷ 0 ∷ 0 ∷ 8 ∷ 0 ∷ 0 ∷ 0 ∷ 0x24 ∷ 0 ∷ 0 ∷ 0 ∷ []
+
+-- no byte of a packet of 1500, on the first interface
+abbrev pub empty_block : List ℕ
+empty_block =
+    6 ∷ 0 ∷ 0 ∷ 0 ∷ 0x20 ∷ 0 ∷ 0 ∷ 0 ∷ 0 ∷ 0 ∷ 0 ∷ 0 ∷ 0x24 ∷ 0x0a ∷ 6 ∷ 0 ∷ 0x90 ∷ 0x10 ∷ 0x22
+    ∷ 0x18 ∷ 0 ∷ 0 ∷ 0 ∷ 0 ∷ 0xdc ∷ 5 ∷ 0 ∷ 0 ∷ 0x20 ∷ 0 ∷ 0 ∷ 0 ∷ []
+
 -- ---- what is in them
 
 -- the packet as it was captured
@@ -98,6 +122,20 @@ abbrev pub packet_at : (time : ℕ) → Packet
 packet_at time = record {
   origin = origin_at time;
   frame = 0 ∷ 0 ∷ 0 ∷ 0 ∷ 0 ∷ 0 ∷ 2 ∷ 0 ∷ 0 ∷ 0 ∷ 0 ∷ 1 ∷ 8 ∷ 0 ∷ 0x45 ∷ [];
+}
+
+-- the same packet with its number in a capture, the link and the parts of its frame
+abbrev pub numbered : (number : ℕ) → NumberedPacket
+numbered number = record {
+  number = number;
+  interface = 0;
+  time = 1700000000250000000;
+  link = Sll2;
+  wire_len = 1500;
+  frame = record {
+    header = Some (record { source = 2 ∷ 0 ∷ 0 ∷ 0 ∷ 0 ∷ 1 ∷ []; ether_type = 0x0800 });
+    bytes = 0x45 ∷ [];
+  };
 }
 
 abbrev pub longer_packet : Packet

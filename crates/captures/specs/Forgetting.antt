@@ -1,6 +1,6 @@
 -- Which reassemblies the `forget` lines drop: a reassembly whose last fragment came on a line is
 -- dropped by a `forget` line with a greater number.
-use Rattle.std.specs.Prelude.{ℕ, ◌+◌, ◌-◌, ◌*◌, ◌^◌, ◌<◌, ◌≤◌, ◌⊎◌, Bool, true, false, List, [], ◌∷◌, ◌++◌}
+use Rattle.std.specs.Prelude.{ℕ, ◌+◌, ◌-◌, ◌*◌, ◌^◌, ◌<◌, ◌≤◌, Bool, true, false, List, [], ◌∷◌, ◌++◌}
 use Rattle.std.specs.List.{AllByRecursion}
 use Rattle.captures.specs.Lines.{Packet, blank, has_passed, noted, noted_all}
 pub use Rattle.captures.specs.Spans.{Drops}

@@ -1,6 +1,6 @@
 -- Captured packets as Ethernet II frames, by the link that they were captured on (the registry of
 -- link types, tcpdump.org/linktypes.html, and the layouts that it gives).
-use Rattle.std.specs.Prelude.{ℕ, ◌+◌, ◌-◌, ◌/◌, ◌==◌, ◌||◌, nat_lt, unwrap_or, Bool, if◌then◌else◌, List, [], ◌∷◌, ◌++◌}
+use Rattle.std.specs.Prelude.{ℕ, ◌+◌, ◌-◌, ◌/◌, ◌==◌, ◌||◌, nat_lt, Bool, if◌then◌else◌, List, [], ◌∷◌, ◌++◌}
 use Rattle.std.specs.Prelude.{length, drop, slice_index, Option, Some, None, Result, Ok, Err, ◌≡◌}
 use Rattle.std.specs.Option.{option_map}
 use Rattle.std.specs.Int.{to_be_bytes, w16}
@@ -16,18 +16,18 @@ use Rattle.captures.specs.declared.translation.skipped.Reason.TheVariants.{Other
 use Rattle.captures.specs.declared.unfit.Unfit.{Unfit}
 use Rattle.captures.specs.declared.unfit.Unfit.TheVariants.{Refuse, Skip}
 
--- the kinds of links whose packets are read, by their numbers: Ethernet; IP packets of either
--- version or of one; BSD loopback, OpenBSD loopback; Linux cooked captures of both versions
-abbrev pub link_of : ℕ → Option Link
+-- the kinds of links, by their numbers. Read are packets of Ethernet; IP packets of either version
+-- or of one; BSD loopback, OpenBSD loopback; Linux cooked captures of both versions
+abbrev pub link_of : ℕ → Link
 link_of number =
-    if number == 1 then Some Ethernet
+    if number == 1 then Ethernet
     else if (number == 12) || (number == 14) || (number == 101) || (number == 228)
-    || (number == 229) then Some Ip
-    else if number == 0 then Some Null
-    else if number == 108 then Some Loop
-    else if number == 113 then Some Sll
-    else if number == 276 then Some Sll2
-    else None
+    || (number == 229) then Ip
+    else if number == 0 then Null
+    else if number == 108 then Loop
+    else if number == 113 then Sll
+    else if number == 276 then Sll2
+    else Other number
 
 -- how many bytes a packet's own header has, which an Ethernet II header of 14 bytes replaces in its
 -- frame
@@ -38,7 +38,7 @@ head_len Null = 4
 head_len Loop = 4
 head_len Sll = 16
 head_len Sll2 = 20
-head_len Other = 0
+head_len (Other number) = 0
 
 -- the captured bytes of a packet at most, so that a line can hold its frame
 abbrev pub captured_limit : Link → ℕ
@@ -107,6 +107,12 @@ pub record FrameParts : Type 0 where
 abbrev pub frame_bytes : FrameParts → List ℕ
 frame_bytes frame = made_header frame.header ++ frame.bytes
 
+-- how many bytes were captured of a packet of such a link, of which this is the frame: those of the
+-- link's own header, if another replaces it, and what follows it
+abbrev pub captured_len : Link → FrameParts → ℕ
+captured_len Ethernet frame = length frame.bytes
+captured_len link frame = head_len link + length frame.bytes
+
 -- bytes end with these
 pub record IsBack (bytes back : List ℕ) : Type 0 where
   pub prefix : List ℕ
@@ -142,7 +148,7 @@ framed_packet Sll2 packet =
     if nat_lt (length packet) 20 then None
     else framed_after (address_at (slice_index packet 11) packet 12)
     (cooked_type (half Big packet 8) (half Big packet 0)) (drop 20 packet)
-framed_packet Other packet = None
+framed_packet (Other number) packet = None
 
 -- the Ethernet II frame of a packet, if it has one: its own where it was captured as one, else the
 -- destination is zeros, and so is the source, where its link gives no sender's address of six
@@ -162,7 +168,7 @@ reason_on Null reason = reason
 reason_on Loop reason = reason
 reason_on Sll reason = reason
 reason_on Sll2 reason = reason
-reason_on Other reason = OtherLink
+reason_on (Other number) reason = OtherLink
 
 -- a frame, or why there is none
 abbrev pub reported_by : Reason → Option (List ℕ) → Result (List ℕ) Reason
@@ -180,10 +186,20 @@ reported_of link packet =
 abbrev pub unfit_by : Bool → Unfit
 unfit_by skips = if skips then Skip else Refuse
 
--- the kind of link that a number's packets are taken as, if they are
-abbrev pub link_for : Unfit → ℕ → Option Link
-link_for Refuse number = link_of number
-link_for Skip number = Some (unwrap_or (link_of number) Other)
+-- the number of a link whose packets aren't read
+abbrev pub other_type : Link → Option ℕ
+other_type Ethernet = None
+other_type Ip = None
+other_type Null = None
+other_type Loop = None
+other_type Sll = None
+other_type Sll2 = None
+other_type (Other number) = Some number
+
+-- the number of a link whose packets are refused
+abbrev pub refused_type : Unfit → Link → Option ℕ
+refused_type Refuse link = other_type link
+refused_type Skip link = None
 
 -- the captured bytes at most of a packet that is reported or passed over
 abbrev pub taken_limit : Unfit → Link → ℕ

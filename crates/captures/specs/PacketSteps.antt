@@ -1,8 +1,8 @@
 -- The packets of some bytes of a capture, one after the other.
-use Rattle.std.specs.Prelude.{◌≡◌, ℕ, ◌<◌, List, [], ◌∷◌, ◌++◌, length, Option, None, MatchOption}
-use Rattle.captures.specs.Framed.{frame_bytes}
+use Rattle.std.specs.Prelude.{◌≡◌, ℕ, ◌<◌, nat_lt, Bool, List, [], ◌∷◌, ◌++◌, length, Option, None, MatchOption}
+use Rattle.captures.specs.Framed.{captured_len, frame_bytes}
 use Rattle.captures.specs.Lines.{Packet as TakenPacket}
-use Rattle.captures.specs.Units.{HasPacket, IsLeft, Passes}
+use Rattle.captures.specs.Units.{HasPacket, IsLeft, Passes, seen_in}
 use Rattle.captures.specs.declared.capture_error.CaptureError.{CaptureError}
 use Rattle.captures.specs.declared.origin.Origin.{Origin}
 use Rattle.captures.specs.declared.packet.Packet.{Packet}
@@ -17,15 +17,21 @@ origin_of packet = record { channel = packet.interface; time = packet.time }
 abbrev pub taken_of : Packet → TakenPacket
 taken_of packet = record { origin = origin_of packet; frame = frame_bytes packet.frame }
 
+-- fewer of its bytes were captured than were on the wire
+abbrev pub is_cut : Packet → Bool
+is_cut packet = nat_lt (captured_len packet.link packet.frame) packet.wire_len
+
 -- the first packet of the bytes that is reported: it comes after units that hold none, in a whole
--- unit, and was captured on such a link
+-- unit, was captured on such a link, had so many bytes on the wire, and has its number in the capture
 pub record IsFirst (state : State) (bytes : List ℕ) (after : State) (packet : Packet)
     (rest : List ℕ) : Type 0 where
   pub mid : State
   pub between : List ℕ
   pub passes : Passes state bytes [] mid between
-  pub has : HasPacket mid between after (origin_of packet) packet.link packet.frame rest
+  pub has : HasPacket mid between after (origin_of packet) packet.link packet.wire_len packet.frame
+      rest
   pub some : 0 < length (frame_bytes packet.frame)
+  pub number : packet.number ≡ seen_in after
 
 -- no whole packet: units that hold none, after which bytes are missing or nothing can follow
 pub record HasNone (state : State) (bytes : List ℕ) (after : State) (rest : List ℕ)

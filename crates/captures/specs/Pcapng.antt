@@ -4,7 +4,7 @@
 use Rattle.std.specs.Prelude.{◌≡◌, ◌≢◌, ◌⊎◌, ℕ, ◌+◌, ◌-◌, ◌%◌, ◌^◌, ◌<◌, ◌≤◌, ◌==◌, ◌&&◌, ◌||◌, min, Bool, true, false}
 use Rattle.std.specs.Prelude.{if◌then◌else◌, nat_lt, List, [], length, take, drop, slice_index_or, slice_set, Option}
 use Rattle.std.specs.Prelude.{Some, None}
-use Rattle.captures.specs.Framed.{link_for, taken_limit, reported_frame}
+use Rattle.captures.specs.Framed.{link_of, refused_type, reported_frame, taken_limit}
 use Rattle.captures.specs.Numbers.{half, word}
 use Rattle.captures.specs.Skipping.{counted}
 use Rattle.captures.specs.Times.{clock_of, clock_time, usual_clock}
@@ -14,7 +14,7 @@ use Rattle.captures.specs.declared.byte_order.ByteOrder.{ByteOrder}
 use Rattle.captures.specs.declared.byte_order.ByteOrder.TheVariants.{Big}
 use Rattle.captures.specs.declared.capture_error.CaptureError.{CaptureError}
 use Rattle.captures.specs.declared.capture_error.CaptureError.TheVariants.{NotCapture, LinkType, FrameTooLong, CutOff}
-use Rattle.captures.specs.declared.capture_error.CaptureError.TheVariants.{BlockTooLong, BadBlock, NoFrame, Version}
+use Rattle.captures.specs.declared.capture_error.CaptureError.TheVariants.{BlockTooLong, BadBlock, InterfaceLimit, NoFrame, Version}
 use Rattle.captures.specs.declared.limits.TheConstants.{BLOCK_LIMIT}
 use Rattle.captures.specs.declared.link.kind.Link.{Link}
 use Rattle.captures.specs.declared.link.kind.Link.TheVariants.{Ethernet}
@@ -78,20 +78,15 @@ captured_len snap_len original = if snap_len == 0 then original else min snap_le
 abbrev pub link_at : Section → ℕ → Link
 link_at section interface = slice_index_or section.links interface Ethernet
 
--- the links of the first interfaces, after one more is described, if its link is known
-abbrev pub with_link : Section → Option Link → Option (List Link)
-with_link section None = None
-with_link section (Some link) = Some (slice_set section.links section.interfaces link)
-
 -- an interface after the first ones
 abbrev pub later_links : Section → (link_type : ℕ) → Option (List Link)
 later_links section link_type = if link_type == ETHERNET then Some section.links else None
 
--- the links of the first interfaces, after one more of this link type is described, if this is read
+-- the links of the first interfaces, after one more of this link type is described, if it may be
 abbrev pub links_with : Section → (link_type : ℕ) → Option (List Link)
 links_with section link_type =
     if nat_lt section.interfaces LINKED_INTERFACES
-    then with_link section (link_for section.passing.unfit link_type)
+    then Some (slice_set section.links section.interfaces (link_of link_type))
     else later_links section link_type
 
 -- the clocks of the first interfaces, and of those after them that of the last one described
@@ -142,6 +137,12 @@ abbrev pub HoldsPacket : ByteOrder → List ℕ → Type 0
 HoldsPacket order block = (word order block 0 ≡ enhanced_packet)
     ⊎ ((word order block 0 ≡ obsolete_packet) ⊎ (word order block 0 ≡ simple_packet))
 
+-- the Original Packet Length of a block that holds a packet: the number of the packet's bytes on the
+-- wire
+abbrev pub block_wire_len : ByteOrder → List ℕ → ℕ
+block_wire_len order block =
+    if word order block 0 == simple_packet then word order block 8 else word order block 24
+
 -- a block of another kind
 abbrev pub IsOther : ByteOrder → List ℕ → Type 0
 IsOther order block =
@@ -180,8 +181,8 @@ Says section order block (Holds origin link packet) =
     ⊎ IsSimplePacket section order block origin link packet)
 Says section order block Nothing = IsOther order block
 
--- the section, and the bytes that are reported, after a block that says this: versions and links
--- are read, and the packet is taken
+-- the section, and the bytes that are reported, after a block that says this: the version is read,
+-- the interface may have its link, and the packet is taken
 abbrev pub Becomes : Section → ByteOrder → Content → Section → Origin → List ℕ → Type 0
 Becomes section order (Opens first) after origin frame =
     (after ≡ record {
@@ -208,6 +209,7 @@ Becomes section order (Holds origin' link packet) after origin frame =
     (after ≡ record section { passing = counted section.passing link packet })
     × (origin ≡ origin') × (reported_frame section.passing.unfit link packet ≡ Some frame)
     × (length packet ≤ taken_limit section.passing.unfit link)
+    × (refused_type section.passing.unfit link ≡ None)
 Becomes section order Nothing after origin frame = (after ≡ section) × (frame ≡ [])
 
 -- a block that says something, and what comes of it
@@ -220,17 +222,23 @@ pub record Reads (section : Section) (order : ByteOrder) (block : List ℕ) (aft
 -- why a whole block is refused
 abbrev pub RefusesBlock : Section → ByteOrder → List ℕ → CaptureError → Type 0
 RefusesBlock section order block NotCapture = ⊥
-RefusesBlock section order block (LinkType number) = (snap_len : ℕ) × (clock : Clock)
+RefusesBlock section order block (LinkType number) =
+    (origin : Origin) × (link : Link) × (packet : List ℕ)
+    × Says section order block (Holds origin link packet)
+    × (refused_type section.passing.unfit link ≡ Some number)
+RefusesBlock section order block (InterfaceLimit number) = (snap_len : ℕ) × (clock : Clock)
     × Says section order block (Describes number snap_len clock) × (links_with section number ≡ None)
 RefusesBlock section order block (FrameTooLong captured) =
     (origin : Origin) × (link : Link) × (packet : List ℕ)
     × Says section order block (Holds origin link packet)
     × (captured ≡ length packet) × (taken_limit section.passing.unfit link < captured)
+    × (refused_type section.passing.unfit link ≡ None)
 RefusesBlock section order block NoFrame =
     (origin : Origin) × (link : Link) × (packet : List ℕ)
     × Says section order block (Holds origin link packet)
     × (length packet ≤ taken_limit section.passing.unfit link)
     × (reported_frame section.passing.unfit link packet ≡ None)
+    × (refused_type section.passing.unfit link ≡ None)
 RefusesBlock section order block CutOff = ⊥
 RefusesBlock section order block (BlockTooLong len) = ⊥
 RefusesBlock section order block (Version major minor) =

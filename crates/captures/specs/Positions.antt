@@ -2,6 +2,7 @@
 use Rattle.std.specs.Prelude.{◌≡◌, ℕ, ◌+◌, ◌-◌, ◌==◌, ◌&&◌, nat_le, if◌then◌else◌, List, length, Option, Some, None}
 use Rattle.captures.specs.Numbers.{capped, word}
 use Rattle.captures.specs.Pcapng.{section_header}
+use Rattle.captures.specs.Units.{seen_in}
 use Rattle.captures.specs.declared.byte_order.ByteOrder.TheVariants.{Big}
 use Rattle.captures.specs.declared.position.Position.{Position}
 use Rattle.captures.specs.declared.translation.state.State.{State}
@@ -17,9 +18,9 @@ block_type (Classic order time_unit link passing) bytes = None
 block_type (Pcapng section) bytes =
     if nat_le 4 (length bytes) then Some (word section.order bytes 0) else None
 
--- the position of the unit after this many packets, of which the rest was read: the number of the
--- next packet, from 1, how many bytes are before the unit, and its block type
-pub record IsPosition (state : State) (count : ℕ) (bytes rest : List ℕ) (position : Position) : Type 0 where
-  pub packet : position.packet ≡ capped (count + 1)
+-- the position of the unit in this state, of which the rest was read: the number of the next packet
+-- in the capture, from 1, how many bytes are before the unit, and its block type
+pub record IsPosition (state : State) (bytes rest : List ℕ) (position : Position) : Type 0 where
+  pub packet : position.packet ≡ capped (seen_in state + 1)
   pub offset : position.offset ≡ capped (length bytes - length rest)
   pub block : position.block ≡ block_type state rest

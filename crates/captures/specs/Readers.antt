@@ -8,7 +8,7 @@ use Rattle.captures.specs.PacketSteps.{Gives, HasNone, IsFirst, taken_of}
 use Rattle.captures.specs.Numbers.{capped}
 use Rattle.captures.specs.Positions.{IsPosition, block_type}
 use Rattle.captures.specs.CaptureRuns.{IsCapture, fault_at_end}
-use Rattle.captures.specs.Units.{IsIncomplete, Refuses, skipped_in}
+use Rattle.captures.specs.Units.{IsIncomplete, Refuses, seen_in, skipped_in}
 use Rattle.captures.specs.declared.capture_error.CaptureError.{CaptureError}
 use Rattle.device_runs.specs.declared.limits.TheConstants.{READ_COUNT_LIMIT}
 use Rattle.captures.specs.declared.packet.Packet.{Packet}
@@ -26,9 +26,11 @@ use Rattle.captures.specs.declared.unfit.Unfit.{Unfit}
 -- a packet that was found, whose frame ends with these bytes
 abbrev pub packet_with : Found → List ℕ → Packet
 packet_with found bytes = record {
+  number = found.number;
   interface = found.interface;
   time = found.time;
   link = found.link;
+  wire_len = found.wire_len;
   frame = record { header = found.header; bytes = bytes };
 }
 
@@ -70,7 +72,6 @@ pub record HasRead {R : Type 0} (unfit : Unfit) (reader : PacketReader R) (read 
   pub dropped : List ℕ
   pub is_dropped : IsDropped reader.state reader.started dropped
   pub gives : Gives (Start unfit) read given reader.state (dropped ++ reader.window.held)
-  pub count : reader.count ≡ capped (length given)
   pub passed : reader.passed ≡ capped (length read - length (dropped ++ reader.window.held))
   pub reads : reader.reads ≤ length read
   pub going : reader.ended ≡ None
@@ -106,7 +107,7 @@ pub record IsRefusedAt (unfit : Unfit) (skipped : Skipped) (error : CaptureError
   pub state : State
   pub rest : List ℕ
   pub gives : Gives (Start unfit) read given state rest
-  pub is_position : IsPosition state (length given) read rest position
+  pub is_position : IsPosition state read rest position
   pub counts : skipped_in state ≡ skipped
   pub why : Refuses state rest error ⊎ (IsAtEnd left × IsIncomplete state rest
       × (fault_at_end state (length rest) ≡ Err error))
@@ -116,7 +117,7 @@ abbrev pub IsRefusedWith : {R : Type 0} → (old new : PacketReader R) → Captu
     → Result Bool ReadError → Type 0
 IsRefusedWith old new error result = (position : Position) × (result ≡ Err (Capture error position))
     × (new ≡ record old { ended = Some (Err (Capture error position)) })
-    × (position.packet ≡ capped (old.count + 1)) × (position.offset ≡ old.passed)
+    × (position.packet ≡ capped (seen_in old.state + 1)) × (position.offset ≡ old.passed)
     × ((dropped : List ℕ) → IsDropped old.state old.started dropped
     → position.block ≡ block_type old.state (dropped ++ old.window.held))
 

@@ -1,4 +1,4 @@
--- Packets that are passed over, counted by the reason.
+-- Packets, counted, and those that are passed over by the reason.
 use Rattle.std.specs.Prelude.{ℕ, ◌+◌, List, Result, Ok, Err}
 use Rattle.captures.specs.Framed.{reported_of}
 use Rattle.captures.specs.Numbers.{capped}
@@ -14,20 +14,23 @@ none_skipped = record { of_other_links = 0; too_long = 0; without_frame = 0 }
 
 -- before the first packet
 abbrev pub passing_from : Unfit → Passing
-passing_from unfit = record { unfit = unfit; skipped = none_skipped }
+passing_from unfit = record { unfit = unfit; skipped = none_skipped; seen = 0 }
 
--- one packet more
+-- one more that is passed over
 abbrev pub with_reason : Skipped → Reason → Skipped
 with_reason skipped OtherLink =
     record skipped { of_other_links = capped (skipped.of_other_links + 1) }
 with_reason skipped TooLong = record skipped { too_long = capped (skipped.too_long + 1) }
 with_reason skipped NoFrame = record skipped { without_frame = capped (skipped.without_frame + 1) }
 
+-- one packet more: its frame is reported, or it is passed over for this reason
 abbrev pub counted_by : Passing → Result (List ℕ) Reason → Passing
-counted_by passing (Ok frame) = passing
-counted_by passing (Err reason) =
-    record passing { skipped = with_reason passing.skipped reason }
+counted_by passing (Ok frame) = record passing { seen = capped (passing.seen + 1) }
+counted_by passing (Err reason) = record passing {
+  seen = capped (passing.seen + 1);
+  skipped = with_reason passing.skipped reason;
+}
 
--- after a packet that is reported or passed over
+-- after a packet that is reported or passed over. One of which no byte was captured is counted too
 abbrev pub counted : Passing → Link → List ℕ → Passing
 counted passing link packet = counted_by passing (reported_of link packet)

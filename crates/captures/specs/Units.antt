@@ -1,17 +1,17 @@
 -- A capture as units in a row: a file header and packet records, or blocks.
 use Rattle.std.specs.Prelude.{◌≡◌, ◌≢◌, ◌⊎◌, ℕ, ◌-◌, ◌%◌, ◌<◌, ◌≤◌, List, [], ◌∷◌, ◌++◌, length, Option, Some, None}
 use Rattle.std.specs.Prelude.{replicate}
-use Rattle.captures.specs.Framed.{FrameParts, frame_bytes, frame_parts, link_for, taken_limit, reported_frame}
+use Rattle.captures.specs.Framed.{FrameParts, frame_bytes, frame_parts, link_of, refused_type, reported_frame, taken_limit}
 use Rattle.captures.specs.declared.unfit.Unfit.{Unfit}
 use Rattle.captures.specs.Numbers.{word}
 use Rattle.captures.specs.Lines.{Packet, packets_of, lines_from, noted_all}
-use Rattle.captures.specs.Pcap.{IsFileHeader, IsPacketRecord, link_type}
+use Rattle.captures.specs.Pcap.{IsFileHeader, IsPacketRecord, link_type, record_wire_len}
 use Rattle.captures.specs.Skipping.{counted, none_skipped, passing_from}
 use Rattle.captures.specs.declared.byte_order.ByteOrder.{ByteOrder}
 use Rattle.captures.specs.declared.byte_order.ByteOrder.TheVariants.{Big}
 use Rattle.captures.specs.declared.capture_error.CaptureError.{CaptureError}
 use Rattle.captures.specs.declared.capture_error.CaptureError.TheVariants.{NotCapture, LinkType, FrameTooLong, CutOff}
-use Rattle.captures.specs.declared.capture_error.CaptureError.TheVariants.{BlockTooLong, BadBlock, NoFrame, Version}
+use Rattle.captures.specs.declared.capture_error.CaptureError.TheVariants.{BlockTooLong, BadBlock, InterfaceLimit, NoFrame, Version}
 use Rattle.captures.specs.declared.limits.TheConstants.{FIRST_UNIT_LEN}
 use Rattle.captures.specs.declared.link.kind.Link.{Link}
 use Rattle.captures.specs.declared.link.kind.Link.TheVariants.{Ethernet}
@@ -26,16 +26,15 @@ use Rattle.captures.specs.declared.time.time_unit.TimeUnit.{TimeUnit}
 use Rattle.captures.specs.Times.{record_time, unit_of, usual_clock}
 use Rattle.captures.specs.declared.translation.state.State.TheVariants.{Start, Classic, Pcapng}
 use Rattle.captures.specs.Pcapng.{HasOrder, IsBlock, IsTaken, Reads, RefusesBlock, section_header, Says}
-use Rattle.captures.specs.Pcapng.{byte_order_magic}
+use Rattle.captures.specs.Pcapng.{block_wire_len, byte_order_magic}
 use Rattle.captures.specs.Pcapng.Content.{Holds}
 
--- a file header of a link that is taken, after which packet records follow
+-- a file header, after which packet records follow
 pub record OpensFile (unfit : Unfit) (unit : List ℕ) (after : State) : Type 0 where
   pub order : ByteOrder
-  pub link : Link
   pub header : IsFileHeader order unit
-  pub known : link_for unfit (link_type order unit) ≡ Some link
-  pub next : after ≡ Classic order (unit_of (word order unit 0)) link (passing_from unfit)
+  pub next : after ≡ Classic order (unit_of (word order unit 0)) (link_of (link_type order unit))
+      (passing_from unfit)
 
 -- before the first block of a pcapng file no interface is described, and the byte order has no
 -- effect
@@ -72,6 +71,7 @@ pub record IsRecordUnit (order : ByteOrder) (time_unit : TimeUnit) (link : Link)
     (unit : List ℕ) (after : State) (frame : List ℕ) : Type 0 where
   pub packet : List ℕ
   pub is_record : IsPacketRecord order unit packet
+  pub read : refused_type passing.unfit link ≡ None
   pub fits : length packet ≤ taken_limit passing.unfit link
   pub is_reported : reported_frame passing.unfit link packet ≡ Some frame
   pub next : after ≡ Classic order time_unit link (counted passing link packet)
@@ -92,6 +92,12 @@ abbrev pub skipped_in : State → Skipped
 skipped_in (Start unfit) = none_skipped
 skipped_in (Classic order time_unit link passing) = passing.skipped
 skipped_in (Pcapng section) = section.passing.skipped
+
+-- how many packets came by then: each packet record, or block that holds a packet, is one
+abbrev pub seen_in : State → ℕ
+seen_in (Start unfit) = 0
+seen_in (Classic order time_unit link passing) = passing.seen
+seen_in (Pcapng section) = section.passing.seen
 
 -- units in a row, and all packets that are reported of them
 abbrev pub Row : State → List (List ℕ) → List Packet → State → Type 0
@@ -121,6 +127,7 @@ pub record IsShortRecord (order : ByteOrder) (link : Link) (unfit : Unfit)
   pub parts : bytes ≡ head ++ body
   pub size : length head ≡ 16
   pub short : length body < word order head 8
+  pub read : refused_type unfit link ≡ None
   pub fits : word order head 8 ≤ taken_limit unfit link
 
 -- the start of a block of a length that is taken, with fewer bytes than it states
@@ -193,6 +200,8 @@ pub record HasLongBlock (section : Section) (bytes : List ℕ) (len : ℕ) : Typ
 abbrev pub RefusesAt : Section → List ℕ → CaptureError → Type 0
 RefusesAt section bytes NotCapture = ⊥
 RefusesAt section bytes (LinkType number) = HasRefusedBlock section bytes (LinkType number)
+RefusesAt section bytes (InterfaceLimit number) =
+    HasRefusedBlock section bytes (InterfaceLimit number)
 RefusesAt section bytes (FrameTooLong captured) =
     HasRefusedBlock section bytes (FrameTooLong captured)
 RefusesAt section bytes NoFrame = HasRefusedBlock section bytes NoFrame
@@ -205,15 +214,10 @@ RefusesAt section bytes BadBlock =
     × (((order : ByteOrder) → HasOrder section.order bytes order → ⊥)
     ⊎ (HasBadLength section bytes ⊎ HasRefusedBlock section bytes BadBlock))
 
--- the bytes begin with a file header of a link type that is not taken
-pub record HasLinkType (unfit : Unfit) (bytes : List ℕ) (number : ℕ) : Type 0 where
-  pub order : ByteOrder
-  pub header : List ℕ
-  pub rest : List ℕ
-  pub parts : bytes ≡ header ++ rest
-  pub is_header : IsFileHeader order header
-  pub reported : link_type order header ≡ number
-  pub other : link_for unfit number ≡ None
+-- the bytes begin with the head of a packet record, on a link whose packets are refused
+pub record HasOtherLink (link : Link) (unfit : Unfit) (bytes : List ℕ) (number : ℕ) : Type 0 where
+  pub size : 16 ≤ length bytes
+  pub other : refused_type unfit link ≡ Some number
 
 -- the bytes begin with the head of a packet record that states more bytes than are taken
 pub record HasLongFrame (order : ByteOrder) (link : Link) (unfit : Unfit) (bytes : List ℕ)
@@ -223,6 +227,7 @@ pub record HasLongFrame (order : ByteOrder) (link : Link) (unfit : Unfit) (bytes
   pub parts : bytes ≡ head ++ rest
   pub size : length head ≡ 16
   pub reported : word order head 8 ≡ captured
+  pub read : refused_type unfit link ≡ None
   pub long : taken_limit unfit link < captured
 
 -- the bytes begin with a packet record that could be taken, of a packet that has no frame
@@ -233,14 +238,17 @@ pub record HasNoFrame (order : ByteOrder) (link : Link) (unfit : Unfit)
   pub rest : List ℕ
   pub parts : bytes ≡ unit ++ rest
   pub is_record : IsPacketRecord order unit packet
+  pub read : refused_type unfit link ≡ None
   pub fits : length packet ≤ taken_limit unfit link
   pub none : reported_frame unfit link packet ≡ None
 
 -- why no unit is the first, where there are as many bytes as a file header has
 abbrev pub RefusesFirst : Unfit → List ℕ → CaptureError → Type 0
 RefusesFirst unfit bytes NotCapture = IsNoCapture bytes
-RefusesFirst unfit bytes (LinkType number) = HasLinkType unfit bytes number
-    ⊎ (BeginsSection bytes × RefusesAt (no_section unfit) bytes (LinkType number))
+RefusesFirst unfit bytes (LinkType number) = BeginsSection bytes
+    × RefusesAt (no_section unfit) bytes (LinkType number)
+RefusesFirst unfit bytes (InterfaceLimit number) = BeginsSection bytes
+    × RefusesAt (no_section unfit) bytes (InterfaceLimit number)
 RefusesFirst unfit bytes (FrameTooLong captured) = BeginsSection bytes
     × RefusesAt (no_section unfit) bytes (FrameTooLong captured)
 RefusesFirst unfit bytes NoFrame = BeginsSection bytes × RefusesAt (no_section unfit) bytes NoFrame
@@ -256,7 +264,9 @@ RefusesFirst unfit bytes BadBlock = BeginsSection bytes
 abbrev pub Refuses : State → List ℕ → CaptureError → Type 0
 Refuses (Start unfit) bytes error = (FIRST_UNIT_LEN ≤ length bytes) × RefusesFirst unfit bytes error
 Refuses (Classic order time_unit link passing) bytes NotCapture = ⊥
-Refuses (Classic order time_unit link passing) bytes (LinkType number) = ⊥
+Refuses (Classic order time_unit link passing) bytes (LinkType number) =
+    HasOtherLink link passing.unfit bytes number
+Refuses (Classic order time_unit link passing) bytes (InterfaceLimit number) = ⊥
 Refuses (Classic order time_unit link passing) bytes (FrameTooLong captured) =
     HasLongFrame order link passing.unfit bytes captured
 Refuses (Classic order time_unit link passing) bytes NoFrame = HasNoFrame order link passing.unfit bytes
@@ -273,38 +283,43 @@ pub record HasUnit (state : State) (bytes : List ℕ) (after : State) (origin : 
   pub parts : bytes ≡ unit ++ rest
   pub is_unit : IsUnit state unit after origin frame
 
--- a block in this byte order holds a packet, captured on such a link, whose frame has these parts
+-- a block in this byte order holds a packet, captured on such a link, of so many bytes on the wire,
+-- whose frame has these parts
 pub record IsHeldOn (section : Section) (order : ByteOrder) (block : List ℕ) (link : Link)
-    (frame : FrameParts) : Type 0 where
+    (wire_len : ℕ) (frame : FrameParts) : Type 0 where
   pub origin : Origin
   pub packet : List ℕ
   pub says : Says section order block (Holds origin link packet)
+  pub wire : block_wire_len order block ≡ wire_len
   pub parts : frame_parts link packet ≡ Some frame
 
-abbrev pub IsBlockOn : Section → List ℕ → Link → FrameParts → Type 0
-IsBlockOn section block link frame = (order : ByteOrder) × HasOrder section.order block order
-    × IsHeldOn section order block link frame
+abbrev pub IsBlockOn : Section → List ℕ → Link → ℕ → FrameParts → Type 0
+IsBlockOn section block link wire_len frame = (order : ByteOrder)
+    × HasOrder section.order block order × IsHeldOn section order block link wire_len frame
 
--- a record of a packet on a classic capture's link, as a frame in these parts
-pub record IsRecordOn (order : ByteOrder) (link : Link) (record' : List ℕ) (frame : FrameParts)
-    : Type 0 where
+-- a record of a packet on a classic capture's link, of so many bytes on the wire, as a frame in
+-- these parts
+pub record IsRecordOn (order : ByteOrder) (link : Link) (record' : List ℕ) (wire_len : ℕ)
+    (frame : FrameParts) : Type 0 where
   pub packet : List ℕ
   pub is_record : IsPacketRecord order record' packet
+  pub wire : record_wire_len order record' ≡ wire_len
   pub parts : frame_parts link packet ≡ Some frame
 
--- the packet of a unit was captured on such a link, and its frame has these parts
-abbrev pub IsOn : State → List ℕ → Link → FrameParts → Type 0
-IsOn (Start unfit) unit link frame = IsBlockOn (no_section unfit) unit link frame
-IsOn (Classic order time_unit link' passing) unit link frame = (link' ≡ link)
-    × IsRecordOn order link unit frame
-IsOn (Pcapng section) unit link frame = IsBlockOn section unit link frame
+-- the packet of a unit was captured on such a link, had so many bytes on the wire, and its frame has
+-- these parts
+abbrev pub IsOn : State → List ℕ → Link → ℕ → FrameParts → Type 0
+IsOn (Start unfit) unit link wire_len frame = IsBlockOn (no_section unfit) unit link wire_len frame
+IsOn (Classic order time_unit link' passing) unit link wire_len frame = (link' ≡ link)
+    × IsRecordOn order link unit wire_len frame
+IsOn (Pcapng section) unit link wire_len frame = IsBlockOn section unit link wire_len frame
 
 -- the bytes begin with a unit, and the packet that is reported of it, if one is, was captured on
--- such a link
+-- such a link and had so many bytes on the wire
 pub record HasPacket (state : State) (bytes : List ℕ) (after : State) (origin : Origin)
-    (link : Link) (frame : FrameParts) (rest : List ℕ) : Type 0 where
+    (link : Link) (wire_len : ℕ) (frame : FrameParts) (rest : List ℕ) : Type 0 where
   pub has_unit : HasUnit state bytes after origin (frame_bytes frame) rest
-  pub is_on : 0 < length (frame_bytes frame) → IsOn state has_unit.unit link frame
+  pub is_on : 0 < length (frame_bytes frame) → IsOn state has_unit.unit link wire_len frame
 
 -- these bytes are at this offset
 pub record StandsAt (bytes : List ℕ) (at : ℕ) (part : List ℕ) : Type 0 where
@@ -318,13 +333,11 @@ abbrev pub IsLeft : State → List ℕ → Option CaptureError → Type 0
 IsLeft state rest None = IsIncomplete state rest
 IsLeft state rest (Some error) = Refuses state rest error
 
--- all whole units of the bytes are taken, this many packets of them are reported, and their lines
--- are this text. `ledger` is the ledger of lines before them, and `noted` after them
+-- all whole units of the bytes are taken, and the lines of their packets are this text. `ledger` is
+-- the ledger of lines before them, and `noted` after them
 pub record Takes (ledger : Ledger) (state : State) (bytes : List ℕ) (after : State)
-    (rest : List ℕ) (count : ℕ) (text : List ℕ) (refusal : Option CaptureError) (noted : Ledger)
-    : Type 0 where
+    (rest text : List ℕ) (refusal : Option CaptureError) (noted : Ledger) : Type 0 where
   pub packets : List Packet
-  pub number : length packets ≡ count
   pub passes : Passes state bytes packets after rest
   pub reported : text ≡ lines_from ledger packets
   pub left : IsLeft after rest refusal

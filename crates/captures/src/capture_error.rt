@@ -7,10 +7,13 @@ pub enum CaptureError {
     /// The bytes don't begin with the header of a capture, or end before it is whole.
     #[error("no capture file")]
     NotCapture,
-    /// The packets have this link type, which isn't read. Of a section of a pcapng file, interfaces
-    /// after the 32nd may have that of Ethernet alone, 1.
+    /// A packet was captured on a link of this type, which isn't read.
     #[error("link type {0} is not read")]
     LinkType(u16),
+    /// A section of a pcapng file describes an interface of this link type after its 32nd. There
+    /// only that of Ethernet is read, 1.
+    #[error("interfaces after the 32nd of a section are read with link type 1 alone, not {0}")]
+    InterfaceLimit(u16),
     /// This many bytes of a packet were captured, whose Ethernet frame would have more than
     /// [`FRAME_LIMIT`](crate::FRAME_LIMIT).
     #[error("a packet of {0} bytes is too long for a line")]

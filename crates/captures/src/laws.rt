@@ -3,12 +3,13 @@
 pub mod examples;
 
 ghost use Rattle.std.specs.Prelude.{◌≡◌, ◌≢◌, ◌⊎◌, ◌≤◌, ◌<◌, ◌+◌, ◌*◌, ◌%◌, ◌^◌, ℕ, List, [], ◌∷◌, codes, length};
-ghost use Rattle.std.specs.Prelude.{Option};
+ghost use Rattle.std.specs.Prelude.{Option, Some};
 ghost use Rattle.std.specs.List.{AllByRecursion};
 ghost use Rattle.ep_base.specs.Traits.{IsPlainData};
 ghost use Rattle.hex.specs.Hex.{IsBytes};
 ghost use Rattle.captures.specs.ComeBack.{CapturedPacketsHaveLines, LinesComeBack, TimedLinesComeBack};
 ghost use Rattle.captures.specs.Forgetting.{ForgetDrops, ForgetKeeps, forgets};
+ghost use Rattle.captures.specs.Framed.{FrameParts, captured_len, frame_parts};
 ghost use Rattle.captures.specs.Lines.{Packet, blank, line_of};
 ghost use Rattle.captures.specs.Numbers.{half, word};
 ghost use Rattle.captures.specs.Pcapng.{Content, HasOrder, RefusesBlock, Says};
@@ -19,8 +20,9 @@ ghost use Rattle.captures.specs.Texts.{IsText};
 ghost use Rattle.captures.specs.Units.{RefusesAt, Takes};
 ghost use Rattle.captures.specs.declared.byte_order.ByteOrder.{ByteOrder};
 ghost use Rattle.captures.specs.declared.capture_error.CaptureError.{CaptureError};
-ghost use Rattle.captures.specs.declared.capture_error.CaptureError.TheVariants.{LinkType, BadBlock, FrameTooLong};
+ghost use Rattle.captures.specs.declared.capture_error.CaptureError.TheVariants.{InterfaceLimit, LinkType, BadBlock, FrameTooLong};
 ghost use Rattle.captures.specs.declared.capture_error.CaptureError.TheVariants.{BlockTooLong, Version};
+ghost use Rattle.captures.specs.declared.link.kind.Link.{Link};
 ghost use Rattle.captures.specs.declared.pcapng.section.Section.{Section};
 ghost use Rattle.captures.specs.declared.translation.state.State.{State};
 ghost use Rattle.captures.specs.declared.translation.state.State.TheVariants.{Start};
@@ -80,10 +82,10 @@ pub fn reported_whole_by_both()
 /// by them.
 pub fn reported_is_alone()
     ensures { (extra : Extra) (unfit : Unfit) (bytes rest rest' text text' : List ℕ)
-        (count count' : ℕ) (state state' : State) (refusal refusal' : Option CaptureError)
+        (state state' : State) (refusal refusal' : Option CaptureError)
         (noted noted' : Ledger) → IsBytes bytes
-        → Takes (blank extra) (Start unfit) bytes state rest count text refusal noted
-        → Takes (blank extra) (Start unfit) bytes state' rest' count' text' refusal' noted'
+        → Takes (blank extra) (Start unfit) bytes state rest text refusal noted
+        → Takes (blank extra) (Start unfit) bytes state' rest' text' refusal' noted'
         → text ≡ text' }
 {}
 
@@ -91,6 +93,12 @@ pub fn reported_is_alone()
 pub fn text_is_alone()
     ensures { (bytes : List ℕ) (frames frames' : List TimedFrame) → IsText bytes frames
         → IsText bytes frames' → frames ≡ frames' }
+{}
+
+/// The bytes of a packet that has some are as many as were captured, by its frame and its link.
+pub fn captured_lengths()
+    ensures { (link : Link) (packet : List ℕ) (frame : FrameParts) → 0 < length packet
+        → frame_parts link packet ≡ Some frame → captured_len link frame ≡ length packet }
 {}
 
 /// While all packets after a packet come less than this many seconds later, by their times, no line
@@ -169,17 +177,18 @@ pub fn interface_description_lengths()
     ensures { (section : Section) (order : ByteOrder) (block : List ℕ)
         → word order block 0 ≡ 1 → length block < 20
         → RefusesBlock section order block BadBlock
-        × ((number : ℕ) → RefusesBlock section order block (LinkType number) → ⊥) }
+        × ((number : ℕ) → RefusesBlock section order block (InterfaceLimit number) → ⊥) }
 {}
 
-/// A packet block with fewer bytes than it states is not well made, however many it states: an
-/// enhanced (6) or obsolete packet (2) has 32 more.
+/// A packet block with fewer bytes than it states is not well made, however many it states and
+/// whatever its link type is: an enhanced (6) or obsolete packet (2) has 32 more.
 pub fn packet_lengths()
     ensures { (section : Section) (order : ByteOrder) (block : List ℕ)
         → (word order block 0 ≡ 6) ⊎ (word order block 0 ≡ 2)
         → length block < 32 + word order block 20
         → RefusesBlock section order block BadBlock
-        × ((captured : ℕ) → RefusesBlock section order block (FrameTooLong captured) → ⊥) }
+        × ((captured : ℕ) → RefusesBlock section order block (FrameTooLong captured) → ⊥)
+        × ((number : ℕ) → RefusesBlock section order block (LinkType number) → ⊥) }
 {}
 
 /// A block whose length is no whole words is not too long, however long it is: it is not well made.

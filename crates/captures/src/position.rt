@@ -3,6 +3,7 @@ ghost use Rattle.std.specs.Prelude.{◌≡◌, ◌+◌, ◌++◌, ℕ, List};
 ghost use Rattle.captures.specs.Dropped.{IsDropped};
 ghost use Rattle.captures.specs.Numbers.{capped};
 ghost use Rattle.captures.specs.Positions.{block_type};
+ghost use Rattle.captures.specs.Units.{seen_in};
 
 use crate::byte_order::ByteOrder;
 use crate::pcapng::block::SECTION_HEADER;
@@ -13,9 +14,8 @@ use std::fmt;
 /// Where in a capture it is refused. Counts stop at the greatest number of 64 bits.
 #[derive(Clone, Copy, Debug, PartialEq, Eq)]
 pub struct Position {
-    /// The number of the packet there, or of the first one after it, counted from 1. Packets that
-    /// have no line aren't counted: those of which no byte was captured, and those that are passed
-    /// over.
+    /// The number in the capture of the packet there, or of the first one after it, as
+    /// [`Packet`](crate::Packet) has it.
     pub packet: u64,
     /// How many bytes come before the file header, packet record or block there.
     pub offset: u64,
@@ -54,21 +54,20 @@ fn block_name(kind: u32) -> &'static str {
     }
 }
 
-/// The position of what follows this many packets and bytes of whole units, of which this is held.
+/// The position of what follows this many bytes of whole units, of which this is held.
 pub(crate) fn position_of(
-    count: u64,
     passed: u64,
     state: State,
     started: Option<LongBlock>,
     held: &[u8],
 ) -> Position
-    ensures packet { result.packet ≡ capped (count + 1) }
+    ensures packet { result.packet ≡ capped (seen_in state + 1) }
     ensures offset { result.offset ≡ passed }
     ensures block { (dropped : List ℕ) → IsDropped state started dropped
         → result.block ≡ block_type state (dropped ++ held.now) }
 {
     Position {
-        packet: count.saturating_add(1),
+        packet: state.seen().saturating_add(1),
         offset: passed,
         block: started_type(state, started, held),
     }

@@ -1,49 +1,70 @@
-//! Turns a capture file into lines for `netlines`, `captures_cli lines [FILE|-]`, and lines into a
-//! capture file, `captures_cli capture [FILE|-]`.
+//! Turns a capture file into lines for `netlines`, `captures lines [FILE|-]`, and lines into a
+//! capture file, `captures capture [FILE|-]`.
 #![tactic(auto)]
 
 use anyhow::Context;
-use capture_programs::captures_arguments::command;
-use capture_programs::{Input, report_skipped};
+use capture_programs::captures_arguments::{PROGRAM, command};
+use capture_programs::{
+    ClosableWriter, Input, Subject, failure, parse_failure, report_skipped, unopened,
+};
 use captures::Skipped;
-use captures_program::{Mode, PROGRAM, exit_code, make, requested_by};
+use captures_program::{Mode, Requested, exit_code, make, requested_by};
 use std::env;
 use std::fs::File;
 use std::io::Read;
 use std::process::ExitCode;
 
-fn main(rt: HostRuntime) -> anyhow::Result<ExitCode> {
+fn main(rt: HostRuntime) -> ExitCode {
+    match run(&rt) {
+        Ok(code) => code,
+        Err(error) => failure(&rt, PROGRAM, error),
+    }
+}
+
+fn run(rt: &HostRuntime) -> anyhow::Result<ExitCode> {
     let alloc = rt.alloc();
-    let words: Vec<String> = env::args(&rt)
+    let words: Vec<String> = env::args(rt)
         .context("the arguments are not UTF-8")?
         .collect(alloc)?;
     let matches = match command(alloc)?.try_get_matches_from(words.as_slice()) {
         Ok(matches) => matches,
-        Err(error) => {
-            error.print(&rt)?;
-            return Ok(ExitCode::from(error.exit_code() as u8));
-        }
+        Err(error) => return Ok(parse_failure(rt, PROGRAM, &error)),
     };
     match requested_by(&matches) {
-        Some(requested) => make_of_file(&rt, requested.mode, requested.name),
+        Some(requested) => make_of_file(rt, &requested),
         None => Ok(ExitCode::SUCCESS),
     }
 }
 
-fn make_of_file(rt: &HostRuntime, mode: Mode, name: &str) -> anyhow::Result<ExitCode> {
-    if name == "-" {
+fn make_of_file(rt: &HostRuntime, requested: &Requested<'_>) -> anyhow::Result<ExitCode> {
+    let subject = Subject {
+        program: PROGRAM,
+        input: requested.name,
+    };
+    if subject.input == "-" {
         let input = Input::new(rt.alloc(), rt.stdin())?;
-        return Ok(make_of(rt, mode, input));
+        return Ok(make_of(rt, subject, requested.mode, input));
     }
-    let file = File::open(rt, name).context("the file cannot be opened")?;
+    let file = match File::open(rt, subject.input) {
+        Ok(file) => file,
+        Err(error) => return Ok(unopened(rt, subject, error)),
+    };
     let input = Input::new(rt.alloc(), file)?;
-    Ok(make_of(rt, mode, input))
+    Ok(make_of(rt, subject, requested.mode, input))
 }
 
-fn make_of<R: Read + Drop>(rt: &HostRuntime, mode: Mode, mut input: Input<R>) -> ExitCode {
-    let seen = input.look();
+fn make_of<R: Read + Drop>(
+    rt: &HostRuntime,
+    subject: Subject<'_>,
+    mode: Mode,
+    mut input: Input<R>,
+) -> ExitCode {
+    let look = input.look();
     let mut skipped = Skipped::NONE;
-    let made = make(rt.alloc(), mode, &mut input, &mut rt.stdout(), &mut skipped);
-    report_skipped(rt, PROGRAM, skipped);
-    exit_code(rt, made, seen)
+    let mut output = ClosableWriter::new(rt.stdout());
+    let made = make(rt.alloc(), mode, &mut input, &mut output, &mut skipped);
+    if !output.is_closed() {
+        report_skipped(rt, subject, skipped);
+    }
+    exit_code(rt, subject, made, output.is_closed(), look)
 }

@@ -9,7 +9,7 @@ mod modes;
 mod notes;
 mod words;
 
-pub use ending::{PROGRAM, exit_code};
+pub use ending::exit_code;
 pub use making::make;
 pub use modes::Mode;
 pub use notes::note;

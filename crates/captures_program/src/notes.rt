@@ -7,7 +7,7 @@ use captures::{CaptureError, RunError};
 pub fn note(error: RunError, look: Look) -> &'static str {
     match error {
         RunError::Capture(CaptureError::NotCapture, _) if look == Look::Text => {
-            ": the input is text, `captures_cli capture` reads lines of frames"
+            ": the input is text, `captures capture` reads lines of frames"
         }
         RunError::BadLine(1) => text_note(look),
         _ => capture_programs::note(error, look),
@@ -16,7 +16,7 @@ pub fn note(error: RunError, look: Look) -> &'static str {
 
 fn text_note(look: Look) -> &'static str {
     match look {
-        Look::Capture => ": the input is a capture, `captures_cli lines` reads it",
+        Look::Capture => ": the input is a capture, `captures lines` reads it",
         _ => compression_note(look),
     }
 }

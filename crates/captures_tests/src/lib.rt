@@ -13,4 +13,6 @@ mod packet_lines;
 #[cfg(test)]
 mod programs;
 #[cfg(test)]
+mod reports;
+#[cfg(test)]
 mod runs;

@@ -1,10 +1,10 @@
-//! What is made of an input, the flush, the status and what is reported of an error.
+//! What is made of an input, the flush, the status and the text of an error.
 use crate::checks::{equal, equal_bytes, holds, joined, repeated};
 use crate::packet_lines::refused;
-use capture_programs::captures_arguments::command;
-use capture_programs::{Input, Look, ReportedError, look_at, report_skipped};
+use capture_programs::captures_arguments::{PROGRAM, command};
+use capture_programs::{Input, Look, ReportedError, Subject, look_at};
 use captures::{CaptureError, Extra, Position, RunError, Skipped, TimeUnit, Unfit};
-use captures_program::{Mode, PROGRAM, exit_code, make, note, requested_by};
+use captures_program::{Mode, exit_code, make, note, requested_by};
 use fault_devices::{Fault, FaultReader, UnflushableWriter};
 use std::alloc::Global;
 use std::io::{ErrorKind, Read};
@@ -77,7 +77,7 @@ const CAPTURE: &[u8; 148] = b"\
 // The stored run is one of the other mode.
 #[test]
 fn the_word_capture_makes_a_capture(rt: HostRuntime) -> Result<(), Fail> {
-    let Some(mode) = mode_of(rt.alloc(), &["captures_cli", "capture", "-"])? else {
+    let Some(mode) = mode_of(rt.alloc(), &["captures", "capture", "-"])? else {
         panic!(rt; "no mode");
     };
     let capture = made(rt.alloc(), mode, LINES, &mut Skipped::NONE)?;
@@ -91,7 +91,7 @@ const PPP_HEADER: &[u8; 24] = b"\
 
 #[test]
 fn the_word_skip_passes_packets_over(rt: HostRuntime) -> Result<(), Fail> {
-    let Some(mode) = mode_of(rt.alloc(), &["captures_cli", "lines", "--skip", "-"])? else {
+    let Some(mode) = mode_of(rt.alloc(), &["captures", "lines", "--skip", "-"])? else {
         panic!(rt; "no mode");
     };
     let file = joined(rt, &[PPP_HEADER.as_slice(), PACKET.as_slice()]);
@@ -109,16 +109,16 @@ fn the_word_skip_passes_packets_over(rt: HostRuntime) -> Result<(), Fail> {
 // SECONDS is a whole number of 32 bits that isn't 0, and no run has times and `forget` lines.
 #[rattlefmt::skip]
 const OPTIONS: &[(&[&str], Option<Mode>)] = &[
-    (&["captures_cli", "lines", "--times"], Some(Mode::Lines(Extra::Times, Unfit::Refuse))),
-    (&["captures_cli", "lines", "--forget", "30", "--skip"], Some(Mode::Lines(Extra::Forget(30), Unfit::Skip))),
+    (&["captures", "lines", "--times"], Some(Mode::Lines(Extra::Times, Unfit::Refuse))),
+    (&["captures", "lines", "--forget", "30", "--skip"], Some(Mode::Lines(Extra::Forget(30), Unfit::Skip))),
     (
-        &["captures_cli", "lines", "--forget", "4294967295"],
+        &["captures", "lines", "--forget", "4294967295"],
         Some(Mode::Lines(Extra::Forget(4_294_967_295), Unfit::Refuse)),
     ),
-    (&["captures_cli", "capture", "--nanoseconds"], Some(Mode::Capture(TimeUnit::Nanoseconds))),
-    (&["captures_cli", "lines", "--forget", "0"], None),
-    (&["captures_cli", "lines", "--forget", "4294967296"], None),
-    (&["captures_cli", "lines", "--forget", "1", "--times"], None),
+    (&["captures", "capture", "--nanoseconds"], Some(Mode::Capture(TimeUnit::Nanoseconds))),
+    (&["captures", "lines", "--forget", "0"], None),
+    (&["captures", "lines", "--forget", "4294967296"], None),
+    (&["captures", "lines", "--forget", "1", "--times"], None),
 ];
 
 #[test]
@@ -128,22 +128,6 @@ fn words_of_options(rt: HostRuntime) -> Result<(), Fail> {
         equal(rt, mode, *wanted);
     }
     Ok(())
-}
-
-#[test]
-#[should_panic(expected = "captures_cli: passed over: 1 of other links, 2 too long")]
-fn packets_that_are_passed_over_are_reported(rt: HostRuntime) {
-    report_skipped(&rt, PROGRAM, Skipped::NONE);
-    report_skipped(
-        &rt,
-        PROGRAM,
-        Skipped {
-            of_other_links: 1,
-            too_long: 2,
-            without_frame: 3,
-        },
-    );
-    panic!(rt; "reported");
 }
 
 #[test]
@@ -164,7 +148,12 @@ fn a_flush_that_fails_is_a_failed_write(rt: HostRuntime) {
     }
 }
 
-// What is reported of an error.
+const SUBJECT: Subject<'static> = Subject {
+    program: PROGRAM,
+    input: "x.pcap",
+};
+
+// What is reported of an error, after the program and its input.
 fn message(alloc: Global, error: RunError, look: Look) -> Result<String, Fail> {
     let actual = ReportedError {
         error,
@@ -192,6 +181,12 @@ const SECTION: Position = Position {
     block: Some(0x0a0d_0d0a),
 };
 
+const DESCRIPTION: Position = Position {
+    packet: 3,
+    offset: 112,
+    block: Some(1),
+};
+
 // Each error with what is reported of it, and the status.
 #[rattlefmt::skip]
 const ERRORS: &[(RunError, &str, u8)] = &[
@@ -204,7 +199,12 @@ const ERRORS: &[(RunError, &str, u8)] = &[
     (RunError::Capture(CaptureError::NotCapture, THIRD), "no capture file", 3),
     (
         RunError::Capture(CaptureError::LinkType(105), THIRD),
-        "packet 3, byte 112: link type 105 is not read: it is IEEE802_11, of wireless networks",
+        "packet 3, byte 112: link type 105 is not read: it is IEEE802_11, of wireless networks; --skip passes over its packets",
+        3,
+    ),
+    (
+        RunError::Capture(CaptureError::InterfaceLimit(101), DESCRIPTION),
+        "packet 3, byte 112, block type 0x1 (interface description): interfaces after the 32nd of a section are read with link type 1 alone, not 101",
         3,
     ),
     (
@@ -240,26 +240,29 @@ fn errors_have_messages_and_a_status(rt: HostRuntime) -> Result<(), Fail> {
     for (error, text, status) in ERRORS.iter() {
         let actual = message(rt.alloc(), *error, Look::Other)?;
         equal(rt, actual.as_str(), *text);
-        let code = exit_code(&rt, Err(*error), Look::Other);
+        let code = exit_code(&rt, SUBJECT, Err(*error), false, Look::Other);
         equal(rt, code, ExitCode::from(*status));
     }
-    equal(rt, exit_code(&rt, Ok(()), Look::Other), ExitCode::SUCCESS);
+    let code = exit_code(&rt, SUBJECT, Ok(()), false, Look::Other);
+    equal(rt, code, ExitCode::SUCCESS);
     Ok(())
 }
 
-// The names of the registry of link types (tcpdump.org/linktypes.html), without their prefix.
+// The names of the registry of link types (tcpdump.org/linktypes.html), without their prefix, and
+// the option.
+#[rattlefmt::skip]
 const LINK_TYPES: &[(u16, &str)] = &[
-    (9, ": it is PPP"),
-    (105, ": it is IEEE802_11, of wireless networks"),
-    (127, ": it is IEEE802_11_RADIOTAP, of wireless networks"),
-    (189, ": it is USB_LINUX"),
-    (220, ": it is USB_LINUX_MMAPPED"),
-    (251, ": it is BLUETOOTH_LE_LL"),
-    (252, ": it is WIRESHARK_UPPER_PDU, of exported packets"),
-    (253, ": it is NETLINK"),
-    (8, ""),
-    (10, ""),
-    (265, ""),
+    (9, ": it is PPP; --skip passes over its packets"),
+    (105, ": it is IEEE802_11, of wireless networks; --skip passes over its packets"),
+    (127, ": it is IEEE802_11_RADIOTAP, of wireless networks; --skip passes over its packets"),
+    (189, ": it is USB_LINUX; --skip passes over its packets"),
+    (220, ": it is USB_LINUX_MMAPPED; --skip passes over its packets"),
+    (251, ": it is BLUETOOTH_LE_LL; --skip passes over its packets"),
+    (252, ": it is WIRESHARK_UPPER_PDU, of exported packets; --skip passes over its packets"),
+    (253, ": it is NETLINK; --skip passes over its packets"),
+    (8, "; --skip passes over its packets"),
+    (10, "; --skip passes over its packets"),
+    (265, "; --skip passes over its packets"),
 ];
 
 #[test]
@@ -316,7 +319,7 @@ const FIRST_BYTES: &[(&[u8], Look, &str)] = &[
     (b"\x28\xb5\x2f\xfd\x04\x58", Look::Zstd, "no capture file: the input is compressed, `zstd -dc` opens it"),
     (b"\xfd\x37\x7a\x58\x5a\x00\x00\x04", Look::Xz, "no capture file: the input is compressed, `xz -dc` opens it"),
     (b"\x42\x5a\x68\x39\x31\x41", Look::Bzip2, "no capture file: the input is compressed, `bzip2 -dc` opens it"),
-    (b"frame 0 0aff\n", Look::Text, "no capture file: the input is text, `captures_cli capture` reads lines of frames"),
+    (b"frame 0 0aff\n", Look::Text, "no capture file: the input is text, `captures capture` reads lines of frames"),
     (b"\x7fELF", Look::Other, "no capture file"),
     (b"\xd4\xc3\xb2\xa1\x01", Look::Capture, "no capture file"),
 ];
@@ -380,7 +383,8 @@ fn a_look_that_fails_ends_the_run(rt: HostRuntime) {
                 let mut skipped = Skipped::NONE;
                 let made = make(rt.alloc(), mode, &mut input, &mut lines, &mut skipped);
                 equal(rt, made, Err(RunError::Read));
-                equal(rt, exit_code(&rt, made, seen), ExitCode::from(4));
+                let code = exit_code(&rt, SUBJECT, made, false, seen);
+                equal(rt, code, ExitCode::from(4));
                 equal(rt, input.look(), seen);
             }
             equal(rt, reader.calls, 1);
@@ -435,7 +439,7 @@ const NO_LINES: &[(RunError, Look, &str)] = &[
     (
         RunError::BadLine(1),
         Look::Capture,
-        "line 1 hands in no frame: the input is a capture, `captures_cli lines` reads it",
+        "line 1 hands in no frame: the input is a capture, `captures lines` reads it",
     ),
     (RunError::BadLine(1), Look::Gzip, "line 1 hands in no frame: the input is compressed, `gzip -dc` opens it"),
     (RunError::BadLine(1), Look::Text, "line 1 hands in no frame"),
@@ -449,11 +453,4 @@ fn captures_are_no_lines(rt: HostRuntime) -> Result<(), Fail> {
         equal(rt, actual.as_str(), *text);
     }
     Ok(())
-}
-
-#[test]
-#[should_panic(expected = "captures_cli: line 2 hands in no frame")]
-fn errors_are_reported(rt: HostRuntime) {
-    let _ = exit_code(&rt, Err(RunError::BadLine(2)), Look::Other);
-    panic!(rt; "reported");
 }

@@ -3,6 +3,7 @@
 
 mod chunks;
 mod forgetting;
+mod numbers;
 mod readers;
 mod reads;
 mod skipping;

@@ -3,12 +3,9 @@
 use Rattle.std.proofs.Common.{◌≡◌, ◌∙◌, sym, ap, subst, ℕ, ◌+◌, ◌-◌, ◌<◌, ◌≤◌, ◌^◌, List, length, take, drop, Some}
 use Rattle.std.proofs.Common.{Result, Err, IfErr, length-append, take-append-drop, arith}
 use Rattle.std.proofs.lemmas.List.{length-drop}
-use Rattle.ep_ip.specs.Ipv4Fault as v4
-use Rattle.ep_ip.specs.Ipv6 as ipv6_header
 use Rattle.ep_ip.specs.Ipv6Fault as v6
 use Rattle.ep_base.specs.declared.err.slice_error.SliceError.{SliceError as HeaderSliceError}
 use Rattle.ep_base.specs.declared.err.slice_error.SliceError.TheVariants as slice_error
-use Rattle.ep_ip.specs.declared.err.ipv6.header_error.HeaderError.TheVariants as v6_header
 use Rattle.ep_ext.specs.Auth.{auth_at}
 use Rattle.ep_ext.specs.Chain.{Chain, Fault, fault_of}
 use Rattle.ep_ext.specs.Ipv4Exts.{auth_after}
@@ -20,15 +17,13 @@ use Rattle.ep_ext.specs.declared.err.ipv6_exts.header_error.HeaderError.{HeaderE
 use Rattle.ep_base.specs.declared.len_source.LenSource.{LenSource}
 use Rattle.ep_ipslice.specs.FaultOffset.{ip_offset, ipv4_offset, ipv6_offset}
 use Rattle.ep_ipslice.specs.IpSlice.{IsIpFaultIn, NoBytes, OtherVersion, OfIpv4, OfIpv6, ipv4_fault, ipv6_fault}
-use Rattle.ep_ipslice.specs.Ipv4Packet.{ipv4_packet_at, of_auth_fault, of_header_fault}
+use Rattle.ep_ipslice.specs.Ipv4Packet.{ipv4_packet_at, of_auth_fault}
 use Rattle.ep_ipslice.specs.Ipv6Fault as ipv6
 use Rattle.ep_ipslice.specs.Ipv6Fault.{IsFaultIn, OfHeader, OfLength, OfExtensions}
 use Rattle.ep_ipslice.specs.Packet.{body_len}
 use Rattle.ep_ipslice.specs.declared.err.ip.slice_error.SliceError.{SliceError}
 use Rattle.ep_ipslice.specs.declared.err.ipv4.slice_error.SliceError.{SliceError as Ipv4Fault}
-use Rattle.ep_ipslice.specs.declared.err.ipv4.slice_error.SliceError.TheVariants as ipv4
 use Rattle.ep_ipslice.specs.declared.err.ipv6.slice_error.SliceError.{SliceError as Ipv6Fault}
-use Rattle.ep_ipslice.specs.declared.err.ipv6.slice_error.SliceError.TheVariants as ipv6_error
 
 -- laws of faults of extension headers, as they are called
 abbrev pub AuthMoves : Type 0
@@ -44,7 +39,7 @@ RowMoves = (order : Order) (first : ℕ) (bytes : List ℕ) (pieces : List Piece
 of_err : {A E : Type 0} (P : E → Type 0) (r : Result A E) (e : E) → r ≡ Err e → IfErr r P → P e
 of_err P r e is each = subst (λ (x : Result _ _). IfErr x P) is each
 
-take_fits : (n : ℕ) (xs : List ℕ) → length (take n xs) ≤ length xs
+pub take_fits : (n : ℕ) (xs : List ℕ) → length (take n xs) ≤ length xs
 take_fits n xs =
     omega (arith, ap length (take-append-drop n xs), length-append (take n xs) (drop n xs))
 

@@ -125,7 +125,7 @@ header_cases false true bytes header e f fits version is =
       cc (take-append-drop 40 bytes, same),
     )
 
-header_found : (bytes header : List ℕ) → header_at bytes ≡ Ok header
+pub header_found : (bytes header : List ℕ) → header_at bytes ≡ Ok header
     → IsIpv6Header header × (bytes ≡ header ++ drop 40 bytes)
 header_found bytes header is = header_cases (nat_lt (length bytes) 40)
     (version_of bytes == 6) bytes header _ _ refl refl is

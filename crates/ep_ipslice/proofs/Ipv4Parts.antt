@@ -9,8 +9,6 @@ use Rattle.ep_ip.specs.Ipv4.{IsIpv4Header, protocol_of, total_len_of}
 use Rattle.ep_ext.specs.Auth.{IsAuth}
 use Rattle.ep_ext.specs.Chain.{prefix_of}
 use Rattle.ep_ext.specs.Ipv4Exts.{IsAuthAfter, auth_after, auth_bytes, number_after}
-use Rattle.ep_base.specs.declared.err.slice_error.SliceError.{SliceError}
-use Rattle.ep_base.specs.declared.err.slice_error.SliceError.TheVariants as slice_error
 use Rattle.ep_ext.specs.declared.net.ipv6_ext_slot.Ipv6ExtSlot.TheVariants.{Authentication}
 use Rattle.ep_ipslice.specs.Packet.{IpPayload, Ipv4Packet, IsIpv4Packet, IsWholeIpv4, ipv4_bytes, ipv4_payload}
 use Rattle.ep_ipslice.specs.Packet.{is_ipv4_fragment}

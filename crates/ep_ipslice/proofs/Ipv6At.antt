@@ -34,7 +34,7 @@ extensions_are found least first body pieces last rest row cut closed =
     grind (arith, walk_is, length-append)
 
 -- the number that a row names last
-number_is : (passed : List Ipv6ExtSlot) (number : ℕ) (pieces : List Piece) (last : ℕ)
+pub number_is : (passed : List Ipv6ExtSlot) (number : ℕ) (pieces : List Piece) (last : ℕ)
     → Row view_order passed number pieces last → number_after number pieces ≡ last
 number_is passed number [] last row = row
 number_is passed number (piece ∷ pieces) last row =
@@ -51,10 +51,10 @@ closed_at : (offset : ℕ) (slot : Option Ipv6ExtSlot) (last : ℕ) (rest : List
 closed_at offset slot last rest fault is = grind arith
 
 -- the parts of a row in a body
-record RowIn (bytes header : List ℕ) (pieces : List Piece) (last : ℕ) (rest : List ℕ) : Type 0 where
-  pieces_are : extensions_of (next_header_of header) (body_of bytes header) ≡ pieces
-  number : number_after (next_header_of header) pieces ≡ last
-  left : rest_after bytes header pieces ≡ rest
+pub record RowIn (bytes header : List ℕ) (pieces : List Piece) (last : ℕ) (rest : List ℕ) : Type 0 where
+  pub pieces_are : extensions_of (next_header_of header) (body_of bytes header) ≡ pieces
+  pub number : number_after (next_header_of header) pieces ≡ last
+  pub left : rest_after bytes header pieces ≡ rest
 
 row_in : IsFound → HasLeast
     → (bytes header : List ℕ) (pieces : List Piece) (last : ℕ) (rest : List ℕ)
@@ -65,7 +65,7 @@ row_in : IsFound → HasLeast
 row_in found least bytes header pieces last rest row cut closed =
     grind (arith, extensions_are, number_is, drop_at)
 
-fault_is : (bytes header : List ℕ) (pieces : List Piece) (last : ℕ) (rest : List ℕ)
+pub fault_is : (bytes header : List ℕ) (pieces : List Piece) (last : ℕ) (rest : List ℕ)
     → RowIn bytes header pieces last rest
     → fault_after bytes header pieces ≡ fault_of view_order pieces last rest
 fault_is bytes header pieces last rest row = grind arith

@@ -8,6 +8,9 @@ mod IpParts
 mod Ipv4Parts
 mod Ipv6At
 mod Ipv6Parts
+mod LaxIpv4
+mod LaxIpv6
+mod LaxLaws
 mod Left
 mod InSlots
 mod SamePayloads

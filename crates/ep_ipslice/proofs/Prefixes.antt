@@ -12,7 +12,6 @@ use Rattle.ep_ext.specs.Fragment.{IsFragment, fragment_at}
 use Rattle.ep_ext.specs.Auth.{IsAuth, auth_at, auth_len}
 use Rattle.ep_ext.specs.Chain.{IsPiece, prefix_of, of_len, of_auth}
 use Rattle.ep_base.specs.declared.err.slice_error.SliceError.{SliceError}
-use Rattle.ep_base.specs.declared.err.slice_error.SliceError.TheVariants as slice_error
 use Rattle.ep_ext.specs.declared.err.ip_auth.header_error.HeaderError.{HeaderError as AuthError}
 use Rattle.ep_ext.specs.declared.net.ipv6_ext_slot.Ipv6ExtSlot.{Ipv6ExtSlot}
 use Rattle.ep_ext.specs.declared.net.ipv6_ext_slot.Ipv6ExtSlot.TheVariants.{HopByHop, Destination, Routing, Fragment}
@@ -65,7 +64,7 @@ fragment_begins bytes header is =
     let cut : IsCut bytes 8 header = (cut_found _ _ _ _ _ is).1 in
     (record { whole = cut_len bytes 8 header cut }, (drop 8 bytes, cut_parts bytes 8 header cut))
 
-auth_begins : (bytes header : List ℕ) → auth_at bytes ≡ Ok header → Begins IsAuth bytes header
+pub auth_begins : (bytes header : List ℕ) → auth_at bytes ≡ Ok header → Begins IsAuth bytes header
 auth_begins bytes header is =
     let first = guard_ok _ _ _ _ is in
     let second = guard_ok _ _ _ _ first.1 in

@@ -7,7 +7,7 @@ use Rattle.ep_base.specs.declared.len_source.LenSource.TheVariants.{Slice, Macse
 use Rattle.ep_base.specs.declared.len_source.LenSource.TheVariants.{Ipv6HeaderPayloadLen, UdpHeaderLen, TcpHeaderLen}
 use Rattle.ep_base.specs.declared.len_source.LenSource.TheVariants.{ArpAddrLengths}
 use Rattle.ep_base.specs.LenSource.{source_index}
-use Rattle.ep_ipslice.specs.Compared.{bool_index, ordered_as}
+use Rattle.ep_ipslice.specs.Compared.{bool_index, lax_ordered_as, ordered_as}
 use Rattle.ep_ipslice.specs.Packet.{IpPayload}
 
 source_at : ℕ → LenSource
@@ -57,4 +57,21 @@ payload_same a b = (
   (λ h. sym (payload_again a) ∙ ap payload_at ((bytes_decides (ordered_as a) (ordered_as b)).0 h)
       ∙ payload_again b),
   (λ e. (bytes_decides (ordered_as a) (ordered_as b)).1 (ap ordered_as e)),
+)
+
+lax_at : List ℕ → Bool × IpPayload
+lax_at [] = (false, blank)
+lax_at (missing ∷ numbers) = (bool_at missing, payload_at numbers)
+
+lax_again : (p : Bool × IpPayload) → lax_at (lax_ordered_as p) ≡ p
+unfolding lax_at
+lax_again p = λ i. (bool_again p.0 i, payload_again p.1 i)
+
+-- the same of payloads that may have been cut off
+pub lax_payload_same : (a b : Bool × IpPayload)
+    → IsTrue (pointwise nat_eq (lax_ordered_as a) (lax_ordered_as b)) ↔ (a ≡ b)
+lax_payload_same a b = (
+  (λ h. sym (lax_again a) ∙ ap lax_at ((bytes_decides (lax_ordered_as a) (lax_ordered_as b)).0 h)
+      ∙ lax_again b),
+  (λ e. (bytes_decides (lax_ordered_as a) (lax_ordered_as b)).1 (ap lax_ordered_as e)),
 )

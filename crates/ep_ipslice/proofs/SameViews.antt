@@ -4,11 +4,12 @@ use Rattle.std.proofs.Common.{◌↔◌, nat_eq, sym, ap, ◌∙◌, arith}
 use Rattle.std.specs.Cmp.Lexicographic.{pointwise, bytes_decides}
 use Rattle.std.specs.Cmp.Derive.{both_true}
 use Rattle.ep_base.specs.declared.net.ip_number.IpNumber.{IpNumber}
-use Rattle.ep_ipslice.specs.Compared.{auth_code, compared_as, left_as, number_index, ordered_as}
+use Rattle.ep_ipslice.specs.Compared.{auth_code, compared_as, lax_ordered_as, left_as, number_index, ordered_as}
 use Rattle.ep_ipslice.specs.Ipv6Exts.{Ipv6Exts}
 use Rattle.ep_ipslice.specs.Ipv6Walk.{HeadersLeft}
-use Rattle.ep_ipslice.specs.Packet.{Ipv4Packet, Ipv6Packet}
-use Rattle.ep_ipslice.proofs.SamePayloads.{bool_again, bool_at, payload_same}
+use Rattle.ep_ipslice.specs.LaxPackets.{LaxIpv4Packet, LaxIpv6Packet}
+use Rattle.ep_ipslice.specs.Packet.{IpPayload, Ipv4Packet, Ipv6Packet}
+use Rattle.ep_ipslice.proofs.SamePayloads.{bool_again, bool_at, lax_payload_same, payload_same}
 
 number_at : ℕ → Option IpNumber
 number_at zero = None
@@ -99,4 +100,62 @@ ipv6_same a b = (
       (both_true ((bytes_decides a.header b.header).1 (ap (λ (p : Ipv6Packet). p.header) e))
       ((exts_same a.exts b.exts).1 (ap (λ (p : Ipv6Packet). p.exts) e)))
       ((payload_same a.payload b.payload).1 (ap (λ (p : Ipv6Packet). p.payload) e))),
+)
+
+lax4_payload : LaxIpv4Packet → Bool × IpPayload
+lax4_payload p = (p.incomplete, p.payload)
+
+lax6_payload : LaxIpv6Packet → Bool × IpPayload
+lax6_payload p = (p.incomplete, p.payload)
+
+pub lax_ipv4_same : (a b : LaxIpv4Packet)
+    → IsTrue (pointwise nat_eq a.header b.header
+    && pointwise nat_eq (auth_code a.auth) (auth_code b.auth)
+    && pointwise nat_eq (lax_ordered_as (a.incomplete, a.payload))
+    (lax_ordered_as (b.incomplete, b.payload))) ↔ (a ≡ b)
+unfolding lax4_payload
+lax_ipv4_same a b = (
+  (λ h.
+      let all = three _ _ _ h in
+      let header : a.header ≡ b.header = (bytes_decides a.header b.header).0 all.0 in
+      let auth : a.auth ≡ b.auth = auth_same a.auth b.auth
+      ((bytes_decides (auth_code a.auth) (auth_code b.auth)).0 all.1) in
+      let payload : lax4_payload a ≡ lax4_payload b =
+      (lax_payload_same (lax4_payload a) (lax4_payload b)).0 all.2 in
+      λ i. record {
+        header = header i;
+        auth = auth i;
+        incomplete = (payload i).0;
+        payload = (payload i).1;
+      }),
+  (λ e. both_true
+      (both_true ((bytes_decides a.header b.header).1 (ap (λ (p : LaxIpv4Packet). p.header) e))
+      ((bytes_decides (auth_code a.auth) (auth_code b.auth)).1
+      (ap (λ (p : LaxIpv4Packet). auth_code p.auth) e)))
+      ((lax_payload_same (lax4_payload a) (lax4_payload b)).1 (ap lax4_payload e))),
+)
+
+pub lax_ipv6_same : (a b : LaxIpv6Packet)
+    → IsTrue (pointwise nat_eq a.header b.header
+    && pointwise nat_eq (compared_as a.exts) (compared_as b.exts)
+    && pointwise nat_eq (lax_ordered_as (a.incomplete, a.payload))
+    (lax_ordered_as (b.incomplete, b.payload))) ↔ (a ≡ b)
+unfolding lax6_payload
+lax_ipv6_same a b = (
+  (λ h.
+      let all = three _ _ _ h in
+      let header : a.header ≡ b.header = (bytes_decides a.header b.header).0 all.0 in
+      let exts : a.exts ≡ b.exts = (exts_same a.exts b.exts).0 all.1 in
+      let payload : lax6_payload a ≡ lax6_payload b =
+      (lax_payload_same (lax6_payload a) (lax6_payload b)).0 all.2 in
+      λ i. record {
+        header = header i;
+        exts = exts i;
+        incomplete = (payload i).0;
+        payload = (payload i).1;
+      }),
+  (λ e. both_true
+      (both_true ((bytes_decides a.header b.header).1 (ap (λ (p : LaxIpv6Packet). p.header) e))
+      ((exts_same a.exts b.exts).1 (ap (λ (p : LaxIpv6Packet). p.exts) e)))
+      ((lax_payload_same (lax6_payload a) (lax6_payload b)).1 (ap lax6_payload e))),
 )

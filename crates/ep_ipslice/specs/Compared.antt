@@ -50,3 +50,7 @@ lax_value p = (
     payload = p.payload.now;
   },
 )
+
+-- whether bytes are missing, and then as a payload
+abbrev pub lax_ordered_as : Bool × IpPayload → List ℕ
+lax_ordered_as p = bool_index p.0 ∷ ordered_as p.1

@@ -10,5 +10,7 @@ pub mod IpSlice
 pub mod Ipv6Fault
 pub mod Ipv6Packet
 pub mod Ipv6Walk
+pub mod LaxIp
+pub mod LaxPackets
 pub mod Packet
 pub mod PayloadHash

@@ -8,5 +8,6 @@ mod net;
 
 pub use net::{
     IpPayloadSlice, IpSlice, Ipv4ExtensionsSlice, Ipv4Slice, Ipv6ExtensionSlice,
-    Ipv6ExtensionSliceIter, Ipv6ExtensionsSlice, Ipv6Slice, LaxIpPayloadSlice,
+    Ipv6ExtensionSliceIter, Ipv6ExtensionsSlice, Ipv6Slice, LaxIpPayloadSlice, LaxIpSlice,
+    LaxIpv4Slice, LaxIpv6Slice,
 };

@@ -5,4 +5,5 @@ mod MacsecRead
 mod MacsecEncoding
 mod Numbers
 mod SameHeaders
+mod SameLaxPayloads
 mod VlanEncoding

@@ -5,6 +5,7 @@ pub mod Prefix
 pub mod LinkExt
 pub mod Macsec
 pub mod MacsecFault
+pub mod MacsecLax
 pub mod MacsecOrder
 pub mod MacsecPayload
 pub mod MacsecView

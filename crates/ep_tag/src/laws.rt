@@ -1,6 +1,7 @@
 //! Laws of tags that no single call's contract states: the contract of each function is the law.
 
 pub mod macsec;
+pub mod macsec_lax;
 pub mod numbers;
 pub mod prefix;
 pub mod traits;

@@ -1,5 +1,5 @@
 -- UDP (RFC 768): the bytes of the header, each field by its offset in them, and the whole datagram.
-use Rattle.std.specs.Prelude.{◌≡◌, ◌⊎◌, ℕ, ◌+◌, ◌^◌, ◌<◌, ◌≤◌, ◌==◌, if◌then◌else◌, List, ◌++◌, length, take}
+use Rattle.std.specs.Prelude.{◌≡◌, ◌⊎◌, ℕ, ◌+◌, ◌^◌, ◌<◌, ◌≤◌, ◌==◌, nat_lt, if◌then◌else◌, List, ◌++◌, length, take}
 use Rattle.std.specs.Int.{w16, to_be_bytes}
 use Rattle.ep_base.specs.Bytes.{num}
 use Rattle.ep_base.specs.Prefixes.{IsReadAs}
@@ -70,3 +70,14 @@ summed_udp bytes = if length_of bytes == 0 then bytes else take (length_of bytes
 pub record IsUdp (bytes : List ℕ) : Type 0 where
   pub header : 8 ≤ length bytes
   pub covers : (length_of bytes ≡ 0) ⊎ (length_of bytes ≡ length bytes)
+
+-- what there is of the datagram at the start of the bytes: as many as the length field says, if
+-- that counts a header, and all where fewer are there or it counts none
+abbrev pub lax_summed_udp : List ℕ → List ℕ
+lax_summed_udp bytes = if nat_lt (length_of bytes) 8 then bytes else take (length_of bytes) bytes
+
+-- the bytes are what there is of a datagram: a whole header, and no more bytes than a length field
+-- that counts a header says
+pub record IsLaxUdp (bytes : List ℕ) : Type 0 where
+  pub header : 8 ≤ length bytes
+  pub within : 8 ≤ length_of bytes → length bytes ≤ length_of bytes

@@ -5,7 +5,7 @@ use Rattle.ep_base.specs.Refusals.{unless_refused}
 use Rattle.ep_base.specs.declared.err.layer.Layer.TheVariants.{UdpHeader, UdpPayload}
 use Rattle.ep_base.specs.declared.err.len_error.LenError.{LenError}
 use Rattle.ep_base.specs.declared.len_source.LenSource.TheVariants.{UdpHeaderLen}
-use Rattle.ep_tcpudp.specs.Udp.{length_of, summed_udp}
+use Rattle.ep_tcpudp.specs.Udp.{lax_summed_udp, length_of, summed_udp}
 
 -- the length field is less than the length of the header
 abbrev pub no_header : ℕ → LenError
@@ -26,3 +26,8 @@ udp_at bytes = unless_refused (
     )
     ∷ (not (length_of bytes == 0) && nat_lt (length_of bytes) 8, no_header (length_of bytes))
     ∷ []) (summed_udp bytes)
+
+-- what there is of the datagram at the start of the bytes, or that bytes of its header are missing
+abbrev pub lax_udp_at : List ℕ → Result (List ℕ) LenError
+lax_udp_at bytes = unless_refused (
+    (nat_lt (length bytes) 8, too_few_bytes UdpHeader 8 (length bytes)) ∷ []) (lax_summed_udp bytes)

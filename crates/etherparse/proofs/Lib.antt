@@ -32,6 +32,7 @@ mod KeptMemory
 mod Lengths
 mod LinkedExts
 mod Literals
+mod NamesAfter
 mod OpenAtLiterals
 mod OpenCount
 mod Ordered
@@ -41,8 +42,15 @@ mod Runs
 mod SameBuffers
 mod SameCalls
 mod Sharing
+mod StartLinks
+mod StartNames
+mod StartRings
+mod StartTotals
+mod StartWrites
 mod StoredOrder
+mod TableTotals
 mod TimestampLemmas
+mod Tracked
 mod ViewedRows
 mod Waiting
 mod WholeMessageLemmas

@@ -1,6 +1,6 @@
 -- Datagrams that are returned where overlaps are refused (RFC 5722; RFC 8200, section 4.5): each is
 -- joined from accepted fragments of its list.
-use Rattle.std.specs.Prelude.{◌≡◌, ℕ, Option, Some, List, [], ◌∷◌, ◌++◌}
+use Rattle.std.specs.Prelude.{◌≡◌, ℕ, Some, List, [], ◌∷◌, ◌++◌}
 use Rattle.ep_packet.specs.Class.{Class, FragmentName, class_of}
 use Rattle.etherparse.specs.declared.defrag.overlap_rule.OverlapRule.TheVariants.{Refuses}
 use Rattle.etherparse.specs.Fragments.{Fragment, IsAccepted}

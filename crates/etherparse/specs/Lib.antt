@@ -27,6 +27,9 @@ pub mod Refused
 pub mod Repeats
 pub mod Room
 pub mod SpareBuffers
+pub mod StartOrder
+pub mod StartedBytes
+pub mod Starts
 pub mod StoredFragment
 pub mod Timestamps
 pub use Rattle.ep_base.specs as base

@@ -1,6 +1,6 @@
 -- The memory of a pool beside that of its reassemblies, and what becomes of it.
-use Rattle.std.specs.Prelude.{◌≡◌, ℕ, ◌+◌, ◌-◌, ◌≤◌, Bool, true, false, if◌then◌else◌, Option, Some, None, Result, Ok}
-use Rattle.std.specs.Prelude.{Err, IfOk, IfSome, IsSome, List, [], ◌∷◌, ◌++◌, map, ⊤, vec_len, vec_capacity}
+use Rattle.std.specs.Prelude.{◌≡◌, ℕ, ◌+◌, ◌-◌, ◌≤◌, if◌then◌else◌, Option, Some, None, Result, Ok}
+use Rattle.std.specs.Prelude.{Err, IfOk, IfSome, IsSome, List, [], ◌∷◌, ◌++◌, length, map, ⊤, vec_len, vec_capacity}
 use Rattle.std.specs.declared.vec.Vec.{Vec}
 use Rattle.etherparse.specs.declared.defrag.ip_defrag_error.IpDefragError.{IpDefragError}
 use Rattle.etherparse.specs.Fragments.{Fragment}
@@ -30,6 +30,15 @@ memory_of spare names = record {
   bytes_slots = vec_capacity spare.bytes - vec_len spare.bytes;
   sections_slots = vec_capacity spare.sections - vec_len spare.sections;
   names = names;
+}
+
+-- the memory once no buffer is spare: their slots are free
+abbrev pub freed : Memory → Memory
+freed memory = record memory {
+  bytes = [];
+  sections = [];
+  bytes_slots = length memory.bytes + memory.bytes_slots;
+  sections_slots = length memory.sections + memory.sections_slots;
 }
 
 -- for how many the buffer that is taken next has capacity, and those that are left then

@@ -20,10 +20,12 @@ abbrev pub fragment_of : SlicedFragment → Fragment
 fragment_of received = fragment received.offset received.more_fragments received.bytes.now
 
 -- what a pool holds: reassemblies in no order that means anything, each beside its name; no name is
--- there twice; how many buffers of bytes are spare, and how many of sections; and the memory of
--- these, and for more
+-- there twice; the names in the order in which their reassemblies started, each with its first
+-- accepted fragment, the oldest first; how many buffers of bytes are spare, and how many of
+-- sections; and the memory of these, and for more
 pub record Pool (K T : Type 0) : Type 0 where
   pub reassemblies : List (K × Reassembly T)
+  pub starts : List K
   pub spare : ℕ
   pub spare_sections : ℕ
   pub memory : Memory

@@ -16,6 +16,7 @@ reassembly_by read s = record { buf = s.buf; timestamp = read s.timestamp }
 abbrev pub pool_by : {K T U : Type 0} → (T → U) → Pool K T → Pool K U
 pool_by {K} {T} read pool = record {
   reassemblies = map (λ (e : K × Reassembly T). (e.0, reassembly_by read e.1)) pool.reassemblies;
+  starts = pool.starts;
   spare = pool.spare;
   spare_sections = pool.spare_sections;
   memory = pool.memory;

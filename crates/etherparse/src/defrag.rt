@@ -16,6 +16,7 @@ mod renewed_timestamps;
 mod retain_reassemblies;
 mod sections;
 mod spare_buffers;
+mod start_order;
 mod stored_fragment;
 
 pub use ip_defrag_buf::{IpDefragBuf, checked_end};

@@ -1,6 +1,7 @@
 //! The examples of README.md and docs/EXAMPLES.md, each a module of its own, and what they make of some packets.
 #![tactic(auto)]
 
+mod bounded_pool;
 mod built_segment;
 mod checksums;
 mod echo_request;
@@ -12,6 +13,9 @@ mod sliced_frame;
 mod tags_and_arp;
 mod udp_ports;
 
+use etherparse::SlicedPacket;
+use etherparse::defrag::IpDefragPool;
+
 /// It has no contract: what it prints is compared with what the packets hold.
 fn main(rt: HostRuntime) -> anyhow::Result<()> {
     print_frames(&rt)?;
@@ -21,6 +25,16 @@ fn main(rt: HostRuntime) -> anyhow::Result<()> {
     println!(rt; "A message in fragments:")?;
     let frames = [(0, frames::LAST_FRAGMENT), (1, frames::FIRST_FRAGMENT)];
     fragments::print_datagrams(&rt, rt.alloc(), &frames)?;
+    print_bounded(&rt)
+}
+
+// How many bytes a pool holds of a datagram whose last fragment came, and which has 16.
+fn print_bounded(rt: &HostRuntime) -> anyhow::Result<()> {
+    println!(rt; "A pool below a bound:")?;
+    let mut pool: IpDefragPool<u64> = IpDefragPool::new(rt.alloc());
+    let packet = SlicedPacket::from_ethernet(frames::LAST_FRAGMENT)?;
+    let waits = bounded_pool::process_bounded(&mut pool, &packet, 0)?.is_none();
+    println!(rt; "{waits}, {} bytes", pool.open_bytes())?;
     Ok(())
 }
 

@@ -12,6 +12,7 @@ mod names;
 mod overlaps;
 mod pool_kinds;
 mod pool_memory;
+mod pool_oldest;
 mod pool_orders;
 mod pool_overlaps;
 mod pool_refusals;

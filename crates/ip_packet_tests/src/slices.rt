@@ -2,6 +2,7 @@
 
 mod errors;
 mod header_and_body;
+mod lax;
 mod packets;
 mod refusals;
 mod views;

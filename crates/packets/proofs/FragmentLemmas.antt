@@ -17,7 +17,6 @@ use Rattle.ep_packet.specs.Class.Class.{Cut, Refused as Faulty}
 use Rattle.ep_packet.specs.declared.class.Class.TheVariants as cut
 use Rattle.ep_packet.specs.declared.class.IpFragment.{IpFragment}
 use Rattle.ep_packet.specs.declared.err.packet.slice_error.SliceError.{SliceError}
-use Rattle.ep_packet.specs.declared.net.net_slice.NetSlice.{NetSlice}
 use Rattle.ep_packet.specs.declared.net.net_slice.NetSlice.TheVariants as net
 use Rattle.ep_packet.specs.declared.sliced_packet.SlicedPacket.{SlicedPacket}
 use Rattle.packets.specs.Dissected.{IsFound, found_reported, is_out_of_memory, result_if_found}
@@ -104,6 +103,12 @@ refused_has_memory e is = grind arith
 
 pub out_of_memory_has_none : (e : IpDefragError) → is_out_of_memory e ≡ true → HasMemory (Refused e) → ⊥
 out_of_memory_has_none e is has = grind arith
+
+-- of a packet without a fault what is found is reported
+pub found_alike : {E : Type 0} (layers : SlicedPacket) (found : Result Finding E)
+    → result_if_found (Ok layers) found ≡ found_reported found
+found_alike layers (Ok finding) = refl
+found_alike layers (Err e) = refl
 
 -- nothing is found in a packet only where memory ran out
 pub none_found : {E : Type 0} (layers reported : Result SlicedPacket SliceError)

@@ -1,11 +1,19 @@
 mod StartedLemmas
 mod BucketLemmas
+mod CourseLemmas
 mod EndLemmas
 mod ForgetLemmas
+mod HeldLemmas
+mod KeepLemmas
+mod LimitLemmas
 mod LineLemmas
+mod OrderLemmas
 pub mod FragmentLemmas
 mod RateLemmas
+mod RouteLemmas
 mod TableLemmas
 mod TallyLemmas
+mod TrackLemmas
 mod WalkLemmas
+mod WithinLemmas
 mod WriteLemmas

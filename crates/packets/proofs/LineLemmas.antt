@@ -4,7 +4,7 @@ use Rattle.std.proofs.Common.{Option, Result, Ok, Err, MatchResult, if◌then◌
 use Rattle.std.specs.Io.KnownBytes.{Appends, Keeps}
 use Rattle.std.proofs.KnownBytes.{Appends-kept, Appends-trans}
 use Rattle.captures.specs.declared.translation.run_error.RunError.{RunError}
-use Rattle.captures.specs.declared.translation.skipped.Skipped.{Skipped}
+use Rattle.packets.specs.declared.run.omitted.Omitted.{Omitted}
 use Rattle.packets.specs.PacketRuns.{BreaksBy, IsWritten, Unbroken}
 use Rattle.packets.specs.Written.{AreLines, WritesLines, one_line}
 use Rattle.packets.specs.declared.dissection.Dissection.{Dissection}
@@ -145,10 +145,10 @@ module _ (describes : Dissection → List ℕ → Type 0) where
       ))
 
   -- the same after a flush
-  pub lines_flushed : (rules : Rules) (skipped : Skipped) (source first mid now : Option (List ℕ))
-      (result : Result Unit RunError) → WritesLines describes rules skipped source first mid result
-      → Keeps mid now → WritesLines describes rules skipped source first now result
-  lines_flushed rules skipped source first mid now result lines keeps = (
+  pub lines_flushed : (rules : Rules) (omitted : Omitted) (source first mid now : Option (List ℕ))
+      (result : Result Unit RunError) → WritesLines describes rules omitted source first mid result
+      → Keeps mid now → WritesLines describes rules omitted source first now result
+  lines_flushed rules omitted source first mid now result lines keeps = (
     lines.0,
     lines.1,
     lines.2,
@@ -159,6 +159,7 @@ module _ (describes : Dissection → List ℕ → Type 0) where
     lines.7,
     lines.8,
     lines.9,
-    Appends-kept first mid now lines.9 lines.10 keeps,
-    lines.11,
+    lines.10,
+    Appends-kept first mid now lines.10 lines.11 keeps,
+    lines.12,
   )

@@ -29,7 +29,7 @@ use Rattle.packets.specs.declared.datagrams.Finding.{Finding}
 use Rattle.packets.specs.declared.datagrams.Datagrams.{Datagrams}
 use Rattle.packets.specs.declared.datagrams.Received.{Received}
 
-abbrev same : IpFragId ℕ → IpFragId ℕ → Bool
+abbrev pub same : IpFragId ℕ → IpFragId ℕ → Bool
 same = same_id nat_eq
 
 abbrev timestamp : {T : Type 0} → Reassembly T → T
@@ -38,7 +38,7 @@ timestamp s = s.timestamp
 abbrev first : Received → ℕ
 first r = r.first
 
-abbrev last : Received → ℕ
+abbrev pub last : Received → ℕ
 last r = r.last
 
 -- where a datagram started, by what the pool keeps of it
@@ -79,7 +79,8 @@ pub retained_started : (answers : Received → Bool → Type 0) (old new : Optio
 retained_started answers old new number h kept = grind arith
 
 -- what of the reassemblies is kept after a test, whatever it is
-pub forgotten_started : (answers : Received → Bool → Type 0) (old new : Datagrams) (started : Started)
+pub forgotten_started : {S H : Type 0} (answers : Received → Bool → Type 0)
+    (old new : Datagrams S H) (started : Started)
     → ((q : IpFragId ℕ) → Retained answers (reassembly_at same old.pool q) (reassembly_at same new.pool q))
     → ShowsStarted old started → ShowsStarted new started
 forgotten_started answers old new started retained kept name channel =
@@ -88,9 +89,9 @@ forgotten_started answers old new started retained kept name channel =
     (retained (id_named name channel)) (kept name channel)
 
 -- a fragment of a name
-module _ (parts : (a b : FragmentName) (x y : ℕ)
+module _ {S H : Type 0} (parts : (a b : FragmentName) (x y : ℕ)
     → same (id_named a x) (id_named b y) ≡ (same_name a b && (x == y)))
-    (alike : (a b : FragmentName) → IsTrue (same_name a b) ↔ (a ≡ b)) (old new : Datagrams)
+    (alike : (a b : FragmentName) → IsTrue (same_name a b) ↔ (a ≡ b)) (old new : Datagrams S H)
     (lists : Lists) (started : Started) (name : FragmentName) (offset : ℕ) (more : Bool)
     (bytes : List ℕ) (channel number : ℕ)
     (result : Result (Option IpDefragPayloadVec) IpDefragError)
@@ -163,12 +164,12 @@ module _ (parts : (a b : FragmentName) (x y : ℕ)
         if_refused (Err e) lacks stays = refused_started e stays
 
 -- the rule of a name is that of its addresses
-rule_named : (addresses : Addresses) (identification : ℕ)
+pub rule_named : (addresses : Addresses) (identification : ℕ)
     → overlap_rule_of (spec_id addresses identification) ≡ rule_over addresses
 rule_named addresses identification = grind arith
 
 -- the same by the clauses of the pool
-module _ (parts : (a b : FragmentName) (x y : ℕ)
+module _ {S H : Type 0} (parts : (a b : FragmentName) (x y : ℕ)
     → same (id_named a x) (id_named b y) ≡ (same_name a b && (x == y)))
     (alike : (a b : FragmentName) → IsTrue (same_name a b) ↔ (a ≡ b))
     (times : (read : Received → ℕ) (pool : Pool (IpFragId ℕ) Received) (id : IpFragId ℕ)
@@ -176,7 +177,7 @@ module _ (parts : (a b : FragmentName) (x y : ℕ)
     (shown : (read : Received → ℕ) (rule : OverlapRule) (pool : Pool (IpFragId ℕ) Received)
     (id : IpFragId ℕ) (fs : List Fragment)
     → ShowsReassembly rule (reassembly_at same (pool_by read pool) id) fs
-    ↔ ShowsReassembly rule (reassembly_at same pool id) fs) (old new : Datagrams)
+    ↔ ShowsReassembly rule (reassembly_at same pool id) fs) (old new : Datagrams S H)
     (lists : Lists) (started : Started) (name : FragmentName) (offset : ℕ) (more : Bool)
     (bytes : List ℕ) (channel number time : ℕ)
     (result : Result (Option IpDefragPayloadVec) IpDefragError) (before : Option Received)

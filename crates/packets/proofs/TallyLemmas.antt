@@ -33,12 +33,16 @@ filter-more : {X : Type 0} (p : X → Bool) (xs : List X) (x : X) → p x ≡ tr
     → filter p (xs ++ x ∷ []) ≡ filter p xs ++ x ∷ []
 filter-more p xs x h = filter-append p xs (x ∷ []) ∙ ap (λ ys. filter p xs ++ ys) (filter-end p x h)
 
+-- the sum with one element more
+pub sum_by-end : {X : Type 0} (f : X → ℕ) (xs : List X) (x : X)
+    → capped (sum_by f (xs ++ x ∷ [])) ≡ capped (capped (sum_by f xs) + f x)
+sum_by-end f xs x =
+    let more : sum_by f (xs ++ x ∷ []) ≡ sum_by f xs + f x = omega (arith, sum_by-append f xs (x ∷ [])) in
+    rw more (sym (capped-add (sum_by f xs) (f x)))
+
 sum_by-more : {X : Type 0} (f : X → ℕ) (p : X → Bool) (xs : List X) (x : X) → p x ≡ true
     → capped (sum_by f (filter p (xs ++ x ∷ []))) ≡ capped (capped (sum_by f (filter p xs)) + f x)
-sum_by-more f p xs x h =
-    let more : sum_by f (filter p (xs ++ x ∷ [])) ≡ sum_by f (filter p xs) + f x =
-    rw (filter-more p xs x h) (omega (arith, sum_by-append f (filter p xs) (x ∷ []))) in
-    rw more (sym (capped-add (sum_by f (filter p xs)) (f x)))
+sum_by-more f p xs x h = rw (filter-more p xs x h) (sum_by-end f (filter p xs) x)
 
 first-or : {X : Type 0} (f : X → ℕ) (found : Option X) (x : X)
     → option_map f (option_or found (Some x)) ≡ Some (unwrap_or (option_map f found) (f x))

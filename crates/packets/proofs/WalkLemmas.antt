@@ -24,6 +24,7 @@ use Rattle.packets.specs.declared.dissection.Dissection.{Dissection}
 use Rattle.packets.specs.declared.filter.Filter.{Filter}
 use Rattle.packets.specs.declared.outline.Outline.{Outline}
 use Rattle.packets.specs.declared.summary.summary.Summary.{Summary}
+use Rattle.packets.specs.declared.summary.verified.Verified.{Verified}
 use Rattle.packets.proofs.EndLemmas.{all_first}
 
 -- the error of a run by a reader's error
@@ -103,19 +104,19 @@ course_more forget course [] packet = refl
 course_more forget course (first ∷ later) packet =
     course_more forget (next_course forget course first) later packet
 
-pub dissected_more : (forget : Option ℕ) (course : Course) (given : List Packet)
+pub dissected_more : (checksums : Bool) (forget : Option ℕ) (course : Course) (given : List Packet)
     (reported : List Dissection) (packet : Packet) (last : Dissection)
-    → AreDissected forget course given reported
-    → IsDissected (forgotten forget packet.time (course_after forget course given)) packet last
-    → AreDissected forget course (given ++ packet ∷ []) (reported ++ last ∷ [])
-dissected_more forget course [] reported packet last are is =
+    → AreDissected checksums forget course given reported
+    → IsDissected checksums (forgotten forget packet.time (course_after forget course given)) packet last
+    → AreDissected checksums forget course (given ++ packet ∷ []) (reported ++ last ∷ [])
+dissected_more checksums forget course [] reported packet last are is =
     (last, [], ap (λ (l : List Dissection). l ++ last ∷ []) are, is, refl)
-dissected_more forget course (first ∷ later) reported packet last are is = (
+dissected_more checksums forget course (first ∷ later) reported packet last are is = (
   are.0,
   are.1 ++ last ∷ [],
   ap (λ (l : List Dissection). l ++ last ∷ []) are.2,
   are.3,
-  dissected_more forget (next_course forget course first) later are.1 packet last are.4 is,
+  dissected_more checksums forget (next_course forget course first) later are.1 packet last are.4 is,
 )
 
 pub shown_more : (conditions : Filter) (reported : List Dissection) (last : Dissection)
@@ -124,21 +125,23 @@ pub shown_more : (conditions : Filter) (reported : List Dissection) (last : Diss
 shown_more conditions reported last = filter-append (lets_through conditions) reported (last ∷ [])
 
 pub counted_none : {S H : Type 0} (same_reason : Reason → Reason → Bool)
-    (same_addresses : Addresses → Addresses → Bool) (summary : Summary S H)
-    (counted : List Outline) → Counts same_reason same_addresses summary counted
-    → Counts same_reason same_addresses summary (counted ++ [])
-counted_none same_reason same_addresses summary counted =
-    subst (λ (packets : List Outline). Counts same_reason same_addresses summary packets)
+    (same_addresses : Addresses → Addresses → Bool)
+    (same_verified : Verified → Verified → Bool) (summary : Summary S H)
+    (counted : List Outline) → Counts same_reason same_addresses same_verified summary counted
+    → Counts same_reason same_addresses same_verified summary (counted ++ [])
+counted_none same_reason same_addresses same_verified summary counted =
+    subst (λ (packets : List Outline). Counts same_reason same_addresses same_verified summary packets)
     (sym (append-nil counted))
 
 pub counted_more : {S H : Type 0} (same_reason : Reason → Reason → Bool)
-    (same_addresses : Addresses → Addresses → Bool) (summary : Summary S H)
+    (same_addresses : Addresses → Addresses → Bool)
+    (same_verified : Verified → Verified → Bool) (summary : Summary S H)
     (counted : List Outline) (seen : List Dissection) (packet : Dissection)
-    → Counts same_reason same_addresses summary
+    → Counts same_reason same_addresses same_verified summary
     ((counted ++ map outline_of seen) ++ outline_of packet ∷ [])
-    → Counts same_reason same_addresses summary
+    → Counts same_reason same_addresses same_verified summary
     (counted ++ map outline_of (seen ++ packet ∷ []))
-counted_more same_reason same_addresses summary counted seen packet =
-    subst (λ (packets : List Outline). Counts same_reason same_addresses summary packets)
+counted_more same_reason same_addresses same_verified summary counted seen packet =
+    subst (λ (packets : List Outline). Counts same_reason same_addresses same_verified summary packets)
     (sym (ap (λ (l : List Outline). counted ++ l) (map-append outline_of seen (packet ∷ []))
     ∙ sym (append_assoc counted (map outline_of seen) (outline_of packet ∷ []))))

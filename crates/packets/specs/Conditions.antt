@@ -20,6 +20,7 @@ use Rattle.ep_tcpudp.specs.Tcp as tcp
 use Rattle.ep_tcpudp.specs.Udp as udp
 use Rattle.packets.specs.Counts.{is_bad}
 use Rattle.packets.specs.Headers.{has_header}
+use Rattle.packets.specs.Lengths.{is_cut}
 use Rattle.packets.specs.Outlines.{headers_of, refusal_of}
 use Rattle.packets.specs.declared.dissection.Dissection.{Dissection}
 use Rattle.packets.specs.declared.dissection.Fragment.{Fragment}
@@ -103,6 +104,7 @@ holds (condition.Protocol protocol) packet =
 holds condition.Bad packet = is_bad packet.verdict
 holds condition.Refused packet = is_some (refusal_of packet.layers packet.fragment)
 holds condition.Fragment packet = is_some packet.fragment
+holds condition.Cut packet = is_cut packet.captured_len packet.wire_len
 holds (condition.Host address) packet = has_host packet.layers address
 holds (condition.Port port) packet = has_port packet.layers packet.fragment port
 

@@ -1,10 +1,12 @@
 -- What a summary counts.
 use Rattle.std.specs.Prelude.{◌≡◌, Bool, true, false, List, Option, Some, None, is_some}
 use Rattle.ep_packet.specs.declared.addresses.Addresses.{Addresses}
+use Rattle.ep_packet.specs.declared.addresses.Addresses.TheVariants.{V4, V6}
 use Rattle.header_descriptions.specs.declared.protocol.Protocol.{Protocol}
 use Rattle.header_descriptions.specs.declared.protocol.Protocol.TheVariants.{Ethernet, Vlan, Macsec, Arp, Ipv4, Ipv6}
 use Rattle.packets.specs.declared.reason.Reason.{Reason}
 use Rattle.packets.specs.Headers.{has_header, net_addresses}
+use Rattle.packets.specs.Lengths.{CountsLengths}
 use Rattle.packets.specs.Numbers.{CountsNumbers}
 use Rattle.packets.specs.Rate.{CountsSpans}
 use Rattle.packets.specs.Sizes.{CountsSizes}
@@ -19,6 +21,8 @@ use Rattle.packets.specs.declared.summary.summary.ChecksumTallies.{ChecksumTalli
 use Rattle.packets.specs.declared.summary.summary.FragmentTallies.{FragmentTallies}
 use Rattle.packets.specs.declared.summary.summary.ProtocolTallies.{ProtocolTallies}
 use Rattle.packets.specs.declared.summary.summary.Summary.{Summary}
+use Rattle.packets.specs.declared.summary.verified.Verified.{Verified}
+use Rattle.packets.specs.declared.summary.verified.Verified.TheVariants as verified
 
 abbrev pub has : Protocol → Outline → Bool
 has protocol packet = has_header packet.headers protocol
@@ -51,6 +55,22 @@ is_unchecked (Some verdict.Good) = false
 is_unchecked (Some verdict.Bad) = false
 is_unchecked (Some verdict.None) = true
 
+-- the sender of a packet with these addresses, and whether its checksum is bad
+abbrev pub sent_by : Option Addresses → Bool → Option Verified
+sent_by None is_bad = None
+sent_by (Some (V4 source destination)) is_bad = Some (verified.V4 source is_bad)
+sent_by (Some (V6 source destination)) is_bad = Some (verified.V6 source is_bad)
+
+abbrev pub verified_by : Option Verdict → Option Addresses → Option Verified
+verified_by None addresses = None
+verified_by (Some verdict.Good) addresses = sent_by addresses false
+verified_by (Some verdict.Bad) addresses = sent_by addresses true
+verified_by (Some verdict.None) addresses = None
+
+-- of a packet, if its checksum is good or bad
+abbrev pub verified_of : Outline → Option Verified
+verified_of packet = verified_by packet.verdict (net_addresses packet.headers.net)
+
 -- the packets of which a message was read, by the verdict on its checksum
 pub record CountsChecksums (tallies : ChecksumTallies) (packets : List Outline) : Type 0 where
   pub good : tallies.good ≡ tally_of (λ packet. is_good packet.verdict) packets
@@ -77,8 +97,8 @@ pub record CountsFragments (tallies : FragmentTallies) (packets : List Outline) 
 
 -- the summary is of these packets: each tally of those that are of its kind
 pub record Counts {S H : Type 0} (same_reason : Reason → Reason → Bool)
-    (same_addresses : Addresses → Addresses → Bool) (summary : Summary S H) (packets : List Outline)
-    : Type 0 where
+    (same_addresses : Addresses → Addresses → Bool) (same_verified : Verified → Verified → Bool)
+    (summary : Summary S H) (packets : List Outline) : Type 0 where
   pub all : summary.all ≡ tally_of (λ packet. true) packets
   pub refused : summary.refused ≡ tally_of (λ packet. is_some packet.refusal) packets
   pub protocols : CountsProtocols summary.protocols packets
@@ -86,6 +106,8 @@ pub record Counts {S H : Type 0} (same_reason : Reason → Reason → Bool)
   pub parts : CountsFragments summary.parts packets
   pub sizes : CountsSizes summary.sizes packets
   pub rate : CountsSpans summary.rate packets
+  pub lengths : CountsLengths summary.lengths packets
   pub reasons : CountsKeys same_reason (λ packet. packet.refusal) summary.reasons packets
   pub talkers : CountsKeys same_addresses (λ packet. net_addresses packet.headers.net)
       summary.talkers packets
+  pub senders : CountsKeys same_verified verified_of summary.senders packets

@@ -1,10 +1,18 @@
 -- Packets of literal bytes, which the examples dissect and count.
 use Rattle.std.specs.Prelude.{ℕ, ◌+◌, ◌*◌, ◌++◌, true, false, List, [], ◌∷◌, Option, Some, None, replicate}
 use Rattle.ep_base.specs.declared.err.layer.Layer.TheVariants.{Ipv4Header}
+use Rattle.ep_base.specs.declared.len_source.LenSource.TheVariants as source
+use Rattle.ep_ipslice.specs.Packet.{Ipv6Packet}
 use Rattle.ep_packet.specs.declared.addresses.Addresses.{Addresses}
 use Rattle.ep_packet.specs.declared.addresses.Addresses.TheVariants.{V4, V6}
+use Rattle.ep_packet.specs.declared.net.net_slice.NetSlice.{NetSlice}
+use Rattle.ep_packet.specs.declared.sliced_packet.SlicedPacket.{SlicedPacket}
+use Rattle.ep_packet.specs.declared.transport.transport_slice.TransportSlice.TheVariants as transport
+use Rattle.ep_packet.specs.Class.{FragmentName}
+use Rattle.etherparse.specs.Fragments.{fragment as first_of}
+use Rattle.etherparse.specs.PoolCalls.{Lists}
+use Rattle.packets.specs.ReassemblyMemory.{Order}
 use Rattle.packets.specs.declared.outline.Headers.{Headers}
-use Rattle.packets.specs.declared.outline.Net.{Net}
 use Rattle.packets.specs.declared.outline.Net.TheVariants as net
 use Rattle.packets.specs.declared.outline.Outline.{Outline}
 use Rattle.packets.specs.declared.outline.FragmentState.{FragmentState}
@@ -38,6 +46,44 @@ abbrev pub ipv6_header : List ℕ
 ipv6_header =
     0x60 ∷ 0 ∷ 0 ∷ 0 ∷ 0 ∷ 12 ∷ 17 ∷ 64 ∷ 0x20 ∷ 1 ∷ 0x0d ∷ 0xb8 ∷ (replicate 11 0
     ++ (1 ∷ 0x20 ∷ 1 ∷ 0x0d ∷ 0xb8 ∷ (replicate 11 0 ++ 2 ∷ [])))
+
+-- an IPv4 header to 10.0.0.2 with 12 bytes of options, of a packet with 12 bytes of UDP
+abbrev pub ipv4_with_options : List ℕ → List ℕ
+ipv4_with_options options =
+    0x48 ∷ 0 ∷ 0 ∷ 44 ∷ 0 ∷ 1 ∷ 0 ∷ 0 ∷ 64 ∷ 17 ∷ 0 ∷ 0 ∷ 10 ∷ 0 ∷ 0 ∷ 1 ∷ 10 ∷ 0 ∷ 0 ∷ 2 ∷ options
+
+-- an address of the network 2001:db8::
+abbrev pub ipv6_address : (last : ℕ) → List ℕ
+ipv6_address last = 0x20 ∷ 1 ∷ 0x0d ∷ 0xb8 ∷ (replicate 11 0 ++ last ∷ [])
+
+-- a routing header (RFC 8200, section 4.4) before UDP, by its length in units of 8 bytes, its type,
+-- how many segments are left, and the byte after these
+abbrev pub routing_header : (units kind left entry : ℕ) → List ℕ → List ℕ
+routing_header units kind left entry addresses =
+    17 ∷ units ∷ kind ∷ left ∷ entry ∷ 0 ∷ 0 ∷ 0 ∷ addresses
+
+-- an IPv6 packet to 2001:db8::2 of these extension headers, the first of which is a routing header,
+-- and 12 bytes of UDP
+abbrev pub ipv6_with_routing : List ℕ → List ℕ → Ipv6Packet
+ipv6_with_routing extensions datagram = record {
+  header = 0x60 ∷ 0 ∷ 0 ∷ 0 ∷ 0 ∷ 0 ∷ 43 ∷ 64 ∷ (ipv6_address 1 ++ ipv6_address 2);
+  exts = record { first_header = Some (record { 0 = 43 }); fragmented = false; slice = extensions };
+  payload = record {
+    ip_number = record { 0 = 17 };
+    fragmented = false;
+    len_source = source.Ipv6HeaderPayloadLen;
+    payload = datagram;
+  };
+}
+
+-- the layers of an IP packet with a UDP datagram
+abbrev pub packet_over : NetSlice → List ℕ → SlicedPacket
+packet_over layer datagram = record {
+  link = None;
+  link_exts = record { items = [] };
+  net = Some layer;
+  transport = Some (transport.Udp datagram);
+}
 
 -- ARP packets (RFC 826) in which 10.0.0.1 requests the hardware address of 10.0.0.2: of Ethernet
 -- for IPv4; of IEEE 802, hardware type 6; for the addresses of protocol 0x1234; and of ARCNET,
@@ -83,11 +129,18 @@ message number position len headers reported = record {
   number = number;
   time = 1700000000250000000 + 125000000 * position;
   len = len;
+  captured_len = len;
+  wire_len = len;
   headers = headers;
   refusal = None;
   fragment = None;
   verdict = reported;
 }
+
+-- so many of its bytes were captured, of which all were in its frame, and so many were on the wire
+abbrev pub sized : (number captured_len wire_len : ℕ) → Outline
+sized number captured_len wire_len =
+    record (message number 0 captured_len no_headers None) { wire_len = wire_len }
 
 abbrev pub outline_of_fragment : (number position : ℕ) → FragmentState → Option Verdict → Outline
 outline_of_fragment number position state reported =
@@ -111,3 +164,19 @@ page = message 1 0 54 (headers_over ipv4_ends 6) (Some verdict.Good)
 
 abbrev pub tally : (packets bytes first : ℕ) → Tally
 tally packets bytes first = record { packets = packets; bytes = bytes; first = Some first }
+
+-- ---- datagrams that are not complete
+
+-- from 10.0.0.1 to 10.0.0.2, of UDP, with this identification
+abbrev pub named : (identification : ℕ) → FragmentName
+named identification =
+    record { vlan_ids = []; addresses = ipv4_ends; identification = identification; number = 17 }
+
+-- each has its first 8 bytes
+abbrev pub eight_bytes : Lists
+eight_bytes name channel =
+    record { fragments = first_of 0 true (replicate 8 1) ∷ []; time = 0 }
+
+-- three in the order in which they started
+abbrev pub three_datagrams : Order
+three_datagrams = (named 1, 0) ∷ (named 2, 0) ∷ (named 3, 0) ∷ []

@@ -1,3 +1,4 @@
+pub mod SourceRoute
 pub mod Started
 pub mod Conditions
 pub mod Counts
@@ -7,10 +8,13 @@ pub mod Examples
 pub mod Forgetting
 pub mod Headers
 pub mod Layers
+pub mod Lengths
+pub mod Limits
 pub mod Numbers
 pub mod Outlines
 pub mod PacketRuns
 pub mod Rate
+pub mod ReassemblyMemory
 pub mod Reasons
 pub mod Sizes
 pub mod Table

@@ -31,7 +31,7 @@ is_ethernet Null = false
 is_ethernet Loop = false
 is_ethernet Sll = false
 is_ethernet Sll2 = false
-is_ethernet Other = false
+is_ethernet (Other number) = false
 
 abbrev pub is_vlan : LinkExtSlice → Bool
 is_vlan (Vlan bytes) = true
@@ -93,6 +93,8 @@ outline_of packet = record {
   number = packet.number;
   time = packet.time;
   len = packet.len;
+  captured_len = packet.captured_len;
+  wire_len = packet.wire_len;
   headers = headers_of packet.link packet.layers;
   refusal = refusal_of packet.layers packet.fragment;
   fragment = fragment_state_of packet.fragment;

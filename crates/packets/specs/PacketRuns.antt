@@ -1,5 +1,6 @@
 -- Runs over the packets of a capture, and how they end.
-use Rattle.std.specs.Prelude.{◌≡◌, ◌⊎◌, ℕ, ◌-◌, ◌^◌, ◌≤◌, Bool, true, List, ◌++◌, length, map, Option, Result, Ok, Err}
+use Rattle.std.specs.Prelude.{◌≡◌, ◌⊎◌, ℕ, ◌-◌, ◌^◌, ◌≤◌, Bool, true, List, [], ◌∷◌, ◌++◌, length, map, Option, Some}
+use Rattle.std.specs.Prelude.{Result, Ok, Err, MatchResult}
 use Rattle.std.specs.Io.KnownBytes.{IsAtEnd}
 use Rattle.captures.specs.PacketSteps.{Gives, taken_of}
 use Rattle.captures.specs.Readers.{AreGiven, IsRefusedAt}
@@ -14,6 +15,8 @@ use Rattle.captures.specs.declared.translation.skipped.Skipped.{Skipped}
 use Rattle.captures.specs.declared.translation.state.State.{State}
 use Rattle.captures.specs.declared.translation.state.State.TheVariants.{Start}
 use Rattle.captures.specs.declared.unfit.Unfit.{Unfit}
+use Rattle.packets.specs.Limits.{AreFewer, AreInTime, first_time, is_late}
+use Rattle.packets.specs.declared.run.rules.Rules.{Rules}
 
 -- these are the first packets of the bytes, each once and in their order; so many were passed over
 abbrev pub AreFirst : Unfit → Skipped → List ℕ → List Packet → Type 0
@@ -31,9 +34,9 @@ abbrev pub AreTaken : Unfit → Skipped → List ℕ → List Packet → Type 0
 AreTaken unfit skipped read given = AreButLast unfit skipped read given
     ⊎ IsCapture unfit read (map taken_of given) skipped
 
--- a run with this result has read these bytes, of which it was given these packets and passed over
--- so many: all of a whole capture; all before a refusal or a failed read; or some. Only a run that
--- writes ends by a write
+-- a run with this result that came to no limit has read these bytes, of which it was given these
+-- packets and passed over so many: all of a whole capture; all before a refusal or a failed read; or
+-- some. Only a run that writes ends by a write
 abbrev pub EndsBy : (writes : Bool) → Unfit → Skipped → (left : Option (List ℕ)) → (read : List ℕ)
     → (given : List Packet) → Result Unit RunError → Type 0
 EndsBy writes unfit skipped left read given (Ok done) =
@@ -87,3 +90,20 @@ BreaksBy writes Memory Breaks = ⊥
 BreaksBy writes TooManyReads Breaks = ⊥
 BreaksBy writes (Capture error position) Breaks = ⊥
 BreaksBy writes (BadLine number) Breaks = ⊥
+
+-- these are the packets up to a limit: as many as the rules permit, or all before one that comes too
+-- late; so many were passed over by then
+abbrev pub AreUpToLimit : Rules → Skipped → (read : List ℕ) → (given : List Packet) → Type 0
+AreUpToLimit rules skipped read given =
+    (AreFirst rules.unfit skipped read given × (rules.count ≡ Some (length given)))
+    ⊎ ((late : Packet) × AreFirst rules.unfit skipped read (given ++ late ∷ [])
+    × (is_late rules.duration (first_time given) late.time ≡ true) × AreFewer rules.count given)
+
+-- a run by these rules with this result has read these bytes, of which it was given these packets,
+-- none of them too late: it came to no limit; or to one, and then only a write fails
+abbrev pub EndsWithin : (writes : Bool) → Rules → Skipped → (left : Option (List ℕ))
+    → (read : List ℕ) → (given : List Packet) → Result Unit RunError → Type 0
+EndsWithin writes rules skipped left read given result = AreInTime rules.duration given
+    × ((AreFewer rules.count given × EndsBy writes rules.unfit skipped left read given result)
+    ⊎ (AreUpToLimit rules skipped read given
+    × MatchResult result (λ done. Unit {0}) (λ error. BreaksBy writes error (Unit {0}))))

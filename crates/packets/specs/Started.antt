@@ -73,18 +73,18 @@ received_with number time before = record {
 }
 
 -- the pool shows the accepted fragments of each datagram, and when the last of them came
-abbrev pub ShowsFragments : Datagrams → Lists → Type 0
+abbrev pub ShowsFragments : {S H : Type 0} → Datagrams S H → Lists → Type 0
 ShowsFragments datagrams lists = ShowsLists (pool_by (λ (r : Received). r.last) datagrams.pool) lists
 
 -- and of each datagram whose fragments wait, in which packet it started
-abbrev pub ShowsStarted : Datagrams → Started → Type 0
+abbrev pub ShowsStarted : {S H : Type 0} → Datagrams S H → Started → Type 0
 ShowsStarted datagrams started = (name : FragmentName) (channel : ℕ)
     → IfSome (timestamp_at (same_id nat_eq) datagrams.pool (id_named name channel))
     (λ r. r.first ≡ started name channel)
 
 -- the packet of this number and class, which came on this channel, reports where its datagram
 -- started, and that is kept; or memory ran out, and what was kept stays
-abbrev pub AnswersStarted : {E : Type 0} → (old new : Datagrams) → Class
+abbrev pub AnswersStarted : {E S H : Type 0} → (old new : Datagrams S H) → Class
     → (channel number : ℕ) → Result Finding E → Type 0
 AnswersStarted old new class channel number result = (lists : Lists) (started : Started)
     → ShowsFragments old lists → ShowsStarted old started

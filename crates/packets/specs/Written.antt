@@ -3,10 +3,10 @@ use Rattle.std.specs.Prelude.{◌≡◌, ℕ, ◌==◌, not, true, List, [], ◌
 use Rattle.std.specs.Io.KnownBytes.{Appends, Consumes}
 use Rattle.captures.specs.declared.packet.Packet.{Packet}
 use Rattle.captures.specs.declared.translation.run_error.RunError.{RunError}
-use Rattle.captures.specs.declared.translation.skipped.Skipped.{Skipped}
-use Rattle.packets.specs.Courses.{AreDissected, no_course, shown}
-use Rattle.packets.specs.PacketRuns.{EndsBy, IsWritten}
+use Rattle.packets.specs.Courses.{AreDissected, course_after, no_course, shown}
+use Rattle.packets.specs.PacketRuns.{EndsWithin, IsWritten}
 use Rattle.packets.specs.declared.dissection.Dissection.{Dissection}
+use Rattle.packets.specs.declared.run.omitted.Omitted.{Omitted}
 use Rattle.packets.specs.declared.run.rules.Rules.{Rules}
 
 -- a line: a text without ends of lines, and its own end
@@ -19,13 +19,15 @@ AreLines describes [] text = text ≡ []
 AreLines describes (packet ∷ packets) text = (line : List ℕ) × (later : List ℕ)
     × (text ≡ one_line line ++ later) × describes packet line × AreLines describes packets later
 
--- a run with this result read from the source, passed over so many packets, and wrote after the
--- first bytes the lines of those that its rules let through
-abbrev pub WritesLines : (Dissection → List ℕ → Type 0) → Rules → Skipped
+-- a run with this result read from the source, left this out, and wrote after the first bytes the
+-- lines of those packets that its rules let through
+abbrev pub WritesLines : (Dissection → List ℕ → Type 0) → Rules → Omitted
     → (source first now : Option (List ℕ)) → Result Unit RunError → Type 0
-WritesLines describes rules skipped source first now result = (read : List ℕ)
+WritesLines describes rules omitted source first now result = (read : List ℕ)
     × (left : Option (List ℕ)) × (given : List Packet) × (reported : List Dissection)
-    × Consumes source left read × EndsBy true rules.unfit skipped left read given result
-    × AreDissected rules.forget no_course given reported × (text : List ℕ)
+    × Consumes source left read × EndsWithin true rules omitted.skipped left read given result
+    × (omitted.dropped ≡ (course_after rules.forget (no_course rules.reassembly_memory) given).dropped)
+    × AreDissected rules.checksums rules.forget (no_course rules.reassembly_memory) given reported
+    × (text : List ℕ)
     × AreLines describes (shown rules.filter reported) text × (written : List ℕ)
     × Appends first now written × IsWritten result text written

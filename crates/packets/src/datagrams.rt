@@ -1,39 +1,46 @@
 //! The reassembly of datagrams from their fragments.
-ghost use Rattle.std.specs.Prelude.{◌≡◌, ℕ, None, Some, IsSomeAnd, Ok, IfOk, Option, option_map, nat_eq, nat_le};
-ghost use Rattle.etherparse.specs.IpDefragPool.{payload_parsed, same_id};
+ghost use Rattle.std.specs.Prelude.{◌≡◌, ◌<◌, ℕ, true, [], length, None, Some, IsSomeAnd, Ok, IfOk, Option, option_map, nat_eq, nat_le};
+ghost use Rattle.etherparse.specs.IpDefragPool.{same_id};
 ghost use Rattle.etherparse.specs.declared.defrag.ip_frag_id.IpFragId.{IpFragId};
 ghost use Rattle.etherparse.specs.ReassemblyTable.{Retained, reassembly_at};
 ghost use Rattle.etherparse.specs.OpenReassemblies.{IsOpenCount};
 ghost use Rattle.etherparse.specs.PoolCalls.{Lists, fault_in, no_lists, retained_from, as_call_result};
-ghost use Rattle.etherparse.specs.PoolCalls.CallResult.{Delivered};
 ghost use Rattle.ep_packet.specs.Class.{IdentificationFits, as_class, sliced_class, packet_parsed};
 ghost use Rattle.ep_packet.specs.Readable.{message_at};
 ghost use Rattle.ep_packet.specs.declared.class.Class.TheVariants as class;
 ghost use Rattle.packets.specs.Started.{AnswersStarted, BeganIn, Started, ShowsStarted, ShowsFragments, none_started};
 ghost use Rattle.packets.specs.Started.{received_with};
+ghost use Rattle.packets.specs.ReassemblyMemory.{AnswersOrder, DropsOldest, KeepsWithin, Order, ShowsOrder, beside_bytes, taken};
+ghost use Rattle.packets.specs.ReassemblyMemory.{order_of_waiting};
+ghost use Rattle.etherparse.specs.Starts.{names_there};
 ghost use Rattle.packets.specs.Dissected.{Answers, IsFound, completed_verdict, found_reported, fragment_result};
 ghost use Rattle.packets.specs.Dissected.{is_out_of_memory, result_if_found, verdict_if_read, verdict_on};
 
 use crate::Fragment;
-use checksum_verdicts::{Verdict, judge};
+use crate::verification::Verification;
+use checksum_verdicts::Verdict;
 use ep_packet::err::packet::SliceError;
 use ep_packet::{Addresses, Class, IpFragment, SlicedPacket, read_message};
 use etherparse::defrag::{IpDefragError, IpDefragPayloadVec, IpDefragPool};
 use etherparse::laws::defrag::names::equal_names;
 use etherparse::laws::defrag::reassemblies::{
     a_new_pool_shows_no_lists, memory_errors_are_reported, open_reassemblies_are_counted,
-    packets_are_answered, spare_buffers_show_nothing,
+    packets_are_answered,
 };
 use etherparse::laws::defrag::timestamps::{
     processed_packets_are_read, read_pools_have_as_many_reassemblies, retained_lists_are_read,
     timestamps_are_read,
 };
 use std::alloc::{AllocError, Global};
+use std::hash::{BuildHasher, BuildHasherDefault, FoldHasher};
+
+// What a datagram that is not complete takes beside its bytes, about.
+const BESIDE_BYTES: u128 = 640;
 
 /// The reassemblies.
 #[derive(Drop)]
-pub(crate) struct Datagrams {
-    pub pool: IpDefragPool<Received, u32>,
+pub(crate) struct Datagrams<S: BuildHasher = BuildHasherDefault<FoldHasher>> {
+    pub pool: IpDefragPool<Received, u32, S>,
 }
 
 /// Of a reassembly, the number of the packet whose fragment came first, and when the fragment came
@@ -91,35 +98,37 @@ impl Finding {
         }
     }
 
-    fn of_fragment(fragment: Fragment) -> Finding
+    fn of_fragment(fragment: Fragment, verdict: Option<Verdict>) -> Finding
         ensures fragment { result.fragment ≡ Some fragment }
-        ensures verdict { result.verdict ≡ None }
+        ensures verdict { result.verdict ≡ verdict }
     {
         Finding {
             fragment: Some(fragment),
-            verdict: None,
+            verdict,
         }
     }
 }
 
-impl Datagrams {
-    /// No fragment waits. It takes no memory.
-    pub(crate) fn new(alloc: Global) -> Datagrams
+impl<S: BuildHasher> Datagrams<S> {
+    /// No fragment waits. The names of datagrams are hashed by this state. It takes no memory.
+    pub(crate) fn with_hasher(alloc: Global, state: S) -> Datagrams<S>
         ensures lists { ShowsFragments result no_lists }
         ensures started { ShowsStarted result none_started }
+        ensures order { ShowsOrder result [] }
     {
         a_new_pool_shows_no_lists();
         Datagrams {
-            pool: IpDefragPool::new(alloc),
+            pool: IpDefragPool::with_hasher(alloc, state),
         }
     }
 
-    /// Takes a packet with these headers. It gives the verdict on its checksum and, if it is a
-    /// fragment, what became of it. Where there is no memory for a fragment, the reassemblies are
+    /// Takes a packet with these headers. It gives the verdict on its checksum, verified so, and, if
+    /// it is a fragment, what became of it. Where there is no memory for a fragment, the reassemblies are
     /// as they were.
     pub(crate) fn take(
         &mut self,
         layers: &Result<SlicedPacket<'_>, SliceError>,
+        verification: Verification,
         arrival: Arrival,
     ) -> Result<Finding, AllocError>
         ensures answers { Answers self.old self.new (sliced_class layers.now)
@@ -127,11 +136,13 @@ impl Datagrams {
             (result_if_found layers.now result) }
         ensures started { AnswersStarted self.old self.new (sliced_class layers.now)
             arrival.interface arrival.number result }
+        ensures order { AnswersOrder self.old self.new (sliced_class layers.now)
+            arrival.time arrival.interface result }
         ensures verdict { IfOk result (λ finding. finding.verdict
-            ≡ verdict_on (sliced_class layers.now) (fragment_result finding.fragment)) }
+            ≡ verdict_on verification (sliced_class layers.now) (fragment_result finding.fragment)) }
     {
         match layers {
-            Ok(layers) => self.take_packet(layers, arrival),
+            Ok(layers) => self.take_packet(layers, verification, arrival),
             Err(_) => Ok(Finding::nothing()),
         }
     }
@@ -139,21 +150,24 @@ impl Datagrams {
     fn take_packet(
         &mut self,
         layers: &SlicedPacket<'_>,
+        verification: Verification,
         arrival: Arrival,
     ) -> Result<Finding, AllocError>
         ensures answers { Answers self.old self.new (packet_parsed layers.now)
             arrival.time arrival.interface None (result_if_found (Ok layers.now) result) }
         ensures started { AnswersStarted self.old self.new (packet_parsed layers.now)
             arrival.interface arrival.number result }
+        ensures order { AnswersOrder self.old self.new (packet_parsed layers.now)
+            arrival.time arrival.interface result }
         ensures verdict { IfOk result (λ finding. finding.verdict
-            ≡ verdict_on (packet_parsed layers.now) (fragment_result finding.fragment)) }
+            ≡ verdict_on verification (packet_parsed layers.now) (fragment_result finding.fragment)) }
     {
         match layers.class() {
             Class::Whole(message) => Ok(Finding {
                 fragment: None,
-                verdict: Some(judge(&message.addresses, &message.message)),
+                verdict: verification.judge(&message.addresses, &message.message),
             }),
-            Class::Cut(message) => self.take_fragment(message, arrival),
+            Class::Cut(message) => self.take_fragment(message, verification, arrival),
             Class::Other => Ok(Finding::nothing()),
             Class::Refused => Ok(Finding::nothing()),
         }
@@ -163,6 +177,7 @@ impl Datagrams {
     fn take_fragment(
         &mut self,
         message: IpFragment<'_>,
+        verification: Verification,
         arrival: Arrival,
     ) -> Result<Finding, AllocError>
         requires { IdentificationFits message.addresses message.identification }
@@ -170,8 +185,11 @@ impl Datagrams {
             arrival.time arrival.interface None (found_reported result) }
         ensures started { AnswersStarted self.old self.new (as_class (class.Cut message.entry))
             arrival.interface arrival.number result }
+        ensures order { AnswersOrder self.old self.new (as_class (class.Cut message.entry))
+            arrival.time arrival.interface result }
         ensures verdict { IfOk result (λ finding. finding.verdict
-            ≡ verdict_on (as_class (class.Cut message.entry)) (fragment_result finding.fragment)) }
+            ≡ verdict_on verification (as_class (class.Cut message.entry))
+            (fragment_result finding.fragment)) }
     {
         equal_names::<u32>();
         packets_are_answered();
@@ -185,17 +203,8 @@ impl Datagrams {
             arrival.interface,
         );
         let known = first_in(before);
-        found_in(&addresses, known, known.unwrap_or(arrival.number), outcome)
-    }
-
-    /// Takes the buffer of a reassembled datagram back, for datagrams that start later.
-    pub(crate) fn return_buf(&mut self, message: IpDefragPayloadVec)
-        ensures lists { (lists : Lists) → ShowsFragments self.old lists → ShowsFragments self.new lists }
-        ensures started { (started : Started) → ShowsStarted self.old started → ShowsStarted self.new started }
-    {
-        spare_buffers_show_nothing();
-        // A buffer for which there is no free slot is dropped.
-        drop(self.pool.return_buf(message));
+        let verdict = completed_verdict(verification, &addresses, &outcome);
+        found_in(verdict, known, known.unwrap_or(arrival.number), outcome)
     }
 
     /// How many datagrams are not complete.
@@ -212,16 +221,74 @@ impl Datagrams {
         ensures lists { (lists : Lists) → ShowsFragments self.old lists
             → ShowsFragments self.new (λ name channel. retained_from time (lists name channel)) }
         ensures started { (started : Started) → ShowsStarted self.old started → ShowsStarted self.new started }
+        ensures order { (lists : Lists) (order : Order) → ShowsFragments self.old lists
+            → ShowsOrder self.old order → ShowsOrder self.new
+            (order_of_waiting (λ name channel. retained_from time (lists name channel)) order) }
     {
         retained_lists_are_read::<Received>();
+        timestamps_are_read::<Received>();
         keep_from(&mut self.pool, time);
+        self.pool.free_spare();
+    }
+
+    /// Drops the datagrams that started first until the others take no more than so many bytes, and
+    /// returns how many.
+    pub(crate) fn keep_within(&mut self, limit: u64) -> u64
+        ensures { (lists : Lists) (order : Order) → ShowsFragments self.old lists
+            → ShowsOrder self.old order → KeepsWithin self.old self.new limit result lists order }
+    {
+        let mut dropped: u64 = 0;
+        'above: while self.taken() > u128::from(limit) {
+            if !self.drop_oldest() {
+                return dropped;
+            }
+            dropped = dropped.saturating_add(1);
+        }
+        dropped
+    }
+
+    /// Frees the buffers of datagrams that ended. One may be large, and would be taken for a small
+    /// datagram.
+    pub(crate) fn free_spare(&mut self)
+        ensures freed { (self.new.pool.spare ≡ 0) × (self.new.pool.spare_sections ≡ 0) }
+        ensures lists { (lists : Lists) → ShowsFragments self.old lists → ShowsFragments self.new lists }
+        ensures started { (started : Started) → ShowsStarted self.old started → ShowsStarted self.new started }
+        ensures order { (order : Order) → ShowsOrder self.old order → ShowsOrder self.new order }
+    {
+        self.pool.free_spare();
+    }
+
+    // How many bytes the datagrams that are not complete take.
+    fn taken(&self) -> u128
+        ensures { (lists : Lists) (order : Order) → ShowsFragments self.now lists
+            → ShowsOrder self.now order → result ≡ taken lists order }
+    {
+        timestamps_are_read::<Received>();
+        self.pool.open_bytes() as u128 + BESIDE_BYTES * self.pool.open_len() as u128
+    }
+
+    // Drops the datagram that started first, if there is one.
+    fn drop_oldest(&mut self) -> bool
+        ensures dropped { (lists : Lists) (order : Order) → ShowsFragments self.old lists
+            → ShowsOrder self.old order → DropsOldest self.old self.new lists order result }
+        ensures fewer { result ≡ true → length self.new.pool.starts < length self.old.pool.starts }
+    {
+        equal_names::<u32>();
+        timestamps_are_read::<Received>();
+        let Some(_) = self.pool.forget_oldest() else {
+            return false;
+        };
+        // A spare buffer may be large, and would be taken for a small datagram.
+        self.pool.free_spare();
+        true
     }
 }
 
 // Keeps the reassemblies of which a fragment came at this time or later.
-fn keep_from(pool: &mut IpDefragPool<Received, u32>, time: u64)
-    ensures { (id : IpFragId ℕ) → Retained (λ received stays. stays ≡ nat_le time received.last)
+fn keep_from<S: BuildHasher>(pool: &mut IpDefragPool<Received, u32, S>, time: u64)
+    ensures retained { (id : IpFragId ℕ) → Retained (λ received stays. stays ≡ nat_le time received.last)
         (reassembly_at (same_id nat_eq) pool.old id) (reassembly_at (same_id nat_eq) pool.new id) }
+    ensures starts { pool.new.starts ≡ names_there (same_id nat_eq) pool.new pool.old.starts }
 {
     // To drop reassemblies takes no memory.
     let _ = pool.retain(
@@ -231,30 +298,48 @@ fn keep_from(pool: &mut IpDefragPool<Received, u32>, time: u64)
     );
 }
 
-// What is found in a fragment of a datagram between these addresses, by what became of it: its
-// datagram is known to have started in a packet, and otherwise starts in this one.
+// The verdict on the checksum of the message that a fragment completes, if it does and the message
+// can be read.
+fn completed_verdict(
+    verification: Verification,
+    header: &Addresses,
+    outcome: &Result<Option<IpDefragPayloadVec>, IpDefragError>,
+) -> Option<Verdict>
+    ensures { result ≡ completed_verdict verification header.now (as_call_result outcome.now) }
+{
+    match outcome {
+        Ok(Some(message)) => verdict_of_whole(verification, header, message),
+        _ => None,
+    }
+}
+
+// What is found in a fragment, by what became of it: its datagram is known to have started in a
+// packet, and otherwise starts in this one.
 fn found_in(
-    addresses: &Addresses,
+    verdict: Option<Verdict>,
     known: Option<u64>,
     started: u64,
     outcome: Result<Option<IpDefragPayloadVec>, IpDefragError>,
 ) -> Result<Finding, AllocError>
     ensures reported { IsFound (as_call_result outcome) result }
     ensures started { IfOk result (λ finding. IsSomeAnd finding.fragment (BeganIn known started)) }
-    ensures verdict { IfOk result
-        (λ finding. finding.verdict ≡ completed_verdict addresses.now (as_call_result outcome)) }
+    ensures verdict { IfOk result (λ finding. finding.verdict ≡ verdict) }
 {
     match outcome {
-        Ok(None) => Ok(Finding::of_fragment(Fragment::Waits { started })),
-        Ok(Some(message)) => Ok(completed(addresses, started, message)),
+        Ok(None) => Ok(Finding::of_fragment(Fragment::Waits { started }, verdict)),
+        Ok(Some(message)) => Ok(Finding::of_fragment(
+            Fragment::Completes { started, message },
+            verdict,
+        )),
         Err(error) => {
             if is_out_of_memory(&error) {
                 return Err(AllocError);
             }
-            Ok(Finding::of_fragment(Fragment::Refused {
+            let fragment = Fragment::Refused {
                 started: known,
                 error,
-            }))
+            };
+            Ok(Finding::of_fragment(fragment, verdict))
         }
     }
 }
@@ -272,27 +357,17 @@ fn is_out_of_memory(error: &IpDefragError) -> bool
     }
 }
 
-// What is found in the fragment that completes a datagram.
-fn completed(addresses: &Addresses, started: u64, message: IpDefragPayloadVec) -> Finding
-    ensures reported { fragment_result result.fragment ≡ Delivered (payload_parsed message) }
-    ensures started { (known : Option ℕ) → IsSomeAnd result.fragment (BeganIn known started) }
-    ensures verdict { result.verdict ≡ verdict_if_read addresses.now
-        (message_at message.ip_number.0 message.payload.items) }
-{
-    let verdict = verdict_of_whole(addresses, &message);
-    Finding {
-        fragment: Some(Fragment::Completes { started, message }),
-        verdict,
-    }
-}
-
 // The verdict on the checksum of a reassembled message, if it can be read.
-fn verdict_of_whole(addresses: &Addresses, message: &IpDefragPayloadVec) -> Option<Verdict>
-    ensures { result ≡ verdict_if_read addresses.now
+fn verdict_of_whole(
+    verification: Verification,
+    header: &Addresses,
+    message: &IpDefragPayloadVec,
+) -> Option<Verdict>
+    ensures { result ≡ verdict_if_read verification header.now
         (message_at message.now.ip_number.0 message.now.payload.items) }
 {
     match read_message(message.ip_number, message.payload.as_slice()) {
-        Ok(message) => Some(judge(addresses, &message)),
+        Ok(message) => verification.judge(header, &message),
         Err(_) => None,
     }
 }

@@ -1,4 +1,6 @@
 //! A packet, dissected.
+ghost use Rattle.std.specs.Prelude.{◌≡◌};
+ghost use Rattle.packets.specs.Lengths.{is_cut};
 
 use captures::{Header, Link};
 use checksum_verdicts::Verdict;
@@ -9,7 +11,7 @@ use etherparse::defrag::{IpDefragError, IpDefragPayloadVec};
 /// A packet, dissected: what its capture states of it, its headers, and what became of it.
 #[derive(Drop)]
 pub struct Dissection<'a> {
-    /// Its number among the packets that were dissected, from 1.
+    /// Its number in the capture, from 1.
     pub number: u64,
     /// When the first packet was captured, in nanoseconds since 1970.
     pub first_time: u64,
@@ -23,6 +25,10 @@ pub struct Dissection<'a> {
     pub header: Option<Header>,
     /// The bytes of its frame, with the header that was made for it.
     pub len: usize,
+    /// How many of its bytes were captured, those of its link's own header among them.
+    pub captured_len: usize,
+    /// How many bytes it had on the wire, as its capture states.
+    pub wire_len: u32,
     /// The headers of its frame, or why it is refused. The offset of an error counts from the start
     /// of the Ethernet II frame, also where its header was made.
     pub layers: Result<SlicedPacket<'a>, SliceError>,
@@ -31,6 +37,15 @@ pub struct Dissection<'a> {
     /// The verdict on the checksum of its message, or of that which it completes. `None` where no
     /// message was read.
     pub verdict: Option<Verdict>,
+}
+
+impl Dissection<'_> {
+    /// Whether fewer of its bytes were captured than were on the wire.
+    pub fn is_cut(&self) -> bool
+        ensures { result ≡ is_cut self.now.captured_len self.now.wire_len }
+    {
+        self.captured_len < self.wire_len as usize
+    }
 }
 
 /// What became of a fragment.

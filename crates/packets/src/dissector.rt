@@ -1,7 +1,7 @@
 //! Packets, dissected one after the other.
-ghost use Rattle.std.specs.Prelude.{◌≡◌, ◌+◌, IfOk, OnErr, MatchOption, MatchResult, IsSome, List, ℕ, None, Some};
+ghost use Rattle.std.specs.Prelude.{◌≡◌, ◌+◌, [], IfOk, OnErr, MatchOption, MatchResult, IsSome, List, ℕ, None, Some};
 ghost use Rattle.std.specs.Prelude.{length, unwrap_or};
-ghost use Rattle.captures.specs.Framed.{frame_bytes};
+ghost use Rattle.captures.specs.Framed.{captured_len, frame_bytes};
 ghost use Rattle.captures.specs.Numbers.{capped};
 ghost use Rattle.etherparse.specs.IpFragId.{fragment_in};
 ghost use Rattle.etherparse.specs.OpenReassemblies.{IsOpenCount};
@@ -11,11 +11,14 @@ ghost use Rattle.ep_packet.specs.Class.{sliced_class};
 ghost use Rattle.packets.specs.Started.{Started, ShowsStarted, ShowsFragments, ReportsStarted, started_with};
 ghost use Rattle.packets.specs.Started.{none_started};
 ghost use Rattle.packets.specs.Courses.{first_at};
-ghost use Rattle.packets.specs.Dissected.{fragment_result, packet_result, verdict_on};
+ghost use Rattle.packets.specs.ReassemblyMemory.{Order, ShowsOrder, dropped_within, lists_within, order_of_waiting};
+ghost use Rattle.packets.specs.ReassemblyMemory.{order_with, order_within};
+ghost use Rattle.packets.specs.Dissected.{fragment_result, packet_result, verdict_on, verification_of};
 ghost use Rattle.packets.specs.Layers.{after_header, layers_of};
 
+use crate::Dissection;
 use crate::datagrams::{Arrival, Datagrams, Finding};
-use crate::{Dissection, Fragment};
+use crate::verification::Verification;
 use captures::{Frame, Packet};
 use ep_base::EtherType;
 use ep_base::err::LenError;
@@ -23,41 +26,64 @@ use ep_link::Ethernet2Header;
 use ep_packet::SlicedPacket;
 use ep_packet::err::packet::SliceError;
 use std::alloc::{AllocError, Global};
+use std::hash::{BuildHasher, BuildHasherDefault, FoldHasher};
 
 /// Dissects one packet after the other, and reassembles datagrams of their fragments.
 ///
-/// The fragments of a datagram that never completes are held until [`Dissector::forget_before`]
-/// drops them.
+/// The fragments of a datagram that never completes are held until [`Dissector::forget_before`] or
+/// [`Dissector::keep_within`] drops them.
 #[derive(Drop)]
-pub struct Dissector {
-    pub(crate) datagrams: Datagrams,
-    // How many packets came, and when the first one did.
-    pub(crate) number: u64,
+pub struct Dissector<S: BuildHasher = BuildHasherDefault<FoldHasher>> {
+    pub(crate) datagrams: Datagrams<S>,
+    // When the first packet came.
     pub(crate) first_time: Option<u64>,
+    // How many datagrams `keep_within` dropped.
+    pub(crate) dropped: u64,
 }
 
-impl Dissector {
-    /// No packet came, and no fragment waits. It takes no memory.
+impl Dissector<BuildHasherDefault<FoldHasher>> {
+    /// [`Dissector::with_hasher`] with std's state of a fixed seed.
     pub fn new(alloc: Global) -> Dissector
-        ensures number { result.number ≡ 0 }
         ensures first_time { result.first_time ≡ None }
         ensures datagrams { ShowsFragments result.datagrams no_lists }
         ensures started { ShowsStarted result.datagrams none_started }
+        ensures order { ShowsOrder result.datagrams [] }
+        ensures dropped { result.dropped ≡ 0 }
+    {
+        Dissector::with_hasher(alloc, BuildHasherDefault::new())
+    }
+}
+
+impl<S: BuildHasher> Dissector<S> {
+    /// No packet came, and no fragment waits. The names of datagrams are hashed by this state: what
+    /// is found in packets doesn't depend on it, and no clause names it. Where untrusted senders
+    /// choose the names, a [`std::hash::RandomState`] keeps them from colliding by intent. It takes
+    /// no memory.
+    pub fn with_hasher(alloc: Global, state: S) -> Dissector<S>
+        ensures first_time { result.first_time ≡ None }
+        ensures datagrams { ShowsFragments result.datagrams no_lists }
+        ensures started { ShowsStarted result.datagrams none_started }
+        ensures order { ShowsOrder result.datagrams [] }
+        ensures dropped { result.dropped ≡ 0 }
     {
         Dissector {
-            datagrams: Datagrams::new(alloc),
-            number: 0,
+            datagrams: Datagrams::with_hasher(alloc, state),
             first_time: None,
+            dropped: 0,
         }
     }
 
-    /// Dissects the next packet. Datagrams of other interfaces are other datagrams.
+    /// Dissects the next packet; whether its checksum is verified, the caller says. Datagrams of
+    /// other interfaces are other datagrams.
     ///
     /// It fails where there is no memory for a fragment: then all is as it was. For packets that
-    /// are no fragments it never fails. Numbers stop at the greatest of 64 bits.
-    pub fn dissect<'a>(&mut self, packet: &Packet<'a>) -> Result<Dissection<'a>, AllocError>
-        ensures number { IfOk result (λ d. (d.number ≡ capped (self.old.number + 1))
-            × (self.new.number ≡ d.number)) }
+    /// are no fragments it never fails.
+    pub fn dissect<'a>(
+        &mut self,
+        packet: &Packet<'a>,
+        checksums: bool,
+    ) -> Result<Dissection<'a>, AllocError>
+        ensures number { IfOk result (λ d. d.number ≡ packet.now.number) }
         ensures first_time { IfOk result
             (λ d. (d.first_time ≡ first_at self.old.first_time packet.now.time)
             × (self.new.first_time ≡ Some d.first_time)) }
@@ -80,28 +106,38 @@ impl Dissector {
             d.fragment × ShowsStarted self.new.datagrams
             (started_with lists started (sliced_class d.layers) packet.now.interface d.number))
             (λ e. ShowsStarted self.new.datagrams started) }
+        // In which order those started.
+        ensures order { (lists : Lists) (order : Order) → ShowsFragments self.old.datagrams lists
+            → ShowsOrder self.old.datagrams order → MatchResult result
+            (λ d. ShowsOrder self.new.datagrams (order_with lists
+            (lists_with_frame lists (sliced_class d.layers) packet.now.time packet.now.interface)
+            (sliced_class d.layers) packet.now.interface order))
+            (λ e. ShowsOrder self.new.datagrams order) }
+        ensures dropped { self.new.dropped ≡ self.old.dropped }
         ensures verdict { IfOk result
-            (λ d. d.verdict ≡ verdict_on (sliced_class d.layers) (fragment_result d.fragment)) }
+            (λ d. d.verdict ≡ verdict_on (verification_of checksums d.layers) (sliced_class d.layers)
+            (fragment_result d.fragment)) }
         ensures arrival { IfOk result (λ d. (d.time ≡ packet.now.time)
             × (d.interface ≡ packet.now.interface) × (d.link ≡ packet.now.link)
             × (d.header ≡ packet.now.frame.header)
-            × (d.len ≡ length (frame_bytes packet.now.frame))) }
-        ensures memory { OnErr result ((self.new.number ≡ self.old.number)
-            × (self.new.first_time ≡ self.old.first_time)) }
+            × (d.len ≡ length (frame_bytes packet.now.frame))
+            × (d.captured_len ≡ captured_len packet.now.link packet.now.frame)
+            × (d.wire_len ≡ packet.now.wire_len)) }
+        ensures memory { OnErr result (self.new.first_time ≡ self.old.first_time) }
     {
         let layers = layers_in(&packet.frame);
+        let verification = Verification::of(checksums, &layers);
         let arrival = Arrival {
-            number: self.number.saturating_add(1),
+            number: packet.number,
             time: packet.time,
             interface: packet.interface,
         };
-        match self.datagrams.take(&layers, arrival) {
+        match self.datagrams.take(&layers, verification, arrival) {
             Ok(Finding { fragment, verdict }) => {
                 let first_time = match self.first_time {
                     Some(first) => first,
                     None => packet.time,
                 };
-                self.number = arrival.number;
                 self.first_time = Some(first_time);
                 Ok(Dissection {
                     number: arrival.number,
@@ -111,26 +147,14 @@ impl Dissector {
                     link: packet.link,
                     header: packet.frame.header().copied(),
                     len: packet.frame.len(),
+                    captured_len: packet.captured_len(),
+                    wire_len: packet.wire_len,
                     layers,
                     fragment,
                     verdict,
                 })
             }
             Err(_) => Err(AllocError),
-        }
-    }
-
-    /// Takes the buffer of a reassembled datagram back, for datagrams that start later.
-    pub fn give_back(&mut self, dissection: Dissection<'_>)
-        ensures number { self.new.number ≡ self.old.number }
-        ensures first_time { self.new.first_time ≡ self.old.first_time }
-        ensures datagrams { (lists : Lists) → ShowsFragments self.old.datagrams lists
-            → ShowsFragments self.new.datagrams lists }
-        ensures started { (started : Started) → ShowsStarted self.old.datagrams started
-            → ShowsStarted self.new.datagrams started }
-    {
-        if let Some(Fragment::Completes { message, .. }) = dissection.fragment {
-            self.datagrams.return_buf(message);
         }
     }
 
@@ -144,15 +168,46 @@ impl Dissector {
 
     /// Drops the reassemblies whose last fragment came before this time.
     pub fn forget_before(&mut self, time: u64)
-        ensures number { self.new.number ≡ self.old.number }
         ensures first_time { self.new.first_time ≡ self.old.first_time }
         ensures datagrams { (lists : Lists) → ShowsFragments self.old.datagrams lists
             → ShowsFragments self.new.datagrams
             (λ name channel. retained_from time (lists name channel)) }
         ensures started { (started : Started) → ShowsStarted self.old.datagrams started
             → ShowsStarted self.new.datagrams started }
+        ensures order { (lists : Lists) (order : Order) → ShowsFragments self.old.datagrams lists
+            → ShowsOrder self.old.datagrams order → ShowsOrder self.new.datagrams
+            (order_of_waiting (λ name channel. retained_from time (lists name channel)) order) }
+        ensures dropped { self.new.dropped ≡ self.old.dropped }
     {
         self.datagrams.forget_before(time);
+    }
+
+    /// Drops the datagrams that started first until the others take no more than so many bytes: each
+    /// 640, and its bytes up to the greatest end of a fragment. Each takes constant time. The buffers
+    /// of datagrams that have ended are freed.
+    pub fn keep_within(&mut self, memory: u64)
+        ensures first_time { self.new.first_time ≡ self.old.first_time }
+        ensures datagrams { (lists : Lists) (order : Order) → ShowsFragments self.old.datagrams lists
+            → ShowsOrder self.old.datagrams order
+            → ShowsFragments self.new.datagrams (lists_within memory lists order)
+            × ShowsOrder self.new.datagrams (order_within memory lists order)
+            × (self.new.dropped ≡ capped (self.old.dropped + dropped_within memory lists order)) }
+        ensures started { (lists : Lists) (order : Order) (started : Started)
+            → ShowsFragments self.old.datagrams lists → ShowsOrder self.old.datagrams order
+            → ShowsStarted self.old.datagrams started → ShowsStarted self.new.datagrams started }
+        ensures freed { (self.new.datagrams.pool.spare ≡ 0)
+            × (self.new.datagrams.pool.spare_sections ≡ 0) }
+    {
+        let dropped = self.datagrams.keep_within(memory);
+        self.datagrams.free_spare();
+        self.dropped = self.dropped.saturating_add(dropped);
+    }
+
+    /// How many datagrams [`Dissector::keep_within`] dropped, up to the greatest number of 64 bits.
+    pub fn dropped(&self) -> u64
+        ensures { result ≡ self.now.dropped }
+    {
+        self.dropped
     }
 }
 

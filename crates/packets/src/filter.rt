@@ -32,6 +32,8 @@ pub enum Condition {
     Refused,
     /// It is a fragment.
     Fragment,
+    /// Fewer of its bytes were captured than were on the wire.
+    Cut,
     /// It comes from this address or goes to it, by its IP header or as an ARP packet for IPv4.
     Host(IpAddr),
     /// Its TCP or UDP message, or the one that it completes, comes from this port or goes to it.
@@ -42,7 +44,7 @@ pub enum Condition {
 #[derive(Clone, Copy, Debug, PartialEq, Eq, Error)]
 pub enum WordError {
     /// It is the name of no protocol, and none of the other words.
-    #[error("no protocol, and not `bad`, `refused`, `fragments`, `host=ADDRESS` or `port=NUMBER`")]
+    #[error("no protocol, and not `bad`, `refused`, `fragments`, `cut`, `host=ADDRESS` or `port=NUMBER`")]
     Unknown,
     /// What follows `host` is no IP address.
     #[error("no IP address behind `host`")]
@@ -55,7 +57,7 @@ pub enum WordError {
 impl FromStr for Condition {
     type Err = WordError;
 
-    /// Reads `bad`, `refused`, `fragments`, `host=ADDRESS`, `port=NUMBER`, or the name of a
+    /// Reads `bad`, `refused`, `fragments`, `cut`, `host=ADDRESS`, `port=NUMBER`, or the name of a
     /// protocol ([`Protocol::named`]), in letters of either case. A space may be in place of the
     /// `=`. It has no contract: tests compare the texts.
     fn from_str(word: &str) -> Result<Condition, WordError> {
@@ -68,6 +70,8 @@ impl FromStr for Condition {
             Ok(Condition::Refused)
         } else if word.eq_ignore_ascii_case("fragments") {
             Ok(Condition::Fragment)
+        } else if word.eq_ignore_ascii_case("cut") {
+            Ok(Condition::Cut)
         } else {
             match Protocol::named(word) {
                 Some(protocol) => Ok(Condition::Protocol(protocol)),
@@ -105,6 +109,7 @@ impl Condition {
             Condition::Bad => is_bad(dissection.verdict),
             Condition::Refused => refusal_of(dissection).is_some(),
             Condition::Fragment => dissection.fragment.is_some(),
+            Condition::Cut => dissection.is_cut(),
             Condition::Host(address) => has_host(&dissection.layers, *address),
             Condition::Port(port) => has_port(dissection, *port),
         }

@@ -1,24 +1,27 @@
 //! What `Clone`, `PartialEq` and `Hash` of the types here mean, and what runs drop and count.
-ghost use Rattle.std.specs.Prelude.{◌≡◌, ◌≤◌, ◌<◌, ◌+◌, ◌-◌, ◌*◌, ◌^◌, ℕ, true, not, is_some, pos, List, [], ◌∷◌, Some};
-ghost use Rattle.std.specs.Prelude.{None};
+ghost use Rattle.std.specs.Prelude.{◌≡◌, ◌≤◌, ◌<◌, ◌+◌, ◌-◌, ◌*◌, ◌^◌, ℕ, true, false, not, is_some, pos, List, [], ◌∷◌};
+ghost use Rattle.std.specs.Prelude.{◌++◌, Bool, Option, Some, None};
 ghost use Rattle.std.specs.Hash as fed;
 ghost use Rattle.captures.specs.declared.packet.Packet.{Packet};
 ghost use Rattle.ep_base.specs.Traits.{IsPlainData, VariantFeeds};
 ghost use Rattle.etherparse.specs.PoolCalls.{Lists};
 ghost use Rattle.etherparse.specs.Fragments.{Fragment};
 ghost use Rattle.ep_packet.specs.Class.{FragmentName};
-ghost use Rattle.packets.specs.Courses.{Course, course_after, lists_at, no_course};
-ghost use Rattle.packets.specs.Forgetting.{ComeWithin, ForgetDrops};
+ghost use Rattle.packets.specs.Courses.{Course, course_after, lists_at, next_course, no_course};
+ghost use Rattle.packets.specs.ReassemblyMemory.{Tracks, taken};
+ghost use Rattle.packets.specs.Forgetting.{ComeWithin, Fit, ForgetDrops};
+ghost use Rattle.packets.specs.Limits.{AreFewer, AreInTime, is_late};
 ghost use Rattle.packets.specs.Tally.{tally_of};
 ghost use Rattle.packets.specs.declared.outline.Outline.{Outline};
 ghost use Rattle.packets.specs.declared.reason.Reason.TheVariants as reason;
+ghost use Rattle.packets.specs.declared.summary.verified.Verified.TheVariants as verified;
 
 pub mod examples;
 
-use crate::program::Coloring;
+use crate::program::{Coloring, SizeError};
 use crate::{
-    ChecksumTallies, Condition, Ending, FragmentState, FragmentTallies, Headers, Net, NoProgress,
-    Outline, Reason, ShowOptions, Sizes, Tally, WordError,
+    ChecksumTallies, Condition, Ending, FragmentState, FragmentTallies, Headers, Lengths, Net,
+    NoProgress, Omitted, Outline, Reason, ShowOptions, Sizes, Tally, Verified, WordError,
 };
 use ep_base::err::Layer;
 use ep_base::laws::traits::Value;
@@ -29,6 +32,7 @@ pub fn types_are_plain_data()
     ensures coloring { IsPlainData ⟦<Coloring as Value>⟧ }
     ensures condition { IsPlainData ⟦<Condition as Value>⟧ }
     ensures word_error { IsPlainData ⟦<WordError as Value>⟧ }
+    ensures size_error { IsPlainData ⟦<SizeError as Value>⟧ }
     ensures net { IsPlainData ⟦<Net as Value>⟧ }
     ensures fragment_state { IsPlainData ⟦<FragmentState as Value>⟧ }
     ensures reason { IsPlainData ⟦<Reason as Value>⟧ }
@@ -36,14 +40,17 @@ pub fn types_are_plain_data()
     ensures show_options { IsPlainData ⟦<ShowOptions as Value>⟧ }
     ensures sizes { IsPlainData ⟦<Sizes as Value>⟧ }
     ensures tally { IsPlainData ⟦<Tally as Value>⟧ }
+    ensures verified { IsPlainData ⟦<Verified as Value>⟧ }
 {}
 
 /// The same of values that hold some of these.
 pub fn holders_are_plain_data()
     ensures headers { IsPlainData ⟦<Headers as Value>⟧ }
+    ensures lengths { IsPlainData ⟦<Lengths as Value>⟧ }
     ensures checksums { IsPlainData ⟦<ChecksumTallies as Value>⟧ }
     ensures parts { IsPlainData ⟦<FragmentTallies as Value>⟧ }
     ensures ending { IsPlainData ⟦<Ending as Value>⟧ }
+    ensures omitted { IsPlainData ⟦<Omitted as Value>⟧ }
 {
     types_are_plain_data();
     captures::laws::types_are_plain_data();
@@ -67,11 +74,23 @@ pub fn reasons_hash_all_fields()
     ensures memory { ⟦<Reason as Hash>⟧.hash_input reason.FragmentMemory ≡ fed.isize (pos 14) }
 {}
 
+/// A sender feeds a hasher the version of its address, as it is declared, then the address with its
+/// number of bytes, and then whether the checksum is bad.
+pub fn senders_hash_all_fields()
+    ensures v4 { (source : List ℕ) (is_bad : Bool) → ⟦<Verified as Hash>⟧.hash_input
+        (verified.V4 source is_bad)
+        ≡ fed.isize (pos 0) ++ fed.slice fed.u8 source ++ fed.bool is_bad }
+    ensures v6 { (source : List ℕ) (is_bad : Bool) → ⟦<Verified as Hash>⟧.hash_input
+        (verified.V6 source is_bad)
+        ≡ fed.isize (pos 1) ++ fed.slice fed.u8 source ++ fed.bool is_bad }
+{}
+
 /// While each packet comes less than so many seconds after the last fragment of a datagram that was
-/// accepted, its fragments wait as if nothing were dropped.
+/// accepted, and nothing is dropped to save memory, its fragments wait as if nothing were dropped.
 pub fn forget_keeps()
     ensures { (seconds channel : ℕ) (name : FragmentName) (course : Course) (packets : List Packet)
-        → 0 < seconds → ComeWithin seconds name channel course packets
+        → 0 < seconds → Fit (Some seconds) course packets → Fit None course packets
+        → ComeWithin seconds name channel course packets
         → (course_after (Some seconds) course packets).lists name channel
         ≡ (course_after None course packets).lists name channel }
 {}
@@ -96,17 +115,17 @@ pub fn span_drops()
 /// When the span began that lasts after packets at 100, 105, 110, 119, 90 and 121 seconds, with
 /// spans of ten seconds, and what is dropped by the one at 110 seconds.
 pub fn worked_spans()
-    ensures first { (packet : ℕ → Packet)
+    ensures first { (packet : ℕ → Packet) (memory : ℕ)
         → ((second : ℕ) → (packet second).time ≡ 1_000_000_000 * second)
-        → (course_after (Some 10) no_course (packet 100 ∷ packet 105 ∷ [])).begin
+        → (course_after (Some 10) (no_course memory) (packet 100 ∷ packet 105 ∷ [])).begin
         ≡ Some 100_000_000_000 }
-    ensures second { (packet : ℕ → Packet)
+    ensures second { (packet : ℕ → Packet) (memory : ℕ)
         → ((second : ℕ) → (packet second).time ≡ 1_000_000_000 * second)
-        → (course_after (Some 10) no_course (packet 100 ∷ packet 105 ∷ packet 110 ∷ packet 119
+        → (course_after (Some 10) (no_course memory) (packet 100 ∷ packet 105 ∷ packet 110 ∷ packet 119
         ∷ packet 90 ∷ [])).begin ≡ Some 110_000_000_000 }
-    ensures third { (packet : ℕ → Packet)
+    ensures third { (packet : ℕ → Packet) (memory : ℕ)
         → ((second : ℕ) → (packet second).time ≡ 1_000_000_000 * second)
-        → (course_after (Some 10) no_course (packet 100 ∷ packet 105 ∷ packet 110 ∷ packet 119
+        → (course_after (Some 10) (no_course memory) (packet 100 ∷ packet 105 ∷ packet 110 ∷ packet 119
         ∷ packet 90 ∷ packet 121 ∷ [])).begin ≡ Some 121_000_000_000 }
     ensures dropped { (fs : List Fragment) (name : FragmentName)
         → (lists_at (Some 10) (Some 100_000_000_000) 110_000_000_000
@@ -119,6 +138,38 @@ pub fn worked_spans()
         → (lists_at (Some 10) (Some 100_000_000_000) 109_999_999_999
         (λ name channel. record { fragments = fs; time = 0 }) name 0).fragments ≡ fs }
 {}
+
+/// Which packets come too late after one at 100 seconds, and which are fewer than a limit.
+pub fn worked_limits()
+    ensures late { is_late (Some 2) (Some 100_000_000_000) 102_000_000_000 ≡ true }
+    ensures early { is_late (Some 2) (Some 100_000_000_000) 101_999_999_999 ≡ false }
+    ensures before { is_late (Some 2) (Some 100_000_000_000) 97_000_000_000 ≡ false }
+    ensures in_time { (packet : ℕ → Packet)
+        → ((second : ℕ) → (packet second).time ≡ 1_000_000_000 * second)
+        → AreInTime (Some 3) (packet 100 ∷ packet 97 ∷ packet 102 ∷ []) }
+    ensures not_in_time { (packet : ℕ → Packet)
+        → ((second : ℕ) → (packet second).time ≡ 1_000_000_000 * second)
+        → AreInTime (Some 2) (packet 100 ∷ packet 97 ∷ packet 102 ∷ []) → ⊥ }
+    ensures fewer { (packet : ℕ → Packet) → AreFewer (Some 3) (packet 1 ∷ packet 2 ∷ []) }
+    ensures not_fewer { (packet : ℕ → Packet)
+        → AreFewer (Some 2) (packet 1 ∷ packet 2 ∷ []) → ⊥ }
+{}
+
+/// After each packet the datagrams that are not complete take no more bytes than they may: these are
+/// those in the order, each once. Where they may take none, no fragment waits, so that no datagram
+/// is put together of more than one.
+pub fn held_within()
+    ensures bounded { (forget : Option ℕ) (course : Course) (packet : Packet)
+        → taken (next_course forget course packet).lists (next_course forget course packet).order
+        ≤ course.memory }
+    ensures tracked { (forget : Option ℕ) (memory : ℕ) (packets : List Packet)
+        → Tracks (course_after forget (no_course memory) packets).lists
+        (course_after forget (no_course memory) packets).order }
+    ensures nothing { (forget : Option ℕ) (packets : List Packet) (name : FragmentName) (channel : ℕ)
+        → ((course_after forget (no_course 0) packets).lists name channel).fragments ≡ [] }
+{
+    etherparse::laws::defrag::names::equal_names::<u32>();
+}
 
 /// Packets that are refused and the others are all packets, in number and bytes, where neither
 /// stops at the greatest count.

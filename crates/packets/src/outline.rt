@@ -3,6 +3,7 @@ ghost use Rattle.std.specs.Prelude.{◌≡◌};
 ghost use Rattle.std.specs.List.{list_any};
 ghost use Rattle.ep_packet.specs.Readable.{message_at};
 ghost use Rattle.packets.specs.Headers.{has_header, net_addresses, net_number};
+ghost use Rattle.packets.specs.Lengths.{is_cut};
 ghost use Rattle.packets.specs.Outlines.{headers_of, is_ethernet, is_macsec, is_vlan, message_refusal, net_of};
 ghost use Rattle.packets.specs.Outlines.{outline_of, fragment_state_of, fragment_refusal, refusal_of};
 
@@ -23,6 +24,10 @@ pub struct Outline {
     pub time: u64,
     /// The bytes of its frame.
     pub len: usize,
+    /// How many of its bytes were captured, those of its link's own header among them.
+    pub captured_len: usize,
+    /// How many bytes it had on the wire.
+    pub wire_len: u32,
     /// Its headers, none where it is refused.
     pub headers: Headers,
     /// Why it, or the message that it completes, is refused.
@@ -75,11 +80,20 @@ impl Outline {
             number: dissection.number,
             time: dissection.time,
             len: dissection.len,
+            captured_len: dissection.captured_len,
+            wire_len: dissection.wire_len,
             headers: Headers::of(dissection),
             refusal: refusal_of(dissection),
             fragment: fragment_state_of(&dissection.fragment),
             verdict: dissection.verdict,
         }
+    }
+
+    /// Whether fewer of its bytes were captured than were on the wire.
+    pub(crate) fn is_cut(&self) -> bool
+        ensures { result ≡ is_cut self.now.captured_len self.now.wire_len }
+    {
+        self.captured_len < self.wire_len as usize
     }
 }
 

@@ -1,6 +1,7 @@
 //! Runs over the packets of a capture.
 
 pub(crate) mod line_writer;
+pub(crate) mod omitted;
 pub(crate) mod progress;
 pub(crate) mod rules;
 pub(crate) mod summarize;

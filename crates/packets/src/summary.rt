@@ -1,6 +1,7 @@
 //! What is in a capture, counted.
 
 pub(crate) mod bars;
+pub(crate) mod lengths;
 pub(crate) mod numbers;
 pub(crate) mod rate;
 pub(crate) mod report;
@@ -8,3 +9,4 @@ pub(crate) mod sizes;
 pub(crate) mod summary;
 pub(crate) mod table;
 pub(crate) mod tally;
+pub(crate) mod verified;

@@ -44,7 +44,7 @@ pub(super) fn dissected<'a>(
     dissector: &mut Dissector,
     packet: &Packet<'a>,
 ) -> Dissection<'a> {
-    let Ok(dissection) = dissector.dissect(packet) else {
+    let Ok(dissection) = dissector.dissect(packet, true) else {
         fail(rt, "no memory");
     };
     dissection

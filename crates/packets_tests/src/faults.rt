@@ -11,6 +11,7 @@ use hex::FromHexError;
 use packets::{Dissection, Ending, LineWriter, Progress, Rules, Summary, summarize};
 use std::alloc::{AllocError, Global};
 use std::cell::Cell;
+use std::hash::BuildHasherDefault;
 use std::io::{self, ErrorKind, Read, Write};
 use std::process::Abort;
 
@@ -19,6 +20,7 @@ const FIRST_END: usize = 24 + 16 + 54;
 
 const READ_FAILED: Ending = Ending {
     open: 0,
+    dropped: 0,
     skipped: Skipped::NONE,
     result: Err(RunError::Read),
 };
@@ -296,7 +298,8 @@ fn progress_is_reported(rt: HostRuntime) {
     let mut summary = Summary::new(rt.alloc());
     let mut steps = Steps { count: 0, last: 0 };
     let reader = capture.as_slice();
-    let ending = summarize(rt.alloc(), &rules, &mut summary, reader, &mut steps);
+    let state = BuildHasherDefault::new();
+    let ending = summarize(rt.alloc(), state, &rules, &mut summary, reader, &mut steps);
     let counted = (ending.result, summary.all.packets, summary.all.bytes);
     equal(rt, counted, (Ok(()), 100, 9_000_000));
     // The second step came within a read of 64 KB and a packet of its end.

@@ -9,9 +9,13 @@ mod checks;
 #[cfg(test)]
 mod classic_captures;
 #[cfg(test)]
+mod dropped_messages;
+#[cfg(test)]
 mod faults;
 #[cfg(test)]
 mod frames;
+#[cfg(test)]
+mod limits;
 #[cfg(test)]
 mod memory;
 #[cfg(test)]
@@ -22,8 +26,6 @@ mod outcomes;
 mod outputs;
 #[cfg(test)]
 mod refusals;
-#[cfg(test)]
-mod rounds;
 #[cfg(test)]
 mod summaries;
 #[cfg(test)]

@@ -4,9 +4,10 @@
 
 use crate::checks::{equal, fail, holds};
 use crate::outcomes::{LINES, every_packet};
-use captures::{Packet, Packets, RunError, Skipped, Unfit};
-use packets::{Dissection, Dissector, NoProgress, Summary, Tally, summarize, write_lines};
+use captures::{Packet, Packets, RunError, Unfit};
+use packets::{Dissection, Dissector, NoProgress, Omitted, Summary, Tally, summarize, write_lines};
 use std::alloc::Global;
+use std::hash::{BuildHasherDefault, FoldHasher};
 use std::process::Abort;
 
 /// Two fragments of a UDP datagram, and an IPv4 header that is cut off.
@@ -32,11 +33,12 @@ fn are_written(rt: impl Abort + Copy, alloc: Global) -> bool {
     let mut left = buffer.as_mut_slice();
     let result = write_lines(
         alloc,
+        BuildHasherDefault::<FoldHasher>::new(),
         &every_packet(alloc),
         &LINES,
         CAPTURE.as_slice(),
         &mut left,
-        &mut Skipped::NONE,
+        &mut Omitted::NOTHING,
     );
     let written = 64 - left.len().min(64);
     holds(
@@ -63,7 +65,8 @@ fn are_counted(rt: impl Abort + Copy, alloc: Global) -> bool {
     let rules = every_packet(alloc);
     let mut summary = Summary::new(alloc);
     let reader = CAPTURE.as_slice();
-    let ending = summarize(alloc, &rules, &mut summary, reader, &mut NoProgress);
+    let state = BuildHasherDefault::new();
+    let ending = summarize(alloc, state, &rules, &mut summary, reader, &mut NoProgress);
     if ending.result.is_ok() {
         holds(rt, summary.all.packets == 3 && summary.talkers.len() == 1);
         return true;
@@ -87,10 +90,10 @@ fn dissected<'a>(
     dissector: &mut Dissector,
     packet: &Packet<'a>,
 ) -> Dissection<'a> {
-    if let Ok(dissection) = dissector.dissect(packet) {
+    if let Ok(dissection) = dissector.dissect(packet, true) {
         return dissection;
     }
-    let Ok(dissection) = dissector.dissect(packet) else {
+    let Ok(dissection) = dissector.dissect(packet, true) else {
         fail(rt, "no memory");
     };
     dissection
@@ -120,7 +123,6 @@ fn packets_run_out_of_memory(rt: HostRuntime) {
             (dissection.number, summary.all.packets),
             (number, number),
         );
-        dissector.give_back(dissection);
     }
     let counted = (number, dissector.open(), summary.parts.completing.packets);
     equal(rt, counted, (3, 0, 1));

@@ -4,10 +4,11 @@
 use crate::checks::{equal, fail, holds};
 use captures::{RunError, Skipped, Unfit};
 use packets::{
-    Condition, Ending, Filter, LineWriter, NoProgress, Rules, ShowOptions, Style, Summary,
+    Condition, Ending, Filter, LineWriter, NoProgress, Omitted, Rules, ShowOptions, Style, Summary,
     TimeForm, summarize, write_lines,
 };
 use std::alloc::Global;
+use std::hash::{BuildHasherDefault, FoldHasher};
 use std::io::{Read, Write};
 use std::process::Abort;
 
@@ -22,8 +23,12 @@ pub(super) const LINES: ShowOptions = ShowOptions {
 pub(super) fn every_packet(alloc: Global) -> Rules {
     Rules {
         filter: Filter::new(alloc),
+        count: None,
+        duration: None,
         unfit: Unfit::Refuse,
         forget: None,
+        reassembly_memory: 64 << 20,
+        checksums: true,
     }
 }
 
@@ -36,8 +41,12 @@ pub(super) fn packets_of(rt: impl Abort + Copy, alloc: Global, word: &str) -> Ru
     }
     Rules {
         filter,
+        count: None,
+        duration: None,
         unfit: Unfit::Refuse,
         forget: None,
+        reassembly_memory: 64 << 20,
+        checksums: true,
     }
 }
 
@@ -49,9 +58,10 @@ pub(super) fn end_of_lines<R: Read + Drop, W: Write, L: LineWriter>(
     reader: R,
     writer: &mut W,
 ) -> (Result<(), RunError>, Skipped) {
-    let mut skipped = Skipped::NONE;
-    let result = write_lines(alloc, rules, lines, reader, writer, &mut skipped);
-    (result, skipped)
+    let mut omitted = Omitted::NOTHING;
+    let state = BuildHasherDefault::<FoldHasher>::new();
+    let result = write_lines(alloc, state, rules, lines, reader, writer, &mut omitted);
+    (result, omitted.skipped)
 }
 
 /// Compares how a run ends that passes nothing over, and the lines that it writes.
@@ -80,6 +90,7 @@ pub(super) fn are_counted<R: Read + Drop>(
     packets: u64,
 ) {
     let mut summary = Summary::new(alloc);
-    let ended = summarize(alloc, rules, &mut summary, reader, &mut NoProgress);
+    let state = BuildHasherDefault::new();
+    let ended = summarize(alloc, state, rules, &mut summary, reader, &mut NoProgress);
     equal(rt, (ended, summary.all.packets), (ending, packets));
 }

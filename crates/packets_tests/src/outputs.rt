@@ -1,14 +1,16 @@
-//! Outputs that can't be written or flushed, statuses, and the text of an error.
+//! Outputs that can't be written or flushed or that are closed, statuses, and the text of an error.
 
 use crate::checks::{equal, fail, is_text};
 use crate::outcomes::every_packet;
-use capture_programs::Look;
+use capture_programs::packets_arguments::PROGRAM;
+use capture_programs::{ClosableWriter, Look, Subject};
 use captures::{CaptureError, Position, RunError, Skipped};
-use fault_devices::UnflushableWriter;
+use fault_devices::{Fault, FaultWriter, UnflushableWriter};
 use packets::program::{exit_code, write_flushed, write_report};
-use packets::{JsonLines, Report, Summary};
+use packets::{JsonLines, Omitted, Report, Summary};
 use std::alloc::Global;
-use std::io::Write;
+use std::hash::{BuildHasherDefault, FoldHasher};
+use std::io::{ErrorKind, Write};
 use std::process::{Abort, ExitCode};
 
 // A file header of low byte first, in microseconds, of Ethernet frames, with snap length 262,144.
@@ -24,11 +26,12 @@ const FIRST: Position = Position {
 fn is_unflushed(rt: impl Abort + Copy, alloc: Global, input: &[u8], wanted: RunError) {
     let written = write_flushed(
         alloc,
+        BuildHasherDefault::<FoldHasher>::new(),
         &every_packet(alloc),
         &JsonLines::new(alloc, false),
         input,
         &mut UnflushableWriter::new(alloc, 0),
-        &mut Skipped::NONE,
+        &mut Omitted::NOTHING,
     );
     equal(rt, written, Err(wanted));
 }
@@ -46,6 +49,7 @@ fn reported<W: Write>(alloc: Global, skipped: Skipped, writer: &mut W) -> Result
     let report = Report {
         summary: &Summary::new(alloc),
         open: 0,
+        dropped: 0,
         skipped,
     };
     write_report(alloc, &report, writer)
@@ -88,20 +92,45 @@ const STATUSES: &[(RunError, u8)] = &[
     (RunError::TooManyReads, 5),
 ];
 
+const SUBJECT: Subject<'static> = Subject {
+    program: PROGRAM,
+    input: "x.pcap",
+};
+
 #[test]
 fn errors_have_a_status(rt: HostRuntime) {
     for (error, status) in STATUSES.iter() {
-        let code = exit_code(&rt, "packets_cli", Err(*error), Look::Other);
+        let code = exit_code(&rt, SUBJECT, Err(*error), false, Look::Other);
         equal(rt, code, ExitCode::from(*status));
     }
-    let code = exit_code(&rt, "packets_cli", Ok(()), Look::Other);
+    let code = exit_code(&rt, SUBJECT, Ok(()), false, Look::Other);
     equal(rt, code, ExitCode::SUCCESS);
 }
 
+// A run ends by a failed write of either kind; only the status of a closed pipe is 0.
 #[test]
-#[should_panic(expected = "packets_cli: no capture file: the input is text")]
+fn reports_to_a_closed_pipe(rt: HostRuntime) {
+    for (kind, code) in [
+        (ErrorKind::BrokenPipe, ExitCode::SUCCESS),
+        (ErrorKind::StorageFull, ExitCode::from(4)),
+    ] {
+        let writer = FaultWriter::failing(rt.alloc(), 5, 1, Fault::Fails(kind));
+        let mut output = ClosableWriter::new(writer);
+        let written = reported(rt.alloc(), Skipped::NONE, &mut output);
+        equal(rt, written, Err(RunError::Write));
+        let closed = output.is_closed();
+        equal(
+            rt,
+            exit_code(&rt, SUBJECT, written, closed, Look::Other),
+            code,
+        );
+    }
+}
+
+#[test]
+#[should_panic(expected = "packets: x.pcap: no capture file: the input is text")]
 fn errors_are_reported(rt: HostRuntime) {
     let error = RunError::Capture(CaptureError::NotCapture, FIRST);
-    let _ = exit_code(&rt, "packets_cli", Err(error), Look::Text);
+    let _ = exit_code(&rt, SUBJECT, Err(error), false, Look::Text);
     fail(rt, "reported");
 }

@@ -4,6 +4,7 @@
 
 use crate::captured::{captured, dissected, first};
 use crate::checks::{holds, is_shown_as, is_text};
+use crate::outcomes::packets_of;
 use captures::Link;
 use etherparse::ArpHardwareId;
 use etherparse::defrag::IpDefragError;
@@ -24,7 +25,7 @@ const ERRORS: &[(SliceError, &str, &str, &str)] = &[
     (
         SliceError::LinuxSll(linux_sll::HeaderError::UnsupportedPacketTypeField { packet_type: 8 }),
         "    3   0.000000 refused: cooked packet of type 8",
-        "{\"number\":3,\"time\":0,\"interface\":0,\"link_type\":\"Ip\",\"len\":20,\
+        "{\"number\":3,\"time\":0,\"interface\":0,\"link_type\":\"Ip\",\"len\":20,\"wire_len\":6,\
         \"error\":{\"LinuxSll\":{\"UnsupportedPacketTypeField\":{\"packet_type\":8}}}}",
         "cooked packet of an unknown type",
     ),
@@ -33,21 +34,21 @@ const ERRORS: &[(SliceError, &str, &str, &str)] = &[
             arp_hardware_type: ArpHardwareId(9),
         }),
         "    3   0.000000 refused: cooked packet of hardware type 9",
-        "{\"number\":3,\"time\":0,\"interface\":0,\"link_type\":\"Ip\",\"len\":20,\
+        "{\"number\":3,\"time\":0,\"interface\":0,\"link_type\":\"Ip\",\"len\":20,\"wire_len\":6,\
         \"error\":{\"LinuxSll\":{\"UnsupportedArpHardwareId\":{\"arp_hardware_type\":9}}}}",
         "cooked packet of an unknown hardware type",
     ),
     (
         SliceError::Ip(ip::HeaderError::UnsupportedIpVersion { version_number: 7 }),
         "    3   0.000000 refused: IP header of version 7",
-        "{\"number\":3,\"time\":0,\"interface\":0,\"link_type\":\"Ip\",\"len\":20,\
+        "{\"number\":3,\"time\":0,\"interface\":0,\"link_type\":\"Ip\",\"len\":20,\"wire_len\":6,\
         \"error\":{\"Ip\":{\"UnsupportedIpVersion\":{\"version_number\":7}}}}",
         "IP header of another version",
     ),
     (
         SliceError::Ip(ip::HeaderError::Ipv4HeaderLengthSmallerThanHeader { ihl: 4 }),
         "    3   0.000000 refused: IPv4 header length 4 below 5",
-        "{\"number\":3,\"time\":0,\"interface\":0,\"link_type\":\"Ip\",\"len\":20,\
+        "{\"number\":3,\"time\":0,\"interface\":0,\"link_type\":\"Ip\",\"len\":20,\"wire_len\":6,\
         \"error\":{\"Ip\":{\"Ipv4HeaderLengthSmallerThanHeader\":{\"ihl\":4}}}}",
         "IPv4 header length below 5",
     ),
@@ -62,6 +63,8 @@ fn refused(error: SliceError) -> Dissection<'static> {
         link: Link::Ip,
         header: None,
         len: 20,
+        captured_len: 6,
+        wire_len: 6,
         layers: Err(error),
         fragment: None,
         verdict: None,
@@ -97,6 +100,20 @@ fn of_packets(rt: HostRuntime) {
         is_object(rt, rt.alloc(), &refused(*error), *object);
         is_shown_as(rt, rt.alloc(), &Reason::of(*error), *reason);
     }
+}
+
+// A packet that had 1514 bytes on the wire.
+#[test]
+fn of_packets_that_were_cut(rt: HostRuntime) {
+    let error = ip::HeaderError::UnsupportedIpVersion { version_number: 7 };
+    let mut packet = refused(SliceError::Ip(error));
+    holds(rt, !packet.is_cut());
+    packet.wire_len = 1514;
+    holds(rt, packet.is_cut());
+    let rules = packets_of(rt, rt.alloc(), "cut");
+    holds(rt, rules.filter.matches(&packet));
+    let line = "    3   0.000000 refused: IP header of version 7, cut at 6 of 1514 bytes";
+    is_line(rt, rt.alloc(), &packet, line);
 }
 
 const FRAGMENT: &str =

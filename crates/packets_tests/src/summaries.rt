@@ -8,11 +8,12 @@ use captures::{Packets, Skipped, Unfit};
 use etherparse::err::Layer;
 use etherparse::{Addresses, IpNumber};
 use packets::{
-    Condition, Dissection, Dissector, Ending, Fragment, FragmentState, Headers, Net, NoProgress,
-    Outline, Protocol, Rate, Reason, Report, Sizes, Summary, Tally, summarize,
+    Condition, Dissection, Dissector, Ending, Fragment, FragmentState, Headers, Lengths, Net,
+    NoProgress, Outline, Protocol, Rate, Reason, Report, Sizes, Summary, Tally, Verified,
+    summarize,
 };
 use std::alloc::Global;
-use std::hash::{BuildHasher, RandomState};
+use std::hash::{BuildHasher, BuildHasherDefault, RandomState};
 use std::process::Abort;
 
 type Taken = (Option<IpNumber>, Option<Reason>, Option<FragmentState>);
@@ -43,7 +44,6 @@ fn outlines(rt: HostRuntime) {
     for packet in Packets::new(Unfit::Refuse, capture.as_slice()) {
         let dissection = dissected(rt, &mut dissector, &packet);
         equal(rt, Some(&taken(&dissection)), rows.next());
-        dissector.give_back(dissection);
     }
     holds(rt, rows.next().is_none());
 }
@@ -56,6 +56,11 @@ const ICMPV6: &str =
 const ADDRESSES: Addresses = Addresses::V6 {
     source: *b"\x20\x01\x0d\xb8\0\0\0\0\0\0\0\0\0\0\0\x01",
     destination: *b"\x20\x01\x0d\xb8\0\0\0\0\0\0\0\0\0\0\0\x02",
+};
+
+const SENDER: Verified = Verified::V6 {
+    source: *b"\x20\x01\x0d\xb8\0\0\0\0\0\0\0\0\0\0\0\x01",
+    is_bad: false,
 };
 
 const HEADERS: Headers = Headers {
@@ -72,6 +77,7 @@ fn is_icmpv6(rt: impl Abort + Copy, packet: &Dissection<'_>) {
         (headers, headers.addresses()),
         (HEADERS, Some(ADDRESSES)),
     );
+    equal(rt, Verified::of(&Outline::of(packet)), Some(SENDER));
     holds(
         rt,
         headers.has(Protocol::Ipv6) && !headers.has(Protocol::Ipv4),
@@ -122,11 +128,13 @@ fn are_counts<S: BuildHasher>(rt: impl Abort + Copy, summary: &Summary<S>) {
     is_tally(rt, summary.checksums.bad, (1, 46, 2));
     is_tally(rt, summary.parts.completing, (1, 50, 6));
     equal(rt, (summary.reasons.len(), summary.talkers.len()), (2, 3));
+    equal(rt, summary.senders.len(), 3);
     is_reason(rt, summary, 1, Reason::TcpDataOffset, tally_of(1, 54, 8));
 }
 
 const ALL_READ: Ending = Ending {
     open: 1,
+    dropped: 0,
     skipped: Skipped::NONE,
     result: Ok(()),
 };
@@ -134,13 +142,27 @@ const ALL_READ: Ending = Ending {
 #[test]
 fn summary(rt: HostRuntime) {
     let capture = captured(rt, rt.alloc(), 1, FRAMES);
-    let (Ok(addresses), Ok(reasons)) = (RandomState::new(&rt), RandomState::new(&rt)) else {
+    let (Ok(addresses), Ok(senders), Ok(reasons)) = (
+        RandomState::new(&rt),
+        RandomState::new(&rt),
+        RandomState::new(&rt),
+    ) else {
         fail(rt, "no random numbers");
     };
-    let mut summary = Summary::with_hashers(rt.alloc(), addresses, reasons);
+    let Ok(state) = RandomState::new(&rt) else {
+        fail(rt, "no random numbers");
+    };
+    let mut summary = Summary::with_hashers(rt.alloc(), addresses, senders, reasons);
     holds(rt, summary.talkers.is_empty());
     let (rules, reader) = (every_packet(rt.alloc()), capture.as_slice());
-    let ending = summarize(rt.alloc(), &rules, &mut summary, reader, &mut NoProgress);
+    let ending = summarize(
+        rt.alloc(),
+        state,
+        &rules,
+        &mut summary,
+        reader,
+        &mut NoProgress,
+    );
     equal(rt, ending, ALL_READ);
     are_counts(rt, &summary);
 }
@@ -161,7 +183,15 @@ fn messages_that_are_refused(rt: HostRuntime) {
     let capture = captured(rt, rt.alloc(), 1, REFUSED_WHOLE);
     let mut summary = Summary::new(rt.alloc());
     let (rules, reader) = (every_packet(rt.alloc()), capture.as_slice());
-    let ending = summarize(rt.alloc(), &rules, &mut summary, reader, &mut NoProgress);
+    let state = BuildHasherDefault::new();
+    let ending = summarize(
+        rt.alloc(),
+        state,
+        &rules,
+        &mut summary,
+        reader,
+        &mut NoProgress,
+    );
     holds(rt, ending.result.is_ok());
     are_refused(rt, &summary);
 }
@@ -172,6 +202,8 @@ fn outline(number: u64, time: u64, len: usize) -> Outline {
         number,
         time,
         len,
+        captured_len: len,
+        wire_len: 40,
         headers: Headers {
             ethernet: false,
             vlan: false,
@@ -201,6 +233,17 @@ fn counts(rt: HostRuntime) {
     equal(rt, counts, (1, 2, 1));
 }
 
+// Of 60, 40 and 30 bytes that were captured, each of 40 on the wire: the last packet was cut.
+#[test]
+fn lengths(rt: HostRuntime) {
+    let mut lengths = Lengths::NONE;
+    for (number, len) in [(1, 60), (2, 40), (3, 30)] {
+        lengths.add(&outline(number, 0, len));
+    }
+    is_tally(rt, lengths.cut, (1, 30, 3));
+    equal(rt, (lengths.wire, lengths.captured), (120, 130));
+}
+
 // 63 and 64 spans of 1/512 second later. Spans are doubled where a packet comes after the 64th.
 #[test]
 fn rates(rt: HostRuntime) {
@@ -221,14 +264,21 @@ const FRAGMENT: &str =
     "02000000000202000000000108004500002412342000401134930a0000010a00000200350fa0001cb3ac\
     6162636465666768";
 
-// In which packet the datagram started for whose rest the fragments of this capture wait.
-fn started_in(rt: impl Abort + Copy, dissector: &mut Dissector, capture: &[u8]) -> Option<u64> {
-    let dissection = dissected(rt, dissector, &first(rt, capture));
+// In which packet the datagram started for whose rest the fragments of this capture wait, whose
+// first packet has such a number.
+fn started_in(
+    rt: impl Abort + Copy,
+    dissector: &mut Dissector,
+    capture: &[u8],
+    number: u64,
+) -> Option<u64> {
+    let mut packet = first(rt, capture);
+    packet.number = number;
+    let dissection = dissected(rt, dissector, &packet);
     let started = match dissection.fragment {
         Some(Fragment::Waits { started }) => Some(started),
         _ => None,
     };
-    dissector.give_back(dissection);
     started
 }
 
@@ -240,8 +290,8 @@ fn open_messages(rt: HostRuntime) {
     let time = 1_700_000_000_000_000_000;
     equal(
         rt,
-        started_in(rt, &mut dissector, capture.as_slice()),
-        Some(1),
+        started_in(rt, &mut dissector, capture.as_slice(), 7),
+        Some(7),
     );
     dissector.forget_before(time);
     equal(rt, dissector.open(), 1);
@@ -250,9 +300,27 @@ fn open_messages(rt: HostRuntime) {
     // Then it starts anew.
     equal(
         rt,
-        started_in(rt, &mut dissector, capture.as_slice()),
-        Some(2),
+        started_in(rt, &mut dissector, capture.as_slice(), 9),
+        Some(9),
     );
+}
+
+// Two fragments of a datagram, whose name is hashed by random keys.
+#[test]
+fn a_datagram_under_random_keys(rt: HostRuntime) {
+    let Ok(state) = RandomState::new(&rt) else {
+        fail(rt, "no random numbers");
+    };
+    let capture = captured(rt, rt.alloc(), 1, &FRAMES[4..6]);
+    let mut packets = Packets::new(Unfit::Refuse, capture.as_slice());
+    let (Some(one), Some(other)) = (packets.next(), packets.next()) else {
+        fail(rt, "no packets");
+    };
+    let mut dissector = Dissector::with_hasher(rt.alloc(), state);
+    holds(rt, dissector.dissect(&one, true).is_ok());
+    equal(rt, dissector.open(), 1);
+    holds(rt, dissector.dissect(&other, true).is_ok());
+    equal(rt, dissector.open(), 0);
 }
 
 const SHARES: &str = "      4000 100.0 %          135980 100.0 %         1  all packets
@@ -260,16 +328,18 @@ const SHARES: &str = "      4000 100.0 %          135980 100.0 %         1  all 
       3999  99.9 %          135966  99.9 %         1  IPv4
 ";
 
-// So many times the packet of a capture.
-fn add_times(
+// The packet of a capture with each number from one to before another.
+fn add_numbered(
     rt: impl Abort + Copy,
-    times: u32,
+    from: u64,
+    until: u64,
     capture: &[u8],
     dissector: &mut Dissector,
     summary: &mut Summary,
 ) {
-    let packet = first(rt, capture);
-    for _ in 0..times {
+    let mut packet = first(rt, capture);
+    for number in from..until {
+        packet.number = number;
         let dissection = dissected(rt, dissector, &packet);
         holds(rt, summary.add(&dissection).is_ok());
     }
@@ -279,6 +349,7 @@ fn reports(rt: impl Abort + Copy, alloc: Global, summary: &Summary, wanted: &str
     let report = Report {
         summary,
         open: 0,
+        dropped: 0,
         skipped: Skipped::NONE,
     };
     let Ok(text) = format!(in alloc; "{report}") else {
@@ -298,7 +369,21 @@ fn a_share_of_all_but_one(rt: HostRuntime) {
     let other = captured(rt, rt.alloc(), 1, &[LLDP]);
     let mut dissector = Dissector::new(rt.alloc());
     let mut summary = Summary::new(rt.alloc());
-    add_times(rt, 3999, capture.as_slice(), &mut dissector, &mut summary);
-    add_times(rt, 1, other.as_slice(), &mut dissector, &mut summary);
+    add_numbered(
+        rt,
+        1,
+        4000,
+        capture.as_slice(),
+        &mut dissector,
+        &mut summary,
+    );
+    add_numbered(
+        rt,
+        4000,
+        4001,
+        other.as_slice(),
+        &mut dissector,
+        &mut summary,
+    );
     reports(rt, rt.alloc(), &summary, SHARES);
 }

@@ -24,6 +24,7 @@ fn lines_of_packets_that_are_let_through(rt: HostRuntime) {
 
 const ONE_OPEN: Ending = Ending {
     open: 1,
+    dropped: 0,
     skipped: Skipped::NONE,
     result: Ok(()),
 };
@@ -47,6 +48,7 @@ const RAW: &[&str] = &[
 // After the file header and the first record.
 const REFUSED: Ending = Ending {
     open: 0,
+    dropped: 0,
     skipped: Skipped::NONE,
     result: Err(RunError::Capture(
         CaptureError::NoFrame,
@@ -60,6 +62,7 @@ const REFUSED: Ending = Ending {
 
 const PASSED_OVER: Ending = Ending {
     open: 0,
+    dropped: 0,
     skipped: Skipped {
         without_frame: 1,
         ..Skipped::NONE
@@ -95,4 +98,23 @@ fn passes_over(
 fn packets_that_are_passed_over(rt: HostRuntime) {
     passes_over(rt, rt.alloc(), Unfit::Refuse, REFUSED, 13, 1);
     passes_over(rt, rt.alloc(), Unfit::Skip, PASSED_OVER, 2 * 13, 2);
+}
+
+// Packets have the numbers of their records: one of which no byte was captured has one, too, and so
+// has one that is passed over.
+#[test]
+fn numbers_of_records(rt: HostRuntime) {
+    let capture = captured(rt, rt.alloc(), 101, &[RAW[0], "", RAW[1], RAW[2]]);
+    let rules = Rules {
+        unfit: Unfit::Skip,
+        ..every_packet(rt.alloc())
+    };
+    let mut out = Vec::new(rt.alloc());
+    let (result, _) = end_of_lines(rt.alloc(), &rules, &LINES, capture.as_slice(), &mut out);
+    equal(rt, result, Ok(()));
+    equal(
+        rt,
+        out.as_slice(),
+        b"    1   0.00\n    4   0.00\n".as_slice(),
+    );
 }

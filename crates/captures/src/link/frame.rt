@@ -116,8 +116,8 @@ impl<'a> Frame<'a> {
     }
 }
 
-/// What is reported of a packet of such a link, if it isn't refused, and the counts of those passed
-/// over then: its frame, or no bytes where it is passed over.
+/// What is reported of a packet of such a link, if it isn't refused, and the counts of packets
+/// then: its frame, or no bytes where it is passed over.
 #[inline(always)]
 pub(crate) fn report<'a>(passing: &mut Passing, link: Link, packet: &'a [u8]) -> Option<Frame<'a>>
     ensures reported { MatchOption result
@@ -130,7 +130,10 @@ pub(crate) fn report<'a>(passing: &mut Passing, link: Link, packet: &'a [u8]) ->
     ensures size { IfSome result (λ frame. length (frame_bytes frame) ≤ length packet.now + 14) }
 {
     match reported(link, packet) {
-        Ok(frame) => Some(frame),
+        Ok(frame) => {
+            *passing = passing.with_packet();
+            Some(frame)
+        }
         Err(reason) => match passing.unfit {
             Unfit::Refuse => None,
             Unfit::Skip => {
@@ -165,7 +168,7 @@ fn reason_on(link: Link, reason: Reason) -> Reason
 {
     match link {
         Link::Ethernet | Link::Ip | Link::Null | Link::Loop | Link::Sll | Link::Sll2 => reason,
-        Link::Other => Reason::OtherLink,
+        Link::Other(_) => Reason::OtherLink,
     }
 }
 
@@ -193,7 +196,7 @@ fn frame_of(link: Link, packet: &[u8]) -> Option<Frame<'_>>
         Link::Loop => framed_loop(packet),
         Link::Sll => framed_sll(packet),
         Link::Sll2 => framed_sll2(packet),
-        Link::Other => None,
+        Link::Other(_) => None,
     }
 }
 

@@ -1,6 +1,6 @@
 //! The kinds of links that packets are captured on.
 ghost use Rattle.std.specs.Prelude.{◌≡◌};
-ghost use Rattle.captures.specs.Framed.{captured_limit, link_for, link_of, taken_limit};
+ghost use Rattle.captures.specs.Framed.{captured_limit, head_len, link_of, refused_type, taken_limit};
 
 use crate::FRAME_LIMIT;
 use crate::limits::SKIPPED_LIMIT;
@@ -23,44 +23,45 @@ pub enum Link {
     Sll,
     /// A header of their second version: 276.
     Sll2,
-    /// Anything else, whose packets are passed over.
-    Other,
+    /// Anything else, by its number: its packets are refused or passed over.
+    Other(u16),
 }
 
 impl Link {
-    /// The kind that has this number in the registry of link types, if its packets are read.
-    pub(crate) fn of(link_type: u16) -> Option<Link>
+    /// The kind that has this number in the registry of link types.
+    pub(crate) fn of(link_type: u16) -> Link
         ensures { result ≡ link_of link_type }
     {
         if link_type == 1 {
-            Some(Link::Ethernet)
+            Link::Ethernet
         } else if link_type == 12
             || link_type == 14
             || link_type == 101
             || link_type == 228
             || link_type == 229
         {
-            Some(Link::Ip)
+            Link::Ip
         } else if link_type == 0 {
-            Some(Link::Null)
+            Link::Null
         } else if link_type == 108 {
-            Some(Link::Loop)
+            Link::Loop
         } else if link_type == 113 {
-            Some(Link::Sll)
+            Link::Sll
         } else if link_type == 276 {
-            Some(Link::Sll2)
+            Link::Sll2
         } else {
-            None
+            Link::Other(link_type)
         }
     }
 
-    /// The kind that a link type's packets are taken as, if they are.
-    pub(crate) fn taken_as(unfit: Unfit, link_type: u16) -> Option<Link>
-        ensures { result ≡ link_for unfit link_type }
+    /// Its number, if its packets are refused.
+    #[inline(always)]
+    pub(crate) fn refused_type(self, unfit: Unfit) -> Option<u16>
+        ensures { result ≡ refused_type unfit self }
     {
-        match unfit {
-            Unfit::Refuse => Link::of(link_type),
-            Unfit::Skip => Some(Link::of(link_type).unwrap_or(Link::Other)),
+        match (unfit, self) {
+            (Unfit::Refuse, Link::Other(number)) => Some(number),
+            _ => None,
         }
     }
 
@@ -78,13 +79,19 @@ impl Link {
     pub(crate) fn captured_limit(self) -> usize
         ensures { result ≡ captured_limit self }
     {
-        let head_len = match self {
+        FRAME_LIMIT - HEADER_LEN + self.head_len()
+    }
+
+    /// How many bytes a packet's own header has, which an Ethernet II header replaces in its frame.
+    pub(crate) fn head_len(self) -> usize
+        ensures { result ≡ head_len self }
+    {
+        match self {
             Link::Ethernet => HEADER_LEN,
-            Link::Ip | Link::Other => 0,
+            Link::Ip | Link::Other(_) => 0,
             Link::Null | Link::Loop => 4,
             Link::Sll => 16,
             Link::Sll2 => 20,
-        };
-        FRAME_LIMIT - HEADER_LEN + head_len
+        }
     }
 }

@@ -29,6 +29,8 @@ pub(crate) struct Unit<'a> {
     pub origin: Origin,
     /// The link that it was captured on.
     pub link: Link,
+    /// How many bytes it had on the wire.
+    pub wire_len: u32,
     /// How many bytes of the unit come before those of the frame.
     pub at: usize,
     /// The packet's frame: no bytes where the unit has no packet, where none were captured, and
@@ -45,7 +47,7 @@ pub(crate) fn next_unit<'a>(
 ) -> Result<Option<Unit<'a>>, CaptureError>
     ensures found { IfOk result
         (λ found. MatchOption found (IsIncomplete state.old bytes.now × (state.new ≡ state.old))
-        (λ u. HasPacket state.old bytes.now state.new u.origin u.link u.frame u.rest.now)) }
+        (λ u. HasPacket state.old bytes.now state.new u.origin u.link u.wire_len u.frame u.rest.now)) }
     ensures at { IfOk result
         (λ found. IfSome found (λ u. StandsAt bytes.now u.at u.frame.bytes)) }
     ensures room { IfOk result
@@ -73,7 +75,7 @@ fn first_unit<'a>(
     requires { state.old ≡ Start unfit }
     ensures found { IfOk result
         (λ found. MatchOption found (IsIncomplete (Start unfit) bytes.now × (state.new ≡ state.old))
-        (λ u. HasPacket (Start unfit) bytes.now state.new u.origin u.link u.frame
+        (λ u. HasPacket (Start unfit) bytes.now state.new u.origin u.link u.wire_len u.frame
         u.rest.now)) }
     ensures at { IfOk result
         (λ found. IfSome found (λ u. StandsAt bytes.now u.at u.frame.bytes)) }
@@ -101,7 +103,7 @@ fn first_block<'a>(
     requires begins { BeginsSection bytes.now }
     ensures found { IfOk result
         (λ found. MatchOption found (IsIncomplete (Start unfit) bytes.now × (state.new ≡ state.old))
-        (λ u. HasPacket (Start unfit) bytes.now state.new u.origin u.link u.frame
+        (λ u. HasPacket (Start unfit) bytes.now state.new u.origin u.link u.wire_len u.frame
         u.rest.now)) }
     ensures at { IfOk result
         (λ found. IfSome found (λ u. StandsAt bytes.now u.at u.frame.bytes)) }
@@ -131,7 +133,7 @@ fn file_header<'a>(
     requires other { BeginsSection bytes.now → ⊥ }
     ensures found { IfOk result
         (λ found. MatchOption found (IsIncomplete (Start unfit) bytes.now × (state.new ≡ state.old))
-        (λ u. HasPacket (Start unfit) bytes.now state.new u.origin u.link u.frame
+        (λ u. HasPacket (Start unfit) bytes.now state.new u.origin u.link u.wire_len u.frame
         u.rest.now)) }
     ensures at { IfOk result
         (λ found. IfSome found (λ u. StandsAt bytes.now u.at u.frame.bytes)) }
@@ -146,9 +148,7 @@ fn file_header<'a>(
         return Err(CaptureError::NotCapture);
     };
     let link_type = (order.word(header, 20) % 65_536) as u16;
-    let Some(link) = Link::taken_as(unfit, link_type) else {
-        return Err(CaptureError::LinkType(link_type));
-    };
+    let link = Link::of(link_type);
     let time_unit = TimeUnit::of(order.word(header, 0));
     *state = State::Classic(order, time_unit, link, Passing::from(unfit));
     Ok(Some(Unit {
@@ -157,6 +157,7 @@ fn file_header<'a>(
             time: 0,
         },
         link,
+        wire_len: 0,
         at: 0,
         frame: Frame::of(&[]),
         rest,
@@ -214,7 +215,7 @@ fn packet_record<'a>(
         (IsIncomplete (Classic order time_unit link passing.old) bytes.now
         × (passing.new ≡ passing.old))
         (λ u. HasPacket (Classic order time_unit link passing.old) bytes.now
-        (Classic order time_unit link passing.new) u.origin u.link u.frame u.rest.now)) }
+        (Classic order time_unit link passing.new) u.origin u.link u.wire_len u.frame u.rest.now)) }
     ensures at { IfOk result
         (λ found. IfSome found (λ u. StandsAt bytes.now u.at u.frame.bytes)) }
     ensures room { IfOk result
@@ -228,6 +229,9 @@ fn packet_record<'a>(
         return Ok(None);
     }
     let (head, body) = bytes.split_at(RECORD_HEAD_LEN);
+    if let Some(link_type) = link.refused_type(passing.unfit) {
+        return Err(CaptureError::LinkType(link_type));
+    }
     let captured = order.word(head, 8);
     if captured as usize > link.taken_limit(passing.unfit) {
         return Err(CaptureError::FrameTooLong(captured));
@@ -242,6 +246,7 @@ fn packet_record<'a>(
     Ok(Some(Unit {
         origin: record_origin(order, time_unit, head),
         link,
+        wire_len: order.word(head, 12),
         at: RECORD_HEAD_LEN + (packet.len() - frame.bytes().len()),
         frame,
         rest,

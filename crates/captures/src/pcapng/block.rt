@@ -6,7 +6,7 @@ ghost use Rattle.captures.specs.Numbers.{word};
 ghost use Rattle.captures.specs.Pcapng.{section_header, interface_description, simple_packet, captured_len};
 ghost use Rattle.captures.specs.Pcapng.{is_read_version, IsOther, IsSkipped, HoldsPacket, Content, Says, IsTimedPacket};
 ghost use Rattle.captures.specs.Pcapng.{IsSimplePacket, Reads, RefusesBlock, clock_at, clocks_with, link_at};
-ghost use Rattle.captures.specs.Pcapng.{links_with, later_links};
+ghost use Rattle.captures.specs.Pcapng.{block_wire_len, links_with, later_links};
 ghost use Rattle.captures.specs.Pcapng.Content.{Holds};
 ghost use Rattle.captures.specs.Units.{IsHeldOn, StandsAt};
 ghost use Rattle.captures.specs.declared.origin.Origin.{Origin};
@@ -57,6 +57,8 @@ fn is_other(order: ByteOrder, prefix: &[u8]) -> bool
 pub(crate) struct Reading<'a> {
     pub origin: Origin,
     pub link: Link,
+    /// How many bytes the packet had on the wire.
+    pub wire_len: u32,
     /// How many bytes of the block come before those of the frame.
     pub at: usize,
     pub frame: Frame<'a>,
@@ -73,7 +75,7 @@ pub(crate) fn read_block<'a>(
     ensures reads { IfOk result
         (λ r. Reads section.old order block.now section.new r.origin (frame_bytes r.frame)) }
     ensures on { IfOk result (λ r. 0 < length (frame_bytes r.frame)
-        → IsHeldOn section.old order block.now r.link r.frame) }
+        → IsHeldOn section.old order block.now r.link r.wire_len r.frame) }
     ensures at { IfOk result (λ r. StandsAt block.now r.at r.frame.bytes) }
     ensures room { IfOk result (λ r. 46 + 2 * length (frame_bytes r.frame) ≤ 5 * length block.now) }
     ensures refused { IfErr result
@@ -99,7 +101,8 @@ fn nothing<'a>() -> Reading<'a>
             channel: 0,
             time: 0,
         },
-        link: Link::Other,
+        link: Link::Ethernet,
+        wire_len: 0,
         at: 0,
         frame: Frame::of(&[]),
     }
@@ -115,7 +118,7 @@ fn begin_section<'a>(
     ensures reads { IfOk result
         (λ r. Reads section.old order block.now section.new r.origin (frame_bytes r.frame)) }
     ensures on { IfOk result (λ r. 0 < length (frame_bytes r.frame)
-        → IsHeldOn section.old order block.now r.link r.frame) }
+        → IsHeldOn section.old order block.now r.link r.wire_len r.frame) }
     ensures at { IfOk result (λ r. StandsAt block.now r.at r.frame.bytes) }
     ensures room { IfOk result (λ r. 46 + 2 * length (frame_bytes r.frame) ≤ 5 * length block.now) }
     ensures refused { IfErr result
@@ -154,7 +157,7 @@ fn describe_interface<'a>(
     ensures reads { IfOk result
         (λ r. Reads section.old order block.now section.new r.origin (frame_bytes r.frame)) }
     ensures on { IfOk result (λ r. 0 < length (frame_bytes r.frame)
-        → IsHeldOn section.old order block.now r.link r.frame) }
+        → IsHeldOn section.old order block.now r.link r.wire_len r.frame) }
     ensures at { IfOk result (λ r. StandsAt block.now r.at r.frame.bytes) }
     ensures room { IfOk result (λ r. 46 + 2 * length (frame_bytes r.frame) ≤ 5 * length block.now) }
     ensures refused { IfErr result
@@ -168,7 +171,7 @@ fn describe_interface<'a>(
     };
     let link_type = order.half(block, 8);
     let Some(links) = links_with(section, link_type) else {
-        return Err(CaptureError::LinkType(link_type));
+        return Err(CaptureError::InterfaceLimit(link_type));
     };
     let clock = Clock::of(order, &block[16..block.len() - 4]);
     let snap_len = first_snap_len(section, order.word(block, 12));
@@ -179,7 +182,7 @@ fn describe_interface<'a>(
     Ok(nothing())
 }
 
-// The links of the first interfaces, after one more of this link type was described.
+// The links of the first interfaces, after one more of this link type was described, if it may be.
 fn links_with(section: &Section, link_type: u16) -> Option<[Link; LINKED_INTERFACES]>
     ensures { result ≡ links_with section.now link_type }
 {
@@ -187,9 +190,8 @@ fn links_with(section: &Section, link_type: u16) -> Option<[Link; LINKED_INTERFA
     if interface >= LINKED_INTERFACES {
         return later_links(section, link_type);
     }
-    let link = Link::taken_as(section.passing.unfit, link_type)?;
     let mut links = section.links;
-    links[interface] = link;
+    links[interface] = Link::of(link_type);
     Some(links)
 }
 
@@ -241,12 +243,13 @@ fn first_snap_len(section: &Section, described: u32) -> u32
     }
 }
 
-// A packet's bytes, how many they are and how many come before them in the block, where and when it
-// was captured, and on which link.
+// A packet's bytes, how many they are, how many were on the wire and how many come before them in the
+// block, where and when it was captured, and on which link.
 #[derive(Drop)]
 struct Held<'a> {
     origin: Origin,
     link: Link,
+    wire_len: u32,
     at: usize,
     captured: u32,
     packet: &'a [u8],
@@ -263,7 +266,7 @@ fn read_packet<'a>(
     ensures reads { IfOk result
         (λ r. Reads section.old order block.now section.new r.origin (frame_bytes r.frame)) }
     ensures on { IfOk result (λ r. 0 < length (frame_bytes r.frame)
-        → IsHeldOn section.old order block.now r.link r.frame) }
+        → IsHeldOn section.old order block.now r.link r.wire_len r.frame) }
     ensures at { IfOk result (λ r. StandsAt block.now r.at r.frame.bytes) }
     ensures room { IfOk result (λ r. 46 + 2 * length (frame_bytes r.frame) ≤ 5 * length block.now) }
     ensures refused { IfErr result
@@ -272,6 +275,9 @@ fn read_packet<'a>(
     let Some(held) = held_packet(section, order, block) else {
         return Err(CaptureError::BadBlock);
     };
+    if let Some(link_type) = held.link.refused_type(section.passing.unfit) {
+        return Err(CaptureError::LinkType(link_type));
+    }
     if held.captured as usize > held.link.taken_limit(section.passing.unfit) {
         return Err(CaptureError::FrameTooLong(held.captured));
     }
@@ -281,6 +287,7 @@ fn read_packet<'a>(
     Ok(Reading {
         origin: held.origin,
         link: held.link,
+        wire_len: held.wire_len,
         at: held.at + (held.packet.len() - frame.bytes().len()),
         frame,
     })
@@ -293,6 +300,7 @@ fn held_packet<'a>(section: &Section, order: ByteOrder, block: &'a [u8]) -> Opti
     ensures found { MatchOption result
         ((content : Content) → Says section.now order block.now content → ⊥)
         (λ h. Says section.now order block.now (Holds h.origin h.link h.packet.now)) }
+    ensures wire { IfSome result (λ h. block_wire_len order block.now ≡ h.wire_len) }
     ensures captured { IfSome result (λ h. h.captured ≡ length h.packet.now) }
     ensures at { IfSome result (λ h. StandsAt block.now h.at h.packet.now) }
     ensures size { IfSome result (λ h. length h.packet.now + 16 ≤ length block.now) }
@@ -315,6 +323,7 @@ fn timed_packet<'a>(
         ((origin : Origin) (link : Link) (packet : List ℕ)
         → IsTimedPacket interface section.now order block.now origin link packet → ⊥)
         (λ h. IsTimedPacket interface section.now order block.now h.origin h.link h.packet.now) }
+    ensures wire { IfSome result (λ h. word order block.now 24 ≡ h.wire_len) }
     ensures captured { IfSome result (λ h. h.captured ≡ length h.packet.now) }
     ensures at { IfSome result (λ h. StandsAt block.now h.at h.packet.now) }
     ensures size { IfSome result (λ h. length h.packet.now + 16 ≤ length block.now) }
@@ -331,6 +340,7 @@ fn timed_packet<'a>(
     Some(Held {
         origin: Origin { channel, time },
         link: link_at(section, interface),
+        wire_len: order.word(block, 24),
         at: 28,
         captured,
         packet: &block[28..28 + captured as usize],
@@ -344,6 +354,7 @@ fn simple_packet<'a>(section: &Section, order: ByteOrder, block: &'a [u8]) -> Op
         ((origin : Origin) (link : Link) (packet : List ℕ)
         → IsSimplePacket section.now order block.now origin link packet → ⊥)
         (λ h. IsSimplePacket section.now order block.now h.origin h.link h.packet.now) }
+    ensures wire { IfSome result (λ h. word order block.now 8 ≡ h.wire_len) }
     ensures captured { IfSome result (λ h. h.captured ≡ length h.packet.now) }
     ensures at { IfSome result (λ h. StandsAt block.now h.at h.packet.now) }
     ensures size { IfSome result (λ h. length h.packet.now + 16 ≤ length block.now) }
@@ -351,7 +362,8 @@ fn simple_packet<'a>(section: &Section, order: ByteOrder, block: &'a [u8]) -> Op
     if block.len() < 16 || section.interfaces == 0 {
         return None;
     }
-    let captured = captured_len(section.snap_len, order.word(block, 8));
+    let wire_len = order.word(block, 8);
+    let captured = captured_len(section.snap_len, wire_len);
     if captured as usize > block.len() - 16 {
         return None;
     }
@@ -361,6 +373,7 @@ fn simple_packet<'a>(section: &Section, order: ByteOrder, block: &'a [u8]) -> Op
             time: 0,
         },
         link: link_at(section, 0),
+        wire_len,
         at: 12,
         captured,
         packet: &block[12..12 + captured as usize],

@@ -11,7 +11,7 @@ use crate::unfit::Unfit;
 /// The link type of Ethernet frames.
 pub(crate) const ETHERNET: u16 = 1;
 
-/// How many interfaces of a section may have any link that is read. Those after them have Ethernet.
+/// How many interfaces of a section may have any link. Those after them have Ethernet.
 pub(crate) const LINKED_INTERFACES: usize = 32;
 
 /// How many clocks are known: those of these interfaces, and one that all after them share.

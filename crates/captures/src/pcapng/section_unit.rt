@@ -26,7 +26,7 @@ pub(crate) fn section_unit<'a>(
     ensures found { IfOk result
         (λ found. MatchOption found
         (IsIncomplete (Pcapng section.old) bytes.now × (section.new ≡ section.old))
-        (λ u. HasPacket (Pcapng section.old) bytes.now (Pcapng section.new) u.origin u.link u.frame
+        (λ u. HasPacket (Pcapng section.old) bytes.now (Pcapng section.new) u.origin u.link u.wire_len u.frame
         u.rest.now)) }
     ensures at { IfOk result
         (λ found. IfSome found (λ u. StandsAt bytes.now u.at u.frame.bytes)) }
@@ -60,6 +60,7 @@ pub(crate) fn section_unit<'a>(
         Ok(reading) => Ok(Some(Unit {
             origin: reading.origin,
             link: reading.link,
+            wire_len: reading.wire_len,
             at: reading.at,
             frame: reading.frame,
             rest,

@@ -10,9 +10,11 @@ use crate::translation::state::State;
 /// A packet but for the bytes after its header.
 #[derive(Clone, Copy)]
 pub(crate) struct Found {
+    pub number: u64,
     pub interface: u32,
     pub time: u64,
     pub link: Link,
+    pub wire_len: u32,
     pub header: Option<Header>,
 }
 
@@ -45,9 +47,11 @@ pub(crate) fn look_ahead(state: &mut State, bytes: &[u8]) -> Ahead
     match packet {
         Some(packet) => Ahead {
             found: Some(Found {
+                number: packet.number,
                 interface: packet.interface,
                 time: packet.time,
                 link: packet.link,
+                wire_len: packet.wire_len,
                 header: packet.frame.made_header(),
             }),
             from,

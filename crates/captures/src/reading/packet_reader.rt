@@ -7,6 +7,7 @@ ghost use Rattle.captures.specs.Positions.{block_type};
 ghost use Rattle.captures.specs.Readers.{ComesTo, EndsBy, FindsPacket, HasRead, HeldTo, IsBeside, IsRefusedWith, again};
 ghost use Rattle.captures.specs.Readers.{packet_at, skipped_by, source_of};
 ghost use Rattle.captures.specs.CaptureRuns.{fault_at_end};
+ghost use Rattle.captures.specs.Units.{seen_in};
 ghost use Rattle.captures.specs.declared.limits.TheConstants.{INPUT_CAPACITY};
 ghost use Rattle.captures.specs.declared.packet.Packet.{Packet};
 ghost use Rattle.captures.specs.declared.reading.read_error.ReadError.{ReadError};
@@ -42,8 +43,6 @@ pub struct PacketReader<R> {
     state: State,
     // A long block that is started, of which nothing is held.
     started: Option<LongBlock>,
-    // How many packets were given.
-    count: u64,
     // How many bytes were passed: those of whole units.
     passed: u64,
     found: Option<Found>,
@@ -64,7 +63,6 @@ impl<R: Read + Drop> PacketReader<R> {
             window: Window::new(alloc)?,
             state: State::Start(unfit),
             started: None,
-            count: 0,
             passed: 0,
             found: None,
             ended: None,
@@ -123,9 +121,11 @@ impl<R: Read + Drop> PacketReader<R> {
     {
         let found = self.found?;
         Some(Packet {
+            number: found.number,
             interface: found.interface,
             time: found.time,
             link: found.link,
+            wire_len: found.wire_len,
             frame: Frame::following(found.header, self.window.marked()),
         })
     }
@@ -226,7 +226,6 @@ impl<R: Read + Drop> PacketReader<R> {
             self.window.mark(ahead.from, ahead.len);
             self.window.keep(ahead.left);
             self.found = Some(found);
-            self.count = self.count.saturating_add(1);
             return Ok(true);
         }
         self.window.keep(ahead.left);
@@ -244,18 +243,12 @@ impl<R: Read + Drop> PacketReader<R> {
     }
 
     fn position(&self) -> Position
-        ensures packet { result.packet ≡ capped (self.now.count + 1) }
+        ensures packet { result.packet ≡ capped (seen_in self.now.state + 1) }
         ensures offset { result.offset ≡ self.now.passed }
         ensures block { (dropped : List ℕ) → IsDropped self.now.state self.now.started dropped
             → result.block ≡ block_type self.now.state (dropped ++ self.now.window.held) }
     {
-        position_of(
-            self.count,
-            self.passed,
-            self.state,
-            self.started,
-            self.window.held(),
-        )
+        position_of(self.passed, self.state, self.started, self.window.held())
     }
 
     fn refuse(&mut self, error: CaptureError) -> Result<bool, ReadError>

@@ -36,9 +36,11 @@ pub(crate) fn first_packet<'a>(state: &mut State, bytes: &'a [u8]) -> FirstPacke
                 if !unit.frame.is_empty() {
                     return FirstPacket {
                         packet: Some(Packet {
+                            number: state.seen(),
                             interface: unit.origin.channel,
                             time: unit.origin.time,
                             link: unit.link,
+                            wire_len: unit.wire_len,
                             frame: unit.frame,
                         }),
                         from: rest.len() - unit.at,

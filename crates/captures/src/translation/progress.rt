@@ -20,8 +20,6 @@ pub(crate) struct Progress<'a> {
     pub rest: &'a [u8],
     /// How many bytes are passed: those of whole units.
     pub passed: u64,
-    /// How many packets of the units are reported.
-    pub count: usize,
     /// How many bytes the lines of the packets have.
     pub used: usize,
     /// How far the lines have come.
@@ -44,7 +42,7 @@ pub(crate) fn take_chunk<'a>(
     ensures fits { result.used ≤ length out.new }
     ensures takes { (dropped : List ℕ) → IsDropped state started dropped
         → Leaves ledger state (dropped ++ bytes.now) result.after result.started result.rest.now
-        result.count (take result.used out.new) result.refusal result.ledger }
+        (take result.used out.new) result.refusal result.ledger }
     ensures extra { result.ledger.extra ≡ ledger.extra }
     ensures passed { (dropped : List ℕ) → IsDropped state started dropped
         → result.passed + dropped_len result.started + length result.rest.now
@@ -64,7 +62,7 @@ fn take_whole<'a>(state: State, ledger: Ledger, bytes: &'a [u8], out: &mut [u8])
     requires out { 5 * length bytes.now ≤ length out.old }
     ensures fits { result.used ≤ length out.new }
     ensures takes { Leaves ledger state bytes.now result.after result.started result.rest.now
-        result.count (take result.used out.new) result.refusal result.ledger }
+        (take result.used out.new) result.refusal result.ledger }
     ensures extra { result.ledger.extra ≡ ledger.extra }
     ensures passed { result.passed + dropped_len result.started + length result.rest.now
         ≡ length bytes.now }
@@ -79,7 +77,6 @@ fn take_whole<'a>(state: State, ledger: Ledger, bytes: &'a [u8], out: &mut [u8])
             started: None,
             rest: taken.rest,
             passed,
-            count: taken.count,
             used: taken.used,
             ledger: taken.ledger,
             refusal: taken.refusal,
@@ -91,7 +88,6 @@ fn take_whole<'a>(state: State, ledger: Ledger, bytes: &'a [u8], out: &mut [u8])
             started: Some(block),
             rest: &[],
             passed,
-            count: taken.count,
             used: taken.used,
             ledger: taken.ledger,
             refusal: None,
@@ -101,7 +97,6 @@ fn take_whole<'a>(state: State, ledger: Ledger, bytes: &'a [u8], out: &mut [u8])
             started: None,
             rest: taken.rest,
             passed,
-            count: taken.count,
             used: taken.used,
             ledger: taken.ledger,
             refusal: None,
@@ -122,7 +117,7 @@ fn take_after<'a>(
     ensures fits { result.used ≤ length out.new }
     ensures takes { (dropped : List ℕ) → IsDropped state (Some block) dropped
         → Leaves ledger state (dropped ++ bytes.now) result.after result.started result.rest.now
-        result.count (take result.used out.new) result.refusal result.ledger }
+        (take result.used out.new) result.refusal result.ledger }
     ensures extra { result.ledger.extra ≡ ledger.extra }
     ensures passed { (dropped : List ℕ) → IsDropped state (Some block) dropped
         → result.passed + dropped_len result.started + length result.rest.now
@@ -136,7 +131,6 @@ fn take_after<'a>(
             started: Some(started),
             rest: last(bytes, left),
             passed: 0,
-            count: 0,
             used: 0,
             ledger,
             refusal: None,
@@ -146,7 +140,6 @@ fn take_after<'a>(
             started: Some(started),
             rest: last(bytes, left),
             passed: 0,
-            count: 0,
             used: 0,
             ledger,
             refusal: Some(CaptureError::BadBlock),
@@ -158,7 +151,6 @@ fn take_after<'a>(
                 started: taken.started,
                 rest: taken.rest,
                 passed: u64::from(block.len) + taken.passed,
-                count: taken.count,
                 used: taken.used,
                 ledger: taken.ledger,
                 refusal: taken.refusal,

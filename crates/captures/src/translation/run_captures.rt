@@ -12,7 +12,7 @@ ghost use Rattle.captures.specs.CaptureRuns.{ArePassedOver, IsCapture, PassesOve
 ghost use Rattle.captures.specs.CaptureRuns.{result_at_end};
 ghost use Rattle.captures.specs.Skipping.{none_skipped};
 ghost use Rattle.captures.specs.Framed.{unfit_by};
-ghost use Rattle.captures.specs.Units.{Takes, skipped_in};
+ghost use Rattle.captures.specs.Units.{Takes, seen_in, skipped_in};
 ghost use Rattle.captures.specs.declared.limits.TheConstants.{INPUT_CAPACITY};
 ghost use Rattle.captures.specs.declared.translation.state.State.TheVariants.{Start};
 
@@ -118,7 +118,6 @@ fn run_by<const SKIPS: bool, D: Device>(
         state: State::Start(Unfit::by(SKIPS)),
         ledger: Ledger::blank(extra),
         started: None,
-        count: 0,
         passed: 0,
     };
     let result = run_translator(alloc, &mut teller, &[], device, reads);
@@ -135,8 +134,6 @@ struct PacketWriter<const SKIPS: bool> {
     ledger: Ledger,
     // A long block that is started, of which nothing is held.
     started: Option<LongBlock>,
-    // How many packets were reported.
-    count: u64,
     // How many bytes were passed: those of whole units.
     passed: u64,
 }
@@ -144,12 +141,12 @@ struct PacketWriter<const SKIPS: bool> {
 impl<const SKIPS: bool> PacketWriter<SKIPS> {
     // The position of what comes next, of which this is held.
     fn position(&self, held: &[u8]) -> Position
-        ensures packet { result.packet ≡ capped (self.now.count + 1) }
+        ensures packet { result.packet ≡ capped (seen_in self.now.state + 1) }
         ensures offset { result.offset ≡ self.now.passed }
         ensures block { (dropped : List ℕ) → IsDropped self.now.state self.now.started dropped
             → result.block ≡ block_type self.now.state (dropped ++ held.now) }
     {
-        position_of(self.count, self.passed, self.state, self.started, held)
+        position_of(self.passed, self.state, self.started, held)
     }
 }
 
@@ -165,10 +162,8 @@ impl<const SKIPS: bool> Translator for PacketWriter<SKIPS> {
 
     ghost shows = { λ teller held read written. (dropped : List ℕ)
         × IsDropped teller.state teller.started dropped
-        × (count : ℕ)
         × Takes (blank teller.ledger.extra) (Start (unfit_by SKIPS)) read teller.state
-        (dropped ++ held) count written None teller.ledger
-        × (teller.count ≡ capped count)
+        (dropped ++ held) written None teller.ledger
         × (teller.passed ≡ capped (length read - length (dropped ++ held))) };
 
     fn translate<'a>(&mut self, bytes: &'a [u8], out: &mut [u8]) -> Translated<'a> {
@@ -176,7 +171,6 @@ impl<const SKIPS: bool> Translator for PacketWriter<SKIPS> {
         self.state = progress.after;
         self.ledger = progress.ledger;
         self.started = progress.started;
-        self.count = self.count.saturating_add(progress.count as u64);
         self.passed = self.passed.saturating_add(progress.passed);
         match progress.refusal {
             Some(error) => Translated {

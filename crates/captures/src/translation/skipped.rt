@@ -1,5 +1,6 @@
-//! How many packets a run passed over.
-ghost use Rattle.std.specs.Prelude.{◌≡◌};
+//! How many packets came, and how many of them a run passed over.
+ghost use Rattle.std.specs.Prelude.{◌≡◌, ◌+◌};
+ghost use Rattle.captures.specs.Numbers.{capped};
 ghost use Rattle.captures.specs.Skipping.{passing_from, with_reason};
 
 use crate::unfit::Unfit;
@@ -69,11 +70,13 @@ impl Skipped {
     }
 }
 
-/// What happens to packets that can't be reported, and how many were passed over so far.
+/// What happens to packets that can't be reported, and how many came and were passed over so far.
 #[derive(Clone, Copy)]
 pub(crate) struct Passing {
     pub unfit: Unfit,
     pub skipped: Skipped,
+    /// How many packets came, those included of which no byte was captured.
+    pub seen: u64,
 }
 
 impl Passing {
@@ -84,16 +87,32 @@ impl Passing {
         Passing {
             unfit,
             skipped: Skipped::NONE,
+            seen: 0,
+        }
+    }
+
+    /// After one packet more that is reported.
+    pub(crate) fn with_packet(self) -> Passing
+        ensures { result ≡ record self { seen = capped (self.seen + 1) } }
+    {
+        Passing {
+            unfit: self.unfit,
+            skipped: self.skipped,
+            seen: self.seen.saturating_add(1),
         }
     }
 
     /// After one packet more that is passed over.
     pub(crate) fn with_reason(self, reason: Reason) -> Passing
-        ensures { result ≡ record self { skipped = with_reason self.skipped reason } }
+        ensures { result ≡ record self {
+          seen = capped (self.seen + 1);
+          skipped = with_reason self.skipped reason;
+        } }
     {
         Passing {
             unfit: self.unfit,
             skipped: self.skipped.with_reason(reason),
+            seen: self.seen.saturating_add(1),
         }
     }
 }

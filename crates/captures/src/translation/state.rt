@@ -1,6 +1,6 @@
 //! What a capture is known to be, after some of its units.
 ghost use Rattle.std.specs.Prelude.{◌≡◌};
-ghost use Rattle.captures.specs.Units.{skipped_in};
+ghost use Rattle.captures.specs.Units.{seen_in, skipped_in};
 
 use crate::byte_order::ByteOrder;
 use crate::link::kind::Link;
@@ -30,6 +30,18 @@ impl State {
             State::Start(_) => Skipped::NONE,
             State::Classic(_, _, _, passing) => passing.skipped,
             State::Pcapng(section) => section.passing.skipped,
+        }
+    }
+
+    /// How many packets came by then.
+    #[inline(always)]
+    pub(crate) fn seen(&self) -> u64
+        ensures { result ≡ seen_in self.now }
+    {
+        match self {
+            State::Start(_) => 0,
+            State::Classic(_, _, _, passing) => passing.seen,
+            State::Pcapng(section) => section.passing.seen,
         }
     }
 }

@@ -14,8 +14,6 @@ pub(crate) struct Taken<'a> {
     pub after: State,
     /// What follows the units.
     pub rest: &'a [u8],
-    /// How many packets of them are reported.
-    pub count: usize,
     /// How many bytes the lines of their packets have.
     pub used: usize,
     /// How far the lines are then.
@@ -34,22 +32,19 @@ pub(crate) fn take_units<'a>(
     requires { 5 * length bytes.now ≤ length out.old }
     ensures fits { result.used ≤ length out.new }
     ensures parts { length result.rest.now ≤ length bytes.now }
-    ensures takes { Takes ledger state bytes.now result.after result.rest.now result.count
+    ensures takes { Takes ledger state bytes.now result.after result.rest.now
         (take result.used out.new) result.refusal result.ledger }
     ensures extra { result.ledger.extra ≡ ledger.extra }
 {
     let mut packets = Packets::following(state, bytes);
-    let mut count = 0;
     let mut used = 0;
     let mut noted = ledger;
     'lines: while let Some(packet) = packets.step() {
         used = noted.report(out, used, packet.origin(), &packet.frame);
-        count += 1;
     }
     Taken {
         after: packets.state(),
         rest: packets.rest(),
-        count,
         used,
         ledger: noted,
         refusal: packets.refusal(),

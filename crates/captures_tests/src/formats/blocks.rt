@@ -161,13 +161,13 @@ fn each_refusal(rt: HostRuntime) {
         (4, b"\x08", bad, none, (1, 0, Some(SECTION))),
         // no whole words
         (32, b"\x15", bad, none, (1, 28, Some(1))),
-        // link type of PPP
+        // link type of PPP, on whose interface the second packet is
         (
             36,
             b"\x09",
             CaptureError::LinkType(9),
-            none,
-            (1, 28, Some(1)),
+            lines_before(132),
+            (2, 132, Some(3)),
         ),
         // 4 bytes above the limit
         (

@@ -49,6 +49,24 @@ pub(crate) const BIG_NANOSECONDS: &[u8; 148] = b"\
     \x00\x00\x00\x00\x0a\x00\x00\x02\
 ";
 
+// The first 20 bytes of each packet: `editcap -s 20` of the first file, and by scapy with the high
+// byte first.
+pub(crate) const LITTLE_CUT: &[u8; 96] = b"\
+    \xd4\xc3\xb2\xa1\x02\x00\x04\x00\x00\x00\x00\x00\x00\x00\x00\x00\x14\x00\x00\x00\
+    \x01\x00\x00\x00\x00\xf1\x53\x65\x90\xd0\x03\x00\x14\x00\x00\x00\x32\x00\x00\x00\
+    \x02\x00\x00\x00\x00\x02\x02\x00\x00\x00\x00\x01\x08\x00\x45\x00\x00\x24\x00\x01\
+    \x01\xf1\x53\x65\x90\xd0\x03\x00\x14\x00\x00\x00\x2a\x00\x00\x00\xff\xff\xff\xff\
+    \xff\xff\x02\x00\x00\x00\x00\x01\x08\x06\x00\x01\x08\x00\x06\x04\
+";
+
+pub(crate) const BIG_CUT: &[u8; 96] = b"\
+    \xa1\xb2\xc3\xd4\x00\x02\x00\x04\x00\x00\x00\x00\x00\x00\x00\x00\x00\x00\x00\x14\
+    \x00\x00\x00\x01\x65\x53\xf1\x00\x00\x03\xd0\x90\x00\x00\x00\x14\x00\x00\x00\x32\
+    \x02\x00\x00\x00\x00\x02\x02\x00\x00\x00\x00\x01\x08\x00\x45\x00\x00\x24\x00\x01\
+    \x65\x53\xf1\x01\x00\x03\xd0\x90\x00\x00\x00\x14\x00\x00\x00\x2a\xff\xff\xff\xff\
+    \xff\xff\x02\x00\x00\x00\x00\x01\x08\x06\x00\x01\x08\x00\x06\x04\
+";
+
 #[test]
 fn each_byte_order_and_time_unit(rt: HostRuntime) {
     for file in [
@@ -101,7 +119,7 @@ fn each_refusal(rt: HostRuntime) {
         // Version 1.4.
         (5, b"\x01", CaptureError::NotCapture, none, 1, 0),
         // The link type of PPP.
-        (23, b"\x09", CaptureError::LinkType(9), none, 1, 0),
+        (23, b"\x09", CaptureError::LinkType(9), none, 1, 24),
         // 99,992 bytes of the second packet.
         (
             98,
@@ -117,6 +135,31 @@ fn each_refusal(rt: HostRuntime) {
         let wanted = refused(error, packet, offset, None);
         reports(rt, &with_bytes(at, bytes), wanted, lines);
     }
+}
+
+// A capture of PPP is refused at its first packet, once the head of its record is there.
+#[test]
+fn prefixes_of_another_link(rt: HostRuntime) {
+    let refusal = refused(CaptureError::LinkType(9), 1, 24, None);
+    let cut = refused(CaptureError::CutOff, 1, 24, None);
+    for (len, wanted) in [(24, Ok(())), (39, cut), (40, refusal), (90, refusal)] {
+        assert!(rt; len <= 148);
+        reports(rt, &with_bytes(23, b"\x09")[..len], wanted, b"");
+    }
+}
+
+// So it is where that packet is too long, 99,992 bytes, and where no byte of it was captured.
+#[test]
+fn lengths_on_another_link(rt: HostRuntime) {
+    let refusal = refused(CaptureError::LinkType(9), 1, 24, None);
+    let long = b"\
+        \xa1\xb2\xc3\xd4\x00\x02\x00\x04\x00\x00\x00\x00\x00\x00\x00\x00\x00\x00\xff\xff\x00\x00\x00\x09\
+        \x65\x53\xf1\x00\x00\x03\xd0\x90\x00\x01\x86\x98\x00\x01\x86\x98";
+    let empty = b"\
+        \xa1\xb2\xc3\xd4\x00\x02\x00\x04\x00\x00\x00\x00\x00\x00\x00\x00\x00\x00\xff\xff\x00\x00\x00\x09\
+        \x65\x53\xf1\x00\x00\x03\xd0\x90\x00\x00\x00\x00\x00\x00\x00\x32";
+    reports(rt, long, refusal, b"");
+    reports(rt, empty, refusal, b"");
 }
 
 #[test]

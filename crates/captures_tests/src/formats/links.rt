@@ -1,8 +1,8 @@
 //! Packets of other links than Ethernet, laid out as tcpdump.org/linktypes.html says.
 //! Calls have no contracts: tests alone make them, and are run.
 use crate::checks::{append, joined, repeated};
-use crate::packet_lines::{refused, reports, reports_bytes};
-use captures::CaptureError;
+use crate::packet_lines::{refused, reports, reports_bytes, reports_skipping};
+use captures::{CaptureError, Skipped};
 use std::process::Abort;
 
 // A classic capture of one packet.
@@ -190,15 +190,41 @@ fn cooked_interface_of_a_section(rt: HostRuntime) {
     reports(rt, file.as_slice(), Ok(()), line);
 }
 
-// The 32nd interface of a section may have any link that is read, the 33rd has to be Ethernet.
+// An interface of PPP is refused at its first packet alone.
+#[test]
+fn interface_of_another_link(rt: HostRuntime) {
+    let unused = joined(
+        rt,
+        &[SECTION, &interface_of(9), &interface_of(1), &packet_of(1)],
+    );
+    reports(rt, unused.as_slice(), Ok(()), b"frame 1 45\n");
+    for (block, kind) in [
+        (packet_of(0).as_slice(), 6),
+        (b"\x03\0\0\0\x14\0\0\0\x01\0\0\0\x45\0\0\0\x14\0\0\0", 3),
+        // No byte of it was captured.
+        (b"\x03\0\0\0\x10\0\0\0\0\0\0\0\x10\0\0\0", 3),
+    ] {
+        let used = joined(rt, &[unused.as_slice(), &packet_of(1), block]);
+        let wanted = refused(CaptureError::LinkType(9), 3, 140, Some(kind));
+        reports(rt, used.as_slice(), wanted, b"frame 1 45\nframe 1 45\n");
+    }
+}
+
+// The 32nd interface of a section may have any link, the 33rd has to be Ethernet.
 #[test]
 fn link_of_the_33rd_interface(rt: HostRuntime) {
-    let link_error = |number| refused(CaptureError::LinkType(number), 1, 668, Some(1));
+    let limit = |number| refused(CaptureError::InterfaceLimit(number), 1, 668, Some(1));
     let actual = b"frame 32 45\nframe 31 000000000000000000000000080045\n".as_slice();
     for (last, next, wanted, lines) in [
         (101, 1, Ok(()), actual),
-        (101, 101, link_error(101), b""),
-        (101, 9, link_error(9), b""),
+        (
+            9,
+            1,
+            refused(CaptureError::LinkType(9), 2, 724, Some(6)),
+            b"frame 32 45\n",
+        ),
+        (101, 101, limit(101), b""),
+        (101, 9, limit(9), b""),
     ] {
         let mut file = joined(rt, &[SECTION]);
         for _ in 0..31 {
@@ -209,4 +235,18 @@ fn link_of_the_33rd_interface(rt: HostRuntime) {
         append(rt, &mut file, &[&packet_of(32), &packet_of(31)]);
         reports(rt, file.as_slice(), wanted, lines);
     }
+}
+
+// 40 interfaces of raw IP, without packets.
+#[test]
+fn many_interfaces_of_another_link(rt: HostRuntime) {
+    let interfaces = repeated(rt, &interface_of(101), 40);
+    let file = joined(rt, &[SECTION, interfaces.as_slice()]);
+    let wanted = refused(CaptureError::InterfaceLimit(101), 1, 668, Some(1));
+    reports(rt, file.as_slice(), wanted, b"");
+    reports_skipping(rt, file.as_slice(), wanted, b"", Skipped::NONE);
+    let Some(described) = file.as_slice().get(..668) else {
+        panic!(rt; "too short");
+    };
+    reports(rt, described, Ok(()), b"");
 }

@@ -3,7 +3,7 @@
 use crate::checks::{equal, holds};
 use crate::formats::blocks::TWO_SECTIONS;
 use crate::formats::classic::{
-    BIG_MICROSECONDS, BIG_NANOSECONDS, LITTLE_MICROSECONDS, LITTLE_NANOSECONDS,
+    BIG_CUT, BIG_MICROSECONDS, BIG_NANOSECONDS, LITTLE_CUT, LITTLE_MICROSECONDS, LITTLE_NANOSECONDS,
 };
 use crate::formats::links::capture;
 use crate::formats::long_blocks::{CUSTOM, with_long_block};
@@ -14,12 +14,12 @@ use fault_devices::{Fault, FaultReader};
 use std::io::{ErrorKind, Read};
 use std::process::Abort;
 
-// The two sections' packets: interface, time in nanoseconds, and bytes.
-const OF_TWO_SECTIONS: [(u32, u64, &[u8]); 4] = [
-    (1, 4_294_967_298_000, b"\x01\x02\x03\x04\x05"),
-    (0, 0, b"\xaa\xbb\xcc"),
-    (2, 0, b"\x11\x22\x33\x44"),
-    (3, 4_294_967_298_000, b"\x55\x66"),
+// The two sections' packets: interface, time in nanoseconds, length on the wire, and bytes.
+const OF_TWO_SECTIONS: [(u32, u64, u32, &[u8]); 4] = [
+    (1, 4_294_967_298_000, 60, b"\x01\x02\x03\x04\x05"),
+    (0, 0, 3, b"\xaa\xbb\xcc"),
+    (2, 0, 6, b"\x11\x22\x33\x44"),
+    (3, 4_294_967_298_000, 2, b"\x55\x66"),
 ];
 
 // A reader of this input.
@@ -46,10 +46,12 @@ fn ends<R: Read + Drop>(rt: impl Abort + Copy, reader: &mut PacketReader<R>) {
     holds(rt, next.is_none());
 }
 
-// The interface, the time and the bytes of a packet.
-fn is_of(rt: impl Abort + Copy, packet: &Packet<'_>, wanted: &(u32, u64, &[u8])) {
-    let actual = (packet.interface, packet.time, packet.frame.bytes());
-    equal(rt, actual, *wanted);
+// The interface, the time, the length on the wire and the bytes of a packet.
+fn is_of(rt: impl Abort + Copy, packet: &Packet<'_>, wanted: &(u32, u64, u32, &[u8])) {
+    equal(rt, packet.interface, wanted.0);
+    equal(rt, packet.time, wanted.1);
+    equal(rt, packet.wire_len, wanted.2);
+    equal(rt, packet.frame.bytes(), wanted.3);
 }
 
 #[test]
@@ -63,7 +65,7 @@ fn packets_of_two_sections(rt: HostRuntime) {
             is_of(rt, &packet, wanted);
             equal(rt, packet.link, Link::Ethernet);
             holds(rt, packet.frame.header().is_none());
-            equal(rt, packet.frame.len(), wanted.2.len());
+            equal(rt, packet.frame.len(), wanted.3.len());
             let same = packets.next().expect(&rt, "no packet");
             is_of(rt, &same, wanted);
         }
@@ -97,6 +99,31 @@ fn times_of_packets(rt: HostRuntime) {
     }
 }
 
+// Of the packets of scapy's files the first 20 bytes were captured. A record that lies is as it
+// stands.
+#[test]
+fn cut_packets(rt: HostRuntime) {
+    for file in [LITTLE_CUT, BIG_CUT] {
+        let mut reader = reader_of(rt, Unfit::Refuse, file.as_slice());
+        let mut packets = Packets::new(Unfit::Refuse, file);
+        for wire_len in [50, 42] {
+            let packet = next_of(rt, &mut reader);
+            equal(rt, packet.wire_len, wire_len);
+            equal(rt, packet.captured_len(), 20);
+            holds(rt, packet.is_cut());
+            let same = packets.next().expect(&rt, "no packet");
+            equal(rt, same.wire_len, wire_len);
+        }
+    }
+    let mut file = *LITTLE_CUT;
+    file[36..40].copy_from_slice(b"\x13\0\0\0");
+    let mut packets = Packets::new(Unfit::Refuse, file.as_slice());
+    let packet = packets.next().expect(&rt, "no packet");
+    equal(rt, packet.wire_len, 19);
+    equal(rt, packet.captured_len(), 20);
+    holds(rt, !packet.is_cut());
+}
+
 const IPV4: Header = Header {
     source: [0; 6],
     ether_type: 0x0800,
@@ -128,6 +155,8 @@ fn made_headers(rt: HostRuntime) {
         equal(rt, found.frame.header(), Some(&header));
         equal(rt, found.frame.bytes(), b"\x45".as_slice());
         equal(rt, found.frame.len(), 15);
+        equal(rt, found.captured_len(), packet.len());
+        holds(rt, !found.is_cut());
     }
 }
 

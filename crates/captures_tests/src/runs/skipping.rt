@@ -95,7 +95,7 @@ fn captures_that_are_reported_whole(rt: HostRuntime) {
 }
 
 // What still ends a run: a packet above that, and an end within one. What was passed over before is
-// counted, but not in the position.
+// counted, in the position too.
 #[test]
 fn refusals_after_packets_are_passed_over(rt: HostRuntime) {
     let packet = capture(rt, 101, b"\0");
@@ -110,7 +110,7 @@ fn refusals_after_packets_are_passed_over(rt: HostRuntime) {
         (56, CaptureError::CutOff),
     ] {
         assert!(rt; len <= file.len());
-        let wanted = refused(error, 1, 41, None);
+        let wanted = refused(error, 2, 41, None);
         reports_skipping(rt, &file.as_slice()[..len], wanted, b"", one);
     }
 }
@@ -140,8 +140,8 @@ fn interfaces_of_two_sections(rt: HostRuntime) {
         ..Skipped::NONE
     };
     reports_skipping(rt, file.as_slice(), Ok(()), lines, passed);
-    // Without that, the run ends at the first description.
-    let wanted = refused(CaptureError::LinkType(9), 1, 28, Some(1));
+    // Without that, the run ends at the first packet of PPP.
+    let wanted = refused(CaptureError::LinkType(9), 1, 88, Some(6));
     reports(rt, file.as_slice(), wanted, b"");
 }
 

@@ -14,7 +14,8 @@ ghost use Rattle.ep_ipslice.specs.declared.net.lax_ip_payload_slice.LaxIpPayload
 use crate::err::{ip, ipv4, ipv6};
 use crate::{
     IpPayloadSlice, IpSlice, Ipv4ExtensionsSlice, Ipv4Slice, Ipv6ExtensionSlice,
-    Ipv6ExtensionSliceIter, Ipv6ExtensionsSlice, Ipv6Slice, LaxIpPayloadSlice,
+    Ipv6ExtensionSliceIter, Ipv6ExtensionsSlice, Ipv6Slice, LaxIpPayloadSlice, LaxIpSlice,
+    LaxIpv4Slice, LaxIpv6Slice,
 };
 use ep_base::laws::traits::Value;
 use std::hash::{Hash, Hasher};
@@ -29,6 +30,8 @@ pub fn types_are_plain_data<'a>()
     ensures ipv6_extensions_slice { IsPlainData ⟦<Ipv6ExtensionsSlice<'a> as Value>⟧ }
     ensures ipv4_slice { IsPlainData ⟦<Ipv4Slice<'a> as Value>⟧ }
     ensures ipv6_slice { IsPlainData ⟦<Ipv6Slice<'a> as Value>⟧ }
+    ensures lax_ipv4_slice { IsPlainData ⟦<LaxIpv4Slice<'a> as Value>⟧ }
+    ensures lax_ipv6_slice { IsPlainData ⟦<LaxIpv6Slice<'a> as Value>⟧ }
     ensures ipv4_slice_error { IsPlainData ⟦<ipv4::SliceError as Value>⟧ }
     ensures ipv6_slice_error { IsPlainData ⟦<ipv6::SliceError as Value>⟧ }
     ensures ip_header_error { IsPlainData ⟦<ip::HeaderError as Value>⟧ }
@@ -45,17 +48,26 @@ pub fn types_are_plain_data<'a>()
 pub fn copies_are_values<'a>()
     ensures lax_ip_payload_slice { CopyIsValue ⟦<LaxIpPayloadSlice<'a> as Clone>⟧.is_clone }
     ensures ip_slice { CopyIsValue ⟦<IpSlice<'a> as Clone>⟧.is_clone }
+    ensures lax_ip_slice { CopyIsValue ⟦<LaxIpSlice<'a> as Clone>⟧.is_clone }
 {}
 
 /// To copy one of these takes no memory and doesn't fail.
 pub fn copies_never_fail<'a>()
     ensures lax_ip_payload_slice { CopyNeverFails ⟦<LaxIpPayloadSlice<'a> as Clone>⟧.is_infallible }
     ensures ip_slice { CopyNeverFails ⟦<IpSlice<'a> as Clone>⟧.is_infallible }
+    ensures lax_ip_slice { CopyNeverFails ⟦<LaxIpSlice<'a> as Clone>⟧.is_infallible }
 {}
 
 /// Equal are packets of either version that are the same.
 pub fn equal_packets_are_same<'a>()
     ensures { EqualIsSame ⟦<IpSlice<'a> as PartialEq>⟧.eq }
+{
+    types_are_plain_data();
+}
+
+/// The same of packets as far as they are there.
+pub fn equal_lax_packets_are_same<'a>()
+    ensures { EqualIsSame ⟦<LaxIpSlice<'a> as PartialEq>⟧.eq }
 {
     types_are_plain_data();
 }

@@ -2,14 +2,15 @@
 
 ghost use Rattle.std.specs.Prelude.{◌≡◌, ℕ, List, ◌++◌, IfOk, Ok, ◌&&◌, nat_eq};
 ghost use Rattle.ep_ipslice.specs.Packet.{Ipv4Packet, IsIpv4Packet, IsWholeIpv4, is_ipv4_fragment, ipv4_payload};
-ghost use Rattle.ep_ipslice.specs.Ipv4Packet.{in_total_len, ipv4_packet_at, packet_with};
+ghost use Rattle.ep_ipslice.specs.Ipv4Packet.{ipv4_packet_at, packet_with};
+ghost use Rattle.ep_ipslice.specs.LaxPackets.{is_ipv4_cut, lax_ipv4_body, lax_ipv4_source};
 ghost use Rattle.std.specs.Cmp.Lexicographic.{pointwise};
 ghost use Rattle.std.specs.Cmp.Rules.{comparing};
 ghost use Rattle.std.specs.Ordering.{on};
 ghost use Rattle.std.proofs.Common.{rules};
 ghost use Rattle.ep_ipslice.specs.Compared.{auth_code};
-ghost use Rattle.ep_base.specs.LenError.{CanMove};
 
+use super::body::{bytes_within, error_within};
 use super::{IpPayloadSlice, Ipv4ExtensionsSlice};
 use crate::err::ipv4::SliceError;
 use ep_base::err::{Layer, LenError};
@@ -86,15 +87,14 @@ impl<'a> Ipv4Slice<'a> {
                 layer_start_offset: 0,
             }));
         }
-        if slice.len() < total_len {
+        let (body, _, incomplete) = body_of(&header, slice);
+        if incomplete {
             return Err(SliceError::Len(LenError::too_few_bytes(
                 Layer::Ipv4Packet,
                 total_len,
                 slice.len(),
             )));
         }
-        let (whole, _padding) = slice.split_at(total_len);
-        let (_, body) = whole.split_at(header_len);
         match Ipv4ExtensionsSlice::from_slice(header.protocol(), body) {
             Ok((exts, ip_number, payload)) => {
                 let fragmented = header.is_fragmenting_payload();
@@ -109,8 +109,10 @@ impl<'a> Ipv4Slice<'a> {
                     },
                 })
             }
-            Err(ip_auth::HeaderSliceError::Len(error)) => Err(SliceError::Len(in_total_len(
-                error, header_len,
+            Err(ip_auth::HeaderSliceError::Len(error)) => Err(SliceError::Len(error_within(
+                error,
+                LenSource::Ipv4HeaderTotalLen,
+                header_len,
             ))),
             Err(ip_auth::HeaderSliceError::Content(error)) => Err(SliceError::Exts(error)),
         }
@@ -173,13 +175,28 @@ impl<'a> Eq for Ipv4Slice<'a> {
     ghost laws = { Prim.search (comparing, rules) };
 }
 
-// An error of too few bytes after the header, in what the total length bounds.
-fn in_total_len(error: LenError, offset: usize) -> LenError
-    requires { CanMove error offset }
-    ensures { result ≡ in_total_len offset error }
+// The bytes of the packet after this header, with which the slice starts, as far as they are there;
+// what their number came from; and whether some are missing. A total length below the header's own
+// takes all of them.
+#[inline(always)]
+pub(super) fn body_of<'a>(
+    header: &Ipv4HeaderSlice<'_>,
+    slice: &'a [u8],
+) -> (&'a [u8], LenSource, bool)
+    requires { (rest : List ℕ) × (slice.now ≡ header.now ++ rest) }
+    ensures bytes { result.0.now ≡ lax_ipv4_body slice.now header.now }
+    ensures source { result.1 ≡ lax_ipv4_source slice.now header.now }
+    ensures incomplete { result.2 ≡ is_ipv4_cut slice.now header.now }
 {
-    LenError {
-        len_source: LenSource::Ipv4HeaderTotalLen,
-        ..error.add_offset(offset)
+    let header_len = header.slice().len();
+    let total_len = usize::from(header.total_len());
+    let (_, following) = slice.split_at(header_len);
+    if total_len < header_len {
+        return (following, LenSource::Slice, false);
     }
+    bytes_within(
+        following,
+        total_len - header_len,
+        LenSource::Ipv4HeaderTotalLen,
+    )
 }

@@ -6,12 +6,15 @@ ghost use Rattle.std.specs.Cmp.Rules.{comparing};
 ghost use Rattle.std.specs.Ordering.{on};
 ghost use Rattle.std.proofs.Common.{rules};
 ghost use Rattle.ep_base.specs.declared.len_source.LenSource.{LenSource};
+ghost use Rattle.ep_ip.specs.Ipv6.{IsIpv6Header};
 ghost use Rattle.ep_ip.specs.Ipv6Fault.{header_at};
 ghost use Rattle.ep_ipslice.specs.Compared.{compared_as, ordered_as};
 ghost use Rattle.ep_ipslice.specs.Packet.{Ipv6Packet, IsIpv6Body, IsIpv6Packet, IsWholeIpv6, body_len, body_source};
 ghost use Rattle.ep_ipslice.specs.Ipv6Fault.{IsCutOff, IsPrefixFault, IsIpv6Fault};
-ghost use Rattle.ep_ipslice.specs.Ipv6Packet.{ipv6_packet_at};
+ghost use Rattle.ep_ipslice.specs.Ipv6Packet.{body_of, ipv6_packet_at};
+ghost use Rattle.ep_ipslice.specs.LaxPackets.{is_ipv6_cut, lax_ipv6_source};
 
+use super::body::bytes_within;
 use super::{IpPayloadSlice, Ipv6ExtensionsSlice};
 use crate::err::ipv6::SliceError;
 use ep_base::err::{Layer, LenError};
@@ -114,18 +117,14 @@ impl<'a> Ipv6Slice<'a> {
             × IsIpv6Body slice.now header.entry r.1 r.2.now) }
         ensures refused { IfErr result (λ e. IsCutOff slice.now header.entry e) }
     {
-        // The header with which the slice starts has 40 bytes.
-        let header_len = header.slice().len();
-        let (_, following) = slice.split_at(header_len);
-        let (len_source, body_len) = body(&header, following.len());
-        if following.len() < body_len {
+        let (body, len_source, incomplete) = body_of(&header, slice);
+        if incomplete {
             return Err(SliceError::Len(LenError::too_few_bytes(
                 Layer::Ipv6Packet,
-                Ipv6Header::LEN + body_len,
+                Ipv6Header::LEN + usize::from(header.payload_length()),
                 slice.len(),
             )));
         }
-        let (body, _padding) = following.split_at(body_len);
         Ok((header, len_source, body))
     }
 
@@ -182,6 +181,27 @@ impl<'a> PartialEq for Ipv6Slice<'a> {
 
 impl<'a> Eq for Ipv6Slice<'a> {
     ghost laws = { Prim.search (comparing, rules) };
+}
+
+// The bytes of the packet after this header, with which the slice starts, as far as they are there;
+// what their number came from; and whether some are missing.
+#[inline(always)]
+pub(super) fn body_of<'a>(
+    header: &Ipv6HeaderSlice<'_>,
+    slice: &'a [u8],
+) -> (&'a [u8], LenSource, bool)
+    requires { (rest : List ℕ) × (slice.now ≡ header.now ++ rest) }
+    ensures bytes { result.0.now ≡ body_of slice.now header.now }
+    ensures source { result.1 ≡ lax_ipv6_source slice.now header.now }
+    ensures incomplete { result.2 ≡ is_ipv6_cut slice.now header.now }
+    // As every caller knows of the header.
+    ensures whole { IsIpv6Header header.now }
+{
+    // The header with which the slice starts has 40 bytes.
+    let header_len = header.slice().len();
+    let (_, following) = slice.split_at(header_len);
+    let (field, body_len) = body(header, following.len());
+    bytes_within(following, body_len, field)
 }
 
 // How many bytes of those after the header are extension headers and payload, and what says so.

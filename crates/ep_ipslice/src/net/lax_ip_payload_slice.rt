@@ -4,8 +4,6 @@ use ep_base::{IpNumber, LenSource};
 
 /// The payload of an IP packet, after its extension headers, borrowed; only a prefix of it where
 /// fewer bytes were there than the packet's own length says.
-///
-/// It is data alone: no call makes one yet, since none takes a packet that was cut off.
 #[derive(Clone, Debug, PartialEq, Eq, Drop)]
 pub struct LaxIpPayloadSlice<'a> {
     /// Whether bytes of the payload are missing.

@@ -5,19 +5,21 @@ ghost use Rattle.std.specs.Cmp.Lexicographic.{slice_cmp};
 ghost use Rattle.std.specs.Hash as fed;
 ghost use Rattle.std.specs.Ordering.{nat_cmp};
 ghost use Rattle.ep_base.specs.Traits.{CopyIsValue, CopyNeverFails, HashIsOf, IsPlainData, OrderIsOf, VariantFeeds};
-ghost use Rattle.ep_tag.specs.Ether.{EtherPayload};
-ghost use Rattle.ep_tag.specs.EtherOrder.{hashed_as, ordered_as};
+ghost use Rattle.ep_tag.specs.Ether.{EtherPayload, LaxEtherPayload};
+ghost use Rattle.ep_tag.specs.EtherOrder.{hashed_as, lax_hashed_as, lax_ordered_as, ordered_as};
 ghost use Rattle.ep_tag.specs.MacsecOrder.{ptype_ordered_as};
-ghost use Rattle.ep_tag.specs.MacsecView.{payload_parsed};
+ghost use Rattle.ep_tag.specs.MacsecView.{lax_payload_parsed, payload_parsed};
 ghost use Rattle.ep_tag.specs.declared.err.macsec.header_error.HeaderError.TheVariants as fault;
+ghost use Rattle.ep_tag.specs.declared.link.lax_macsec_payload_slice.LaxMacsecPayloadSlice.{LaxMacsecPayloadSlice};
 ghost use Rattle.ep_tag.specs.declared.link.macsec_p_type.MacsecPType.{MacsecPType};
 ghost use Rattle.ep_tag.specs.declared.link.macsec_p_type.MacsecPType.TheVariants as ptype;
 ghost use Rattle.ep_tag.specs.declared.link.macsec_payload_slice.MacsecPayloadSlice.{MacsecPayloadSlice};
 
 use crate::err::macsec;
 use crate::{
-    DoubleVlanHeader, DoubleVlanSlice, EtherPayloadSlice, LinkExtHeader, LinkExtSlice, MacsecAn,
-    MacsecHeader, MacsecHeaderSlice, MacsecPType, MacsecPayloadSlice, MacsecShortLen, MacsecSlice,
+    DoubleVlanHeader, DoubleVlanSlice, EtherPayloadSlice, LaxEtherPayloadSlice, LaxLinkExtSlice,
+    LaxMacsecPayloadSlice, LaxMacsecSlice, LinkExtHeader, LinkExtSlice, MacsecAn, MacsecHeader,
+    MacsecHeaderSlice, MacsecPType, MacsecPayloadSlice, MacsecShortLen, MacsecSlice,
     SingleVlanHeader, SingleVlanHeaderSlice, SingleVlanSlice, VlanHeader, VlanId, VlanPcp,
     VlanSlice,
 };
@@ -46,6 +48,9 @@ pub fn types_are_plain_data<'a>()
     ensures macsec_slice { IsPlainData ⟦<MacsecSlice<'a> as Value>⟧ }
     ensures ether_payload_slice { IsPlainData ⟦<EtherPayloadSlice<'a> as Value>⟧ }
     ensures link_ext_slice { IsPlainData ⟦<LinkExtSlice<'a> as Value>⟧ }
+    ensures lax_macsec_slice { IsPlainData ⟦<LaxMacsecSlice<'a> as Value>⟧ }
+    ensures lax_ether_payload_slice { IsPlainData ⟦<LaxEtherPayloadSlice<'a> as Value>⟧ }
+    ensures lax_link_ext_slice { IsPlainData ⟦<LaxLinkExtSlice<'a> as Value>⟧ }
     ensures macsec_header_error { IsPlainData ⟦<macsec::HeaderError as Value>⟧ }
 {
     ep_base::laws::traits::types_are_plain_data();
@@ -54,12 +59,15 @@ pub fn types_are_plain_data<'a>()
 /// A copy is the value: of a header its fields, of a slice its bytes.
 pub fn copies_are_values<'a>()
     ensures macsec_payload_slice { CopyIsValue ⟦<MacsecPayloadSlice<'a> as Clone>⟧.is_clone }
+    ensures lax_macsec_payload_slice { CopyIsValue ⟦<LaxMacsecPayloadSlice<'a> as Clone>⟧.is_clone }
 {}
 
 /// To copy one of these takes no memory and doesn't fail.
 pub fn copies_never_fail<'a>()
     ensures macsec_payload_slice { CopyNeverFails
         ⟦<MacsecPayloadSlice<'a> as Clone>⟧.is_infallible }
+    ensures lax_macsec_payload_slice { CopyNeverFails
+        ⟦<LaxMacsecPayloadSlice<'a> as Clone>⟧.is_infallible }
 {}
 
 /// MACsec payloads are equal where they are of one kind, and all that a contract sees of them is
@@ -67,6 +75,13 @@ pub fn copies_never_fail<'a>()
 pub fn macsec_payloads_are_equal_as_seen<'a>()
     ensures { (a b : MacsecPayloadSlice) → IsTrue (⟦<MacsecPayloadSlice<'a> as PartialEq>⟧.eq a b)
         ↔ (payload_parsed a ≡ payload_parsed b) }
+{}
+
+/// So are those that may have been cut off.
+pub fn lax_macsec_payloads_are_equal_as_seen<'a>()
+    ensures { (a b : LaxMacsecPayloadSlice)
+        → IsTrue (⟦<LaxMacsecPayloadSlice<'a> as PartialEq>⟧.eq a b)
+        ↔ (lax_payload_parsed a ≡ lax_payload_parsed b) }
 {}
 
 /// Numbers are ordered as numbers.
@@ -112,4 +127,11 @@ pub fn ether_payloads_by_all_fields<'a>()
     ensures order { (a b : EtherPayload) → ⟦<EtherPayloadSlice<'a> as Ord>⟧.cmp a b
         ≡ slice_cmp nat_cmp (ordered_as a) (ordered_as b) }
     ensures hash { HashIsOf hashed_as ⟦<EtherPayloadSlice<'a> as Hash>⟧.hash_input }
+{}
+
+/// Of those that may have been cut off it is first whether they were, and then the three.
+pub fn lax_ether_payloads_by_all_fields<'a>()
+    ensures order { (a b : LaxEtherPayload) → ⟦<LaxEtherPayloadSlice<'a> as Ord>⟧.cmp a b
+        ≡ slice_cmp nat_cmp (lax_ordered_as a) (lax_ordered_as b) }
+    ensures hash { HashIsOf lax_hashed_as ⟦<LaxEtherPayloadSlice<'a> as Hash>⟧.hash_input }
 {}

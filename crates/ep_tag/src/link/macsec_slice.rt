@@ -9,10 +9,12 @@ ghost use Rattle.ep_tag.specs.MacsecOrder.{compared_as};
 ghost use Rattle.ep_tag.specs.MacsecPayload.{Macsec, IsMacsec, macsec_at, named_payload};
 ghost use Rattle.ep_tag.specs.MacsecView.{payload_parsed};
 
-use super::{EtherPayloadSlice, MacsecHeader, MacsecHeaderSlice, MacsecPayloadSlice};
+use super::{
+    EtherPayloadSlice, LaxMacsecSlice, MacsecHeader, MacsecHeaderSlice, MacsecPayloadSlice,
+};
 use crate::err::macsec::HeaderSliceError;
+use ep_base::EtherType;
 use ep_base::err::{Layer, LenError};
-use ep_base::{EtherType, LenSource};
 use std::marker::Model;
 
 /// A MACsec header (IEEE 802.1AE, clause 9) and its payload, borrowed.
@@ -51,30 +53,15 @@ impl<'a> MacsecSlice<'a> {
         ensures exact { result ≡ macsec_at slice.now }
         ensures offset { IfErr result (λ e. content_offset e ≡ 0) }
     {
-        let header = MacsecHeaderSlice::from_slice(slice)?;
-        let header_len = header.slice().len();
-        let (_, rest) = slice.split_at(header_len);
-        let payload_len = header.payload_len();
-        if rest.len() < payload_len {
-            return Err(HeaderSliceError::Len(LenError::too_few_bytes(
+        let LaxMacsecSlice { header, payload } = LaxMacsecSlice::from_slice(slice)?;
+        match payload.complete() {
+            Some(payload) => Ok(MacsecSlice { header, payload }),
+            None => Err(HeaderSliceError::Len(LenError::too_few_bytes(
                 Layer::MacsecPacket,
-                header_len + payload_len,
+                header.header_len() + header.payload_len(),
                 slice.len(),
-            )));
+            ))),
         }
-        let (len_source, bytes) = match header.short_len().value() {
-            0 => (LenSource::Slice, rest),
-            _ => (LenSource::MacsecShortLength, &rest[..payload_len]),
-        };
-        let payload = match header.next_ether_type() {
-            Some(ether_type) => MacsecPayloadSlice::Unmodified(EtherPayloadSlice {
-                ether_type,
-                len_source,
-                payload: bytes,
-            }),
-            None => MacsecPayloadSlice::Modified(bytes),
-        };
-        Ok(MacsecSlice { header, payload })
     }
 
     /// The length of the header in bytes.

@@ -163,6 +163,27 @@ pub fn udp_refused()
     }) }
 {}
 
+/// What a lax read finds where a length field is met, is above the bytes there, counts no header, or
+/// counts the header alone; and the only refusal.
+pub fn udp_as_far_as_there()
+    ensures datagram { udp_fault.lax_udp_at (udp_prefix ++ one_to_eight ++ 170 ∷ [])
+        ≡ Ok (udp_prefix ++ one_to_eight) }
+    ensures cut_off { udp_fault.lax_udp_at (udp_prefix ++ 1 ∷ 2 ∷ [])
+        ≡ Ok (udp_prefix ++ 1 ∷ 2 ∷ []) }
+    ensures zero { udp_fault.lax_udp_at (replicate 9 0) ≡ Ok (replicate 9 0) }
+    ensures seven { udp_fault.lax_udp_at (0 ∷ 0 ∷ 0 ∷ 0 ∷ 0 ∷ 7 ∷ 0 ∷ 0 ∷ 9 ∷ [])
+        ≡ Ok (0 ∷ 0 ∷ 0 ∷ 0 ∷ 0 ∷ 7 ∷ 0 ∷ 0 ∷ 9 ∷ []) }
+    ensures eight { udp_fault.lax_udp_at (0 ∷ 0 ∷ 0 ∷ 0 ∷ 0 ∷ 8 ∷ 0 ∷ 0 ∷ 9 ∷ [])
+        ≡ Ok (0 ∷ 0 ∷ 0 ∷ 0 ∷ 0 ∷ 8 ∷ 0 ∷ 0 ∷ []) }
+    ensures short { udp_fault.lax_udp_at (replicate 7 0) ≡ Err (record {
+      required_len = 8;
+      len = 7;
+      len_source = len_source.Slice;
+      layer = layer.UdpHeader;
+      layer_start_offset = 0;
+    }) }
+{}
+
 /// Checksums over both IP versions: of UDP with the length field in the pseudo header, whatever the
 /// payload's length is, and with ffff instead of 0; of TCP with options, and with the reserved bits
 /// as they are.

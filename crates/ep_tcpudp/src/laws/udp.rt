@@ -1,9 +1,10 @@
 //! Laws of UDP (RFC 768).
 
-ghost use Rattle.std.specs.Prelude.{◌≡◌, ℕ, List, ◌++◌, IsOkAnd};
+ghost use Rattle.std.specs.Prelude.{◌≡◌, ◌↔◌, ◌≤◌, ◌<◌, ℕ, List, ◌++◌, length, IsOkAnd, Ok};
 ghost use Rattle.ep_base.specs.Bytes.{IsBytes};
-ghost use Rattle.ep_tcpudp.specs.Udp.{IsUdpHeader, udp_header_of, encoding};
+ghost use Rattle.ep_tcpudp.specs.Udp.{IsLaxUdp, IsUdpHeader, encoding, length_of, udp_header_of};
 ghost use Rattle.ep_tcpudp.specs.UdpChecksum.{SealedUdpSumsToAllOnes};
+ghost use Rattle.ep_tcpudp.specs.UdpFault.{lax_udp_at, udp_at};
 
 use crate::UdpHeader;
 use ep_base::err::LenError;
@@ -45,3 +46,17 @@ pub fn header_is_read_again<'a>(
     let _bytes = header.to_bytes();
     UdpHeader::from_slice(slice)
 }
+
+/// A datagram that is there is what a lax read finds. Where its length field is above the bytes
+/// there, or counts no header, all bytes are found, and where bytes of the header are missing, the
+/// refusal is the same. What a lax read finds is found again.
+pub fn lax_reads_find_what_is_there()
+    ensures datagram { (bytes datagram : List ℕ) → udp_at bytes ≡ Ok datagram
+        → lax_udp_at bytes ≡ Ok datagram }
+    ensures cut_off { (bytes : List ℕ) → 8 ≤ length bytes → length bytes < length_of bytes
+        → lax_udp_at bytes ≡ Ok bytes }
+    ensures no_header { (bytes : List ℕ) → 8 ≤ length bytes → length_of bytes < 8
+        → lax_udp_at bytes ≡ Ok bytes }
+    ensures short { (bytes : List ℕ) → length bytes < 8 → lax_udp_at bytes ≡ udp_at bytes }
+    ensures again { (bytes : List ℕ) → IsLaxUdp bytes ↔ (lax_udp_at bytes ≡ Ok bytes) }
+{}

@@ -1,8 +1,8 @@
 //! A UDP datagram as a view of its bytes.
 
-ghost use Rattle.std.specs.Prelude.{◌≡◌, ◌↔◌, ℕ, ◌==◌, if◌then◌else◌, List, take, drop, IfOk, IsOk, Ok};
-ghost use Rattle.ep_tcpudp.specs.Udp.{IsUdp, ReadableUdp, summed_udp, length_of};
-ghost use Rattle.ep_tcpudp.specs.UdpFault.{udp_at};
+ghost use Rattle.std.specs.Prelude.{◌≡◌, ◌↔◌, ◌≤◌, ℕ, ◌==◌, if◌then◌else◌, List, length, take, drop, IfOk, IsOk, Ok};
+ghost use Rattle.ep_tcpudp.specs.Udp.{IsLaxUdp, IsUdp, ReadableUdp, lax_summed_udp, length_of, summed_udp};
+ghost use Rattle.ep_tcpudp.specs.UdpFault.{lax_udp_at, udp_at};
 
 use super::udp_view::UdpView;
 use super::view_kind::ViewKind;
@@ -11,7 +11,8 @@ use ep_base::LenSource;
 use ep_base::err::{Layer, LenError};
 
 /// The bytes of a UDP datagram, header and payload (RFC 768), borrowed. A contract sees the value
-/// as those bytes: its length field is 0, or says how many they are.
+/// as those bytes. Its length field is 0, or says how many they are; after
+/// [`UdpSlice::from_slice_lax`] it can also be above that, or below the 8 bytes of a header.
 ///
 /// The checksum isn't tested.
 pub type UdpSlice<'a> = UdpView<'a, Datagram>;
@@ -23,7 +24,7 @@ pub struct Datagram;
 impl ViewKind for Datagram {
     const VIEW: &'static str = "UdpSlice";
 
-    ghost holds = { IsUdp };
+    ghost holds = { IsLaxUdp };
 }
 
 impl<'a> UdpSlice<'a> {
@@ -39,25 +40,43 @@ impl<'a> UdpSlice<'a> {
         ensures view { IfOk result (λ datagram. datagram ≡ summed_udp slice.now) }
         // Else it is the first fault.
         ensures exact { result ≡ udp_at slice.now }
+        ensures datagram { IfOk result (λ datagram. IsUdp datagram) }
     {
         Self::tested(slice)
     }
 
     fn tested(slice: &'a [u8]) -> Result<UdpSlice<'a>, LenError>
-        ensures { result ≡ udp_at slice.now }
+        ensures exact { result ≡ udp_at slice.now }
+        ensures datagram { IfOk result (λ datagram. IsUdp datagram) }
     {
-        let length = usize::from(UdpHeaderSlice::from_slice(slice)?.length());
+        let datagram = Self::from_slice_lax(slice)?;
+        let length = usize::from(datagram.length());
         if slice.len() < length {
             return Err(LenError::too_few_bytes(Layer::UdpPayload, length, slice.len()));
         }
-        if length == 0 {
-            return Ok(UdpView::of(slice));
-        }
-        if length < UdpHeader::LEN {
+        if 0 < length && length < UdpHeader::LEN {
             return Err(LenError {
                 len_source: LenSource::UdpHeaderLen,
                 ..LenError::too_few_bytes(Layer::UdpHeader, UdpHeader::LEN, length)
             });
+        }
+        Ok(datagram)
+    }
+
+    /// What there is of the datagram at the start of the slice: as many bytes as its length field
+    /// says, and all of them where that is 0, 1 to 7, or above the bytes there.
+    ///
+    /// Refused are fewer than 8 bytes alone (layer `UdpHeader`).
+    pub fn from_slice_lax(slice: &'a [u8]) -> Result<UdpSlice<'a>, LenError>
+        // It is taken where a header is there, and then it is what there is of the datagram.
+        ensures readable { IsOk result ↔ 8 ≤ length slice.now }
+        ensures view { IfOk result (λ datagram. datagram ≡ lax_summed_udp slice.now) }
+        // Else bytes of the header are missing.
+        ensures exact { result ≡ lax_udp_at slice.now }
+    {
+        let length = usize::from(UdpHeaderSlice::from_slice(slice)?.length());
+        if length < UdpHeader::LEN || slice.len() < length {
+            return Ok(UdpView::of(slice));
         }
         Ok(UdpView::of(&slice[..length]))
     }
@@ -65,7 +84,7 @@ impl<'a> UdpSlice<'a> {
     /// The bytes of the datagram, header and payload.
     pub fn slice(&self) -> &'a [u8]
         ensures bytes { result.now ≡ self.now }
-        ensures datagram { IsUdp self.now }
+        ensures datagram { IsLaxUdp self.now }
     {
         self.slice
     }
@@ -84,16 +103,19 @@ impl<'a> UdpSlice<'a> {
         &self.slice[UdpHeader::LEN..]
     }
 
-    /// What the payload's length comes from: the length field, or, where that is 0, the slice that
-    /// the datagram was read from.
+    /// What the payload's length comes from: the length field, where it is how many bytes there are,
+    /// else the slice that the datagram was read from.
     pub fn payload_len_source(&self) -> LenSource
-        ensures { result ≡ (if length_of self.now == 0 then LenSource.Slice
+        ensures value { result ≡ (if length_of self.now == length self.now then LenSource.UdpHeaderLen
+            else LenSource.Slice) }
+        // Of a whole datagram it is the slice where the length field is 0.
+        ensures whole { IsUdp self.now → result ≡ (if length_of self.now == 0 then LenSource.Slice
             else LenSource.UdpHeaderLen) }
     {
-        if self.length() == 0 {
-            LenSource::Slice
-        } else {
+        if usize::from(self.length()) == self.slice.len() {
             LenSource::UdpHeaderLen
+        } else {
+            LenSource::Slice
         }
     }
 

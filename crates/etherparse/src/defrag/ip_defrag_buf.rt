@@ -261,6 +261,14 @@ impl<Number: Drop> IpDefragBuf<Number> {
         &self.data
     }
 
+    /// How many bytes it holds: the greatest end of its fragments.
+    pub(crate) fn data_len(&self) -> usize
+        ensures len { result ≡ length self.now.bytes }
+        ensures short { result ≤ 65535 }
+    {
+        self.data.len()
+    }
+
     /// The ranges of bytes that are there, in no stated order. Ranges that follow one another are
     /// one.
     pub fn sections(&self) -> &Vec<IpFragRange>

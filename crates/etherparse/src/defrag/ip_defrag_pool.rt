@@ -1,7 +1,7 @@
 //! Reassembly of many datagrams at once.
 
 ghost use Rattle.std.specs.Prelude.{◌≡◌, ◌+◌, ◌≤◌, [], None, Ok, OnOk, OnErr, IfOk, IfErr, IfSome, ◌++◌, ◌∷◌, IsOk};
-ghost use Rattle.std.specs.Prelude.{length, vec_capacity};
+ghost use Rattle.std.specs.Prelude.{IfNone, length, vec_capacity};
 ghost use Rattle.std.specs.Fn.{FnReturnsAt};
 ghost use Rattle.std.specs.List.{IsDistinct};
 ghost use Rattle.std.specs.Map.{keys_of};
@@ -10,7 +10,10 @@ ghost use Rattle.ep_packet.specs.declared.class.Class.TheVariants as reported;
 ghost use Rattle.etherparse.specs.Counts.{Bounded, Counts, HasMemoryFor, HasSlot, KeepsMemoryOf, open_in};
 ghost use Rattle.etherparse.specs.IpDefragPool.{Accepts, AcceptsBy, Refuses, same_id};
 ghost use Rattle.etherparse.specs.IpFragId.{fragment_in, id_named};
+ghost use Rattle.etherparse.specs.Memory.{freed};
 ghost use Rattle.etherparse.specs.Repeats.{TakesRepeat};
+ghost use Rattle.etherparse.specs.StartedBytes.{bytes_of};
+ghost use Rattle.etherparse.specs.Starts.{ForgetsOldest, StartsAfter, bytes_in, names_there};
 ghost use Rattle.etherparse.specs.ReassemblyTable.{MayTest, OthersStay, RefusesBy, Retained, Stays, fragment_of};
 ghost use Rattle.etherparse.specs.ReassemblyTable.{reassembly_at};
 
@@ -56,6 +59,7 @@ impl<Timestamp: Drop, CustomChannelId: Eq + Hash + Drop> IpDefragPool<
     /// takes no memory.
     pub fn new(alloc: Global) -> Self
         ensures reassemblies { result.reassemblies ≡ [] }
+        ensures starts { result.starts ≡ [] }
         ensures spare { result.spare ≡ 0 }
         ensures sections { result.spare_sections ≡ 0 }
         ensures no_bytes { result.memory.bytes ≡ [] }
@@ -77,6 +81,7 @@ impl<Timestamp: Drop, CustomChannelId: Eq + Hash + Drop, S: BuildHasher> IpDefra
     /// senders choose the names, a [`std::hash::RandomState`] keeps them from colliding by intent.
     pub fn with_hasher(alloc: Global, state: S) -> Self
         ensures reassemblies { result.reassemblies ≡ [] }
+        ensures starts { result.starts ≡ [] }
         ensures spare { result.spare ≡ 0 }
         ensures sections { result.spare_sections ≡ 0 }
         ensures no_bytes { result.memory.bytes ≡ [] }
@@ -127,6 +132,10 @@ impl<Timestamp: Drop, CustomChannelId: Eq + Hash + Drop, S: BuildHasher> IpDefra
         // A reassembly that starts takes a spare buffer.
         ensures counts { IfSome (fragment_in (packet_parsed packet.now)) (λ reported.
             Counts (same_id CustomChannelId.eq) self.old self.new (id_named reported.0 channel_id) result) }
+        // A reassembly that starts is the newest; one that ends leaves the order.
+        ensures starts { IfSome (fragment_in (packet_parsed packet.now)) (λ reported.
+            StartsAfter (same_id CustomChannelId.eq) self.old self.new (id_named reported.0 channel_id)
+            result) }
         ensures bound { Bounded self.old self.new }
         // Out of memory is answered only where there was no capacity.
         ensures succeeds { IfSome (fragment_in (packet_parsed packet.now)) (λ reported.
@@ -176,6 +185,9 @@ impl<Timestamp: Drop, CustomChannelId: Eq + Hash + Drop, S: BuildHasher> IpDefra
             (λ payload. IfSome payload (λ whole. length whole.payload.items ≤ 65535)) }
         ensures counts { IfSome (fragment_in (as_class (reported.Cut message.entry))) (λ named.
             Counts (same_id CustomChannelId.eq) self.old self.new (id_named named.0 channel_id) result) }
+        ensures starts { IfSome (fragment_in (as_class (reported.Cut message.entry))) (λ named.
+            StartsAfter (same_id CustomChannelId.eq) self.old self.new (id_named named.0 channel_id)
+            result) }
         ensures bound { Bounded self.old self.new }
         ensures succeeds { IfSome (fragment_in (as_class (reported.Cut message.entry))) (λ named.
             HasMemoryFor (same_id CustomChannelId.eq) self.old (id_named named.0 channel_id)
@@ -212,6 +224,8 @@ impl<Timestamp: Drop, CustomChannelId: Eq + Hash + Drop, S: BuildHasher> IpDefra
         ensures short { IfOk result
             (λ payload. IfSome payload (λ whole. length whole.payload.items ≤ 65535)) }
         ensures counts { Counts ⟦<IpFragId<CustomChannelId> as PartialEq>⟧.eq self.old self.new id result }
+        ensures starts { StartsAfter ⟦<IpFragId<CustomChannelId> as PartialEq>⟧.eq
+            self.old self.new id result }
         ensures succeeds { HasMemoryFor ⟦<IpFragId<CustomChannelId> as PartialEq>⟧.eq self.old id
             (fragment_of received.now) result }
         ensures memory { KeepsMemoryOf ⟦<IpFragId<CustomChannelId> as PartialEq>⟧.eq
@@ -236,6 +250,7 @@ impl<Timestamp: Drop, CustomChannelId: Eq + Hash + Drop, S: BuildHasher> IpDefra
         ensures ok { OnOk result (self.new.spare ≡ self.old.spare + 1) }
         ensures err { IfErr result (λ given. (given ≡ buf) × (self.new ≡ self.old)) }
         ensures same { self.new.reassemblies ≡ self.old.reassemblies }
+        ensures starts { self.new.starts ≡ self.old.starts }
         ensures sections { self.new.spare_sections ≡ self.old.spare_sections }
         // Where there is a slot, the datagram is kept there with its memory.
         ensures succeeds { HasSlot self.old → IsOk result }
@@ -263,8 +278,36 @@ impl<Timestamp: Drop, CustomChannelId: Eq + Hash + Drop, S: BuildHasher> IpDefra
     pub fn open_len(&self) -> usize
         ensures len { result ≡ open_in self.now }
         ensures names { IsDistinct (same_id CustomChannelId.eq) (keys_of self.now.reassemblies) }
+        ensures starts { result ≡ length self.now.starts }
     {
         self.reassemblies.len()
+    }
+
+    /// How many bytes the reassemblies hold in their buffers: each up to the greatest end of its
+    /// fragments, of which 65,535 is the most. A fragment of 8 bytes at offset 65,000 holds 65,008.
+    ///
+    /// A reassembly takes more than that: its name with up to three VLAN identifiers and two
+    /// addresses, its timestamp, its place in the order of starts, 4 bytes for each of its ranges
+    /// and over IPv6 for each fragment, and the capacity of its buffers that isn't used yet. A
+    /// caller that bounds memory adds a constant for each of [`IpDefragPool::open_len`].
+    pub fn open_bytes(&self) -> usize
+        ensures all { result ≡ bytes_in self.now.reassemblies }
+        ensures starts { result
+            ≡ bytes_of (same_id CustomChannelId.eq) self.now self.now.starts }
+    {
+        self.reassemblies.open_bytes()
+    }
+
+    /// Frees the spare buffers. One may be large, and is taken for a reassembly however small that is:
+    /// a caller that bounds memory frees them where reassemblies end.
+    pub fn free_spare(&mut self)
+        ensures reassemblies { self.new.reassemblies ≡ self.old.reassemblies }
+        ensures starts { self.new.starts ≡ self.old.starts }
+        ensures spare { self.new.spare ≡ 0 }
+        ensures sections { self.new.spare_sections ≡ 0 }
+        ensures memory { self.new.memory ≡ freed self.old.memory }
+    {
+        self.reassemblies.free_spare();
     }
 
     /// How many buffers of bytes are spare, for reassemblies that start later.
@@ -290,8 +333,26 @@ impl<Timestamp: Drop, CustomChannelId: Eq + Hash + Drop, S: BuildHasher> IpDefra
         ensures sections { open_in self.new + self.new.spare_sections
             ≡ open_in self.old + self.old.spare_sections }
         ensures fewer { open_in self.new ≤ open_in self.old }
+        // The order of the others stays.
+        ensures starts { self.new.starts
+            ≡ names_there (same_id CustomChannelId.eq) self.new self.old.starts }
     {
         self.reassemblies.retain(&keep);
         Ok(())
+    }
+
+    /// Drops the reassembly that started first, by its first accepted fragment, and returns its
+    /// name and its timestamp. Its buffers are spare then; there are slots for them since it
+    /// started. There is none where there is no reassembly.
+    ///
+    /// It takes constant time, so that a caller can bound the memory of a pool over any input:
+    /// while [`IpDefragPool::open_bytes`] or [`IpDefragPool::open_len`] is too large, it forgets
+    /// the oldest.
+    pub fn forget_oldest(&mut self) -> Option<(IpFragId<CustomChannelId>, Timestamp)>
+        ensures none { IfNone result ((self.old.starts ≡ []) × (self.new ≡ self.old)) }
+        ensures some { IfSome result (λ r.
+            ForgetsOldest (same_id CustomChannelId.eq) self.old self.new r.0 r.1) }
+    {
+        self.reassemblies.forget_oldest()
     }
 }

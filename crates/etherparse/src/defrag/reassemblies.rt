@@ -1,22 +1,26 @@
 //! The table of reassemblies.
 
 ghost use Rattle.std.specs.Prelude.{◌≡◌, ◌+◌, ◌≤◌, [], List, OnOk, OnErr, IfOk, IfErr, IfSome, IsOk, ◌++◌, ◌∷◌, length};
-ghost use Rattle.std.specs.Prelude.{option_map, vec_capacity};
+ghost use Rattle.std.specs.Prelude.{IfNone, option_map, vec_capacity};
 ghost use Rattle.std.specs.Fn.{FnReturnsAt};
 ghost use Rattle.std.specs.List.{IsDistinct};
 ghost use Rattle.std.specs.Map.{keys_of};
 ghost use Rattle.etherparse.specs.Counts.{Counts, HasMemoryFor, HasSlot, KeepsMemoryOf, open_in};
 ghost use Rattle.etherparse.specs.Fragments.{Fragment};
+ghost use Rattle.etherparse.specs.Memory.{freed};
 ghost use Rattle.etherparse.specs.Outcome.{outcome};
 ghost use Rattle.etherparse.specs.Repeats.{TakesRepeat};
 ghost use Rattle.etherparse.specs.ReassemblyTable.{Becomes, IsErrorOf, MayTest, OthersStay, Retained, ShowsReassembly};
 ghost use Rattle.etherparse.specs.ReassemblyTable.{Stays, fragment_of, reassembly_at};
+ghost use Rattle.etherparse.specs.StartedBytes.{bytes_of};
+ghost use Rattle.etherparse.specs.Starts.{ForgetsOldest, StartsAfter, bytes_in, names_there};
 ghost use Rattle.etherparse.specs.Timestamps.{timestamp_at};
 ghost use Rattle.etherparse.specs.declared.defrag.overlap_rule.OverlapRule.{OverlapRule};
 
 use super::reassembly::{Reassembly, add_fragment};
 use super::retain_reassemblies::retain_reassemblies;
 use super::spare_buffers::SpareBuffers;
+use super::start_order::StartOrder;
 use crate::defrag::{IpDefragError, OverlapRule};
 use ep_packet::SlicedFragment;
 use indexmap::IndexMap;
@@ -31,31 +35,38 @@ pub struct ReassemblyTable<K: Eq + Hash, T, S: BuildHasher> {
     active: IndexMap<K, Reassembly<T>, S>,
     // There are slots for the buffers of all reassemblies, so that none is lost.
     spare: SpareBuffers,
+    starts: StartOrder,
+    // Those of all reassemblies.
+    held_bytes: usize,
 }
 
 impl<K: Eq + Hash, T, S: BuildHasher> Model for ReassemblyTable<K, T, S> {
     ghost use Rattle.std.specs.Prelude.{vec_len};
-    ghost use Rattle.indexmap.specs.IndexMap.{index_map_len, spare as names_room};
+    ghost use Rattle.indexmap.specs.IndexMap.{spare as names_room};
     ghost use Rattle.etherparse.specs.Memory.{memory_of};
-    ghost use Rattle.etherparse.specs.SpareBuffers.{HasSlots};
     ghost use Rattle.etherparse.specs.ReassemblyTable.{Pool};
+    ghost use Rattle.etherparse.specs.Starts.{IsTracked, names_in, room_for};
+    ghost use Rattle.std.specs.Map.{keys_of};
 
     ghost Value = { Pool K T };
 
     ghost view = { λ held. record {
       reassemblies = held.active.entries;
+      starts = names_in (keys_of held.active.entries) held.starts.order;
       spare = vec_len held.spare.bytes;
       spare_sections = vec_len held.spare.sections;
-      memory = memory_of held.spare (names_room held.active);
+      memory = memory_of held.spare (room_for (names_room held.active) held.starts.room);
     } };
 
-    ghost invariant = { λ held. HasSlots held.spare (index_map_len held.active) };
+    ghost invariant = { λ held.
+        IsTracked held.spare held.starts.order held.held_bytes held.active.entries };
 }
 
 impl<K: Eq + Hash + Drop, T: Drop, S: BuildHasher> ReassemblyTable<K, T, S> {
     /// No reassemblies. It takes no memory.
     pub fn with_hasher(alloc: Global, state: S) -> Self
         ensures reassemblies { result.reassemblies ≡ [] }
+        ensures starts { result.starts ≡ [] }
         ensures spare { result.spare ≡ 0 }
         ensures sections { result.spare_sections ≡ 0 }
         ensures no_bytes { result.memory.bytes ≡ [] }
@@ -65,6 +76,8 @@ impl<K: Eq + Hash + Drop, T: Drop, S: BuildHasher> ReassemblyTable<K, T, S> {
             alloc,
             active: IndexMap::with_hasher(alloc, state),
             spare: SpareBuffers::new(alloc),
+            starts: StartOrder::new(alloc),
+            held_bytes: 0,
         }
     }
 
@@ -72,8 +85,20 @@ impl<K: Eq + Hash + Drop, T: Drop, S: BuildHasher> ReassemblyTable<K, T, S> {
     pub fn len(&self) -> usize
         ensures len { result ≡ open_in self.now }
         ensures names { IsDistinct K.eq (keys_of self.now.reassemblies) }
+        ensures starts { result ≡ length self.now.starts }
     {
         self.active.len()
+    }
+
+    /// How many bytes the reassemblies hold in their buffers, each up to the greatest end of its
+    /// fragments.
+    pub fn open_bytes(&self) -> usize
+        ensures all { result ≡ bytes_in self.now.reassemblies }
+        ensures starts { result ≡ bytes_of K.eq self.now self.now.starts }
+    {
+        // No effect at run time. The proof reads here that no name is there twice.
+        let _ = self.active.len();
+        self.held_bytes
     }
 
     /// The timestamp of the datagram with this name, that of the fragment accepted last.
@@ -94,10 +119,22 @@ impl<K: Eq + Hash + Drop, T: Drop, S: BuildHasher> ReassemblyTable<K, T, S> {
         self.spare.bytes.len()
     }
 
+    /// Frees the spare buffers. Their slots stay.
+    pub fn free_spare(&mut self)
+        ensures reassemblies { self.new.reassemblies ≡ self.old.reassemblies }
+        ensures starts { self.new.starts ≡ self.old.starts }
+        ensures spare { self.new.spare ≡ 0 }
+        ensures sections { self.new.spare_sections ≡ 0 }
+        ensures memory { self.new.memory ≡ freed self.old.memory }
+    {
+        self.spare.free();
+    }
+
     /// Takes the memory of a datagram, or returns it where there is no slot for it and no memory
     /// for one.
     pub fn give(&mut self, bytes: Vec<u8>) -> Result<(), Vec<u8>>
         ensures reassemblies { self.new.reassemblies ≡ self.old.reassemblies }
+        ensures starts { self.new.starts ≡ self.old.starts }
         ensures ok { OnOk result (self.new.spare ≡ self.old.spare + 1) }
         ensures err { IfErr result (λ given. given ≡ bytes) }
         ensures kept { OnErr result (self.new ≡ self.old) }
@@ -146,6 +183,7 @@ impl<K: Eq + Hash + Drop, T: Drop, S: BuildHasher> ReassemblyTable<K, T, S> {
         ensures err { IfErr result (Stays K.eq name self.old self.new) }
         ensures short { IfOk result (λ text. IfSome text (λ bytes. length bytes.items ≤ 65535)) }
         ensures counts { Counts K.eq self.old self.new name result }
+        ensures starts { StartsAfter K.eq self.old self.new name result }
         // Out of memory is answered only where there was no capacity.
         ensures succeeds { HasMemoryFor K.eq self.old name (fragment_of received.now) result }
         ensures memory { KeepsMemoryOf K.eq self.old self.new name result }
@@ -154,6 +192,8 @@ impl<K: Eq + Hash + Drop, T: Drop, S: BuildHasher> ReassemblyTable<K, T, S> {
             self.alloc,
             &mut self.active,
             &mut self.spare,
+            &mut self.starts,
+            &mut self.held_bytes,
             name,
             rule,
             received,
@@ -171,7 +211,32 @@ impl<K: Eq + Hash + Drop, T: Drop, S: BuildHasher> ReassemblyTable<K, T, S> {
         ensures sections { open_in self.new + self.new.spare_sections
             ≡ open_in self.old + self.old.spare_sections }
         ensures fewer { open_in self.new ≤ open_in self.old }
+        // The order of the others stays.
+        ensures starts { self.new.starts ≡ names_there K.eq self.new self.old.starts }
     {
-        retain_reassemblies(&mut self.active, &mut self.spare, keep);
+        retain_reassemblies(
+            &mut self.active,
+            &mut self.spare,
+            &mut self.starts,
+            &mut self.held_bytes,
+            keep,
+        );
+    }
+
+    /// Drops the reassembly that started first, and returns its name and its timestamp. Its buffers
+    /// are spare then; that takes no memory. There is none where there is no reassembly.
+    pub fn forget_oldest(&mut self) -> Option<(K, T)>
+        ensures none { IfNone result ((self.old.starts ≡ []) × (self.new ≡ self.old)) }
+        ensures some { IfSome result (λ r. ForgetsOldest K.eq self.old self.new r.0 r.1) }
+    {
+        let slot = self.starts.oldest()?;
+        // No effect at run time. The proof reads here that no name is there twice.
+        let _ = self.active.len();
+        let (name, ended) = self.active.swap_remove_index(slot).unwrap();
+        let Reassembly { buf, timestamp } = ended;
+        self.starts.swap_remove(slot);
+        self.held_bytes -= buf.data_len();
+        self.spare.give(buf);
+        Some((name, timestamp))
     }
 }

@@ -2,7 +2,7 @@
 
 ghost use Rattle.std.specs.Prelude.{◌≡◌, ◌++◌, ◌∷◌, ◌+◌, ◌≤◌, ℕ, [], List, None, false, OnOk, IfErr, IfOk, IfSome};
 ghost use Rattle.std.specs.Prelude.{IsOk, length, option_map, vec_len, vec_capacity};
-ghost use Rattle.indexmap.specs.IndexMap.{get, index_map_len, spare as names_room};
+ghost use Rattle.indexmap.specs.IndexMap.{IsUnique, get, index_map_len, insert_index, spare as names_room};
 ghost use Rattle.etherparse.specs.Counts.{held_after, sections_after, spare_after};
 ghost use Rattle.etherparse.specs.Fragments.{Fragment, IsRepeat, named_end, refusal_at, refusal_of};
 ghost use Rattle.etherparse.specs.IpDefragBuf.{HasRoom, Shows, rule_of, with_room};
@@ -13,12 +13,14 @@ ghost use Rattle.etherparse.specs.declared.defrag.overlap_rule.OverlapRule.TheVa
 ghost use Rattle.etherparse.specs.Room.{NoLessRoom};
 ghost use Rattle.etherparse.specs.Memory.{FindsRoom, KeepsMemory, capacities, memory_of};
 ghost use Rattle.etherparse.specs.SpareBuffers.{HasSlots};
+ghost use Rattle.etherparse.specs.Starts.{EntriesAfter, Tracks, change_of, order_after, room_for};
 ghost use Rattle.etherparse.specs.ReassemblyTable.{Becomes, IsErrorOf, IsLeft, IsReassemblyOf, ShowsReassembly};
 ghost use Rattle.etherparse.specs.ReassemblyTable.{fragment_of};
 ghost use Rattle.etherparse.specs.Refused.{error_in, refused_by};
 ghost use Rattle.etherparse.specs.Repeats.{TakesRepeat};
 
 use super::spare_buffers::SpareBuffers;
+use super::start_order::StartOrder;
 use crate::defrag::{IpDefragBuf, IpDefragError, OverlapRule, checked_end};
 use ep_packet::SlicedFragment;
 use indexmap::IndexMap;
@@ -138,12 +140,15 @@ pub(crate) fn add_fragment<K: Eq + Hash + Drop, T: Drop, S: BuildHasher>(
     alloc: Global,
     reassemblies: &mut IndexMap<K, Reassembly<T>, S>,
     spare: &mut SpareBuffers,
+    starts: &mut StartOrder,
+    held_bytes: &mut usize,
     name: K,
     rule: OverlapRule,
     received: &SlicedFragment<'_>,
     timestamp: T,
 ) -> Result<Option<Vec<u8>>, IpDefragError>
-    requires { HasSlots spare.old (index_map_len reassemblies.old) }
+    requires slots { HasSlots spare.old (index_map_len reassemblies.old) }
+    requires tracks { Tracks starts.old.order held_bytes.old reassemblies.old.entries }
     ensures accepted { let f = fragment_of received.now in (kept : OverlapRule) (fs : List Fragment)
         → ShowsReassembly kept (get K.eq reassemblies.old name) fs → (fs ≡ [] → kept ≡ rule) →
         IfOk result (λ reported. Becomes kept (λ text. text) (outcome kept fs f) timestamp
@@ -158,11 +163,11 @@ pub(crate) fn add_fragment<K: Eq + Hash + Drop, T: Drop, S: BuildHasher>(
     ensures err { IfErr result (λ e.
         IsLeft (is_overlap e) (get K.eq reassemblies.old name) (get K.eq reassemblies.new name)) }
     ensures succeeds { FindsRoom (get K.eq reassemblies.old name) (index_map_len reassemblies.old)
-        (memory_of spare.old (names_room reassemblies.old)) (fragment_of received.now)
+        (memory_of spare.old (room_for (names_room reassemblies.old) starts.old.room)) (fragment_of received.now)
         → IfErr result (λ e. is_out_of_memory e ≡ false) }
     ensures memory { KeepsMemory result (get K.eq reassemblies.old name) (get K.eq reassemblies.new name)
-        (memory_of spare.old (names_room reassemblies.old))
-        (memory_of spare.new (names_room reassemblies.new)) (index_map_len reassemblies.new) }
+        (memory_of spare.old (room_for (names_room reassemblies.old) starts.old.room))
+        (memory_of spare.new (room_for (names_room reassemblies.new) starts.new.room)) (index_map_len reassemblies.new) }
     ensures short { IfOk result (λ reported. IfSome reported (λ bytes. length bytes.items ≤ 65535)) }
     ensures slots { HasSlots spare.new (index_map_len reassemblies.new) }
     ensures spare { vec_len spare.new.bytes
@@ -171,22 +176,43 @@ pub(crate) fn add_fragment<K: Eq + Hash + Drop, T: Drop, S: BuildHasher>(
         ≡ sections_after result (get K.eq reassemblies.old name) (vec_len spare.old.sections) }
     ensures held { index_map_len reassemblies.new
         ≡ held_after result (get K.eq reassemblies.old name) (index_map_len reassemblies.old) }
+    ensures order { starts.new.order ≡ order_after (insert_index K.eq reassemblies.old name)
+        (change_of result (get K.eq reassemblies.old name)) starts.old.order }
+    ensures entries { EntriesAfter (K.eq name) name
+        (change_of result (get K.eq reassemblies.old name))
+        reassemblies.old.entries reassemblies.new.entries }
+    ensures tracks { Tracks starts.new.order held_bytes.new reassemblies.new.entries }
+    ensures unique { IsUnique K.eq reassemblies.old }
 {
     let held = reassemblies.len();
     match reassemblies.entry(name) {
-        Ok(Entry::Occupied(mut entry)) => match entry.get_mut().add(received, timestamp) {
-            Ok(()) if entry.get().buf.is_complete() => {
-                Ok(Some(finish(spare, entry.swap_remove().buf)))
+        Ok(Entry::Occupied(mut entry)) => {
+            let before = entry.get().buf.data_len();
+            match entry.get_mut().add(received, timestamp) {
+                Ok(()) if entry.get().buf.is_complete() => {
+                    starts.swap_remove(entry.index());
+                    *held_bytes -= before;
+                    Ok(Some(finish(spare, entry.swap_remove().buf)))
+                }
+                Ok(()) => {
+                    *held_bytes = *held_bytes - before + entry.get().buf.data_len();
+                    Ok(None)
+                }
+                Err(Refused::Stays(error)) => Err(error),
+                Err(Refused::Ends(error)) => {
+                    starts.swap_remove(entry.index());
+                    *held_bytes -= before;
+                    entry.swap_remove();
+                    Err(error)
+                }
             }
-            Ok(()) => Ok(None),
-            Err(Refused::Stays(error)) => Err(error),
-            Err(Refused::Ends(error)) => {
-                entry.swap_remove();
-                Err(error)
-            }
-        },
+        }
         Ok(Entry::Vacant(entry)) => {
             if !spare.make_slots(held) {
+                entry.into_key();
+                return Err(first_fragment_error(received));
+            }
+            if !starts.reserve() {
                 entry.into_key();
                 return Err(first_fragment_error(received));
             }
@@ -198,7 +224,11 @@ pub(crate) fn add_fragment<K: Eq + Hash + Drop, T: Drop, S: BuildHasher>(
                 Ok(()) if started.get().buf.is_complete() => {
                     Ok(Some(finish(spare, started.swap_remove().buf)))
                 }
-                Ok(()) => Ok(None),
+                Ok(()) => {
+                    starts.push_newest();
+                    *held_bytes += started.get().buf.data_len();
+                    Ok(None)
+                }
                 Err(error) => {
                     spare.give_back(started.swap_remove().buf, taken);
                     Err(error)

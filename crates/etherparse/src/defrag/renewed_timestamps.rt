@@ -5,6 +5,7 @@ ghost use Rattle.ep_packet.specs.Class.{IdentificationFits, as_class, packet_par
 ghost use Rattle.ep_packet.specs.declared.class.Class.TheVariants as reported;
 ghost use Rattle.etherparse.specs.Counts.{Bounded, Counts, HasMemoryFor, KeepsMemoryOf};
 ghost use Rattle.etherparse.specs.Repeats.{TakesRepeat};
+ghost use Rattle.etherparse.specs.Starts.{StartsAfter};
 ghost use Rattle.etherparse.specs.ReassemblyTable.{OthersStay, Stays, reassembly_at};
 ghost use Rattle.etherparse.specs.Timestamps.{timestamp_at};
 ghost use Rattle.etherparse.specs.IpDefragPool.{Refuses, same_id};
@@ -67,6 +68,9 @@ impl<Timestamp: Copy + Drop, CustomChannelId: Eq + Hash + Drop, S: BuildHasher> 
         ensures counts { IfSome (fragment_in (packet_parsed packet.now)) (λ reported.
             Counts (same_id CustomChannelId.eq) self.old self.new (id_named reported.0 channel_id)
             result.1) }
+        ensures starts { IfSome (fragment_in (packet_parsed packet.now)) (λ reported.
+            StartsAfter (same_id CustomChannelId.eq) self.old self.new (id_named reported.0 channel_id)
+            result.1) }
         ensures bound { Bounded self.old self.new }
     {
         if !packet.is_ip_payload_fragmented() {
@@ -118,6 +122,9 @@ impl<Timestamp: Copy + Drop, CustomChannelId: Eq + Hash + Drop, S: BuildHasher> 
             (λ payload. IfSome payload (λ whole. length whole.payload.items ≤ 65535)) }
         ensures counts { IfSome (fragment_in (as_class (reported.Cut message.entry))) (λ named.
             Counts (same_id CustomChannelId.eq) self.old self.new (id_named named.0 channel_id)
+            result.1) }
+        ensures starts { IfSome (fragment_in (as_class (reported.Cut message.entry))) (λ named.
+            StartsAfter (same_id CustomChannelId.eq) self.old self.new (id_named named.0 channel_id)
             result.1) }
         ensures bound { Bounded self.old self.new }
     {

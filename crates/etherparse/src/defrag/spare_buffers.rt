@@ -2,7 +2,7 @@
 
 ghost use Rattle.std.specs.Prelude.{◌≡◌, ◌+◌, ◌-◌, ◌<◌, ◌≤◌, ◌++◌, ◌∷◌, ℕ, [], true, false, if◌then◌else◌, vec_len};
 ghost use Rattle.std.specs.Prelude.{vec_capacity, IfSome};
-ghost use Rattle.etherparse.specs.Memory.{capacities};
+ghost use Rattle.etherparse.specs.Memory.{capacities, freed, memory_of};
 ghost use Rattle.etherparse.specs.SpareBuffers.{HasSlots, NoFewerSlots, SameBuffers, SameCounts};
 
 use crate::defrag::{IpDefragBuf, IpFragRange};
@@ -35,6 +35,17 @@ impl SpareBuffers {
             bytes: Vec::new(alloc),
             sections: Vec::new(alloc),
         }
+    }
+
+    /// Frees them. Their slots stay.
+    pub(crate) fn free(&mut self)
+        ensures bytes { vec_len self.new.bytes ≡ 0 }
+        ensures sections { vec_len self.new.sections ≡ 0 }
+        ensures slots { (count : ℕ) → HasSlots self.old count → HasSlots self.new count }
+        ensures memory { (names : ℕ) → memory_of self.new names ≡ freed (memory_of self.old names) }
+    {
+        self.bytes.clear();
+        self.sections.clear();
     }
 
     /// Makes slots for the buffers of one more reassembly than these, and returns whether they are

@@ -2,5 +2,7 @@
 //! have no name.
 
 pub use ep_base::IpDscpUnknownValueError;
-pub use ep_ipslice::err::ip::{HeaderError, HeadersError, HeadersSliceError, SliceError};
+pub use ep_ipslice::err::ip::{
+    HeaderError, HeadersError, HeadersSliceError, LaxHeaderSliceError, SliceError,
+};
 pub use ep_packet::err::ip::HeadersWriteError;

@@ -83,6 +83,24 @@ fn reassemblies_stay_whose_time_is_kept(rt: HostRuntime) {
     equal(rt, kept, (None, Some(6)));
 }
 
+#[test]
+fn the_reassembly_that_started_first_is_forgotten(rt: HostRuntime) {
+    let mut reassemblies = ReassemblyTable::with_hasher(rt.alloc(), BuildHasherDefault::new());
+    for (name, time) in [(8, 5), (7, 6)] {
+        let fragment = received(2, true, &[1; 8]);
+        take(rt, &mut reassemblies, name, &fragment, time);
+    }
+    equal(rt, reassemblies.open_bytes(), 24 + 24);
+    equal(rt, reassemblies.forget_oldest(), Some((8, 5)));
+    equal(
+        rt,
+        (reassemblies.open_bytes(), reassemblies.spare_len()),
+        (24, 1),
+    );
+    reassemblies.free_spare();
+    equal(rt, (reassemblies.len(), reassemblies.spare_len()), (1, 0));
+}
+
 // Of one datagram a first fragment, one at the same offset with other bytes, and the last one: by
 // the rule of the first of them the second overwrites it, or ends the reassembly, whatever rule the
 // second comes with.

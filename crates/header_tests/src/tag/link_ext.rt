@@ -1,7 +1,10 @@
 //! Tags of either kind.
 use crate::checks::{equal, fail, is_written, shows};
 use ep_base::EtherType;
-use ep_tag::{LinkExtHeader, LinkExtSlice, MacsecSlice, SingleVlanHeader, SingleVlanSlice};
+use ep_tag::{
+    LaxLinkExtSlice, LaxMacsecSlice, LinkExtHeader, LinkExtSlice, MacsecSlice, SingleVlanHeader,
+    SingleVlanSlice,
+};
 use std::process::Abort;
 
 const VLAN: [u8; 6] = [0, 5, 0x81, 0, 7, 8];
@@ -84,4 +87,48 @@ fn tags_of_zeros(rt: HostRuntime) {
     equal(rt, LinkExtSlice::default(), LinkExtSlice::Vlan(tag));
     let header = LinkExtHeader::Vlan(SingleVlanHeader::default());
     equal(rt, LinkExtHeader::default(), header);
+}
+
+// The same of a tag after which bytes may be missing.
+fn is_lax_tag(
+    rt: impl Abort + AllocGlobal + Copy,
+    tag: &LaxLinkExtSlice<'_>,
+    len: usize,
+    ether_type: Option<EtherType>,
+    payload: &str,
+) {
+    equal(rt, tag.header_len(), len);
+    equal(rt, length_and_type(&tag.to_header()), (len, ether_type));
+    shows(rt, &tag.ether_payload(), payload);
+}
+
+#[test]
+fn a_vlan_tag_read_lax(rt: HostRuntime) {
+    let Ok(tag) = SingleVlanSlice::from_slice(&VLAN) else {
+        fail(rt, "no tag");
+    };
+    let payload = "Some(LaxEtherPayloadSlice { incomplete: false, ether_type: EtherType(33024), \
+        len_source: Slice, payload: [7, 8] })";
+    let vlan = Some(EtherType(0x8100));
+    is_lax_tag(rt, &LaxLinkExtSlice::Vlan(tag), 4, vlan, payload);
+}
+
+// The short length leaves a byte for the payload, and none is there.
+#[test]
+fn a_macsec_header_read_lax(rt: HostRuntime) {
+    let Ok(tag) = LaxMacsecSlice::from_slice(&MACSEC[..8]) else {
+        fail(rt, "no tag");
+    };
+    let payload = "Some(LaxEtherPayloadSlice { incomplete: true, ether_type: EtherType(2054), \
+        len_source: Slice, payload: [] })";
+    let arp = Some(EtherType(0x0806));
+    is_lax_tag(rt, &LaxLinkExtSlice::Macsec(tag), 8, arp, payload);
+}
+
+#[test]
+fn lax_tags_of_zeros(rt: HostRuntime) {
+    let Ok(tag) = SingleVlanSlice::from_slice(&[0; 4]) else {
+        fail(rt, "no tag");
+    };
+    equal(rt, LaxLinkExtSlice::default(), LaxLinkExtSlice::Vlan(tag));
 }

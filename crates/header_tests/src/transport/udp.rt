@@ -147,6 +147,50 @@ fn lengths_below_eight(rt: HostRuntime) {
     }
 }
 
+// The same of a lax read.
+fn lax_payload(bytes: &[u8]) -> Result<(&[u8], LenSource), LenError> {
+    match UdpSlice::from_slice_lax(bytes) {
+        Ok(datagram) => Ok((datagram.payload(), datagram.payload_len_source())),
+        Err(error) => Err(error),
+    }
+}
+
+fn has_lax_payload(rt: impl Abort + Copy, bytes: &[u8], wanted: &[u8], bound: LenSource) {
+    equal(rt, lax_payload(bytes), Ok((wanted, bound)));
+}
+
+#[test]
+fn lax_lengths_of_datagrams(rt: HostRuntime) {
+    has_lax_payload(rt, &datagram_of(0), &[7, 8], LenSource::Slice);
+    has_lax_payload(rt, &datagram_of(7), &[7, 8], LenSource::Slice);
+    has_lax_payload(rt, &datagram_of(8), &[], LenSource::UdpHeaderLen);
+    has_lax_payload(rt, &datagram_of(9), &[7], LenSource::UdpHeaderLen);
+    has_lax_payload(rt, &datagram_of(10), &[7, 8], LenSource::UdpHeaderLen);
+    has_lax_payload(rt, &datagram_of(11), &[7, 8], LenSource::Slice);
+    has_lax_payload(rt, &BYTES, &BYTES[8..16], LenSource::UdpHeaderLen);
+    has_lax_payload(rt, &BYTES[..15], &BYTES[8..15], LenSource::Slice);
+}
+
+#[test]
+fn a_header_that_is_cut_off(rt: HostRuntime) {
+    let short = missing(8, 7, LenSource::Slice, Layer::UdpHeader);
+    equal(rt, lax_payload(&[0; 7]), Err(short));
+    equal(rt, lax_payload(&BYTES[..7]), Err(short));
+}
+
+#[test]
+fn getters_of_a_datagram_that_is_cut_off(rt: HostRuntime) {
+    match UdpSlice::from_slice_lax(&BYTES[..10]) {
+        Ok(datagram) => {
+            equal(rt, numbers_of_datagram(&datagram), [1, 2, 16, 0xdbb4]);
+            equal(rt, datagram.to_header(), fields());
+            equal(rt, datagram.slice(), &BYTES[..10]);
+            equal(rt, datagram.header_slice(), &BYTES[..8]);
+        }
+        Err(_) => fail(rt, "no header"),
+    }
+}
+
 #[test]
 fn headers_of_payload_lengths(rt: HostRuntime) {
     let header = UdpHeader {
@@ -184,6 +228,7 @@ fn views_as_text(rt: HostRuntime) {
 #[test]
 fn laws_are_called(rt: HostRuntime) {
     laws::udp::headers_are_their_bytes(&fields());
+    laws::udp::lax_reads_find_what_is_there();
     let again = laws::udp::header_is_read_again(&fields(), &BYTES);
     equal(rt, again, Ok((fields(), &BYTES[8..])));
 }

@@ -16,5 +16,6 @@ pub(crate) fn members<S: Serializer>(
     link::header(out, layers, made)?;
     tags(out, layers.link_exts.as_slice())?;
     net::member(out, layers)?;
+    net::final_destination(out, layers)?;
     transport::member(out, layers)
 }

@@ -63,7 +63,8 @@ impl PacketObject<'_, '_> {
         number(out, "time", packet.time)?;
         number(out, "interface", packet.interface.into())?;
         named(out, "link_type", packet.link)?;
-        number(out, "len", packet.len as u64)
+        number(out, "len", packet.len as u64)?;
+        number(out, "wire_len", packet.wire_len.into())
     }
 
     // Its layers, or why it is refused.

@@ -5,5 +5,7 @@ pub mod conditions;
 pub mod counts;
 pub mod headers;
 pub mod layers;
+pub mod memory;
 pub mod outlines;
 pub mod reasons;
+pub mod source_routes;

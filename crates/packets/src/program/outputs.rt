@@ -4,8 +4,8 @@ ghost use Rattle.device_runs.specs.Endings.{EndsFlushed};
 ghost use Rattle.captures.specs.declared.translation.run_error.RunError.{RunError};
 ghost use Rattle.packets.specs.Written.{WritesLines};
 
-use crate::{LineWriter, Report, Rules, write_lines};
-use captures::{RunError, Skipped};
+use crate::{LineWriter, Omitted, Report, Rules, write_lines};
+use captures::RunError;
 use device_runs::flush_after;
 use std::alloc::Global;
 use std::hash::BuildHasher;
@@ -13,19 +13,20 @@ use std::io::{ErrorKind, Read, Write};
 
 /// [`write_lines`], and a flush after it, also where the input is refused. A flush that fails after
 /// a whole input is a failed write.
-pub fn write_flushed<R: Read + Drop, W: Write, L: LineWriter>(
+pub fn write_flushed<R: Read + Drop, W: Write, L: LineWriter, S: BuildHasher + Drop>(
     alloc: Global,
+    state: S,
     rules: &Rules,
     lines: &L,
     reader: R,
     writer: &mut W,
-    skipped: &mut Skipped,
+    omitted: &mut Omitted,
 ) -> Result<(), RunError>
     ensures { (done : Result Unit RunError) × EndsFlushed RunError.Write done result
-        × WritesLines (L.describes lines.now) rules.now skipped.new (R.remaining reader)
+        × WritesLines (L.describes lines.now) rules.now omitted.new (R.remaining reader)
         (W.contents writer.old) (W.contents writer.new) done }
 {
-    let written = write_lines(alloc, rules, lines, reader, writer, skipped);
+    let written = write_lines(alloc, state, rules, lines, reader, writer, omitted);
     flush_after(writer, written, RunError::Write)
 }
 

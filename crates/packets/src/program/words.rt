@@ -22,9 +22,26 @@ pub enum RequestError {
     /// This word is no condition.
     #[error("invalid value '{word}' for '--only <WHAT>': {error}")]
     Word { word: String, error: WordError },
+    /// This word is no size.
+    #[error("invalid value '{word}' for '--reassembly-memory <SIZE>': {error}")]
+    Size { word: String, error: SizeError },
+    /// Packets with a wrong checksum, where none is verified.
+    #[error("the argument '--only bad' cannot be used with '--no-checksums'")]
+    Unverified,
     /// There is no memory for the conditions, or for a word that is none.
     #[error("out of memory")]
     Memory(#[from(alloc)] AllocError),
+}
+
+/// Why a word is no size.
+#[derive(Clone, Copy, Debug, PartialEq, Eq, Error)]
+pub enum SizeError {
+    /// It isn't a whole number, alone or before `K`, `M` or `G`.
+    #[error("not a number of bytes, or of K, M or G")]
+    Form,
+    /// It is 2^64 bytes or more.
+    #[error("too large")]
+    TooLarge,
 }
 
 /// What is written of a capture.
@@ -64,25 +81,31 @@ pub fn requested_by<'m>(
         Some(("summary", words)) => (Output::Summary, words),
         _ => return Ok(None),
     };
+    let checksums = !words.get_flag("no-checksums");
     Ok(Some(Requested {
         output,
         rules: Rules {
-            filter: filter_of(alloc, words.get_strs("only").unwrap_or(&[]))?,
+            filter: filter_of(alloc, words.get_strs("only").unwrap_or(&[]), checksums)?,
+            count: count(words),
+            duration: words.get_one::<u32>("duration"),
             unfit: if words.get_flag("skip") {
                 Unfit::Skip
             } else {
                 Unfit::Refuse
             },
             forget: words.get_one::<u32>("forget"),
+            reassembly_memory: reassembly_memory(alloc, words)?,
+            checksums,
         },
         name: words.get_str("FILE").unwrap_or("-"),
     }))
 }
 
-fn filter_of(alloc: Global, words: &[&str]) -> Result<Filter, RequestError> {
+fn filter_of(alloc: Global, words: &[&str], checksums: bool) -> Result<Filter, RequestError> {
     let mut filter = Filter::new(alloc);
     for word in words {
         match word.parse::<Condition>() {
+            Ok(Condition::Bad) if !checksums => return Err(RequestError::Unverified),
             Ok(condition) => filter.add(condition)?,
             Err(error) => {
                 let word = String::from_str(alloc, word)?;
@@ -91,6 +114,42 @@ fn filter_of(alloc: Global, words: &[&str]) -> Result<Filter, RequestError> {
         }
     }
     Ok(filter)
+}
+
+fn reassembly_memory(alloc: Global, words: &ArgMatches) -> Result<u64, RequestError> {
+    let word = words.get_str("reassembly-memory").unwrap_or("64M");
+    match size_of(word) {
+        Ok(size) => Ok(size),
+        Err(error) => {
+            let word = String::from_str(alloc, word)?;
+            Err(RequestError::Size { word, error })
+        }
+    }
+}
+
+// The bytes of a size: a whole number, or with `K`, `M` or `G` after it, for powers of 1024.
+fn size_of(word: &str) -> Result<u64, SizeError> {
+    let (number, unit) = match word.as_bytes().last() {
+        Some(b'K') => (word.strip_suffix("K"), 1 << 10),
+        Some(b'M') => (word.strip_suffix("M"), 1 << 20),
+        Some(b'G') => (word.strip_suffix("G"), 1u64 << 30),
+        _ => (Some(word), 1),
+    };
+    let number = number.unwrap_or(word);
+    if number.is_empty() || !number.bytes().all(|byte| byte.is_ascii_digit()) {
+        return Err(SizeError::Form);
+    }
+    match number.parse::<u64>() {
+        Ok(number) => number.checked_mul(unit).ok_or(SizeError::TooLarge),
+        Err(_) => Err(SizeError::TooLarge),
+    }
+}
+
+fn count(words: &ArgMatches) -> Option<u64> {
+    match words.get_one::<u32>("count") {
+        Some(packets) => Some(u64::from(packets)),
+        None => None,
+    }
 }
 
 fn time_form(words: &ArgMatches) -> TimeForm {

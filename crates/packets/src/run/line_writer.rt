@@ -5,13 +5,15 @@ ghost use Rattle.packets.specs.PacketRuns.{BreaksBy};
 ghost use Rattle.packets.specs.Written.{AreLines, WritesLines, one_line};
 ghost use Rattle.packets.specs.declared.dissection.Dissection.{Dissection};
 
+use crate::run::omitted::Omitted;
 use crate::run::progress::NoProgress;
 use crate::run::rules::Rules;
 use crate::run::walk::{Visitor, walk};
 use crate::{Dissection, Dissector, JsonLines, ShowOptions};
-use captures::{PacketReader, RunError, Skipped};
+use captures::{PacketReader, RunError};
 use device_runs::{Fault, ReaderWriter, write_whole};
 use std::alloc::{AllocError, Global};
+use std::hash::BuildHasher;
 use std::io::{self, Read, Write};
 
 // Lines are written once they have so many bytes; the line that reaches that number is written with
@@ -48,30 +50,32 @@ impl LineWriter for JsonLines {
     }
 }
 
-/// Writes a line for each packet that the filter lets through, up to the end of the capture or to
-/// where it is refused. All lines are written before the next read; `skipped` becomes how many
-/// packets are passed over.
+/// Writes a line for each packet that the filter lets through, up to the end of the capture, to
+/// where it is refused or to a limit. All lines are written before the next read; `omitted` becomes
+/// what is left out.
 ///
 /// Lines of packets before a refusal are written, also where memory runs out for the next one. An
 /// error of the writer is returned rather than why the packets end. No write is tried again, and
 /// none follows one that failed. No clause says when lines are written, nor that no write follows a
-/// failed one: tests do.
-pub fn write_lines<R: Read + Drop, W: Write, L: LineWriter>(
+/// failed one: tests do. The names of datagrams are hashed by this state, as in
+/// [`Dissector::with_hasher`].
+pub fn write_lines<R: Read + Drop, W: Write, L: LineWriter, S: BuildHasher + Drop>(
     alloc: Global,
+    state: S,
     rules: &Rules,
     lines: &L,
     reader: R,
     writer: &mut W,
-    skipped: &mut Skipped,
+    omitted: &mut Omitted,
 ) -> Result<(), RunError>
-    ensures { WritesLines (L.describes lines.now) rules.now skipped.new (R.remaining reader)
+    ensures { WritesLines (L.describes lines.now) rules.now omitted.new (R.remaining reader)
         (W.contents writer.old) (W.contents writer.new) result }
 {
-    *skipped = Skipped::NONE;
+    *omitted = Omitted::NOTHING;
     let Ok(mut packets) = PacketReader::new(alloc, rules.unfit, reader) else {
         return Err(RunError::Memory);
     };
-    let mut dissector = Dissector::new(alloc);
+    let mut dissector = Dissector::with_hasher(alloc, state);
     let mut output = LineOutput {
         lines,
         writer,
@@ -87,7 +91,10 @@ pub fn write_lines<R: Read + Drop, W: Write, L: LineWriter>(
         &mut output,
         &mut NoProgress,
     );
-    *skipped = packets.skipped();
+    *omitted = Omitted {
+        skipped: packets.skipped(),
+        dropped: dissector.dropped(),
+    };
     let written = output.write_out();
     let LineOutput { writer, texts, .. } = output;
     drop(texts);

@@ -6,14 +6,14 @@ ghost use Rattle.etherparse.specs.OpenReassemblies.{IsOpenCount};
 ghost use Rattle.packets.specs.Counts.{Counts};
 ghost use Rattle.packets.specs.Courses.{AreDissected, course_after, no_course, shown};
 ghost use Rattle.packets.specs.Outlines.{outline_of};
-ghost use Rattle.packets.specs.PacketRuns.{EndsBy, UnlessOutOfMemory};
+ghost use Rattle.packets.specs.PacketRuns.{EndsWithin, UnlessOutOfMemory};
 ghost use Rattle.packets.specs.declared.dissection.Dissection.{Dissection};
 ghost use Rattle.packets.specs.declared.outline.Outline.{Outline};
 
 use crate::run::progress::Progress;
 use crate::run::rules::Rules;
 use crate::run::walk::{Visitor, walk};
-use crate::{Dissection, Dissector, Reason, Summary};
+use crate::{Dissection, Dissector, Reason, Summary, Verified};
 use captures::{PacketReader, RunError, Skipped};
 use ep_packet::Addresses;
 use std::alloc::{AllocError, Global};
@@ -25,16 +25,21 @@ use std::io::Read;
 pub struct Ending {
     /// How many datagrams were not complete.
     pub open: usize,
+    /// How many datagrams were dropped, so that the others take no more than
+    /// [`Rules::reassembly_memory`] bytes; up to the greatest number of 64 bits.
+    pub dropped: u64,
     /// How many packets were passed over by then.
     pub skipped: Skipped,
-    /// Whether the whole capture was read, or why not.
+    /// Whether the whole capture was read, or up to a limit of the rules, or why not.
     pub result: Result<(), RunError>,
 }
 
-/// Counts the packets that the filter lets through, up to the end of the capture or to where it is
-/// refused.
-pub fn summarize<R: Read + Drop, S: BuildHasher, P: Progress>(
+/// Counts the packets that the filter lets through, up to the end of the capture, to where it is
+/// refused or to a limit. The names of datagrams are hashed by this state, as in
+/// [`Dissector::with_hasher`].
+pub fn summarize<R: Read + Drop, S: BuildHasher + Drop, P: Progress>(
     alloc: Global,
+    state: S,
     rules: &Rules,
     summary: &mut Summary<S>,
     reader: R,
@@ -42,19 +47,24 @@ pub fn summarize<R: Read + Drop, S: BuildHasher, P: Progress>(
 ) -> Ending
     ensures { (read : List ℕ) × (left : Option (List ℕ)) × (given : List Packet)
         × (reported : List Dissection) × Consumes (R.remaining reader) left read
-        × EndsBy false rules.now.unfit result.skipped left read given result.result
-        × AreDissected rules.now.forget no_course given reported
+        × EndsWithin false rules.now result.skipped left read given result.result
+        × AreDissected rules.now.checksums rules.now.forget (no_course rules.now.reassembly_memory) given reported
         × ((counted : List Outline)
-        → Counts ⟦<Reason as PartialEq>⟧.eq ⟦<Addresses as PartialEq>⟧.eq summary.old counted
-        → Counts ⟦<Reason as PartialEq>⟧.eq ⟦<Addresses as PartialEq>⟧.eq summary.new
+        → Counts ⟦<Reason as PartialEq>⟧.eq ⟦<Addresses as PartialEq>⟧.eq
+        ⟦<Verified as PartialEq>⟧.eq summary.old counted
+        → Counts ⟦<Reason as PartialEq>⟧.eq ⟦<Addresses as PartialEq>⟧.eq
+        ⟦<Verified as PartialEq>⟧.eq summary.new
         (counted ++ map outline_of (shown rules.now.filter reported)))
         × UnlessOutOfMemory result.result
-        (IsOpenCount (course_after rules.now.forget no_course given).lists result.open) }
+        (IsOpenCount (course_after rules.now.forget (no_course rules.now.reassembly_memory) given).lists result.open)
+        × (result.dropped
+        ≡ (course_after rules.now.forget (no_course rules.now.reassembly_memory) given).dropped) }
 {
-    let mut dissector = Dissector::new(alloc);
+    let mut dissector = Dissector::with_hasher(alloc, state);
     let Ok(mut packets) = PacketReader::new(alloc, rules.unfit, reader) else {
         return Ending {
             open: 0,
+            dropped: 0,
             skipped: Skipped::NONE,
             result: Err(RunError::Memory),
         };
@@ -62,6 +72,7 @@ pub fn summarize<R: Read + Drop, S: BuildHasher, P: Progress>(
     let result = walk(rules, &mut packets, &mut dissector, summary, progress);
     Ending {
         open: dissector.open(),
+        dropped: dissector.dropped(),
         skipped: packets.skipped(),
         result,
     }
@@ -75,8 +86,10 @@ impl<S: BuildHasher> Visitor for Summary<S> {
 
     // All packets that are seen are counted beside those that were.
     ghost goes = { λ start now seen. (counted : List Outline)
-        → Counts ⟦<Reason as PartialEq>⟧.eq ⟦<Addresses as PartialEq>⟧.eq start counted
-        → Counts ⟦<Reason as PartialEq>⟧.eq ⟦<Addresses as PartialEq>⟧.eq now
+        → Counts ⟦<Reason as PartialEq>⟧.eq ⟦<Addresses as PartialEq>⟧.eq
+        ⟦<Verified as PartialEq>⟧.eq start counted
+        → Counts ⟦<Reason as PartialEq>⟧.eq ⟦<Addresses as PartialEq>⟧.eq
+        ⟦<Verified as PartialEq>⟧.eq now
         (counted ++ map outline_of seen) };
 
     ghost breaks = { λ start now seen. ⊥ };

@@ -9,14 +9,16 @@ ghost use Rattle.packets.specs.Started.{ShowsStarted, ShowsFragments, none_start
 ghost use Rattle.packets.specs.Conditions.{lets_through};
 ghost use Rattle.packets.specs.Courses.{AreDissected, Course, HasCourse, IsDissected, course_after, forgotten};
 ghost use Rattle.packets.specs.Courses.{next_course, no_course, shown};
-ghost use Rattle.packets.specs.PacketRuns.{BreaksBy, EndsBy, Unbroken, UnlessOutOfMemory};
+ghost use Rattle.packets.specs.ReassemblyMemory.{ShowsOrder};
+ghost use Rattle.packets.specs.PacketRuns.{BreaksBy, EndsBy, EndsWithin, Unbroken, UnlessOutOfMemory};
 ghost use Rattle.packets.specs.declared.dissection.Dissection.{Dissection};
 
 use crate::run::progress::{Progress, notify_step};
-use crate::run::rules::{Rules, drop_idle};
+use crate::run::rules::{Rules, drop_idle, is_late};
 use crate::{Dissection, Dissector};
 use captures::{Packet, PacketReader, RunError, Spans};
 use std::alloc::AllocError;
+use std::hash::BuildHasher;
 use std::io::Read;
 
 /// Takes the packets that a filter lets through, one after the other.
@@ -49,38 +51,42 @@ pub(crate) trait Visitor {
             (λ error. BreaksBy writes error (breaks start self.new seen)) };
 }
 
-/// Shows a visitor each packet that the filter lets through, up to the end of the capture or to
-/// where it is refused.
+/// Shows a visitor each packet that the filter lets through, up to the end of the capture, to where
+/// it is refused or to a limit.
 ///
-/// Before each read the visitor is called, so that it keeps nothing back while a read waits. A walk
-/// over as many packets as 64 bits count ends as too many reads do.
-pub(crate) fn walk<R: Read + Drop, V: Visitor, P: Progress>(
+/// Before each read the visitor is called, so that it keeps nothing back while a read waits. Where
+/// the rules limit no count, a walk over as many packets as 64 bits count ends as too many reads do.
+pub(crate) fn walk<R: Read + Drop, S: BuildHasher, V: Visitor, P: Progress>(
     rules: &Rules,
     packets: &mut PacketReader<R>,
-    dissector: &mut Dissector,
+    dissector: &mut Dissector<S>,
     visitor: &mut V,
     progress: &mut P,
 ) -> Result<(), RunError>
     requires unread { HasRead rules.now.unfit packets.old [] [] }
     requires datagrams { ShowsFragments dissector.old.datagrams no_lists }
     requires started { ShowsStarted dissector.old.datagrams none_started }
-    requires number { dissector.old.number ≡ 0 }
+    requires order { ShowsOrder dissector.old.datagrams [] }
+    requires dropped { dissector.old.dropped ≡ 0 }
     requires first_time { dissector.old.first_time ≡ None }
     requires begins { V.goes visitor.old visitor.old [] }
     ensures { (read : List ℕ) × (given : List Packet) × (reported : List Dissection)
         × Consumes (R.remaining (source_of packets.old)) (R.remaining (source_of packets.new)) read
-        × EndsBy V.writes rules.now.unfit (skipped_by packets.new)
+        × EndsWithin V.writes rules.now (skipped_by packets.new)
         (R.remaining (source_of packets.new)) read given result
-        × AreDissected rules.now.forget no_course given reported
+        × AreDissected rules.now.checksums rules.now.forget (no_course rules.now.reassembly_memory) given reported
         × Unbroken result (V.goes visitor.old visitor.new (shown rules.now.filter reported))
         (V.breaks visitor.old visitor.new (shown rules.now.filter reported))
         × UnlessOutOfMemory result (ShowsFragments dissector.new.datagrams
-        (course_after rules.now.forget no_course given).lists) }
+        (course_after rules.now.forget (no_course rules.now.reassembly_memory) given).lists)
+        × (dissector.new.dropped
+        ≡ (course_after rules.now.forget (no_course rules.now.reassembly_memory) given).dropped) }
 {
     let mut spans = Spans::new();
+    let limit = rules.count.unwrap_or(u64::MAX);
     let mut count: u64 = 0;
     let mut steps = 0;
-    'packets: while count < u64::MAX {
+    'packets: while count < limit {
         match go_on(packets, visitor, progress, &mut steps) {
             Ok(true) => {}
             Ok(false) => return Ok(()),
@@ -89,12 +95,18 @@ pub(crate) fn walk<R: Read + Drop, V: Visitor, P: Progress>(
         let Some(packet) = packets.packet() else {
             return Ok(());
         };
+        if is_late(rules.duration, dissector.first_time, packet.time) {
+            return Ok(());
+        }
         match take(rules, &packet, &mut spans, dissector, visitor) {
             Ok(()) => count += 1,
             Err(_) => return Err(RunError::Memory),
         }
     }
-    Err(RunError::TooManyReads)
+    match rules.count {
+        Some(_) => Ok(()),
+        None => Err(RunError::TooManyReads),
+    }
 }
 
 // Goes on to the next packet, and returns whether there is one. The visitor is called before, and
@@ -135,24 +147,26 @@ fn go_on<R: Read + Drop, V: Visitor, P: Progress>(
 }
 
 // Takes the next packet; it fails where memory runs out for it.
-fn take<V: Visitor>(
+fn take<S: BuildHasher, V: Visitor>(
     rules: &Rules,
     packet: &Packet<'_>,
     spans: &mut Spans,
-    dissector: &mut Dissector,
+    dissector: &mut Dissector<S>,
     visitor: &mut V,
 ) -> Result<(), AllocError>
     ensures { (course : Course) (start : V) (seen : List Dissection)
+        → course.memory ≡ rules.now.reassembly_memory
         → HasCourse course dissector.old spans.old → V.goes start visitor.old seen
         → MatchResult result
         (λ _. (reported : Dissection)
-        × IsDissected (forgotten rules.now.forget packet.now.time course) packet.now reported
+        × IsDissected rules.now.checksums (forgotten rules.now.forget packet.now.time course)
+        packet.now reported
         × V.goes start visitor.new (seen ++ filter (lets_through rules.now.filter) (reported ∷ []))
         × HasCourse (next_course rules.now.forget course packet.now) dissector.new spans.new)
-        (λ _. V.goes start visitor.new seen) }
+        (λ _. V.goes start visitor.new seen × (dissector.new.dropped ≡ course.dropped)) }
 {
     drop_idle(rules.forget, spans, packet.time, dissector);
-    let Ok(dissection) = dissector.dissect(packet) else {
+    let Ok(dissection) = dissector.dissect(packet, rules.checksums) else {
         return Err(AllocError);
     };
     if rules.filter.matches(&dissection) {
@@ -160,6 +174,6 @@ fn take<V: Visitor>(
             return Err(error);
         }
     }
-    dissector.give_back(dissection);
+    dissector.keep_within(rules.reassembly_memory);
     Ok(())
 }

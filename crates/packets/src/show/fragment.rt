@@ -3,7 +3,7 @@
 use crate::Fragment;
 use crate::show::{fragment_headers, message, refusal};
 use checksum_verdicts::Verdict;
-use ep_packet::IpFragment;
+use ep_packet::{Addresses, IpFragment};
 use etherparse::defrag::IpDefragPayloadVec;
 use header_descriptions::show::Line;
 use std::alloc::AllocError;
@@ -24,7 +24,7 @@ pub(crate) fn fragment(
         }
         Some(Fragment::Completes { started, message }) => {
             line.text("), ")?;
-            completed(line, *started, message, checked)
+            completed(line, &cut.addresses, *started, message, checked)
         }
         Some(Fragment::Refused { started, error }) => {
             if let Some(started) = started {
@@ -45,9 +45,10 @@ fn started_before(line: &mut Line<'_>, number: u64, started: u64) -> Result<(), 
     }
 }
 
-// The message that a fragment completes.
+// The message between these addresses that a fragment completes.
 fn completed(
     line: &mut Line<'_>,
+    addresses: &Addresses,
     started: u64,
     payload: &IpDefragPayloadVec,
     checked: Option<Verdict>,
@@ -56,5 +57,5 @@ fn completed(
     line.counted("completes a message of ", bytes.len() as u64)?;
     line.counted(" bytes begun in packet ", started)?;
     line.text(": ")?;
-    message::completed(line, payload.ip_number, bytes, checked)
+    message::completed(line, addresses, payload.ip_number, bytes, checked)
 }

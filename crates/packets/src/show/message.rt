@@ -2,9 +2,9 @@
 
 use crate::show::endpoints::{Ports, endpoints};
 use crate::show::refusal;
-use checksum_verdicts::Verdict;
+use checksum_verdicts::{Verdict, judge};
 use ep_base::IpNumber;
-use ep_packet::{Message, WholeMessage, read_message};
+use ep_packet::{Addresses, Message, WholeMessage, read_message};
 use header_descriptions::show::{Line, Tone, icmp, names, tcp};
 use std::alloc::AllocError;
 
@@ -18,13 +18,14 @@ pub(crate) fn whole(
     endpoints(line, &whole.addresses, ports_of(&whole.message))?;
     line.text(" ")?;
     message(line, whole.ip_number, &whole.message)?;
-    verdict(line, checked, &whole.message)
+    verdict(line, checked, &whole.addresses, &whole.message)
 }
 
-/// A reassembled message: its ports, its protocol, what its header says and the verdict on its
-/// checksum, or why it is refused. It has no contract: tests compare the texts.
+/// A reassembled message between these addresses: its ports, its protocol, what its header says and
+/// the verdict on its checksum, or why it is refused. It has no contract: tests compare the texts.
 pub(crate) fn completed(
     line: &mut Line<'_>,
+    addresses: &Addresses,
     ip_number: IpNumber,
     bytes: &[u8],
     checked: Option<Verdict>,
@@ -37,7 +38,7 @@ pub(crate) fn completed(
                 line.text(" ")?;
             }
             message(line, ip_number, &read)?;
-            verdict(line, checked, &read)
+            verdict(line, checked, addresses, &read)
         }
         Err(error) => refusal::message(line, &error),
     }
@@ -70,11 +71,13 @@ fn message(line: &mut Line<'_>, number: IpNumber, message: &Message<'_>) -> Resu
     }
 }
 
-// The verdict on the checksum of a message. Only UDP can be sent without one: that of ICMP over the
-// other IP version is not read.
+// The verdict on the checksum of a message between these addresses in the IP header. One that has a
+// checksum and no verdict goes on by a source route whose end isn't known. Of others only UDP is sent
+// without a checksum: that of ICMP over the other IP version is not read.
 fn verdict(
     line: &mut Line<'_>,
     verdict: Option<Verdict>,
+    addresses: &Addresses,
     message: &Message<'_>,
 ) -> Result<(), AllocError> {
     match verdict {
@@ -85,6 +88,9 @@ fn verdict(
         Some(Verdict::Bad) => {
             line.text("  ")?;
             line.toned(Tone::Bad, "bad checksum")
+        }
+        Some(Verdict::None) if judge(addresses, message) != Verdict::None => {
+            line.text("  none (source routed)")
         }
         Some(Verdict::None) => match message {
             Message::Udp(_) => line.text("  no checksum"),

@@ -14,8 +14,9 @@ use std::alloc::AllocError;
 impl ShowOptions {
     /// Appends the line of a packet to `out`, without the newline that ends it: the number and time
     /// of the packet, its VLANs, addresses and ports, its protocol with what its header says, and
-    /// the verdict on the checksum. Of a fragment it gives the offset and what became of it, and of
-    /// a packet that is refused, why. It has no contract: tests compare the texts.
+    /// the verdict on the checksum. Of a fragment it gives the offset and what became of it, of a
+    /// packet that is refused, why, and of one that was cut, how many of its bytes were captured. It
+    /// has no contract: tests compare the texts.
     pub fn write_line(&self, packet: &Dissection<'_>, out: &mut Vec<u8>) -> Result<(), AllocError> {
         let mut line = Line::begin(self.style, self.width, out);
         number_and_time(
@@ -26,10 +27,22 @@ impl ShowOptions {
             packet.time,
         )?;
         match &packet.layers {
-            Ok(layers) => body(&mut line, packet, layers),
-            Err(error) => refusal::packet(&mut line, error),
+            Ok(layers) => body(&mut line, packet, layers)?,
+            Err(error) => refusal::packet(&mut line, error)?,
+        }
+        if packet.is_cut() {
+            cut(&mut line, packet)
+        } else {
+            Ok(())
         }
     }
+}
+
+// How much there is of a packet that was cut as it was captured.
+fn cut(line: &mut Line<'_>, packet: &Dissection<'_>) -> Result<(), AllocError> {
+    line.counted(", cut at ", packet.captured_len as u64)?;
+    line.counted(" of ", packet.wire_len.into())?;
+    line.text(" bytes")
 }
 
 fn body(

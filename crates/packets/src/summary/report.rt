@@ -1,11 +1,13 @@
 //! A summary as text.
 
 use crate::summary::bars::{Bar, column, steps_of};
+use crate::summary::lengths::Lengths;
 use crate::summary::rate::Rate;
 use crate::summary::sizes::Sizes;
 use crate::summary::summary::{ChecksumTallies, ProtocolTallies, Summary};
 use crate::summary::table::Table;
 use crate::summary::tally::Tally;
+use crate::summary::verified::Verified;
 use crate::{Protocol, Reason};
 use captures::Skipped;
 use ep_base::IpNumber;
@@ -30,6 +32,8 @@ pub struct Report<'s, S: BuildHasher> {
     pub summary: &'s Summary<S>,
     /// How many datagrams were not complete.
     pub open: usize,
+    /// How many were dropped, so that the others take no more than they may.
+    pub dropped: u64,
     /// How many packets were passed over.
     pub skipped: Skipped,
 }
@@ -58,7 +62,7 @@ impl<S: BuildHasher> Report<'_, S> {
     fn write_fragments<W: fmt::Write>(&self, f: &mut fmt::Formatter<W>) -> fmt::Result {
         let parts = &self.summary.parts;
         let all = &self.summary.all;
-        let open = self.open;
+        let (open, dropped) = (self.open, self.dropped);
         if parts.all.packets > 0 {
             let rows = [
                 (&parts.all, "all fragments"),
@@ -67,13 +71,17 @@ impl<S: BuildHasher> Report<'_, S> {
             ];
             write_title(f, "fragments")?;
             write_rows(f, &rows, all)?;
-        } else if open > 0 {
+        } else if open > 0 || dropped > 0 {
             // Reassemblies may be of fragments that the filter doesn't let through.
             writeln!(f)?;
         } else {
             return Ok(());
         }
-        writeln!(f, "messages open at the end: {open}")
+        writeln!(f, "messages open at the end: {open}")?;
+        if dropped > 0 {
+            writeln!(f, "messages dropped: {dropped}")?;
+        }
+        Ok(())
     }
 
     fn write_skipped<W: fmt::Write>(&self, f: &mut fmt::Formatter<W>) -> fmt::Result {
@@ -94,11 +102,70 @@ fn write_kinds<W: fmt::Write, S: BuildHasher>(
     writeln!(f, "{TITLES}protocol")?;
     write_row(f, &all, &all, "all packets")?;
     write_protocols(f, &summary.protocols, &all)?;
+    write_lengths(f, &summary.lengths, &all)?;
     if summary.refused.packets > 0 {
         write_title(f, "refused because")?;
         write_reasons(f, &summary.reasons, &all)?;
     }
-    write_checksums(f, &summary.checksums, &all)
+    write_checksums(f, &summary.checksums, &all)?;
+    write_offload(f, &summary.senders)
+}
+
+// The packets that were cut, and how many bytes of all were captured, where not all were.
+fn write_lengths<W: fmt::Write>(
+    f: &mut fmt::Formatter<W>,
+    lengths: &Lengths,
+    all: &Tally,
+) -> fmt::Result {
+    let (wire, captured) = (lengths.wire, lengths.captured);
+    if lengths.cut.packets == 0 && wire == captured {
+        return Ok(());
+    }
+    if lengths.cut.packets > 0 {
+        write_title(f, "captured in part")?;
+        write_row(f, &lengths.cut, all, "cut")?;
+    } else {
+        writeln!(f)?;
+    }
+    writeln!(f, "bytes on the wire: {wire}, captured: {captured}")
+}
+
+// That a capture was probably taken on the one host whose checksums are bad, if most of them are: a
+// network card fills them in after the host captured its packets.
+fn write_offload<W: fmt::Write, S: BuildHasher>(
+    f: &mut fmt::Formatter<W>,
+    senders: &Table<Verified, S>,
+) -> fmt::Result {
+    let Some((sender, bad)) = only_bad(senders) else {
+        return Ok(());
+    };
+    let good = senders.tally_at(&sender.with_good_checksum()).packets;
+    if bad <= good {
+        return Ok(());
+    }
+    let all = bad.saturating_add(good);
+    let host = sender.source();
+    writeln!(
+        f,
+        "checksums: {bad} of {all} of {host} are bad, and none of others: probably captured on \
+        that host before its network card filled them in (--no-checksums)"
+    )
+}
+
+// The one sender with bad checksums, if there is one and no other, and how many there are.
+fn only_bad<S: BuildHasher>(senders: &Table<Verified, S>) -> Option<(Verified, u64)> {
+    let mut found = None;
+    for index in 0..senders.len() {
+        if let Some((sender, tally)) = senders.get(index) {
+            if sender.is_bad() {
+                if found.is_some() {
+                    return None;
+                }
+                found = Some((*sender, tally.packets));
+            }
+        }
+    }
+    found
 }
 
 // The verdicts on checksums, if a message was read.

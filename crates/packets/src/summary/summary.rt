@@ -3,11 +3,13 @@ ghost use Rattle.std.specs.Prelude.{◌≡◌, ◌<◌, ◌++◌, ◌∷◌, [],
 ghost use Rattle.packets.specs.declared.outline.Outline.{Outline};
 
 use crate::outline::FragmentState;
+use crate::summary::lengths::Lengths;
 use crate::summary::numbers::NumberTallies;
 use crate::summary::rate::Rate;
 use crate::summary::sizes::Sizes;
 use crate::summary::table::Table;
 use crate::summary::tally::Tally;
+use crate::summary::verified::Verified;
 use crate::{Dissection, Outline, Protocol, Reason};
 use checksum_verdicts::Verdict;
 use ep_packet::Addresses;
@@ -15,7 +17,7 @@ use std::alloc::{AllocError, Global};
 use std::hash::{BuildHasher, BuildHasherDefault, FoldHasher};
 
 /// What is in a capture. Its memory grows with the number of pairs of addresses that packets go
-/// between, and with nothing else.
+/// between, with that of senders, and with nothing else.
 #[derive(Drop)]
 pub struct Summary<S: BuildHasher = BuildHasherDefault<FoldHasher>> {
     /// All packets.
@@ -32,10 +34,14 @@ pub struct Summary<S: BuildHasher = BuildHasherDefault<FoldHasher>> {
     pub sizes: Sizes,
     /// By their times.
     pub rate: Rate,
+    /// By their bytes on the wire.
+    pub lengths: Lengths,
     /// Those that are refused, by the reason.
     pub reasons: Table<Reason, S>,
     /// IP packets by their addresses, source and destination.
     pub talkers: Table<Addresses, S>,
+    /// Those with a good or a bad checksum, by the sender and which it is.
+    pub senders: Table<Verified, S>,
 }
 
 /// How many packets have a header of each protocol.
@@ -84,10 +90,12 @@ impl Summary<BuildHasherDefault<FoldHasher>> {
 
     /// [`Summary::with_hashers`] with std's state of a fixed seed.
     pub fn new(alloc: Global) -> Summary
-        ensures { Counts ⟦<Reason as PartialEq>⟧.eq ⟦<Addresses as PartialEq>⟧.eq result [] }
+        ensures { Counts ⟦<Reason as PartialEq>⟧.eq ⟦<Addresses as PartialEq>⟧.eq
+            ⟦<Verified as PartialEq>⟧.eq result [] }
     {
-        let state = BuildHasherDefault::new();
-        Summary::with_hashers(alloc, state, BuildHasherDefault::new())
+        let addresses = BuildHasherDefault::new();
+        let senders = BuildHasherDefault::new();
+        Summary::with_hashers(alloc, addresses, senders, BuildHasherDefault::new())
     }
 }
 
@@ -95,9 +103,11 @@ impl<S: BuildHasher> Summary<S> {
     ghost use Rattle.packets.specs.Counts.{Counts};
     ghost use Rattle.packets.specs.Outlines.{outline_of};
 
-    /// No packet. Addresses are hashed by one state, and reasons by the other. It takes no memory.
-    pub fn with_hashers(alloc: Global, addresses: S, reasons: S) -> Summary<S>
-        ensures { Counts ⟦<Reason as PartialEq>⟧.eq ⟦<Addresses as PartialEq>⟧.eq result [] }
+    /// No packet. Pairs of addresses, senders and reasons are hashed by a state each. It takes no
+    /// memory.
+    pub fn with_hashers(alloc: Global, addresses: S, senders: S, reasons: S) -> Summary<S>
+        ensures { Counts ⟦<Reason as PartialEq>⟧.eq ⟦<Addresses as PartialEq>⟧.eq
+            ⟦<Verified as PartialEq>⟧.eq result [] }
     {
         Summary {
             all: Tally::NONE,
@@ -107,34 +117,58 @@ impl<S: BuildHasher> Summary<S> {
             parts: FragmentTallies::NONE,
             sizes: Sizes::NONE,
             rate: Rate::new(),
+            lengths: Lengths::NONE,
             reasons: Table::with_hasher(alloc, reasons),
             talkers: Table::with_hasher(alloc, addresses),
+            senders: Table::with_hasher(alloc, senders),
         }
     }
 
     /// Counts one packet more. Where there is no memory for what is new about it, all counts stay.
     pub fn add(&mut self, dissection: &Dissection<'_>) -> Result<(), AllocError>
         ensures ok { OnOk result ((packets : List Outline)
-            → Counts ⟦<Reason as PartialEq>⟧.eq ⟦<Addresses as PartialEq>⟧.eq self.old packets
-            → Counts ⟦<Reason as PartialEq>⟧.eq ⟦<Addresses as PartialEq>⟧.eq self.new
+            → Counts ⟦<Reason as PartialEq>⟧.eq ⟦<Addresses as PartialEq>⟧.eq
+            ⟦<Verified as PartialEq>⟧.eq self.old packets
+            → Counts ⟦<Reason as PartialEq>⟧.eq ⟦<Addresses as PartialEq>⟧.eq
+            ⟦<Verified as PartialEq>⟧.eq self.new
             (packets ++ outline_of dissection.now ∷ [])) }
         ensures err { OnErr result ((packets : List Outline)
-            → Counts ⟦<Reason as PartialEq>⟧.eq ⟦<Addresses as PartialEq>⟧.eq self.old packets
-            → Counts ⟦<Reason as PartialEq>⟧.eq ⟦<Addresses as PartialEq>⟧.eq self.new packets) }
+            → Counts ⟦<Reason as PartialEq>⟧.eq ⟦<Addresses as PartialEq>⟧.eq
+            ⟦<Verified as PartialEq>⟧.eq self.old packets
+            → Counts ⟦<Reason as PartialEq>⟧.eq ⟦<Addresses as PartialEq>⟧.eq
+            ⟦<Verified as PartialEq>⟧.eq self.new packets) }
     {
         let packet = Outline::of(dissection);
-        self.reasons.reserve()?;
-        self.talkers.reserve()?;
+        self.reserve()?;
         self.count(&packet);
         Ok(())
+    }
+
+    // Reserves the capacity for what is new about one packet more.
+    fn reserve(&mut self) -> Result<(), AllocError>
+        ensures reasons { OnOk result (0 < self.new.reasons.spare) }
+        ensures talkers { OnOk result (0 < self.new.talkers.spare) }
+        ensures senders { OnOk result (0 < self.new.senders.spare) }
+        ensures same { (packets : List Outline)
+            → Counts ⟦<Reason as PartialEq>⟧.eq ⟦<Addresses as PartialEq>⟧.eq
+            ⟦<Verified as PartialEq>⟧.eq self.old packets
+            → Counts ⟦<Reason as PartialEq>⟧.eq ⟦<Addresses as PartialEq>⟧.eq
+            ⟦<Verified as PartialEq>⟧.eq self.new packets }
+    {
+        self.reasons.reserve()?;
+        self.talkers.reserve()?;
+        self.senders.reserve()
     }
 
     fn count(&mut self, packet: &Outline)
         requires reasons { 0 < self.old.reasons.spare }
         requires talkers { 0 < self.old.talkers.spare }
+        requires senders { 0 < self.old.senders.spare }
         ensures { (packets : List Outline)
-            → Counts ⟦<Reason as PartialEq>⟧.eq ⟦<Addresses as PartialEq>⟧.eq self.old packets
-            → Counts ⟦<Reason as PartialEq>⟧.eq ⟦<Addresses as PartialEq>⟧.eq self.new
+            → Counts ⟦<Reason as PartialEq>⟧.eq ⟦<Addresses as PartialEq>⟧.eq
+            ⟦<Verified as PartialEq>⟧.eq self.old packets
+            → Counts ⟦<Reason as PartialEq>⟧.eq ⟦<Addresses as PartialEq>⟧.eq
+            ⟦<Verified as PartialEq>⟧.eq self.new
             (packets ++ packet.now ∷ []) }
     {
         self.all.add(packet);
@@ -144,8 +178,10 @@ impl<S: BuildHasher> Summary<S> {
         self.parts.add(packet);
         self.sizes.add(packet);
         self.rate.add(packet);
+        self.lengths.add(packet);
         self.reasons.add_keyed(packet.refusal, packet);
         self.talkers.add_keyed(packet.headers.addresses(), packet);
+        self.senders.add_keyed(Verified::of(packet), packet);
     }
 }
 

@@ -78,8 +78,8 @@ impl<K: Eq + Hash + Drop, S: BuildHasher> Table<K, S> {
         self.tallies.insert(key, tally).unwrap();
     }
 
-    // The tally of a key.
-    fn tally_at(&self, key: &K) -> Tally
+    /// The tally of a key.
+    pub(crate) fn tally_at(&self, key: &K) -> Tally
         ensures { result ≡ tally_at K.eq self.now key.now }
     {
         match self.tallies.get(key) {

@@ -1,9 +1,12 @@
 //! Packets of each link as the registry of link types lays them out (tcpdump.org/linktypes.html):
 //! LINKTYPE_NULL, ETHERNET, RAW, LOOP, LINUX_SLL and LINUX_SLL2.
 
-ghost use Rattle.std.specs.Prelude.{◌≡◌, ℕ, List, [], ◌∷◌, length, replicate, Some, None, Ok, Err};
-ghost use Rattle.captures.specs.Framed.{address_at, captured_limit, cooked_type, family_type, frame_bytes, frame_parts};
-ghost use Rattle.captures.specs.Framed.{link_for, link_of, own_frame, taken_limit, reported_frame, reported_of};
+ghost use Rattle.std.specs.Prelude.{◌≡◌, ℕ, List, [], ◌∷◌, length, replicate, true, false, Some, None, Ok, Err};
+ghost use Rattle.captures.specs.Examples.{numbered};
+ghost use Rattle.captures.specs.Framed.{FrameParts, address_at, captured_len, captured_limit, cooked_type};
+ghost use Rattle.captures.specs.Framed.{family_type, frame_bytes, frame_parts};
+ghost use Rattle.captures.specs.Framed.{link_of, own_frame, refused_type, reported_frame, reported_of, taken_limit};
+ghost use Rattle.captures.specs.PacketSteps.{is_cut};
 ghost use Rattle.captures.specs.declared.link.kind.Link.TheVariants.{Ethernet, Ip, Null, Loop, Other, Sll, Sll2};
 ghost use Rattle.captures.specs.declared.translation.skipped.Reason.TheVariants.{NoFrame, TooLong, OtherLink};
 ghost use Rattle.captures.specs.declared.unfit.Unfit.TheVariants.{Refuse, Skip};
@@ -11,16 +14,16 @@ ghost use Rattle.captures.specs.declared.unfit.Unfit.TheVariants.{Refuse, Skip};
 /// The numbers of the links that are read, among them DLT_RAW of BSD (12 and 14) and each IP version
 /// alone (228, 229), and of some that aren't: PPP, 276 less 256, wireless networks, netlink.
 pub fn link_types()
-    ensures null { link_of 0 ≡ Some Null }
-    ensures ethernet { link_of 1 ≡ Some Ethernet }
-    ensures raw { (link_of 12 ≡ Some Ip) × (link_of 14 ≡ Some Ip) × (link_of 101 ≡ Some Ip) }
-    ensures versions { (link_of 228 ≡ Some Ip) × (link_of 229 ≡ Some Ip) }
-    ensures openbsd { link_of 108 ≡ Some Loop }
-    ensures cooked { (link_of 113 ≡ Some Sll) × (link_of 276 ≡ Some Sll2) }
-    ensures other { (link_of 9 ≡ None) × (link_of 20 ≡ None) × (link_of 105 ≡ None)
-        × (link_of 127 ≡ None) × (link_of 253 ≡ None) × (link_of 65535 ≡ None) }
-    ensures refused { link_for Refuse 9 ≡ None }
-    ensures skipped { (link_for Skip 9 ≡ Some Other) × (link_for Skip 276 ≡ Some Sll2) }
+    ensures null { link_of 0 ≡ Null }
+    ensures ethernet { link_of 1 ≡ Ethernet }
+    ensures raw { (link_of 12 ≡ Ip) × (link_of 14 ≡ Ip) × (link_of 101 ≡ Ip) }
+    ensures versions { (link_of 228 ≡ Ip) × (link_of 229 ≡ Ip) }
+    ensures openbsd { link_of 108 ≡ Loop }
+    ensures cooked { (link_of 113 ≡ Sll) × (link_of 276 ≡ Sll2) }
+    ensures other { (link_of 9 ≡ Other 9) × (link_of 20 ≡ Other 20) × (link_of 105 ≡ Other 105)
+        × (link_of 127 ≡ Other 127) × (link_of 253 ≡ Other 253) × (link_of 65535 ≡ Other 65535) }
+    ensures refused { (refused_type Refuse (Other 9) ≡ Some 9) × (refused_type Refuse Sll2 ≡ None) }
+    ensures skipped { refused_type Skip (Other 9) ≡ None }
 {}
 
 /// The bytes of a packet at most. A line holds a frame of 99,991 bytes, in which 14 replace 0, 4,
@@ -32,7 +35,7 @@ pub fn greatest_packets()
     ensures openbsd { captured_limit Loop ≡ 99_981 }
     ensures cooked { (captured_limit Sll ≡ 99_993) × (captured_limit Sll2 ≡ 99_997) }
     ensures refused { (taken_limit Refuse Ethernet ≡ 99_991) × (taken_limit Refuse Sll2 ≡ 99_997) }
-    ensures skipped { (taken_limit Skip Ethernet ≡ 262_128) × (taken_limit Skip Other ≡ 262_128) }
+    ensures skipped { (taken_limit Skip Ethernet ≡ 262_128) × (taken_limit Skip (Other 9) ≡ 262_128) }
 {}
 
 /// What a cooked capture names: below 1536 are lengths of 802.3 and Linux' own numbers (1501 to 1535
@@ -117,6 +120,18 @@ pub fn packets_are_framed()
     }) ≡ 0 ∷ 0 ∷ 0 ∷ 0 ∷ 0 ∷ 0 ∷ 2 ∷ 0 ∷ 0 ∷ 0 ∷ 0 ∷ 1 ∷ 0x86 ∷ 0xdd ∷ 0x60 ∷ [] }
 {}
 
+/// How many bytes were captured, by a frame of two bytes after the header that was made, if one was.
+pub fn captured_bytes()
+    ensures by_link { (frame : FrameParts) → length frame.bytes ≡ 2
+        → (captured_len Ethernet frame ≡ 2) × (captured_len Ip frame ≡ 2)
+        × (captured_len Null frame ≡ 6) × (captured_len Loop frame ≡ 6)
+        × (captured_len Sll frame ≡ 18) × (captured_len Sll2 frame ≡ 22) }
+    ensures cut { (number : ℕ) → (is_cut (numbered number) ≡ true)
+        × (is_cut (record (numbered number) { wire_len = 22 }) ≡ true)
+        × (is_cut (record (numbered number) { wire_len = 21 }) ≡ false)
+        × (is_cut (record (numbered number) { wire_len = 20 }) ≡ false) }
+{}
+
 /// Why packets are not reported: they are too long for a line, have no frame, or no link that is
 /// read; where such packets are passed over no byte is reported of them.
 pub fn packets_are_not_reported()
@@ -127,7 +142,7 @@ pub fn packets_are_not_reported()
     ensures cooked_too_long { (packet : List ℕ) → length packet ≡ 99_998
         → reported_of Sll2 packet ≡ Err TooLong }
     ensures no_frame { reported_of Ip (0x50 ∷ []) ≡ Err NoFrame }
-    ensures other { reported_of Other (0x45 ∷ []) ≡ Err OtherLink }
+    ensures other { reported_of (Other 9) (0x45 ∷ []) ≡ Err OtherLink }
     ensures refused { reported_frame Refuse Ip (0x50 ∷ []) ≡ None }
     ensures skipped { reported_frame Skip Ip (0x50 ∷ []) ≡ Some [] }
 {}

@@ -2,14 +2,16 @@
 
 ghost use Rattle.std.specs.Prelude.{◌≡◌, ◌^◌, ℕ, List, [], ◌∷◌, ◌++◌, replicate, length, codes, true, false, None};
 ghost use Rattle.line_grammar.specs.TimedLines.{TimedFrame};
-ghost use Rattle.captures.specs.Examples.{file_header, opened_file, packet_at, packet_record};
+ghost use Rattle.captures.specs.Examples.{empty_record, file_after, file_header, numbered, packet_at, packet_record};
+ghost use Rattle.captures.specs.Framed.{link_of};
 ghost use Rattle.captures.specs.Lines.{blank};
 ghost use Rattle.captures.specs.Numbers.{half, word};
-ghost use Rattle.captures.specs.Pcap.{IsFileHeader, IsPacketRecord, is_magic, link_type};
+ghost use Rattle.captures.specs.PacketSteps.{Gives};
+ghost use Rattle.captures.specs.Pcap.{IsFileHeader, IsPacketRecord, is_magic, link_type, record_wire_len};
 ghost use Rattle.captures.specs.CaptureRuns.{IsCapture};
 ghost use Rattle.captures.specs.Skipping.{none_skipped};
 ghost use Rattle.captures.specs.Encoding.{IsWritable};
-ghost use Rattle.captures.specs.Units.{HasLinkType, HasLongFrame, HasNoFrame, IsShortRecord, Takes};
+ghost use Rattle.captures.specs.Units.{HasLongFrame, HasNoFrame, HasOtherLink, IsShortRecord, Takes};
 ghost use Rattle.captures.specs.declared.byte_order.ByteOrder.TheVariants.{Big, Little};
 ghost use Rattle.captures.specs.declared.extra.Extra.TheVariants.{Nothing};
 ghost use Rattle.captures.specs.declared.link.kind.Link.TheVariants.{Ethernet, Ip};
@@ -47,10 +49,13 @@ pub fn file_headers()
     ensures sequence { link_type Big (replicate 20 0 ++ 0x48 ∷ 0 ∷ 0 ∷ 1 ∷ []) ≡ 1 }
 {}
 
-/// A record states how many bytes follow it, and how many the packet had: 2 of 1500.
+/// A record states how many bytes follow it, and how many the packet had on the wire: 2 of 1500.
 pub fn packet_records()
-    ensures { IsPacketRecord Little (replicate 8 0 ++ 2 ∷ 0 ∷ 0 ∷ 0 ∷ 0xdc ∷ 5 ∷ 0 ∷ 0 ∷ 7 ∷ 8
+    ensures is_record { IsPacketRecord Little (replicate 8 0 ++ 2 ∷ 0 ∷ 0 ∷ 0 ∷ 0xdc ∷ 5 ∷ 0 ∷ 0 ∷ 7 ∷ 8
         ∷ []) (7 ∷ 8 ∷ []) }
+    ensures wire { record_wire_len Little (replicate 8 0 ++ 2 ∷ 0 ∷ 0 ∷ 0 ∷ 0xdc ∷ 5 ∷ 0 ∷ 0 ∷ 7 ∷ 8
+        ∷ []) ≡ 1500 }
+    ensures high_first { record_wire_len Big packet_record ≡ 1500 }
 {}
 
 /// A capture of one packet, whose first 21 bytes of 1500 were captured on LINUX_SLL2.
@@ -59,12 +64,18 @@ pub fn captures_of_records()
         (packet_at 1700000000250000000 ∷ []) none_skipped }
 {}
 
-/// Where a capture stops: a file header of PPP (9) with a byte after it; the head of a record that
-/// states two bytes, with one after it; one that states 99,992 bytes of an Ethernet frame, more
-/// than a line can hold; and a record of an IP packet of version 5.
+/// A packet of which no byte was captured has a number too, and the one after it the next.
+pub fn numbers_of_records()
+    ensures { Gives (Start Refuse) (file_header ++ (empty_record ++ packet_record))
+        (numbered 2 ∷ []) (file_after 2) [] }
+{}
+
+/// Where a capture stops: the head of a record on a link of PPP (9); one that states two bytes,
+/// with one after it; one that states 99,992 bytes of an Ethernet frame, more than a line can hold;
+/// and a record of an IP packet of version 5.
 pub fn captures_that_stop()
-    ensures link { HasLinkType Refuse (0xd4 ∷ 0xc3 ∷ 0xb2 ∷ 0xa1 ∷ 2 ∷ 0 ∷ 4 ∷ 0 ∷ replicate 8 0
-        ++ 0xff ∷ 0xff ∷ 0 ∷ 0 ∷ 9 ∷ 0 ∷ 0 ∷ 0 ∷ 7 ∷ []) 9 }
+    ensures link { HasOtherLink (link_of 9) Refuse (replicate 8 0 ++ 2 ∷ 0 ∷ 0 ∷ 0 ∷ 0xdc ∷ 5 ∷ 0 ∷ 0
+        ∷ []) 9 }
     ensures cut_off { IsShortRecord Little Ethernet Refuse
         (replicate 8 0 ++ 2 ∷ 0 ∷ 0 ∷ 0 ∷ 0xdc ∷ 5 ∷ 0 ∷ 0 ∷ 7 ∷ []) }
     ensures too_long { HasLongFrame Big Ethernet Refuse
@@ -76,8 +87,8 @@ pub fn captures_that_stop()
 /// The line of that packet is reported before the five bytes after it, which begin another record.
 pub fn packets_before_a_rest()
     ensures { Takes (blank Nothing) (Start Refuse)
-        (file_header ++ packet_record ++ 0x65 ∷ 0x53 ∷ 0xf1 ∷ 0 ∷ 0x0e ∷ []) opened_file
-        (0x65 ∷ 0x53 ∷ 0xf1 ∷ 0 ∷ 0x0e ∷ []) 1
+        (file_header ++ packet_record ++ 0x65 ∷ 0x53 ∷ 0xf1 ∷ 0 ∷ 0x0e ∷ []) (file_after 1)
+        (0x65 ∷ 0x53 ∷ 0xf1 ∷ 0 ∷ 0x0e ∷ [])
         (codes "frame 0 000000000000020000000001080045\n") None (blank Nothing) }
 {}
 

@@ -1,27 +1,30 @@
 //! Pcapng files (draft-ietf-opsawg-pcapng).
 
-ghost use Rattle.std.specs.Prelude.{◌≡◌, ◌≢◌, ◌⊎◌, ℕ, List, [], ◌∷◌, ◌++◌, length, true, false, slice_set, take, Some};
+ghost use Rattle.std.specs.Prelude.{◌≡◌, ◌≢◌, ◌⊎◌, ℕ, List, [], ◌∷◌, ◌++◌, length, true, false, replicate, slice_set, take, Some};
 ghost use Rattle.std.specs.Prelude.{None};
-ghost use Rattle.captures.specs.Examples.{cooked_packet, cut_simple_block, described_section, enhanced_block};
-ghost use Rattle.captures.specs.Examples.{interface_block, longer_packet, obsolete_block, origin_at, packet_at};
-ghost use Rattle.captures.specs.Examples.{section_block, simple_block};
+ghost use Rattle.captures.specs.Examples.{cooked_packet, cut_simple_block, described_section, empty_block};
+ghost use Rattle.captures.specs.Examples.{enhanced_block, interface_block, longer_packet, numbered, obsolete_block};
+ghost use Rattle.captures.specs.Examples.{origin_at, other_block, other_interface, packet_at, section_block, simple_block};
 ghost use Rattle.captures.specs.Numbers.{word};
 ghost use Rattle.captures.specs.Pcapng.{Becomes, IsEnhancedPacket, IsObsoletePacket, IsSimplePacket, IsTaken};
 ghost use Rattle.captures.specs.Pcapng.{IsTimedPacket, Says, byte_order_magic, captured_len, enhanced_packet};
 ghost use Rattle.captures.specs.Pcapng.{interface_description, is_read_version, links_with, obsolete_packet};
-ghost use Rattle.captures.specs.Pcapng.{section_header, simple_packet};
+ghost use Rattle.captures.specs.Pcapng.{block_wire_len, section_header, simple_packet};
 ghost use Rattle.captures.specs.Pcapng.Content.{Describes, Holds};
 ghost use Rattle.captures.specs.CaptureRuns.{IsCapture};
+ghost use Rattle.captures.specs.PacketSteps.{Gives};
 ghost use Rattle.captures.specs.Skipping.{none_skipped, passing_from};
 ghost use Rattle.captures.specs.Times.{usual_clock};
 ghost use Rattle.captures.specs.Units.{HasBadLength, HasLongBlock, HasOtherBack, HasRefusedBlock, IsShortBlock};
-ghost use Rattle.captures.specs.Units.{no_section};
+ghost use Rattle.captures.specs.Units.{no_section, skipped_in};
 ghost use Rattle.captures.specs.declared.byte_order.ByteOrder.{ByteOrder};
 ghost use Rattle.captures.specs.declared.byte_order.ByteOrder.TheVariants.{Big, Little};
-ghost use Rattle.captures.specs.declared.capture_error.CaptureError.TheVariants.{BadBlock, LinkType};
-ghost use Rattle.captures.specs.declared.link.kind.Link.TheVariants.{Ethernet, Ip, Sll2};
+ghost use Rattle.captures.specs.declared.capture_error.CaptureError.TheVariants.{BadBlock, InterfaceLimit, LinkType};
+ghost use Rattle.captures.specs.declared.link.kind.Link.TheVariants.{Ethernet, Ip, Other, Sll2};
 ghost use Rattle.captures.specs.declared.origin.Origin.{Origin};
 ghost use Rattle.captures.specs.declared.pcapng.section.Section.{Section};
+ghost use Rattle.captures.specs.declared.translation.state.State.{State};
+ghost use Rattle.captures.specs.declared.translation.state.State.TheVariants.{Start};
 ghost use Rattle.captures.specs.declared.unfit.Unfit.TheVariants.{Refuse, Skip};
 
 /// The types of blocks, and the magic number that gives the byte order (sections 4.1 to 4.4 and
@@ -58,11 +61,12 @@ pub fn interface_descriptions()
         ∷ 0 ∷ 0 ∷ 0 ∷ []) (Describes 276 262144 usual_clock) }
 {}
 
-/// The 32nd interface of a section may have any link that is read, the 33rd that of Ethernet alone.
+/// The 32nd interface of a section may have any link, one that isn't read too, the 33rd that of
+/// Ethernet alone.
 pub fn links_of_interfaces()
-    ensures first { (section : Section) → section.interfaces ≡ 31 → section.passing ≡ passing_from Refuse
+    ensures first { (section : Section) → section.interfaces ≡ 31
         → (links_with section 101 ≡ Some (slice_set section.links 31 Ip))
-        × (links_with section 105 ≡ None) }
+        × (links_with section 105 ≡ Some (slice_set section.links 31 (Other 105))) }
     ensures later { (section : Section) → section.interfaces ≡ 32
         → (links_with section 1 ≡ Some section.links) × (links_with section 101 ≡ None) }
 {}
@@ -84,6 +88,7 @@ pub fn long_packets_are_passed_over()
           passing = record {
             unfit = Skip;
             skipped = record { of_other_links = 0; too_long = 1; without_frame = 0 };
+            seen = 1;
           };
         }) origin [] }
 {}
@@ -97,6 +102,15 @@ pub fn captures_of_blocks()
         (packet_at 0 ∷ longer_packet ∷ packet_at 1700000000250000000 ∷ []) none_skipped }
 {}
 
+/// A packet of another link that is passed over has a number too, and so has one of which no byte
+/// was captured: the packet after both is the third.
+pub fn numbers_of_blocks()
+    ensures { (after : State) × Gives (Start Skip) (section_block ++ (interface_block
+        ++ (other_interface ++ (other_block ++ (empty_block ++ enhanced_block)))))
+        (numbered 3 ∷ []) after []
+        × (skipped_in after ≡ record { of_other_links = 1; too_long = 0; without_frame = 0 }) }
+{}
+
 /// A packet in a block of each kind, after the description of that interface: a simple packet has
 /// no time, an older kind counts dropped packets after its interface's number.
 pub fn packets_of_blocks()
@@ -108,6 +122,17 @@ pub fn packets_of_blocks()
         (origin_at 1700000000250000000) Sll2 cooked_packet }
     ensures obsolete { IsObsoletePacket described_section Little obsolete_block
         (origin_at 1700000000250000000) Sll2 cooked_packet }
+{}
+
+/// How many bytes a packet had on the wire, by a block of each kind, and by an enhanced one whose
+/// numbers have their high byte first: 1500 of each, and all 21 of one that wasn't cut.
+pub fn lengths_on_the_wire()
+    ensures simple { (block_wire_len Little simple_block ≡ 21)
+        × (block_wire_len Little cut_simple_block ≡ 1500) }
+    ensures enhanced { block_wire_len Little enhanced_block ≡ 1500 }
+    ensures obsolete { block_wire_len Little obsolete_block ≡ 1500 }
+    ensures high_first { block_wire_len Big (0 ∷ 0 ∷ 0 ∷ 6 ∷ replicate 20 0 ++ 0 ∷ 0 ∷ 5 ∷ 0xdc ∷ [])
+        ≡ 1500 }
 {}
 
 /// Blocks that are cut off or have another length at their end than at their start, lengths below
@@ -125,11 +150,15 @@ pub fn lengths_that_stop()
         (6 ∷ 0 ∷ 0 ∷ 0 ∷ 4 ∷ 0 ∷ 4 ∷ 0 ∷ 0 ∷ 0 ∷ 0 ∷ 0 ∷ []) 262_148 }
 {}
 
-/// Whole blocks that are refused for what they say: an interface of PPP (9), and a description of
-/// one that is too short for its snap length.
+/// Whole blocks that are refused for what they say: a packet on an interface of PPP (9), a
+/// description of IP (101) after 32 others, and one that is too short for its snap length.
 pub fn blocks_that_are_refused()
-    ensures link { HasRefusedBlock described_section (1 ∷ 0 ∷ 0 ∷ 0 ∷ 20 ∷ 0 ∷ 0 ∷ 0 ∷ 9 ∷ 0 ∷ 0 ∷ 0
-        ∷ 0 ∷ 0 ∷ 4 ∷ 0 ∷ 20 ∷ 0 ∷ 0 ∷ 0 ∷ 5 ∷ []) (LinkType 9) }
+    ensures link { HasRefusedBlock (record described_section {
+      links = slice_set (replicate 32 Ethernet) 0 (Other 9);
+    }) enhanced_block (LinkType 9) }
+    ensures limit { HasRefusedBlock (record described_section { interfaces = 32 })
+        (1 ∷ 0 ∷ 0 ∷ 0 ∷ 20 ∷ 0 ∷ 0 ∷ 0 ∷ 101 ∷ 0 ∷ 0 ∷ 0 ∷ 0 ∷ 0 ∷ 4 ∷ 0 ∷ 20 ∷ 0 ∷ 0 ∷ 0 ∷ 5
+        ∷ []) (InterfaceLimit 101) }
     ensures bad { HasRefusedBlock described_section (1 ∷ 0 ∷ 0 ∷ 0 ∷ 16 ∷ 0 ∷ 0 ∷ 0 ∷ 1 ∷ 0 ∷ 0 ∷ 0
         ∷ 16 ∷ 0 ∷ 0 ∷ 0 ∷ []) BadBlock }
 {}

@@ -1,3 +1,7 @@
+ghost use Rattle.std.specs.Prelude.{◌≡◌};
+ghost use Rattle.ep_ipslice.specs.LaxIp.{ipv4_header_fault, ipv6_header_fault};
+
+use ep_ip::err::{ipv4, ipv6};
 use thiserror::Error;
 
 /// Why bytes are no IP base header of either version (RFC 791, section 3.1; RFC 8200, section 3).
@@ -15,4 +19,31 @@ pub enum HeaderError {
         /// The header length in words of 4 bytes.
         ihl: u8,
     },
+}
+
+impl HeaderError {
+    // The fault of a header of version 4.
+    pub(crate) fn of_ipv4(error: ipv4::HeaderError) -> Self
+        ensures { result ≡ ipv4_header_fault error }
+    {
+        match error {
+            ipv4::HeaderError::UnexpectedVersion { version_number } => {
+                HeaderError::UnsupportedIpVersion { version_number }
+            }
+            ipv4::HeaderError::HeaderLengthSmallerThanHeader { ihl } => {
+                HeaderError::Ipv4HeaderLengthSmallerThanHeader { ihl }
+            }
+        }
+    }
+
+    // The fault of a header of version 6.
+    pub(crate) fn of_ipv6(error: ipv6::HeaderError) -> Self
+        ensures { result ≡ ipv6_header_fault error }
+    {
+        match error {
+            ipv6::HeaderError::UnexpectedVersion { version_number } => {
+                HeaderError::UnsupportedIpVersion { version_number }
+            }
+        }
+    }
 }

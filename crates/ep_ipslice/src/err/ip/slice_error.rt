@@ -25,14 +25,7 @@ impl SliceError {
         match error {
             ipv4::SliceError::Len(error) => SliceError::Len(error),
             ipv4::SliceError::Header(error) => {
-                SliceError::IpHeaders(HeadersError::Ip(match error {
-                    ep_ip::err::ipv4::HeaderError::UnexpectedVersion { version_number } => {
-                        HeaderError::UnsupportedIpVersion { version_number }
-                    }
-                    ep_ip::err::ipv4::HeaderError::HeaderLengthSmallerThanHeader { ihl } => {
-                        HeaderError::Ipv4HeaderLengthSmallerThanHeader { ihl }
-                    }
-                }))
+                SliceError::IpHeaders(HeadersError::Ip(HeaderError::of_ipv4(error)))
             }
             ipv4::SliceError::Exts(error) => SliceError::IpHeaders(HeadersError::Ipv4Ext(error)),
         }
@@ -44,11 +37,9 @@ impl SliceError {
     {
         match error {
             ipv6::SliceError::Len(error) => SliceError::Len(error),
-            ipv6::SliceError::Header(
-                ep_ip::err::ipv6::HeaderError::UnexpectedVersion { version_number },
-            ) => SliceError::IpHeaders(HeadersError::Ip(HeaderError::UnsupportedIpVersion {
-                version_number,
-            })),
+            ipv6::SliceError::Header(error) => {
+                SliceError::IpHeaders(HeadersError::Ip(HeaderError::of_ipv6(error)))
+            }
             ipv6::SliceError::Exts(error) => SliceError::IpHeaders(HeadersError::Ipv6Ext(error)),
         }
     }

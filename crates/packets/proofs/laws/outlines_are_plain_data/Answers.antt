@@ -12,17 +12,21 @@ returns c = record {
       (field Decides-eqb (λ outline. outline.number)
       (field Decides-eqb (λ outline. outline.time)
       (field Decides-eqb (λ outline. outline.len)
+      (field Decides-eqb (λ outline. outline.captured_len)
+      (field Decides-eqb (λ outline. outline.wire_len)
       (field c.holders_are_plain_data.ensures.headers.equals (λ outline. outline.headers)
       (field (options_same c.types_are_plain_data.ensures.reason.equals)
       (λ outline. outline.refusal)
       (field (options_same c.types_are_plain_data.ensures.fragment_state.equals)
       (λ outline. outline.fragment)
       (last_field (options_same c.verdicts_are_plain_data.ensures.equals)
-      (λ outline. outline.verdict))))))))
-      (λ number time len headers refusal fragment verdict i. record {
+      (λ outline. outline.verdict))))))))))
+      (λ number time len captured_len wire_len headers refusal fragment verdict i. record {
         number = number i;
         time = time i;
         len = len i;
+        captured_len = captured_len i;
+        wire_len = wire_len i;
         headers = headers i;
         refusal = refusal i;
         fragment = fragment i;

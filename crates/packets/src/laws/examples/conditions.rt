@@ -25,6 +25,7 @@ ghost use Rattle.packets.specs.declared.dissection.Dissection.{Dissection};
 ghost use Rattle.packets.specs.declared.dissection.Fragment.TheVariants as fragment;
 ghost use Rattle.packets.specs.declared.filter.Condition.TheVariants as condition;
 ghost use Rattle.packets.specs.declared.filter.Filter.{Filter};
+ghost use Rattle.packets.specs.declared.verification.Verification.TheVariants.{Over};
 ghost use Rattle.std.specs.declared.net.ip_addr.IpAddr.TheVariants as ip_addr;
 ghost use Rattle.checksum_verdicts.specs.declared.verdict.Verdict.TheVariants as verdict;
 
@@ -146,7 +147,7 @@ pub fn bad_checksums()
     ensures none { (packet : Dissection) → packet.verdict ≡ None
         → holds condition.Bad packet ≡ false }
     // Over IPv4 from 10.0.0.1 to 10.0.0.2 the checksum of the datagram is 11ef (RFC 768).
-    ensures completing { (verdict_on (Cut (record {
+    ensures completing { (verdict_on (Over ipv4_ends) (Cut (record {
       vlan_ids = [];
       addresses = ipv4_ends;
       identification = 5;
@@ -156,7 +157,7 @@ pub fn bad_checksums()
       len_source = source.Ipv4HeaderTotalLen;
       bytes = datagram_with 0x11 0xf0;
     })) ≡ Some verdict.Bad)
-        × (verdict_on (Cut (record {
+        × (verdict_on (Over ipv4_ends) (Cut (record {
           vlan_ids = [];
           addresses = ipv4_ends;
           identification = 5;
@@ -166,7 +167,7 @@ pub fn bad_checksums()
           len_source = source.Ipv4HeaderTotalLen;
           bytes = datagram_with 0x11 0xef;
         })) ≡ Some verdict.Good) }
-    ensures waiting { verdict_on (Cut (record {
+    ensures waiting { verdict_on (Over ipv4_ends) (Cut (record {
       vlan_ids = [];
       addresses = ipv4_ends;
       identification = 5;
@@ -199,6 +200,19 @@ pub fn refused_packets_and_fragments()
     ensures whole { (packet : Dissection) (layers : SlicedPacket) → packet.layers ≡ Ok layers
         → packet.fragment ≡ None
         → (holds condition.Refused packet ≡ false) × (holds condition.Fragment packet ≡ false) }
+{}
+
+/// `cut` where fewer bytes were captured than were on the wire: 96 of 1514, and not all of 96, nor 96
+/// where the record says 64.
+pub fn packets_that_were_cut()
+    ensures fewer { (packet : Dissection) → packet.captured_len ≡ 96 → packet.wire_len ≡ 1514
+        → holds condition.Cut packet ≡ true }
+    ensures one { (packet : Dissection) → packet.captured_len ≡ 96 → packet.wire_len ≡ 97
+        → holds condition.Cut packet ≡ true }
+    ensures all { (packet : Dissection) → packet.captured_len ≡ 96 → packet.wire_len ≡ 96
+        → holds condition.Cut packet ≡ false }
+    ensures more { (packet : Dissection) → packet.captured_len ≡ 96 → packet.wire_len ≡ 64
+        → holds condition.Cut packet ≡ false }
 {}
 
 /// All conditions have to hold, and no condition lets everything through: of a fragment that is

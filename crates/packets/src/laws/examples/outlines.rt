@@ -18,6 +18,7 @@ ghost use Rattle.packets.specs.Examples.{arp_request, datagram_with, headers_ove
 ghost use Rattle.packets.specs.Examples.{ipv6_header, message, no_headers, outline_of_fragment, refused, segment_with};
 ghost use Rattle.packets.specs.Outlines.{headers_of, is_ethernet, is_macsec, is_vlan, message_refusal, net_of};
 ghost use Rattle.packets.specs.Outlines.{outline_of, fragment_state_of, fragment_refusal, refusal_of};
+ghost use Rattle.packets.specs.declared.dissection.Dissection.{Dissection};
 ghost use Rattle.packets.specs.declared.dissection.Fragment.TheVariants as fragment;
 ghost use Rattle.packets.specs.declared.outline.Net.TheVariants as net;
 ghost use Rattle.packets.specs.declared.outline.FragmentState.TheVariants as state;
@@ -29,7 +30,7 @@ pub fn links()
     ensures ethernet { is_ethernet link.Ethernet ≡ true }
     ensures others { (is_ethernet link.Ip ≡ false) × (is_ethernet link.Null ≡ false)
         × (is_ethernet link.Loop ≡ false) × (is_ethernet link.Sll ≡ false)
-        × (is_ethernet link.Sll2 ≡ false) × (is_ethernet link.Other ≡ false) }
+        × (is_ethernet link.Sll2 ≡ false) × (is_ethernet (link.Other 105) ≡ false) }
 {}
 
 /// The tag of VLAN 5 before an ARP packet (IEEE 802.1Q), and a MACsec header.
@@ -146,6 +147,8 @@ pub fn outlines_of_the_page()
       link = link.Ethernet;
       header = None;
       len = 21;
+      captured_len = 21;
+      wire_len = 21;
       layers = Err (fault.Len (record {
         required_len = 20;
         len = 7;
@@ -165,6 +168,8 @@ pub fn outlines_of_the_page()
           link = link.Ethernet;
           header = None;
           len = 50;
+          captured_len = 50;
+          wire_len = 50;
           layers = Ok (record {
             link = None;
             link_exts = record { items = [] };
@@ -186,6 +191,8 @@ pub fn outlines_of_the_page()
       link = link.Ethernet;
       header = None;
       len = 46;
+      captured_len = 46;
+      wire_len = 46;
       layers = Ok (record {
         link = None;
         link_exts = record { items = [] };
@@ -199,4 +206,12 @@ pub fn outlines_of_the_page()
       fragment = None;
       verdict = Some verdict.Bad;
     }) ≡ message 2 1 46 (headers_over ipv4_ends 17) (Some verdict.Bad) }
+{}
+
+/// A packet of which 96 of 1514 bytes were captured.
+pub fn outlines_of_packets_that_were_cut()
+    ensures captured { (packet : Dissection) → packet.captured_len ≡ 96
+        → (outline_of packet).captured_len ≡ 96 }
+    ensures wire { (packet : Dissection) → packet.wire_len ≡ 1514
+        → (outline_of packet).wire_len ≡ 1514 }
 {}

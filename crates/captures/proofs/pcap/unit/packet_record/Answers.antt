@@ -2,7 +2,7 @@ use Rattle.std.proofs.Common.{◌∙◌, ◌+◌, ◌-◌, ◌++◌, length, sym
 use Rattle.captures.specs.Pcap.{IsPacketRecord}
 use Rattle.captures.specs.Units.{StandsAt}
 use Rattle.captures.specs.declared.translation.state.State.TheVariants.{Classic}
-use Rattle.captures.proofs.BlockLemmas.{origin_prefix}
+use Rattle.captures.proofs.BlockLemmas.{origin_prefix, word_prefix}
 use Rattle.captures.proofs.OffsetLemmas.{stands_back}
 use Rattle.captures.proofs.pcap.unit.packet_record.Goals as goal
 
@@ -27,10 +27,11 @@ returns-clause-found c =
           record {
             packet = packet;
             is_record = is_record;
+            read = sym c.refused_type.ensures ∙ c.in_default.is;
             fits = omega arith;
-            is_reported = c.in-Some.ensures.reported.0;
+            is_reported = c.in-Some-report.ensures.reported.0;
             next = ap (Classic c.args.order c.args.time_unit c.args.link)
-                c.in-Some.ensures.reported.1;
+                c.in-Some-report.ensures.reported.1;
           },
           c.record_origin.ensures ∙ origin_prefix c.args.order c.args.time_unit head packet
               (omega (arith, c.split_at.ensures.front_len)),
@@ -41,7 +42,9 @@ returns-clause-found c =
         record {
           packet = packet;
           is_record = is_record;
-          parts = c.in-Some.ensures.parts some;
+          wire = word_prefix c.args.order head packet 12 (omega (arith, c.split_at.ensures.front_len))
+              ∙ sym c.word.ensures;
+          parts = c.in-Some-report.ensures.parts some;
         },
       );
     }
@@ -50,7 +53,7 @@ pub returns-clause-at : goal.returns-clause-at
 returns-clause-at c =
     let head = c.split_at.result.0.now in
     let packet = c.split_at-2.result.0.now in
-    let frame = c.in-Some.frame in
+    let frame = c.in-Some-report.frame in
     let whole : StandsAt c.args.bytes.now 16 packet = record {
       before = head;
       following = c.split_at-2.result.1.now;
@@ -59,11 +62,11 @@ returns-clause-at c =
           ∙ ap (λ (l : List ℕ). head ++ l) c.split_at-2.ensures.by_index.0;
       position = c.split_at.ensures.front_len;
     } in
-    stands_back c.args.bytes.now packet frame.bytes 16 _ whole c.in-Some.ensures.back
+    stands_back c.args.bytes.now packet frame.bytes 16 _ whole c.in-Some-report.ensures.back
     (ap (λ (l : List ℕ). 16 + (length packet - length l)) c.bytes.ensures)
 
-pub returns-in_default-clause-refused : goal.returns-in_default-clause-refused
-returns-in_default-clause-refused c =
+pub returns-in_default-report-clause-refused : goal.returns-in_default-report-clause-refused
+returns-in_default-report-clause-refused c =
     let head = c.split_at.result.0.now in
     let packet = c.split_at-2.result.0.now in (
       record {
@@ -80,8 +83,9 @@ returns-in_default-clause-refused c =
           size = c.split_at.ensures.front_len;
           captured = omega arith;
         };
+        read = sym c.refused_type.ensures ∙ c.in_default.is;
         fits = omega arith;
-        none = c.in_default.ensures.reported.0;
+        none = c.in_default-report.ensures.reported.0;
       },
-      c.in_default.ensures.reported.1,
+      c.in_default-report.ensures.reported.1,
     )

@@ -1,8 +1,21 @@
-use Rattle.std.proofs.Common.{arith, refl, ap, ◌+◌, ◌-◌, length, List, ℕ}
+use Rattle.std.proofs.Common.{◌∙◌, sym, arith, refl, ap, ◌+◌, ◌-◌, length, List, ℕ}
 use Rattle.captures.specs.Pcapng.Content.{Holds}
 use Rattle.captures.specs.declared.translation.skipped.Passing.{Passing}
 use Rattle.captures.proofs.OffsetLemmas.{stands_back}
 use Rattle.captures.proofs.pcapng.block.read_packet.Goals as goal
+
+pub returns-in-Some-refused_type-clause-refused : goal.returns-in-Some-refused_type-clause-refused
+returns-in-Some-refused_type-clause-refused c =
+    let held = c.in-Some.held in (
+      (
+        held.origin,
+        held.link,
+        held.packet.now,
+        c.in-Some.ensures.found,
+        sym c.refused_type.ensures ∙ c.in-Some-refused_type.is,
+      ),
+      refl,
+    )
 
 pub returns-then-held-taken_limit-clause-refused : goal.returns-then-held-taken_limit-clause-refused
 returns-then-held-taken_limit-clause-refused c =
@@ -14,6 +27,7 @@ returns-then-held-taken_limit-clause-refused c =
         c.in-Some.ensures.found,
         c.in-Some.ensures.captured,
         omega arith,
+        sym c.refused_type.ensures ∙ c.in_default-refused_type.is,
       ),
       refl,
     )
@@ -31,6 +45,7 @@ returns-clause-reads c =
         refl,
         c.in-Some-report.ensures.reported.0,
         omega arith,
+        sym c.refused_type.ensures ∙ c.in_default-refused_type.is,
       );
     }
 
@@ -45,6 +60,7 @@ returns-in_default-report-clause-refused c =
         c.in-Some.ensures.found,
         omega arith,
         c.in_default-report.ensures.reported.0,
+        sym c.refused_type.ensures ∙ c.in_default-refused_type.is,
       ),
       ap (λ (p : Passing). record c.args.section.now { passing = p })
           c.in_default-report.ensures.reported.1,
@@ -57,6 +73,7 @@ returns-clause-on c some =
       origin = held.origin;
       packet = held.packet.now;
       says = c.in-Some.ensures.found;
+      wire = c.in-Some.ensures.wire;
       parts = c.in-Some-report.ensures.parts some;
     }
 

@@ -15,6 +15,7 @@ returns-then-not-is_empty-clause-found c =
         passes = before;
         has = found;
         some = some_bytes unit.frame (sym c.is_empty.ensures ∙ c.if-not-is_empty.true);
+        number = c.seen.ensures;
       },
       refl,
       from_end c.args.bytes.now rest unit.frame.bytes unit.at _ before.units before.parts at refl,
@@ -28,7 +29,7 @@ units-preserved c =
     let room = rw c.in-Ok-Some.field-0-is at c.in-Ok-Some.ensures.room in
     record {
       passes = passes_empty c.args.state.now c.units.state _ c.args.bytes.now c.units.rest.now
-          unit.rest.now unit.origin unit.link unit.frame before.passes found
+          unit.rest.now unit.origin unit.link unit.wire_len unit.frame before.passes found
           (sym c.is_empty.ensures ∙ c.if-not-is_empty.false);
       fits = omega arith;
     }

@@ -49,7 +49,7 @@ returns-in-Passed-clause-takes c dropped d =
     let bytes = dropped ++ c.args.bytes.now in
     let state = c.args.state in
     let comes = rw c.in-Passed.is at c.following.ensures.comes state dropped d in
-    leaves_after c.args.ledger _ state _ bytes c.last-in-Passed.result.now _ _ _ _ comes.0 _
+    leaves_after c.args.ledger _ state _ bytes c.last-in-Passed.result.now _ _ _ comes.0 _
     (subst (λ (l : List ℕ). HasUnit state bytes state comes.0 [] l)
     (sym c.last-in-Passed.ensures.last) comes.1) c.take_whole-taken.ensures.takes
 

@@ -14,7 +14,7 @@ lines-preserved c =
     let come = c.lines.noted in
     record {
       reported = reported_first c.args.ledger come _ c.args.state c.lines.packets.state _ c.args.bytes.now
-          c.lines.packets.rest.now _ text _ c.lines.count packet before.reported
+          c.lines.packets.rest.now _ text _ packet before.reported
           c.in-Some.ensures.steps.0
           (c.report-used.ensures.text
           ∙ ap (λ (o : Origin). text ++ reported come (record {
@@ -27,13 +27,12 @@ lines-preserved c =
             frame = frame_bytes packet.frame;
           })) c.origin.ensures);
       room = omega arith;
-      few = omega arith;
       extra = c.report-used.ensures.extra ∙ before.extra;
     }
 
 pub returns-clause-takes : goal.returns-clause-takes
 returns-clause-takes c =
     reported_all c.args.ledger c.lines.noted c.args.state c.lines.packets.state _ c.args.bytes.now
-    c.lines.packets.rest.now _ (take c.lines.used c.lines.out) c.lines.count _
+    c.lines.packets.rest.now _ (take c.lines.used c.lines.out) _
     c.lines.invariant.reported
     (rw (c.state.ensures, c.rest.ensures, c.refusal.ensures) c.in_default.ensures.steps)

@@ -1,5 +1,6 @@
 use Rattle.std.proofs.Common.{rules}
 use Rattle.ep_tag.proofs.SameHeaders.{same_headers, same_tags}
+use Rattle.ep_tag.proofs.SameLaxPayloads.{lax_ether_same}
 use Rattle.ep_tag.proofs.laws.traits.types_are_plain_data.Goals as goal
 
 pub returns-clause-macsec_header : goal.returns-clause-macsec_header
@@ -14,4 +15,11 @@ returns-clause-link_ext_header c = record {
   copies = search rules;
   never_fails = search rules;
   equals = same_tags;
+}
+
+pub returns-clause-lax_ether_payload_slice : goal.returns-clause-lax_ether_payload_slice
+returns-clause-lax_ether_payload_slice c = record {
+  copies = search rules;
+  never_fails = search rules;
+  equals = lax_ether_same;
 }

@@ -1,10 +1,17 @@
-use Rattle.std.proofs.Common.{rules, arith, refl, ap, subst, sym, ◌∙◌, ◌≡◌, None, vec_capacity}
-use Rattle.indexmap.specs.IndexMap.{get, index_map_len, spare as names_room}
-use Rattle.etherparse.specs.IpDefragBuf.{Contents, HasRoom}
+use Rattle.std.proofs.Common.{rules, arith, refl, ap, subst, sym, ◌∙◌, ◌≡◌, ℕ, List, [], length, Some, None, vec_capacity}
+use Rattle.std.proofs.lemmas.Option.{slice_get_within}
+use Rattle.indexmap.specs.IndexMap.{get, index_map_len, insert_index, spare as names_room}
+use Rattle.etherparse.specs.IpDefragBuf.{Contents, HasRoom, Shows, rule_of}
+use Rattle.etherparse.specs.declared.defrag.reassembly.Reassembly.{Reassembly}
+use Rattle.etherparse.proofs.TableTotals.{found_at}
+use Rattle.etherparse.proofs.Tracked.{entries_at_once, entries_refused, entries_refused_first, entries_started}
+use Rattle.etherparse.proofs.Tracked.{entries_waiting, first_refused, held_fits, part_fits, tracks_ended, tracks_replaced}
+use Rattle.etherparse.proofs.Tracked.{tracks_same, tracks_started, tracks_unchanged}
 use Rattle.etherparse.specs.ReassemblyTable.{fragment_of}
 use Rattle.etherparse.proofs.Waiting.{first_waits}
 use Rattle.etherparse.proofs.BufferSlots.{ended_slots, fewer_slots, same_slots}
 use Rattle.etherparse.specs.Memory.{CanBegin, capacities, memory_of}
+use Rattle.etherparse.specs.Starts.{room_for}
 use Rattle.etherparse.proofs.ReassemblyRooms.{TakenNext, begins, each_is, first_has_room, given_back, keeps_started}
 use Rattle.etherparse.proofs.ReassemblyRooms.{keeps_going, keeps_gone, keeps_whole, slot_left, taken_next}
 use Rattle.etherparse.proofs.defrag.reassembly.add_fragment.Goals as goal
@@ -22,7 +29,7 @@ finish-requires-in-Ok-add g c =
 
 pub returns-in-Ok-clause-slots : goal.returns-in-Ok-clause-slots
 returns-in-Ok-clause-slots g c =
-    ended_slots _ _ _ _ c.finish.ensures.slots (search rules) c.requires (search rules)
+    ended_slots _ _ _ _ c.finish.ensures.slots (search rules) c.requires.slots (search rules)
 
 pub returns-in-Ok-add-clause-slots : goal.returns-in-Ok-add-clause-slots
 returns-in-Ok-add-clause-slots g c =
@@ -88,7 +95,8 @@ returns-in-Err-add-clause-succeeds g c finds =
     let take = c.take-bytes.ensures in
     let f = fragment_of c.args.received.now in
     let n = index_map_len c.args.reassemblies.now in
-    let m = memory_of c.args.spare.now (names_room c.args.reassemblies.now) in
+    let m = memory_of c.args.spare.now
+    (room_for (names_room c.args.reassemblies.now) c.args.starts.now.room) in
     let was : c.get_mut-in-Ok-Vacant.result.now.buf ≡ c.of_rule-buf.result = search rules in
     let none : get g.K.PartialEq.eq c.args.reassemblies.now c.args.name ≡ None = search rules in
     let bytes = taken_next _ _ _ _ _ buffers.bytes take.bytes_room take.no_bytes in
@@ -133,3 +141,147 @@ returns-in-Ok-add-clause-memory g c =
     (omega (arith, more.sections, sections_room first, sections_room is)) (search rules)
     (slot_left c.take-bytes.new.self c.finish-in-Ok-add.new.spare c.len-held.result
     ended.bytes_stay (take.slots _ (c.make_slots.ensures.made (search rules))))
+
+pub overflow_sub-held_bytes : goal.overflow_sub-held_bytes
+overflow_sub-held_bytes g c =
+    let at : get g.K.PartialEq.eq c.args.reassemblies.now c.args.name ≡ Some c.get.result.now = search rules in
+    part_fits g.K.PartialEq.eq c.args.name _ _ c.args.reassemblies.now.entries c.requires.tracks
+    c.get.result.now _ at c.data_len-before.ensures.len c.data_len-before.ensures.short
+
+pub overflow_sub-held_bytes-in-Ok-2 : goal.overflow_sub-held_bytes-in-Ok-2
+overflow_sub-held_bytes-in-Ok-2 g c =
+    let at : get g.K.PartialEq.eq c.args.reassemblies.now c.args.name ≡ Some c.get.result.now = search rules in
+    part_fits g.K.PartialEq.eq c.args.name _ _ c.args.reassemblies.now.entries c.requires.tracks
+    c.get.result.now _ at c.data_len-before.ensures.len c.data_len-before.ensures.short
+
+pub overflow_sub-held_bytes-in-Err-Ends : goal.overflow_sub-held_bytes-in-Err-Ends
+overflow_sub-held_bytes-in-Err-Ends g c =
+    let at : get g.K.PartialEq.eq c.args.reassemblies.now c.args.name ≡ Some c.get.result.now = search rules in
+    part_fits g.K.PartialEq.eq c.args.name _ _ c.args.reassemblies.now.entries c.requires.tracks
+    c.get.result.now _ at c.data_len-before.ensures.len c.data_len-before.ensures.short
+
+pub overflow_add-held_bytes : goal.overflow_add-held_bytes
+overflow_add-held_bytes g c =
+    let fits = held_fits g.K.PartialEq.eq c.args.name _ _ c.args.reassemblies.now.entries
+    c.requires.tracks in
+    omega (arith, fits, c.data_len.ensures.short)
+
+pub overflow_add-held_bytes-in-Ok-2-add : goal.overflow_add-held_bytes-in-Ok-2-add
+overflow_add-held_bytes-in-Ok-2-add g c =
+    let fits = held_fits g.K.PartialEq.eq c.args.name _ _ c.args.reassemblies.now.entries
+    c.requires.tracks in
+    omega (arith, fits, c.data_len-in-Ok-2-add.ensures.short)
+
+pub swap_remove-requires-in-Err-Ends : goal.swap_remove-requires-in-Err-Ends
+swap_remove-requires-in-Err-Ends g c =
+    let es = c.args.reassemblies.now.entries in
+    let at : get g.K.PartialEq.eq c.args.reassemblies.now c.args.name ≡ Some c.get.result.now = search rules in
+    let within = slice_get_within es _ _ (found_at (g.K.PartialEq.eq c.args.name) es _ at).at in
+    let i : c.index-in-Err-Ends.result
+    ≡ insert_index g.K.PartialEq.eq c.args.reassemblies.now c.args.name = search rules in
+    omega (arith, i, within, c.requires.tracks.count)
+
+pub returns-then-not-reserve-clause-memory : goal.returns-then-not-reserve-clause-memory
+returns-then-not-reserve-clause-memory g c =
+    keeps_gone _ _ _ _ _ _ (each_is _ _ c.make_slots.ensures.buffers.bytes)
+    (each_is _ _ c.make_slots.ensures.buffers.sections) (search rules)
+
+pub returns-in-Ok-clause-tracks : goal.returns-in-Ok-clause-tracks
+returns-in-Ok-clause-tracks g c =
+    let at : get g.K.PartialEq.eq c.args.reassemblies.now c.args.name ≡ Some c.get.result.now = search rules in
+    tracks_ended g.K.PartialEq.eq c.args.name _ _ c.args.reassemblies.now.entries c.requires.tracks
+    c.get.result.now _ _ _ at (search rules) c.data_len-before.ensures.len
+    c.data_len-before.ensures.short c.swap_remove.ensures.is_order c.swap_remove.ensures.len
+
+pub returns-in-Err-Ends-clause-tracks : goal.returns-in-Err-Ends-clause-tracks
+returns-in-Err-Ends-clause-tracks g c =
+    let at : get g.K.PartialEq.eq c.args.reassemblies.now c.args.name ≡ Some c.get.result.now = search rules in
+    tracks_ended g.K.PartialEq.eq c.args.name _ _ c.args.reassemblies.now.entries c.requires.tracks
+    c.get.result.now _ _ _ at (search rules) c.data_len-before.ensures.len
+    c.data_len-before.ensures.short c.swap_remove-in-Err-Ends.ensures.is_order
+    c.swap_remove-in-Err-Ends.ensures.len
+
+pub returns-in-Ok-2-clause-entries : goal.returns-in-Ok-2-clause-entries
+returns-in-Ok-2-clause-entries g c =
+    let at : get g.K.PartialEq.eq c.args.reassemblies.now c.args.name ≡ Some c.get.result.now = search rules in
+    entries_waiting (Unit {0}) g.K.PartialEq.eq c.args.name _ _ c.get.result.now c.add.new.self _ at refl
+    (search (rules, c.in-Ok-Occupied.ensures.update.1 c.add.new.self))
+
+pub returns-in-Ok-2-clause-tracks : goal.returns-in-Ok-2-clause-tracks
+returns-in-Ok-2-clause-tracks g c =
+    let at : get g.K.PartialEq.eq c.args.reassemblies.now c.args.name ≡ Some c.get.result.now = search rules in
+    let is : c.get-in-Ok-2.result.now ≡ c.add.new.self = search rules in
+    tracks_replaced g.K.PartialEq.eq c.args.name _ _ c.args.reassemblies.now.entries
+    c.requires.tracks c.get.result.now c.add.new.self _ _ _ at
+    (search (rules, c.in-Ok-Occupied.ensures.update.1 c.add.new.self)) c.data_len-before.ensures.len
+    c.data_len-before.ensures.short
+    (c.data_len.ensures.len
+    ∙ ap (λ (r : Reassembly g.row.T.Denot). length r.buf.bytes) is)
+    c.data_len.ensures.short
+
+pub returns-in-Err-Stays-clause-entries : goal.returns-in-Err-Stays-clause-entries
+returns-in-Err-Stays-clause-entries g c =
+    let at : get g.K.PartialEq.eq c.args.reassemblies.now c.args.name ≡ Some c.get.result.now = search rules in
+    entries_refused (Unit {0}) g.K.PartialEq.eq c.args.name _ _ c.in-Err-Stays.error c.get.result.now
+    c.add.new.self _ at (first_of (search rules, grind arith)) refl
+    (search (rules, c.in-Ok-Occupied.ensures.update.1 c.add.new.self))
+
+pub returns-in-Err-Stays-clause-tracks : goal.returns-in-Err-Stays-clause-tracks
+returns-in-Err-Stays-clause-tracks g c =
+    let at : get g.K.PartialEq.eq c.args.reassemblies.now c.args.name ≡ Some c.get.result.now = search rules in
+    tracks_same g.K.PartialEq.eq c.args.name _ _ c.args.reassemblies.now.entries c.requires.tracks
+    c.get.result.now c.add.new.self _ at
+    (search (rules, c.in-Ok-Occupied.ensures.update.1 c.add.new.self))
+    (first_of (search rules, grind arith))
+
+pub returns-in-Ok-add-clause-entries : goal.returns-in-Ok-add-clause-entries
+returns-in-Ok-add-clause-entries g c =
+    let none : get g.K.PartialEq.eq c.args.reassemblies.now c.args.name ≡ None = search rules in
+    entries_at_once (Unit {0}) g.K.PartialEq.eq c.args.name _ _ (tt {0}) _ none refl (search rules)
+
+pub returns-in-Ok-add-clause-tracks : goal.returns-in-Ok-add-clause-tracks
+returns-in-Ok-add-clause-tracks g c =
+    let none : get g.K.PartialEq.eq c.args.reassemblies.now c.args.name ≡ None = search rules in
+    tracks_unchanged g.K.PartialEq.eq c.args.name _ _ c.args.reassemblies.now.entries
+    c.requires.tracks _ _ c.reserve.ensures.order none (search rules)
+
+pub returns-in-Err-add-clause-entries : goal.returns-in-Err-add-clause-entries
+returns-in-Err-add-clause-entries g c =
+    let none : get g.K.PartialEq.eq c.args.reassemblies.now c.args.name ≡ None = search rules in
+    entries_refused_first (Unit {0}) g.K.PartialEq.eq c.args.name _ _ c.in-Err-add.error _ none refl (search rules)
+
+pub returns-in-Err-add-clause-tracks : goal.returns-in-Err-add-clause-tracks
+returns-in-Err-add-clause-tracks g c =
+    let none : get g.K.PartialEq.eq c.args.reassemblies.now c.args.name ≡ None = search rules in
+    tracks_unchanged g.K.PartialEq.eq c.args.name _ _ c.args.reassemblies.now.entries
+    c.requires.tracks _ _ c.reserve.ensures.order none (search rules)
+
+pub returns-in-Ok-2-add-clause-entries : goal.returns-in-Ok-2-add-clause-entries
+returns-in-Ok-2-add-clause-entries g c =
+    let none : get g.K.PartialEq.eq c.args.reassemblies.now c.args.name ≡ None = search rules in
+    let v : Reassembly g.row.T.Denot =
+    record { buf = c.add-in-Ok-Vacant.new.self; timestamp = c.args.timestamp } in
+    entries_started (Unit {0}) g.K.PartialEq.eq c.args.name _ _ v _ none refl
+    (search (rules, c.in-Ok-Vacant.ensures.update.1 v))
+
+pub returns-in-Ok-2-add-clause-tracks : goal.returns-in-Ok-2-add-clause-tracks
+returns-in-Ok-2-add-clause-tracks g c =
+    let none : get g.K.PartialEq.eq c.args.reassemblies.now c.args.name ≡ None = search rules in
+    let v : Reassembly g.row.T.Denot =
+    record { buf = c.add-in-Ok-Vacant.new.self; timestamp = c.args.timestamp } in
+    let is : c.get-in-Ok-2-add.result.now.buf ≡ c.add-in-Ok-Vacant.new.self = search rules in
+    let same = ap (λ (slots : List ℕ). length slots) c.reserve.ensures.order in
+    tracks_started g.K.PartialEq.eq c.args.name _ _ c.args.reassemblies.now.entries
+    c.requires.tracks v _ _ _ none (search (rules, c.in-Ok-Vacant.ensures.update.1 v))
+    (c.data_len-in-Ok-2-add.ensures.len ∙ ap (λ (b : Contents Unit). length b.bytes) is)
+    c.data_len-in-Ok-2-add.ensures.short c.push_newest.ensures.is_order
+    (omega (arith, c.push_newest.ensures.len, same)) c.push_newest.ensures.fits
+
+pub returns-in-Err-add-clause-refused : goal.returns-in-Err-add-clause-refused
+returns-in-Err-add-clause-refused g c kept fs shows begins =
+    let none : get g.K.PartialEq.eq c.args.reassemblies.now c.args.name ≡ None = search rules in
+    let was : c.get_mut-in-Ok-Vacant.result.now.buf ≡ c.of_rule-buf.result = search rules in
+    first_refused kept c.args.rule _ (fragment_of c.args.received.now) c.in-Err-add.error _ fs
+    (ap (λ (b : Contents Unit). rule_of b) was ∙ c.of_rule-buf.ensures.rule) none shows begins
+    (c.in-Err-add.ensures.refused []
+    (subst (λ (b : Contents Unit). Shows b []) (sym was) c.of_rule-buf.ensures.empty))

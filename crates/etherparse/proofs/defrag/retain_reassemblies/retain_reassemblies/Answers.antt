@@ -1,4 +1,7 @@
-use Rattle.std.proofs.Common.{true, false, arith, Some, sym, ◌∙◌, subst, ◌≡◌}
+use Rattle.std.proofs.Common.{true, false, arith, rules, refl, Some, sym, ◌∙◌, subst, ◌≡◌}
+use Rattle.etherparse.proofs.NamesAfter.{names_kept}
+use Rattle.etherparse.proofs.StartNames.{names_known}
+use Rattle.etherparse.proofs.Tracked.{part_at, tracks_removed}
 use Rattle.std.specs.Fn.{FnReturnsAt}
 use Rattle.std.specs.Map.{lookup}
 use Rattle.etherparse.specs.declared.defrag.reassembly.Reassembly.{Reassembly}
@@ -21,6 +24,8 @@ loop-at-preserved-then-answer g c =
       counts = i.counts;
       sections = i.sections;
       fewer = i.fewer;
+      tracks = i.tracks;
+      names = i.names;
     }
 
 pub give-requires : goal.give-requires
@@ -49,6 +54,7 @@ loop-at-preserved g c =
     subst (λ (e : g.row.K.Denot × Reassembly g.row.T.Denot). FnReturnsAt g.F.Fn c.args.keep.now
     e.1.timestamp false) same (rw c.if-answer.false at c.answer.ensures) in
     let fewer = rw c.unwrap-ended.ensures at c.swap_remove_index.ensures.len in
+    let at = rw c.unwrap-ended.ensures at (sym c.swap_remove_index.ensures.entry) in
     record {
       within = omega (arith, fewer);
       each = one_goes g.met.K.Eq.laws (FnReturnsAt g.F.Fn c.args.keep.now)
@@ -75,6 +81,12 @@ loop-at-preserved g c =
       counts = omega (arith, fewer, i.counts, c.give.ensures.bytes);
       sections = omega (arith, fewer, i.sections, c.give.ensures.sections);
       fewer = omega (arith, fewer, i.fewer);
+      tracks = tracks_removed _ _ c.loop-at.reassemblies.entries i.tracks c.loop-at.at r.0 r.1 at _ _ _
+          entries c.data_len.ensures.len c.data_len.ensures.short c.swap_remove.ensures.is_order
+          c.swap_remove.ensures.len;
+      names = names_kept g.K.PartialEq.eq g.met.K.Eq.laws _ _ c.loop-at.reassemblies.entries i.tracks
+          c.len.ensures.unique c.loop-at.at r.0 r.1 at _ _ _ entries c.swap_remove.ensures.order updates.0
+          i.names;
     }
 
 pub returns-clause-retained : goal.returns-clause-retained
@@ -92,3 +104,34 @@ returns-clause-sections g c = c.loop-at.invariant.sections
 
 pub returns-clause-fewer : goal.returns-clause-fewer
 returns-clause-fewer g c = c.loop-at.invariant.fewer
+
+pub loop-at-init : goal.loop-at-init
+loop-at-init g c =
+    record {
+      within = omega arith;
+      each = λ q. search rules;
+      tested = λ k d h. grind arith;
+      slots = c.requires.room;
+      counts = refl;
+      sections = refl;
+      fewer = omega arith;
+      tracks = c.requires.tracks;
+      names = sym (names_known g.K.PartialEq.eq g.met.K.Eq.laws c.args.reassemblies.now.entries
+          c.args.starts.now.order);
+    }
+
+pub returns-clause-tracks : goal.returns-clause-tracks
+returns-clause-tracks g c = c.loop-at.invariant.tracks
+
+pub returns-clause-names : goal.returns-clause-names
+returns-clause-names g c = c.loop-at.invariant.names
+
+pub swap_remove-requires : goal.swap_remove-requires
+swap_remove-requires g c = omega (arith, c.loop-at.invariant.tracks.count, c.loop-at-test.true)
+
+pub overflow_sub-held_bytes : goal.overflow_sub-held_bytes
+overflow_sub-held_bytes g c =
+    let r = c.unwrap-ended.result in
+    let at = rw c.unwrap-ended.ensures at (sym c.swap_remove_index.ensures.entry) in
+    part_at _ _ c.loop-at.reassemblies.entries c.loop-at.invariant.tracks c.loop-at.at r.0 r.1 at _
+    c.data_len.ensures.len c.data_len.ensures.short

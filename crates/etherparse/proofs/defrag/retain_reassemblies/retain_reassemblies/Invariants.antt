@@ -1,7 +1,10 @@
 use Rattle.std.proofs.Common.{◌≡◌, ℕ, ◌+◌, ◌-◌, ◌<◌, ◌≤◌, true, get_or, vec_len}
 use Rattle.std.specs.Fn.{FnReturnsAt}
 use Rattle.indexmap.specs.IndexMap.{get, index_map_len}
+use Rattle.std.specs.Prelude.{filter, is_some}
+use Rattle.std.specs.Map.{keys_of}
 use Rattle.etherparse.specs.SpareBuffers.{HasSlots}
+use Rattle.etherparse.specs.Starts.{Tracks, names_in}
 use Rattle.etherparse.proofs.Retaining.{MayStay}
 use Rattle.etherparse.proofs.defrag.retain_reassemblies.retain_reassemblies.Given as goal
 
@@ -18,6 +21,10 @@ invariant-loop-at g l = record {
   sections : index_map_len l.reassemblies + vec_len l.spare.sections
       ≡ index_map_len l.initial.reassemblies + vec_len l.initial.spare.sections;
   fewer : index_map_len l.reassemblies ≤ index_map_len l.initial.reassemblies;
+  tracks : Tracks l.starts.order l.held_bytes l.reassemblies.entries;
+  names : names_in (keys_of l.reassemblies.entries) l.starts.order
+      ≡ filter (λ q. is_some (get g.K.PartialEq.eq l.reassemblies q))
+      (names_in (keys_of l.initial.reassemblies.entries) l.initial.starts.order);
 }
 
 abbrev pub decreases-loop-at : goal.decreases-loop-at

@@ -5,7 +5,7 @@ use Rattle.packets.specs.declared.datagrams.Received.{Received}
 use Rattle.packets.proofs.datagrams.Datagrams.len.Goals as goal
 
 pub returns : goal.returns
-returns c lists shows =
+returns g c lists shows =
     let last = λ (r : Received). r.last in
     let pool = c.args.self.now.pool in
     let read = c.read_pools_have_as_many_reassemblies.ensures in

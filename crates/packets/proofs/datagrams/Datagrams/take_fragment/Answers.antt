@@ -4,13 +4,14 @@ use Rattle.ep_packet.specs.declared.class.Class.TheVariants as cut
 use Rattle.etherparse.specs.Processed.{Processed}
 use Rattle.etherparse.specs.Timestamps.{pool_by}
 use Rattle.packets.proofs.StartedLemmas.{pool_answered}
+use Rattle.packets.proofs.HeldLemmas.{order_answered}
 use Rattle.packets.proofs.FragmentLemmas.{name_of_fragment, fragment_found, fragment_processed}
 use Rattle.packets.specs.Started.{received_with}
 use Rattle.packets.specs.declared.datagrams.Received.{Received}
 use Rattle.packets.proofs.datagrams.Datagrams.take_fragment.Goals as goal
 
 pub returns-clause-answers : goal.returns-clause-answers
-returns-clause-answers c lists shows =
+returns-clause-answers g c lists shows =
     let call = c.process_fragment_with-before in
     let e = call.ensures in
     let arrival = c.args.arrival in
@@ -30,7 +31,7 @@ returns-clause-answers c lists shows =
     lists shows c.found_in.result c.found_in.ensures.reported
 
 pub returns-clause-started : goal.returns-clause-started
-returns-clause-started c lists started shows kept =
+returns-clause-started g c lists started shows kept =
     let call = c.process_fragment_with-before in
     let e = call.ensures in
     let arrival = c.args.arrival in
@@ -44,3 +45,15 @@ returns-clause-started c lists started shows kept =
     call.result.1 call.result.0 now e.before is e.accepted.2 e.others e.err shows kept
     c.found_in.result c.found_in.ensures.reported
     (rw (c.unwrap_or.ensures, c.first_in-known.ensures) at c.found_in.ensures.started)
+
+pub returns-clause-order : goal.returns-clause-order
+returns-clause-order g c lists order shows has =
+    let call = c.process_fragment_with-before in
+    let e = call.ensures in
+    let arrival = c.args.arrival in
+    let message = c.args.message in
+    order_answered c.timestamps_are_read.ensures.fragments c.equal_names.ensures.components c.args.self.now
+    (record { pool = call.new.self }) lists order (name_of_fragment message) message.fragment.offset
+    message.fragment.more_fragments message.fragment.bytes.now arrival.interface arrival.time
+    call.result.1 e.accepted.0 e.starts e.accepted.2 e.err shows has c.found_in.result
+    (returns-clause-answers g c)

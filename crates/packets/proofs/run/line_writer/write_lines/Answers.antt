@@ -1,11 +1,13 @@
-use Rattle.std.proofs.Common.{◌≡◌, ◌∙◌, sym, refl, subst, [], Err, true}
+use Rattle.std.proofs.Common.{◌≡◌, ◌∙◌, sym, refl, subst, [], Err, true, inl}
 use Rattle.std.proofs.KnownBytes.{Appends-nil, Consumes-nil}
 use Rattle.std.specs.Io.KnownBytes.{Consumes}
 use Rattle.captures.specs.Readers.{source_of}
 use Rattle.packets.specs.Courses.{shown}
-use Rattle.packets.specs.PacketRuns.{AreTaken, EndsBy}
+use Rattle.packets.specs.PacketRuns.{EndsWithin}
 use Rattle.packets.specs.Written.{WritesLines}
-use Rattle.packets.proofs.EndLemmas.{break_ends, either_way, ends_taken, nothing_first, weaker_unbroken}
+use Rattle.packets.specs.declared.run.omitted.Omitted.{Omitted}
+use Rattle.packets.proofs.EndLemmas.{either_way, nothing_first, weaker_unbroken}
+use Rattle.packets.proofs.LimitLemmas.{breaks_within, none_fewer}
 use Rattle.packets.proofs.LineLemmas.{Break, Wait, ended_broken, ended_whole}
 use Rattle.packets.proofs.run.line_writer.write_lines.Goals as goal
 
@@ -16,7 +18,8 @@ returns-in_default g c = (
   [],
   [],
   Consumes-nil (g.R.Read.remaining c.args.reader),
-  nothing_first c.args.rules.now.unfit,
+  (tt, inl (none_fewer c.args.rules.now.count, nothing_first c.args.rules.now.unfit)),
+  refl,
   refl,
   [],
   refl,
@@ -37,6 +40,7 @@ returns-in-Ok-written g c =
     let first = g.W.Write.contents c.args.writer.now in
     let mid = g.W.Write.contents output.writer.now in
     let seen = shown rules.filter walked.2 in
+    let omitted : Omitted = record { skipped = c.skipped.result; dropped = c.dropped.result } in
     let writer = c.write_out-written.ensures.name ∙ either_way result _ _
     (output.writer.ghost_name ≡ _) walked.6 (λ held here. held.0)
     (λ held here. held.0) in
@@ -46,7 +50,7 @@ returns-in-Ok-written g c =
     ((output.texts.waiting.items ≡ []) × Break describes first mid seen)
     (λ held. (held.2, held.3, held.4)) (λ held. (held.1, (held.2, held.3, held.4, held.5))) walked.6)
     c.in-Ok-written.ensures.written in
-    subst (λ writer. WritesLines describes rules c.skipped.result
+    subst (λ writer. WritesLines describes rules omitted
     source first (g.W.Write.contents writer) result) (sym (c.writer-1.given.1 (sym writer))) (
       walked.0,
       left,
@@ -54,8 +58,9 @@ returns-in-Ok-written g c =
       walked.2,
       subst (λ reader. Consumes (g.R.Read.remaining reader) left walked.0) c.in-Ok.ensures.source
           walked.3,
-      subst (λ skipped. EndsBy true rules.unfit skipped left walked.0 walked.1 result)
+      subst (λ skipped. EndsWithin true rules skipped left walked.0 walked.1 result)
           (sym c.skipped.ensures) walked.4,
+      c.dropped.ensures ∙ walked.8,
       walked.5,
       reported.0,
       reported.1,
@@ -77,6 +82,7 @@ returns g c =
     let mid = g.W.Write.contents output.writer.now in
     let seen = shown rules.filter walked.2 in
     let by = c.in-Err.ensures.written in
+    let omitted : Omitted = record { skipped = c.skipped.result; dropped = c.dropped.result } in
     let writer = c.write_out-written.ensures.name ∙ either_way result _ _
     (output.writer.ghost_name ≡ _) walked.6 (λ held here. held.0) (λ held here. held.0) in
     let reported = ended_broken describes result c.in-Err.error first mid
@@ -85,7 +91,7 @@ returns g c =
     ((output.texts.waiting.items ≡ []) × Break describes first mid seen)
     (λ held. (held.2, held.3, held.4)) (λ held. (held.1, (held.2, held.3, held.4, held.5))) walked.6)
     by in
-    subst (λ writer. WritesLines describes rules c.skipped.result
+    subst (λ writer. WritesLines describes rules omitted
     source first (g.W.Write.contents writer) (Err c.in-Err.error))
     (sym (c.writer-1.given.1 (sym writer))) (
       walked.0,
@@ -94,9 +100,10 @@ returns g c =
       walked.2,
       subst (λ reader. Consumes (g.R.Read.remaining reader) left walked.0) c.in-Ok.ensures.source
           walked.3,
-      break_ends true rules.unfit c.skipped.result left walked.0 walked.1 c.in-Err.error _ by
-          (subst (λ skipped. AreTaken rules.unfit skipped walked.0 walked.1) (sym c.skipped.ensures)
-          (ends_taken rules.unfit _ left walked.0 walked.1 true result walked.4)),
+      breaks_within rules c.skipped.result left walked.0 walked.1 result c.in-Err.error _ by
+          (subst (λ skipped. EndsWithin true rules skipped left walked.0 walked.1 result)
+          (sym c.skipped.ensures) walked.4),
+      c.dropped.ensures ∙ walked.8,
       walked.5,
       reported.0,
       reported.1,

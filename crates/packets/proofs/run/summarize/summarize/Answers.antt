@@ -1,9 +1,10 @@
-use Rattle.std.proofs.Common.{refl, sym, subst, [], false}
+use Rattle.std.proofs.Common.{◌∙◌, refl, sym, subst, [], false, inl}
 use Rattle.std.proofs.KnownBytes.{Consumes-nil}
 use Rattle.std.specs.Io.KnownBytes.{Consumes}
 use Rattle.captures.specs.Readers.{source_of}
-use Rattle.packets.specs.PacketRuns.{EndsBy}
+use Rattle.packets.specs.PacketRuns.{EndsWithin}
 use Rattle.packets.proofs.EndLemmas.{nothing_first, unbroken_always, weaker_out_of_memory}
+use Rattle.packets.proofs.LimitLemmas.{none_fewer}
 use Rattle.packets.proofs.WalkLemmas.{counted_none}
 use Rattle.packets.proofs.run.summarize.summarize.Goals as goal
 
@@ -14,10 +15,11 @@ returns-in_default g c = (
   [],
   [],
   Consumes-nil (g.R.Read.remaining c.args.reader),
-  nothing_first c.args.rules.now.unfit,
+  (tt, inl (none_fewer c.args.rules.now.count, nothing_first c.args.rules.now.unfit)),
   refl,
-  λ counted was. counted_none _ _ c.args.summary.now counted was,
+  λ counted was. counted_none _ _ _ c.args.summary.now counted was,
   tt,
+  refl,
 )
 
 pub returns : goal.returns
@@ -32,9 +34,10 @@ returns g c =
       walked.2,
       subst (λ reader. Consumes (g.R.Read.remaining reader) left walked.0) c.in-Ok.ensures.source
           walked.3,
-      subst (λ skipped. EndsBy false rules.unfit skipped left walked.0 walked.1 result)
+      subst (λ skipped. EndsWithin false rules skipped left walked.0 walked.1 result)
           (sym c.skipped.ensures) walked.4,
       walked.5,
       unbroken_always result _ walked.6,
       weaker_out_of_memory result _ _ (λ shows. c.open.ensures _ shows) walked.7,
+      c.dropped.ensures ∙ walked.8,
     )

@@ -1,19 +1,9 @@
 use Rattle.std.proofs.Common.{◌++◌, ◌∷◌, [], arith, refl, List, ℕ}
 use Rattle.std.specs.Prelude.{replicate}
-use Rattle.captures.specs.declared.byte_order.ByteOrder.TheVariants.{Little}
 use Rattle.captures.proofs.laws.examples.pcap.captures_that_stop.Goals as goal
 
 pub returns-clause-link : goal.returns-clause-link
-returns-clause-link c = record {
-  order = Little;
-  header = 0xd4 ∷ 0xc3 ∷ 0xb2 ∷ 0xa1 ∷ 2 ∷ 0 ∷ 4 ∷ 0 ∷ replicate 8 0
-      ++ (0xff ∷ 0xff ∷ 0 ∷ 0 ∷ 9 ∷ 0 ∷ 0 ∷ 0 ∷ []);
-  rest = 7 ∷ [];
-  parts = refl;
-  is_header = record { size = refl; magic = refl; major = refl; minor = refl };
-  reported = refl;
-  other = refl;
-}
+returns-clause-link c = record { size = omega arith; other = refl }
 
 pub returns-clause-cut_off : goal.returns-clause-cut_off
 returns-clause-cut_off c = record {
@@ -22,6 +12,7 @@ returns-clause-cut_off c = record {
   parts = refl;
   size = refl;
   short = omega arith;
+  read = refl;
   fits = omega arith;
 }
 
@@ -32,6 +23,7 @@ returns-clause-too_long c = record {
   parts = refl;
   size = refl;
   reported = refl;
+  read = refl;
   long = omega arith;
 }
 
@@ -45,6 +37,7 @@ returns-clause-no_frame c = record {
   rest = [];
   parts = refl;
   is_record = record { head = head; parts = refl; size = refl; captured = refl };
+  read = refl;
   fits = omega arith;
   none = refl;
 }

@@ -18,7 +18,6 @@ line =
 pub returns : goal.returns
 returns c = record {
   packets = packet_at 1700000000250000000 ∷ [];
-  number = refl;
   passes = passes_record (0x65 ∷ 0x53 ∷ 0xf1 ∷ 0 ∷ 0x0e ∷ []);
   reported = sym line;
   left = inl (omega arith);

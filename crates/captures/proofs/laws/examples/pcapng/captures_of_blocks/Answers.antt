@@ -1,7 +1,8 @@
-use Rattle.std.proofs.Common.{arith, drop, inl, inr, refl, take, List, [], ◌∷◌, ℕ, ◌≡◌}
+use Rattle.std.proofs.Common.{arith, drop, inl, inr, refl, take, List, [], ◌∷◌, ℕ, ◌+◌, ◌≡◌}
 use Rattle.std.specs.Prelude.{replicate, slice_set}
 use Rattle.captures.specs.Examples.{cooked_packet, cut_simple_block, described_section, enhanced_block, interface_block}
-use Rattle.captures.specs.Examples.{longer_packet, origin_at, packet_at, section_block, simple_block}
+use Rattle.captures.specs.Examples.{longer_packet, origin_at, packet_at, section_block}
+use Rattle.captures.specs.Examples.{simple_block}
 use Rattle.captures.specs.Lines.{Packet}
 use Rattle.captures.specs.Pcapng.Content.{Opens, Describes, Holds}
 use Rattle.captures.specs.Skipping.{passing_from}
@@ -13,7 +14,7 @@ use Rattle.captures.specs.declared.origin.Origin.{Origin}
 use Rattle.captures.specs.declared.pcapng.section.Section.{Section}
 use Rattle.captures.specs.declared.translation.state.State.TheVariants.{Pcapng}
 use Rattle.captures.specs.declared.unfit.Unfit.TheVariants.{Refuse}
-use Rattle.captures.proofs.ExampleBlocks.{cut_simple, enhanced, simple}
+use Rattle.captures.proofs.ExampleBlocks.{cut_simple, enhanced, section_after, simple}
 use Rattle.captures.proofs.laws.examples.pcapng.captures_of_blocks.Goals as goal
 
 abbrev opened : Section
@@ -60,51 +61,52 @@ describes = record {
   becomes = refl;
 }
 
-module _ (reported : Packet) where
-  abbrev Reports : List ℕ → Type 0
-  Reports block = IsBlockUnit described_section block (Pcapng described_section) reported.origin reported.frame
+-- the packet in a block, after so many others
+abbrev Reports : Packet → (before : ℕ) → List ℕ → Type 0
+Reports reported before block = IsBlockUnit (section_after before) block
+    (Pcapng (section_after (before + 1))) reported.origin reported.frame
 
-holds_simple : Reports (packet_at 0) simple_block
+holds_simple : Reports (packet_at 0) 0 simple_block
 holds_simple = record {
   order = Little;
   has_order = inl (λ e. let same : 0x03000000 ≡ 0x0a0d0d0a = e in absurd (omega arith), refl);
   block = record { size = omega arith; words = refl; prefix = refl; back = refl };
   fits = inl (omega arith);
-  next = described_section;
+  next = section_after 1;
   reads = record {
     content = Holds nowhere Sll2 cooked_packet;
-    says = inr (inr simple);
-    becomes = (refl, refl, refl, omega arith);
+    says = inr (inr (simple 0));
+    becomes = (refl, refl, refl, omega arith, refl);
   };
   becomes = refl;
 }
 
-holds_cut : Reports longer_packet cut_simple_block
+holds_cut : Reports longer_packet 1 cut_simple_block
 holds_cut = record {
   order = Little;
   has_order = inl (λ e. let same : 0x03000000 ≡ 0x0a0d0d0a = e in absurd (omega arith), refl);
   block = record { size = omega arith; words = refl; prefix = refl; back = refl };
   fits = inl (omega arith);
-  next = described_section;
+  next = section_after 2;
   reads = record {
     content = Holds nowhere Sll2 (take 22 (drop 12 cut_simple_block));
-    says = inr (inr cut_simple);
-    becomes = (refl, refl, refl, omega arith);
+    says = inr (inr (cut_simple 1));
+    becomes = (refl, refl, refl, omega arith, refl);
   };
   becomes = refl;
 }
 
-holds_enhanced : Reports (packet_at 1700000000250000000) enhanced_block
+holds_enhanced : Reports (packet_at 1700000000250000000) 2 enhanced_block
 holds_enhanced = record {
   order = Little;
   has_order = inl (λ e. let same : 0x06000000 ≡ 0x0a0d0d0a = e in absurd (omega arith), refl);
   block = record { size = omega arith; words = refl; prefix = refl; back = refl };
   fits = inl (omega arith);
-  next = described_section;
+  next = section_after 3;
   reads = record {
     content = Holds (origin_at 1700000000250000000) Sll2 cooked_packet;
-    says = inl (refl, enhanced);
-    becomes = (refl, refl, refl, omega arith);
+    says = inl (refl, enhanced 2);
+    becomes = (refl, refl, refl, omega arith, refl);
   };
   becomes = refl;
 }
@@ -114,7 +116,7 @@ returns c =
     let first = packet_at 0 in
     let last = packet_at 1700000000250000000 in
     record {
-      state = Pcapng described_section;
+      state = Pcapng (section_after 3);
       passes = record {
         units = section_block ∷ interface_block ∷ simple_block ∷ cut_simple_block
             ∷ enhanced_block ∷ [];
@@ -131,18 +133,18 @@ returns c =
             first ∷ longer_packet ∷ last ∷ [],
             describes,
             (
-              Pcapng described_section,
+              Pcapng (section_after 1),
               first.origin,
               first.frame,
               longer_packet ∷ last ∷ [],
               holds_simple,
               (
-                Pcapng described_section,
+                Pcapng (section_after 2),
                 longer_packet.origin,
                 longer_packet.frame,
                 last ∷ [],
                 holds_cut,
-                (Pcapng described_section, last.origin, last.frame, [], holds_enhanced, (refl, refl), refl),
+                (Pcapng (section_after 3), last.origin, last.frame, [], holds_enhanced, (refl, refl), refl),
                 refl,
               ),
               refl,

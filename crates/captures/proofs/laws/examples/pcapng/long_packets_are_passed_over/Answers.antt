@@ -1,6 +1,6 @@
-use Rattle.std.proofs.Common.{◌≡◌, ◌≤◌, ◌∙◌, sym, ap, subst, refl, arith, inl, inr, ℕ, List, [], length, Some}
+use Rattle.std.proofs.Common.{◌≡◌, ◌≤◌, ◌∙◌, sym, ap, subst, refl, arith, inl, inr, ℕ, List, [], length}
 use Rattle.std.specs.Prelude.{Result, Err}
-use Rattle.captures.specs.Framed.{frame_by, taken_limit, reported_frame, reported_of}
+use Rattle.captures.specs.Framed.{frame_by, refused_type, reported_frame, reported_of, taken_limit}
 use Rattle.captures.specs.Pcapng.{Becomes}
 use Rattle.captures.specs.Pcapng.Content.{Holds}
 use Rattle.captures.specs.Skipping.{counted, counted_by, passing_from}
@@ -18,6 +18,7 @@ abbrev one : Passing
 one = record {
   unfit = Skip;
   skipped = record { of_other_links = 0; too_long = 1; without_frame = 0 };
+  seen = 1;
 }
 
 passed_over : (section : Section) (order : ByteOrder) (origin : Origin) (packet : List ℕ)
@@ -34,6 +35,7 @@ passed_over section order origin packet is reported few =
           ∙ ap (λ (r : Result (List ℕ) Reason). frame_by Skip r) reported,
       subst (λ (p : Passing). length packet ≤ taken_limit p.unfit Ethernet) (sym is)
           (omega arith),
+      ap (λ (p : Passing). refused_type p.unfit Ethernet) is,
     )
 
 pub returns : goal.returns

@@ -55,7 +55,7 @@ returns-in-Ok-eq0-clause-comes g c unfit read given h =
       comes_end unfit prefix c.end.new.self (read ++ r.0) given _ c.end.result finds
           (rw c.end.ensures.same.1 (came.4 c.in-Ok-eq0.field-0-test))
           (record prefix { window = c.fill.new.self; reader = c.fill.new.reader })
-          refl refl refl refl held c.end.ensures.ends,
+          refl refl refl held c.end.ensures.ends,
     )
 
 pub returns-in-Ok-eq0-clause-none : goal.returns-in-Ok-eq0-clause-none
@@ -86,7 +86,7 @@ reads-preserved g c =
             consumes_more _ (g.R.Read.remaining prefix.reader) _ r.0 came.0
                 (rw c.take_next.ensures.same.source r.1) came.3,
             subst (λ (l : List ℕ). HasRead unfit new l given) (append_assoc read r.0 came.0)
-                (reads_more unfit prefix new (read ++ r.0) given finds.0 refl refl refl refl came.0
+                (reads_more unfit prefix new (read ++ r.0) given finds.0 refl refl refl came.0
                 came.1 refl refl some),
           );
       began = before.began;

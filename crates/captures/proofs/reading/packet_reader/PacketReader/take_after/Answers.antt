@@ -14,7 +14,7 @@ returns-in-Held-clause-finds g c unfit read given h =
     let comes = rw c.in-Held.is at (subst (λ (l : List ℕ). ComesAfter old.state c.args.block
     h.dropped l c.following.result) c.held.ensures.held
     (c.following.ensures.comes old.state h.dropped is_dropped)) in
-    drops_incomplete unfit old _ read given h c.in-Held.left refl c.keep.ensures.held refl refl refl
+    drops_incomplete unfit old _ read given h c.in-Held.left refl c.keep.ensures.held refl refl
     c.in-Held.started refl refl comes.0 comes.1
 
 pub returns-in-Refused-clause-finds : goal.returns-in-Refused-clause-finds
@@ -26,7 +26,7 @@ returns-in-Refused-clause-finds g c unfit read given h =
     h.dropped l c.following.result) c.held.ensures.held
     (c.following.ensures.comes old.state h.dropped is_dropped)) in
     drops_refused unfit old _ read given h c.in-Refused.left refl c.keep-in-Refused.ensures.held refl
-    refl refl c.in-Refused.started refl refl comes.0 BadBlock comes.1
+    refl c.in-Refused.started refl refl comes.0 BadBlock comes.1
 
 pub returns-in-Passed-clause-finds : goal.returns-in-Passed-clause-finds
 returns-in-Passed-clause-finds g c unfit read given h =
@@ -38,7 +38,7 @@ returns-in-Passed-clause-finds g c unfit read given h =
     (c.following.ensures.comes old.state h.dropped is_dropped)) in
     c.take_packet.ensures.finds unfit read given
     (drops_passed unfit old _ read given h c.in-Passed.left refl c.keep-in-Passed.ensures.held refl
-    refl refl c.args.block.len comes.0 refl
+    refl c.args.block.len comes.0 refl
     (c.saturating_add-self.ensures
     ∙ ap (λ (n : ℕ). min (old.passed + n) (2 ^ 64 - 1)) c.from.ensures) comes.1 comes.2
     (subst (λ (l : List ℕ). c.in-Passed.left ≤ length l) c.held.ensures.held

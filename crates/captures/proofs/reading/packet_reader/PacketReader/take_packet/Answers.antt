@@ -28,7 +28,7 @@ returns-in-Some-clause-finds g c unfit read given h =
       packet_with c.in-Some.found c.keep.new.self.marked,
       refl,
       finds_packet unfit old read given h c.requires after ahead.left _ is.0 passed _ _ refl
-          c.requires refl held c.saturating_add-self-in-Some.ensures refl refl first,
+          c.requires refl held refl refl first,
     )
 
 pub returns-in-Some-refusal-clause-finds : goal.returns-in-Some-refusal-clause-finds
@@ -45,7 +45,7 @@ returns-in-Some-refusal-clause-finds g c unfit read given h =
     let refuses = rw c.in-Some-refusal.is at none.left in (
       finds_none unfit old read given h c.requires after ahead.left _ is.0 passed _ [] refl
           (subst (λ (b : Option LongBlock). IsDropped after b []) (sym c.requires) refl) refl
-          c.keep-2.ensures.held refl refl refl _ none,
+          c.keep-2.ensures.held refl refl _ none,
       subst (λ (l : List ℕ). Refuses after l c.in-Some-refusal.error) (sym c.keep-2.ensures.held)
           refuses,
     )
@@ -70,7 +70,7 @@ returns-in-Some-long_block-clause-finds g c unfit read given h =
     let empty = c.keep-in-Some-long_block.ensures.held ∙ last_none c.keep-2.new.self.held in
     let whole = ap (λ (l : List ℕ). rest ++ l) empty ∙ append-nil rest in (
       finds_none unfit old read given h c.requires after ahead.left _ is.0 passed _ rest refl
-          dropped refl whole refl refl refl _ none,
+          dropped refl whole refl refl _ none,
       subst (λ (l : List ℕ). IsIncomplete after l) (sym whole) begins,
     )
 
@@ -88,6 +88,6 @@ returns-in-None-clause-finds g c unfit read given h =
     let begins = rw c.in_default-refusal.is at none.left in (
       finds_none unfit old read given h c.requires after ahead.left _ is.0 passed _ [] refl
           (subst (λ (b : Option LongBlock). IsDropped after b []) (sym c.requires) refl) refl
-          c.keep-2.ensures.held refl refl refl _ none,
+          c.keep-2.ensures.held refl refl _ none,
       subst (λ (l : List ℕ). IsIncomplete after l) (sym c.keep-2.ensures.held) begins,
     )

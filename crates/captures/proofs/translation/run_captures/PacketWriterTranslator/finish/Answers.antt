@@ -12,7 +12,7 @@ returns-in-Ok-clause-finishes g c read written reports fits =
     let size : c.args.left ≡ length held =
     omega (arith, length-take-le c.args.left c.args.input.now (omega arith)) in
     reports_end c.args.self.now.ledger _ read written position c.args.self.now.state
-    c.args.self.now.started c.args.self.now.count c.args.self.now.passed held c.args.left reports size
+    c.args.self.now.started c.args.self.now.passed held c.args.left reports size
     c.position-position.ensures.packet c.position-position.ensures.offset
     (c.position-position.ensures.block reports.0 reports.1) _
     (ap (at_position position) (sym c.in-Ok.is ∙ c.end.ensures reports.0 reports.1))
@@ -25,7 +25,7 @@ returns-in-Err-clause-finishes g c read written reports fits =
     let size : c.args.left ≡ length held =
     omega (arith, length-take-le c.args.left c.args.input.now (omega arith)) in
     reports_end c.args.self.now.ledger _ read written position c.args.self.now.state
-    c.args.self.now.started c.args.self.now.count c.args.self.now.passed held c.args.left reports size
+    c.args.self.now.started c.args.self.now.passed held c.args.left reports size
     c.position-position.ensures.packet c.position-position.ensures.offset
     (c.position-position.ensures.block reports.0 reports.1) _
     (ap (at_position position) (sym c.in-Err.is ∙ c.end.ensures reports.0 reports.1))

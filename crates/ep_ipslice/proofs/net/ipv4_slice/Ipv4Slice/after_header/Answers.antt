@@ -1,7 +1,10 @@
-use Rattle.std.proofs.Common.{◌∙◌, ℕ, sym, subst, ap, drop, length, arith}
+use Rattle.std.proofs.Common.{◌≡◌, ◌≤◌, ◌∙◌, ℕ, List, refl, sym, subst, ap, take, length, arith}
+use Rattle.std.proofs.lemmas.Bool.{ltb-false}
+use Rattle.ep_ip.specs.Ipv4.{total_len_of}
 use Rattle.ep_ext.specs.Ipv4Exts.{IsAuthAfter}
 use Rattle.ep_ext.specs.declared.net.ipv6_ext_slot.Ipv6ExtSlot.TheVariants.{Authentication}
 use Rattle.ep_ipslice.specs.Packet.{IsIpv4Packet}
+use Rattle.ep_ipslice.proofs.LaxIpv4.{body_here}
 use Rattle.ep_ipslice.proofs.Ipv4Parts.{packet_again, packet_by_itself, packet_found, payload_agrees}
 use Rattle.ep_ipslice.proofs.net.ipv4_slice.Ipv4Slice.after_header.Goals as goal
 
@@ -9,13 +12,22 @@ found : (c : goal.After-is_fragmenting_payload-fragmented)
     → IsIpv4Packet c.args.slice.now
     (record { header = c.args.header; auth = c.in-Ok.exts.auth; payload = c.in-Ok.payload.now })
 found c =
-    packet_found c.args.slice.now c.args.header c.requires.0 c.split_at.result.0.now
-    c.split_at-2.result.1.now c.in-Ok.payload.now c.in-Ok.exts.auth c.from-total_len.result
-    c.slice-header_len.ensures.header c.requires.1 (c.from-total_len.ensures ∙ c.total_len.ensures)
-    (omega (arith, ap length c.slice-header_len.ensures.bytes, c.if-total_len-header_len.false))
-    c.if-slice-total_len.false c.split_at.ensures.front
-    (c.split_at-2.ensures.back ∙ ap (λ (n : ℕ). drop n c.split_at.result.0.now)
-    (ap length c.slice-header_len.ensures.bytes))
+    let bytes : List ℕ = c.args.slice.now in
+    let header : List ℕ = c.args.header in
+    let total : ℕ = total_len_of header in
+    let counted : c.from-total_len.result ≡ total = c.from-total_len.ensures ∙ c.total_len.ensures in
+    let fits : length header ≤ total = omega (
+      arith,
+      ap length c.slice-header_len.ensures.bytes,
+      counted,
+      c.if-total_len-header_len.false,
+    ) in
+    packet_found bytes header c.requires.0 (take total bytes)
+    c.body_of-incomplete.result.0.now c.in-Ok.payload.now c.in-Ok.exts.auth total
+    c.slice-header_len.ensures.header c.requires.1 refl fits
+    (ltb-false (length bytes) total (sym c.body_of-incomplete.ensures.incomplete
+    ∙ c.if-incomplete.false)) refl
+    (body_here bytes header _ fits c.body_of-incomplete.ensures.bytes)
     (subst (λ (n : ℕ). IsAuthAfter n c.in-Ok.exts.auth) c.protocol.ensures c.in-Ok.ensures.found.0)
     c.in-Ok.ensures.found.1
 

@@ -46,3 +46,6 @@ returns-clause-succeeds g c =
 
 pub returns-clause-memory : goal.returns-clause-memory
 returns-clause-memory g c = rw c.named-id.ensures.0 at c.add_fragment.ensures.memory
+
+pub returns-clause-starts : goal.returns-clause-starts
+returns-clause-starts g c = rw c.named-id.ensures.0 at c.add_fragment.ensures.starts

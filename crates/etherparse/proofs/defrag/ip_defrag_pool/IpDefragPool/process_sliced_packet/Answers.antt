@@ -6,6 +6,7 @@ use Rattle.etherparse.specs.IpDefragPool.{Accepts, Refuses, same_id}
 use Rattle.etherparse.specs.IpFragId.{fragment_in, id_named}
 use Rattle.etherparse.specs.Counts.{HasMemoryFor, KeepsMemoryOf}
 use Rattle.etherparse.specs.Repeats.{TakesRepeat}
+use Rattle.etherparse.specs.Starts.{StartsAfter}
 use Rattle.etherparse.specs.ReassemblyTable.{OthersStay, Stays, reassembly_at}
 use Rattle.etherparse.proofs.defrag.ip_defrag_pool.IpDefragPool.process_sliced_packet.Goals as goal
 
@@ -61,3 +62,11 @@ returns-in-Cut-clause-memory g c =
     c.process_fragment.new.self (id_named reported.0 c.args.channel_id)
     c.process_fragment.result))
     (ap as_class (sym c.in-Cut.is) ∙ c.class.ensures.class) c.process_fragment.ensures.memory
+
+pub returns-in-Cut-clause-starts : goal.returns-in-Cut-clause-starts
+returns-in-Cut-clause-starts g c =
+    subst (λ (class : Class). IfSome (fragment_in class) (λ reported.
+    StartsAfter (same_id g.CustomChannelId.PartialEq.eq) c.args.self.now
+    c.process_fragment.new.self (id_named reported.0 c.args.channel_id)
+    c.process_fragment.result))
+    (ap as_class (sym c.in-Cut.is) ∙ c.class.ensures.class) c.process_fragment.ensures.starts

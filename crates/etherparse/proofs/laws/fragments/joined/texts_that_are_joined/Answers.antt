@@ -1,5 +1,5 @@
 use Rattle.std.proofs.Common.{◌≡◌, ◌∙◌, ap, arith, get_or, length, refl, inl, inr, sym, List, [], ◌∷◌, ℕ}
-use Rattle.etherparse.specs.Fragments.{Fragment, start_of}
+use Rattle.etherparse.specs.Fragments.{start_of}
 use Rattle.etherparse.proofs.Complete.{complete_Decides}
 use Rattle.etherparse.proofs.Joining.{no_overlap}
 use Rattle.etherparse.proofs.Literals.{first_fragment, one_of_two, only_one}

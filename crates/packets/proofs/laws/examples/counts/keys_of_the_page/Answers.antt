@@ -1,6 +1,8 @@
 use Rattle.ep_base.specs.declared.err.layer.Layer.TheVariants as layer
-use Rattle.packets.specs.Examples.{back_ends, ipv4_ends, ipv6_ends}
+use Rattle.std.proofs.Common.{◌∷◌, [], true, false}
+use Rattle.packets.specs.Examples.{back_ends, ipv4_ends, ipv6_address, ipv6_ends}
 use Rattle.packets.specs.declared.reason.Reason.TheVariants as reason
+use Rattle.packets.specs.declared.summary.verified.Verified.TheVariants as verified
 use Rattle.packets.proofs.laws.examples.counts.keys_of_the_page.Goals as goal
 
 pub returns-clause-reasons : goal.returns-clause-reasons
@@ -17,3 +19,15 @@ returns-clause-talkers g c summary counted = counted.talkers.keys
 pub returns-clause-of_talkers : goal.returns-clause-of_talkers
 returns-clause-of_talkers g c summary counted =
     let each = counted.talkers.tallied in (each ipv4_ends, each ipv6_ends, each back_ends)
+
+pub returns-clause-senders : goal.returns-clause-senders
+returns-clause-senders g c summary counted = counted.senders.keys
+
+pub returns-clause-of_senders : goal.returns-clause-of_senders
+returns-clause-of_senders g c summary counted =
+    let each = counted.senders.tallied in (
+      each (verified.V4 (10 ∷ 0 ∷ 0 ∷ 1 ∷ []) false),
+      each (verified.V4 (10 ∷ 0 ∷ 0 ∷ 1 ∷ []) true),
+      each (verified.V6 (ipv6_address 1) false),
+      each (verified.V6 (ipv6_address 1) true),
+    )

@@ -6,7 +6,7 @@ use Rattle.packets.proofs.run.summarize.SummaryVisitor.visit.Goals as goal
 
 pub returns : goal.returns
 returns g c start seen goes = weaker_match c.add.result _ _ _ _
-    (λ more counted was. counted_more _ _ c.add.new.self counted seen c.args.packet.now
+    (λ more counted was. counted_more _ _ _ c.add.new.self counted seen c.args.packet.now
     (more (counted ++ map outline_of seen) (goes counted was)))
     (λ error same counted was. same (counted ++ map outline_of seen) (goes counted was))
     (by_result c.add.result _ _ c.add.ensures.ok c.add.ensures.err)

@@ -1,4 +1,5 @@
 use Rattle.std.proofs.Common.{refl, sym, true, is_some}
+use Rattle.packets.specs.Counts.{verified_of}
 use Rattle.packets.specs.Headers.{net_addresses}
 use Rattle.packets.specs.declared.outline.Outline.{Outline}
 use Rattle.packets.proofs.summary.summary.Summary.count.Goals as goal
@@ -13,7 +14,9 @@ returns g c = λ packets old. record {
   parts = c.add-4.ensures packets old.parts;
   sizes = c.add-5.ensures packets old.sizes;
   rate = c.add-6.ensures packets old.rate;
+  lengths = c.add-7.ensures packets old.lengths;
   reasons = c.add_keyed.ensures (λ (p : Outline). p.refusal) packets refl old.reasons;
   talkers = c.add_keyed-2.ensures (λ (p : Outline). net_addresses p.headers.net) packets (sym
       c.addresses.ensures) old.talkers;
+  senders = c.add_keyed-3.ensures verified_of packets (sym c.of.ensures) old.senders;
 }

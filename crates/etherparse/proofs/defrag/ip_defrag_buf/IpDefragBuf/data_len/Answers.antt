@@ -1,0 +1,6 @@
+use Rattle.std.proofs.Common.{arith}
+use Rattle.etherparse.proofs.Lengths.{contents_short}
+use Rattle.etherparse.proofs.defrag.ip_defrag_buf.IpDefragBuf.data_len.Goals as goal
+
+pub returns-clause-short : goal.returns-clause-short
+returns-clause-short g c = omega (arith, contents_short _ c.self.invariant.shows_accepted)

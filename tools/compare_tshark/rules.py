@@ -1,0 +1,154 @@
+"""Where tshark reports a packet otherwise by design, each with its reason."""
+
+import dataclasses
+import typing
+
+import routes
+
+# What depends on the bytes of a message that was joined.
+OF_FRAGMENTS = ("completes a message", "reassembled in", "first fragment received", "length of the message", "bytes of the message")
+
+
+@dataclasses.dataclass
+class Rule:
+    """A rule explains a difference where `holds` says so."""
+
+    name: str
+    reason: str
+    holds: typing.Callable
+
+
+def net(it):
+    """The fields of the network layer."""
+    return next(iter(it.get("net", {"": {}}).values()))
+
+
+def is_ip(it):
+    return "Ipv4" in it.get("net", {}) or "Ipv6" in it.get("net", {})
+
+
+def is_routed(it):
+    """Whether the final destination is another than in the IP header, or isn't known."""
+    return is_ip(it) and routes.final_destination(it) != net(it)["destination"]
+
+
+def whole(it):
+    return it.get("fragment", {}).get("Completes", it)
+
+
+def transport(it, kind):
+    """The fields of the message where it is of this kind."""
+    return whole(it).get("transport", {}).get(kind)
+
+
+def is_of_the_message(difference):
+    return difference.field in ("message", "verdict", "extension headers") or difference.field.split(".")[0] in ("udp", "tcp", "icmp", "icmpv6", "ah", "ipv6")
+
+
+def is_of_fragments(difference):
+    return difference.field in OF_FRAGMENTS or is_of_the_message(difference)
+
+
+def ends_early(difference):
+    """Whether tshark shows nothing of a field, or of a list only the first ones."""
+    ours, theirs = difference.ours, difference.theirs
+    return theirs == ours[: len(theirs)] if isinstance(theirs, list) else theirs is None or theirs is False or theirs == "unverified"
+
+
+def contradicts(packet):
+    return any(it.startswith("disturbed") for it in packet.traits) or "hostile" in packet.traits
+
+
+def of_other_version(d):
+    is_other = (transport(d.it, "Icmpv4") and "Ipv6" in d.it["net"]) or (transport(d.it, "Icmpv6") and "Ipv4" in d.it["net"])
+    return d.field == "verdict" and d.ours == "None" and bool(is_other)
+
+
+def of_udp_length_0(d):
+    udp = transport(d.it, "Udp")
+    return bool(udp) and udp["length"] == 0 and d.field in ("udp.checksum", "verdict") and d.theirs in (None, "unverified")
+
+
+def of_payload_length_0(d):
+    return net(d.it).get("payload_length") == 0 and is_of_fragments(d) and ends_early(d)
+
+
+def of_type_that_is_a_length(d):
+    return d.field in ("eth.type", "vlan.etype", "sll.etype") and d.theirs is None and 1500 < d.ours <= 1536
+
+
+def of_family_of_linux(d):
+    return d.packet.link in (0, 108) and 10 in (d.packet.data[0], d.packet.data[3]) and d.theirs is None
+
+
+def of_fourth_tag(d):
+    return len(d.it.get("link_exts", ())) == 3 and len(d.dissected.tags) > 3 and d.field in ("tags", "network layer", "message")
+
+
+def of_unknown_route(d):
+    return d.field == "verdict" and d.ours == "None" and routes.final_destination(d.it) == routes.UNKNOWN
+
+
+def of_netlines(d):
+    """The words differ in the verdict alone."""
+    if d.field != "netlines" or not is_routed(d.it):
+        return False
+    ours, theirs = d.ours.split(" "), d.theirs.split(" ")
+    differ = [one for one, two in zip(ours, theirs) if one != two]
+    return len(ours) == len(theirs) and len(differ) == 1 and differ[0] in ("good", "bad", "none")
+
+
+def of_interface(d):
+    return d.field == "interface" and "section" in d.packet.traits and d.ours > d.theirs
+
+
+def of_reserved_bits(d):
+    """tshark shows nothing of such a tag where the length with these bits is greater than what follows."""
+    if d.field == "macsec.SL":
+        return d.theirs is not None and d.ours == d.theirs & 63
+    is_tagged = d.packet.link == 1 and d.packet.data[12:14] == b"\x88\xe5" and d.packet.data[15] & 192
+    return bool(is_tagged) and d.field in ("tags", "network layer", "message") and not d.theirs
+
+
+def of_contradicting_fragments(d):
+    return "fragment" in d.it and contradicts(d.packet) and is_of_fragments(d)
+
+
+def of_empty_fragment(d):
+    return d.field == "message" and d.ours is None and "fragment" in d.it and d.it["payload_len"] == 0
+
+
+def of_extension_header_in_a_fragment(d):
+    return d.field == "extension headers" and ends_early(d) and d.theirs[-1:] == ["Fragment"]
+
+
+def of_two_interfaces(d):
+    return "fragment" in d.it and "section" in d.packet.traits and is_of_fragments(d)
+
+
+def of_malformed(d):
+    return d.dissected.is_malformed and ends_early(d)
+
+
+RULES = (
+    Rule("ICMP of the other IP version", "RFC 792 and RFC 4443 each define the checksum for one version: the verdict is `None` (docs/LINES.md)", of_other_version),
+    Rule("UDP length 0", "read as all that follows (docs/DIFFERENCES.md); tshark stops at it", of_udp_length_0),
+    Rule("IPv6 payload length 0", "read as all that follows (docs/DIFFERENCES.md); tshark reads no message", of_payload_length_0),
+    Rule("type field of 1501 to 1536", "read as an ether type (docs/DIFFERENCES.md); tshark as neither type nor length", of_type_that_is_a_length),
+    Rule("address family 10", "Linux's number of IPv6, read in loopback captures (docs/CAPTURES.md); tshark knows those of BSD", of_family_of_linux),
+    Rule("fourth tag", "`link_exts` holds three (docs/DIFFERENCES.md)", of_fourth_tag),
+    Rule("route whose end isn't known", "then no checksum can be verified: the verdict is `None`; tshark takes the destination of the IP header or the last bytes", of_unknown_route),
+    Rule("`netlines` and source routes", "it takes the destination of the IP header (docs/LINES.md), `packets` the final one", of_netlines),
+    Rule("interfaces of a later section", "numbered through all sections (docs/CAPTURES.md); by tshark from 0 in each", of_interface),
+    Rule("reserved bits of MACsec's short length", "IEEE 802.1AE, clause 9.7: six bits; tshark shows all eight", of_reserved_bits),
+    Rule("fragments that contradict each other", "which bytes count, which fragments are refused: as tools/hostile_frames/answers.py, by RFC 791 and RFC 8200 (docs/LINES.md); tshark shows all of them", of_contradicting_fragments),
+    Rule("fragment of no bytes", "a fragment, which may give the end of the message; tshark 4.0 shows an empty message, too", of_empty_fragment),
+    Rule("extension header after a fragment header", "read in each fragment (docs/LINES.md); by tshark in the first one", of_extension_header_in_a_fragment),
+    Rule("fragments on two interfaces", "kept apart (docs/LINES.md); tshark joins them", of_two_interfaces),
+    Rule("tshark: malformed", "tshark ends where options or what they hold break their format; here options are bytes", of_malformed),
+)
+
+
+def explained(difference):
+    """Returns the name of the first rule that explains it, or None."""
+    return next((rule.name for rule in RULES if rule.holds(difference)), None)
