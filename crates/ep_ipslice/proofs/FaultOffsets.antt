@@ -20,6 +20,7 @@ use Rattle.ep_ipslice.specs.IpSlice.{IsIpFaultIn, NoBytes, OtherVersion, OfIpv4,
 use Rattle.ep_ipslice.specs.Ipv4Packet.{ipv4_packet_at, of_auth_fault}
 use Rattle.ep_ipslice.specs.Ipv6Fault as ipv6
 use Rattle.ep_ipslice.specs.Ipv6Fault.{IsFaultIn, OfHeader, OfLength, OfExtensions}
+use Rattle.ep_ipslice.specs.Ipv6Packet.{body_of}
 use Rattle.ep_ipslice.specs.Packet.{body_len}
 use Rattle.ep_ipslice.specs.declared.err.ip.slice_error.SliceError.{SliceError}
 use Rattle.ep_ipslice.specs.declared.err.ipv4.slice_error.SliceError.{SliceError as Ipv4Fault}
@@ -42,6 +43,14 @@ of_err P r e is each = subst (λ (x : Result _ _). IfErr x P) is each
 pub take_fits : (n : ℕ) (xs : List ℕ) → length (take n xs) ≤ length xs
 take_fits n xs =
     omega (arith, ap length (take-append-drop n xs), length-append (take n xs) (drop n xs))
+
+-- the body of a packet lies within the bytes after the header
+pub body_fits : (bytes header : List ℕ) → length (body_of bytes header) ≤ length bytes - 40
+body_fits bytes header = omega (
+  arith,
+  take_fits (body_len header (length bytes - 40)) (drop 40 bytes),
+  length-drop 40 bytes,
+)
 
 v6_at_start : (bytes : List ℕ)
     → IfErr (v6.header_at bytes) (λ e. ipv6_offset (ipv6.of_header_fault e) ≡ 0)
@@ -82,18 +91,10 @@ ipv6_fits moves order bytes e (OfLength header is short) =
 ipv6_fits moves order bytes e (OfExtensions header is row) =
     let enough : 40 ≤ length bytes =
     grind arith in
-    let body : List ℕ = take (body_len header (length bytes - 40)) (drop 40 bytes) in
-    let size : length body ≤ length bytes - 40 =
-    omega (
-      arith,
-      take_fits (body_len header (length bytes - 40))
-          (drop 40 bytes),
-      length-drop 40 bytes,
-    ) in
     subst (λ (f : Ipv6Fault). Fits (ipv6_offset f) bytes) (sym row.error)
     (exts_fits bytes _ row.fault.0 enough
-    (λ n fits. moves order _ body row.pieces row.last row.rest row.fault n row.chain row.found
-    (omega (arith, size, fits))))
+    (λ n fits. moves order _ (body_of bytes header) row.pieces row.last row.rest row.fault n
+    row.chain row.found (omega (arith, body_fits bytes header, fits))))
 
 -- the fault of a version is at the same offset
 ipv4_same : (e : Ipv4Fault) → ip_offset (ipv4_fault e) ≡ ipv4_offset e

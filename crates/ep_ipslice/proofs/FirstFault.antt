@@ -5,7 +5,7 @@ use Rattle.std.specs.Prelude.{nat_lt, if◌then◌else◌}
 use Rattle.std.proofs.lemmas.Bool.{eqb-true, ltb-false, ltb-true}
 use Rattle.std.proofs.lemmas.List.{drop_at}
 use Rattle.ep_base.proofs.Prefixes.{err_same}
-use Rattle.ep_ext.specs.Chain.{Fault, IsEnd, fault_at, fault_of, prefix_of}
+use Rattle.ep_ext.specs.Chain.{Chain, Fault, IsEnd, fault_at, fault_of, prefix_of}
 use Rattle.ep_ext.specs.Slot.{Order}
 use Rattle.ep_ext.specs.Value.{Piece, bytes_of, slots}
 use Rattle.ep_base.specs.declared.err.slice_error.SliceError.{SliceError as HeaderSliceError}
@@ -60,16 +60,15 @@ ends_faulty law order passed last offset rest fault None here found = grind arit
 ends_faulty law order passed last offset rest fault (Some slot) here found =
     ends_open law order passed last offset rest slot fault (prefix_of slot rest) here refl found
 
--- headers that are found in a row, under whatever order, and the fault after them
-pub row_fault : RowEnds → (order : Order) (bytes header : List ℕ) (fault : Fault) →
-    body_len header (length bytes - 40) ≤ length bytes - 40 →
+-- headers that are found in a row, under whatever order, end where a fault is
+pub row_chain : RowEnds → (order : Order) (bytes header : List ℕ) (fault : Fault)
     (pieces : List Piece) → pieces ≡ pieces_within (length (body_of bytes header)) order []
     (next_header_of header) (body_of bytes header)
     → fault_of order pieces (number_after (next_header_of header) pieces)
     (rest_after bytes header pieces) ≡ Some fault
-    → IsRowFault order bytes header
-    (of_exts_fault (body_source header (length bytes - 40)) fault.0)
-row_fault law order bytes header fault fits pieces are found =
+    → Chain order (next_header_of header) (body_of bytes header) pieces
+    (number_after (next_header_of header) pieces) (rest_after bytes header pieces)
+row_chain law order bytes header fault pieces are found =
     let first : ℕ = next_header_of header in
     let body : List ℕ = body_of bytes header in
     let last : ℕ = number_after first pieces in
@@ -80,20 +79,31 @@ row_fault law order bytes header fault fits pieces are found =
     sym (drop_at exts here.rest (length exts) refl)
     ∙ ap (drop (length exts)) (sym here.cut) in
     record {
-      pieces = pieces;
-      last = last;
-      rest = rest_after bytes header pieces;
-      fault = fault;
-      size = fits;
-      chain = record {
-        row = here.row;
-        cut = here.cut ∙ ap (λ (xs : List ℕ). exts ++ xs) left;
-        ended = ends_faulty law order (slots pieces) last (length exts)
-            (rest_after bytes header pieces) fault (order (slots pieces) last) refl found;
-      };
-      found = found;
-      error = refl;
+      row = here.row;
+      cut = here.cut ∙ ap (λ (xs : List ℕ). exts ++ xs) left;
+      ended = ends_faulty law order (slots pieces) last (length exts)
+          (rest_after bytes header pieces) fault (order (slots pieces) last) refl found;
     }
+
+-- and the fault after them
+pub row_fault : RowEnds → (order : Order) (bytes header : List ℕ) (fault : Fault) →
+    body_len header (length bytes - 40) ≤ length bytes - 40 →
+    (pieces : List Piece) → pieces ≡ pieces_within (length (body_of bytes header)) order []
+    (next_header_of header) (body_of bytes header)
+    → fault_of order pieces (number_after (next_header_of header) pieces)
+    (rest_after bytes header pieces) ≡ Some fault
+    → IsRowFault order bytes header
+    (of_exts_fault (body_source header (length bytes - 40)) fault.0)
+row_fault law order bytes header fault fits pieces are found = record {
+  pieces = pieces;
+  last = number_after (next_header_of header) pieces;
+  rest = rest_after bytes header pieces;
+  fault = fault;
+  size = fits;
+  chain = row_chain law order bytes header fault pieces are found;
+  found = found;
+  error = refl;
+}
 
 unless_faulty : RowEnds → (bytes header : List ℕ) (pieces : List Piece) (o : Option Fault)
     (e : SliceError) → header_at bytes ≡ Ok header

@@ -1,5 +1,5 @@
 -- The IPv6 packet, as far as it is there.
-use Rattle.std.proofs.Common.{◌≡◌, ◌∙◌, sym, ap, refl, ℕ, ◌-◌, ◌≤◌, ◌<◌, ◌^◌, Bool, false, List, ◌++◌}
+use Rattle.std.proofs.Common.{◌≡◌, ◌∙◌, sym, ap, refl, ℕ, ◌+◌, ◌-◌, ◌≤◌, ◌<◌, ◌^◌, Bool, false, List, ◌++◌}
 use Rattle.std.proofs.Common.{length, drop, Option, Some, Result, Ok, arith}
 use Rattle.std.proofs.lemmas.Bool.{ltb-false}
 use Rattle.std.proofs.lemmas.List.{drop_at, length-drop}
@@ -18,7 +18,7 @@ use Rattle.ep_ipslice.specs.Ipv6Packet.{body_of}
 use Rattle.ep_ipslice.specs.LaxPackets.{LaxIpv6Packet, StoppedIpv6, is_ipv6_cut, lax_ipv6_packet_at, lax_ipv6_source}
 use Rattle.ep_ipslice.specs.LaxPackets.{row_fault_within}
 use Rattle.ep_ipslice.specs.Packet.{IsIpv6Body, body_len}
-use Rattle.ep_ipslice.proofs.FaultOffsets.{RowMoves, take_fits}
+use Rattle.ep_ipslice.proofs.FaultOffsets.{RowMoves, body_fits}
 use Rattle.ep_ipslice.proofs.Ipv6At.{RowIn, fault_is, number_is}
 use Rattle.ep_ipslice.proofs.Ipv6Parts.{body_found}
 use Rattle.ep_ipslice.proofs.Left.{HasLeast, IsFound, row_found}
@@ -34,20 +34,15 @@ body_there bytes header rest body source is begins taken bounded here =
     body_found bytes header rest following body 40 (body_len header (length bytes - 40)) source is
     begins (sym is.whole) refl (grind arith) (grind arith) (omega (arith, size, fits)) taken
 
--- the fault of an extension header can be counted from the start of the packet
+-- the fault of an extension header can be counted from n bytes before the packet
 pub fault_moves : RowMoves → (bytes header body : List ℕ) (first : ℕ) (pieces : List Piece)
-    (last : ℕ) (rest : List ℕ) (fault : Fault) → 40 ≤ length bytes → length bytes < 2 ^ 64
-    → body ≡ body_of bytes header → Chain view_order first body pieces last rest
-    → fault_of view_order pieces last rest ≡ Some fault → CanMove fault.0 40
-fault_moves moves bytes header body first pieces last rest fault enough most taken chain found =
-    moves view_order first body pieces last rest fault 40 chain found (omega (
-      arith,
-      enough,
-      most,
-      ap length taken,
-      take_fits (body_len header (length bytes - 40)) (drop 40 bytes),
-      length-drop 40 bytes,
-    ))
+    (last : ℕ) (rest : List ℕ) (fault : Fault) (n : ℕ) → 40 ≤ length bytes
+    → length bytes + n < 2 ^ 64 → body ≡ body_of bytes header
+    → Chain view_order first body pieces last rest
+    → fault_of view_order pieces last rest ≡ Some fault → CanMove fault.0 (40 + n)
+fault_moves moves bytes header body first pieces last rest fault n enough most taken chain found =
+    moves view_order first body pieces last rest fault (40 + n) chain found
+    (omega (arith, enough, most, ap length taken, body_fits bytes header))
 
 -- the parts of a row in what is there
 row_in : IsFound → HasLeast → (bytes header : List ℕ) (pieces : List Piece) (last : ℕ) (rest : List ℕ)

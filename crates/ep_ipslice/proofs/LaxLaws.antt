@@ -119,7 +119,7 @@ auth_case body (Ok header) auth at is =
     grind (arith, drop_at)
 auth_case body (Err e) auth at is = cc
 
-auth_cut : (named : Bool) (body : List ℕ) (auth : Option (List ℕ))
+pub auth_cut : (named : Bool) (body : List ℕ) (auth : Option (List ℕ))
     → (if named then some_auth (auth_at body) else Ok None) ≡ Ok auth
     → body ≡ auth_bytes auth ++ drop (length (auth_bytes auth)) body
 auth_cut true body auth is = auth_case body (auth_at body) auth refl is

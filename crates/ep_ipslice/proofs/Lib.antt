@@ -11,6 +11,7 @@ mod Ipv6Parts
 mod LaxIpv4
 mod LaxIpv6
 mod LaxLaws
+mod LaxOffsets
 mod Left
 mod InSlots
 mod SamePayloads

@@ -9,7 +9,7 @@ pub mod traits;
 pub use examples::{ipv4_packet_at_a_literal, ipv6_packet_at_a_literal, payload_hash_at_a_literal};
 pub use lax::{
     cut_ipv4_packet_has_all_bytes, cut_ipv6_packet_has_all_bytes, faults_of_extension_headers_stop,
-    lax_packet_is_of_its_version, whole_packets_are_lax_packets,
+    lax_faults_can_be_moved, lax_packet_is_of_its_version, whole_packets_are_lax_packets,
 };
 pub use packets::{
     bodies_lie_within, extensions_of_a_packet, faults_are_alone, faults_can_be_moved,

@@ -1,13 +1,18 @@
 //! Laws where packets that are there and packets as far as they are there meet.
-ghost use Rattle.std.specs.Prelude.{◌≡◌, ◌≢◌, ◌<◌, ◌-◌, ◌++◌, ℕ, List, length, true, None, Some, Ok, Err, IsOkAnd};
+ghost use Rattle.std.specs.Prelude.{◌≡◌, ◌≢◌, ◌<◌, ◌≤◌, ◌+◌, ◌-◌, ◌^◌, ◌++◌, ℕ, List, length, true, None, Some, Ok};
+ghost use Rattle.std.specs.Prelude.{Err, IfSome, IsOkAnd};
 ghost use Rattle.std.specs.Option.{option_map};
+ghost use Rattle.ep_base.specs.SliceError.{CanMove};
 ghost use Rattle.ep_base.specs.declared.err.layer.Layer.TheVariants as layer;
 ghost use Rattle.ep_base.specs.declared.err.len_error.LenError.{LenError};
+ghost use Rattle.ep_base.specs.declared.err.slice_error.SliceError.{SliceError};
 ghost use Rattle.ep_base.specs.declared.err.slice_error.SliceError.TheVariants as slice_error;
 ghost use Rattle.ep_base.specs.declared.len_source.LenSource.TheVariants.{Slice};
 ghost use Rattle.ep_ip.specs.Ipv4.{total_len_of, version_of};
 ghost use Rattle.ep_ip.specs.Ipv4Fault as v4;
 ghost use Rattle.ep_ip.specs.Ipv6Fault as v6;
+ghost use Rattle.ep_ip.specs.declared.err.ipv4.header_error.HeaderError.{HeaderError as Ipv4HeaderFault};
+ghost use Rattle.ep_ip.specs.declared.err.ipv6.header_error.HeaderError.{HeaderError as Ipv6HeaderFault};
 ghost use Rattle.ep_ext.specs.Chain.{Fault};
 ghost use Rattle.ep_ext.specs.Ipv4Exts.{auth_bytes};
 ghost use Rattle.ep_ext.specs.declared.err.ip_auth.header_error.HeaderError.{HeaderError as AuthFault};
@@ -16,12 +21,14 @@ ghost use Rattle.ep_ipslice.specs.IpSlice.{ip_packet_at, with_ipv4, with_ipv6};
 ghost use Rattle.ep_ipslice.specs.Ipv4Packet.{ipv4_packet_at};
 ghost use Rattle.ep_ipslice.specs.Ipv6Packet.{ipv6_packet_at};
 ghost use Rattle.ep_ipslice.specs.LaxIp.{lax_ip_packet_at, whole_ip, with_lax_ipv4, with_lax_ipv6};
-ghost use Rattle.ep_ipslice.specs.LaxPackets.{lax_ipv4_packet_at, lax_ipv6_packet_at, whole_ipv4, whole_ipv6};
+ghost use Rattle.ep_ipslice.specs.LaxPackets.{StoppedIpv4, StoppedIpv6, lax_ipv4_packet_at, lax_ipv6_packet_at};
+ghost use Rattle.ep_ipslice.specs.LaxPackets.{whole_ipv4, whole_ipv6};
 ghost use Rattle.ep_ipslice.specs.Packet.{Ipv4Packet, Ipv6Packet, body_len};
 ghost use Rattle.ep_ipslice.specs.declared.err.ipv4.slice_error.SliceError.TheVariants as ipv4;
 ghost use Rattle.ep_ipslice.specs.declared.err.ipv6.slice_error.SliceError.TheVariants as ipv6;
 ghost use Rattle.ep_ipslice.specs.declared.net.ip_slice.IpSlice.{IpSlice};
 
+use ep_ext::laws;
 use ep_ip::Ipv4HeaderSlice;
 
 /// A packet that is there is the packet as far as it is there: the same parts, of which nothing is
@@ -74,6 +81,28 @@ pub fn faults_of_extension_headers_stop()
         → IsOkAnd (lax_ipv6_packet_at bytes)
         (λ r. option_map (λ (f : Fault). f.0) r.1 ≡ Some (slice_error.Len e)) }
 {}
+
+/// The headers of a packet as far as it is there lie within the bytes, and so does the offset of its
+/// fault, so that the length of what comes before the bytes can be added to it.
+pub fn lax_faults_can_be_moved()
+    ensures ipv4_headers { (bytes : List ℕ) (s : StoppedIpv4) → lax_ipv4_packet_at bytes ≡ Ok s
+        → length s.0.header + length (auth_bytes s.0.auth) ≤ length bytes }
+    ensures ipv4_stop { (bytes : List ℕ) (s : StoppedIpv4) → lax_ipv4_packet_at bytes ≡ Ok s
+        → (n : ℕ) → length bytes + n < 2 ^ 64 → IfSome s.1 (λ e. CanMove e n) }
+    ensures ipv4_header { (bytes : List ℕ) (e : SliceError Ipv4HeaderFault)
+        → lax_ipv4_packet_at bytes ≡ Err e
+        → (n : ℕ) → length bytes + n < 2 ^ 64 → CanMove e n }
+    ensures ipv6_headers { (bytes : List ℕ) (s : StoppedIpv6) → lax_ipv6_packet_at bytes ≡ Ok s
+        → length s.0.header + length s.0.exts.slice ≤ length bytes }
+    ensures ipv6_stop { (bytes : List ℕ) (s : StoppedIpv6) → lax_ipv6_packet_at bytes ≡ Ok s
+        → (n : ℕ) → length bytes + n < 2 ^ 64 → IfSome s.1 (λ f. CanMove f.0 n) }
+    ensures ipv6_header { (bytes : List ℕ) (e : SliceError Ipv6HeaderFault)
+        → lax_ipv6_packet_at bytes ≡ Err e
+        → (n : ℕ) → length bytes + n < 2 ^ 64 → CanMove e n }
+{
+    laws::faults_can_be_moved();
+    laws::row_ends_where_none_is_taken();
+}
 
 /// The packet of either version is that of the version in the first byte, so that the other laws
 /// hold of it, too.

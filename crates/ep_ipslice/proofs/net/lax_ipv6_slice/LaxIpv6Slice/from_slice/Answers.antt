@@ -1,4 +1,4 @@
-use Rattle.std.proofs.Common.{◌≤◌, ◌<◌, ◌^◌, ◌∙◌, sym, ap, Some, None, length, arith, length-append}
+use Rattle.std.proofs.Common.{◌+◌, ◌≤◌, ◌<◌, ◌^◌, ◌∙◌, sym, ap, Some, None, length, arith, length-append}
 use Rattle.ep_ipslice.proofs.LaxIpv6.{fault_moves, read_row}
 use Rattle.ep_ipslice.proofs.net.lax_ipv6_slice.LaxIpv6Slice.from_slice.Goals as goal
 
@@ -12,10 +12,10 @@ fault_within-error-requires c =
       ap length header.1.1,
       length-append c.in-Ok.header header.1.0,
     ) in
-    let most : length c.args.slice.now < 2 ^ 64 = omega arith in
+    let most : length c.args.slice.now + 0 < 2 ^ 64 = omega arith in
     fault_moves c.faults_can_be_moved.ensures.row c.args.slice.now c.in-Ok.header
     c.body_of-len_source.result.0.now c.next_header.result.0 found.0 found.1 found.2
-    (c.in-Some.error, c.in-Some.layer) enough most c.body_of-len_source.ensures.bytes found.3
+    (c.in-Some.error, c.in-Some.layer) 0 enough most c.body_of-len_source.ensures.bytes found.3
     (sym found.4.fault ∙ c.in-Some.is)
 
 pub returns-in-Some : goal.returns-in-Some
