@@ -9,6 +9,11 @@ mod HeadersOfLayers
 mod HeadersOfMessages
 mod HeadersOfPackets
 mod HeadersOfTags
+mod LaxFitsLemmas
+mod LaxLayersLemmas
+mod LaxTagsLemmas
+mod LaxViewLemmas
+mod LaxWholeLemmas
 mod MessageFaults
 mod PacketViewLemmas
 mod PartsLemmas

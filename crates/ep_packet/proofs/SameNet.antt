@@ -8,12 +8,16 @@ use Rattle.ep_ip.specs.contracts.net.ipv4_header.Ipv4HeaderPartialEq.TheImpl as 
 use Rattle.ep_ip.specs.contracts.net.ipv6_header.Ipv6HeaderPartialEq.TheImpl as header6
 use Rattle.ep_ipslice.specs.contracts.net.ipv4_slice.Ipv4SlicePartialEq.TheImpl as packet4
 use Rattle.ep_ipslice.specs.contracts.net.ipv6_slice.Ipv6SlicePartialEq.TheImpl as packet6
+use Rattle.ep_ipslice.specs.contracts.net.lax_ipv4_slice.LaxIpv4SlicePartialEq.TheImpl as lax4
+use Rattle.ep_ipslice.specs.contracts.net.lax_ipv6_slice.LaxIpv6SlicePartialEq.TheImpl as lax6
 use Rattle.ep_link.specs.contracts.link.arp_packet.ArpPacketPartialEq.TheImpl as arp
 use Rattle.ep_link.specs.contracts.link.arp_packet_slice.ArpPacketSlicePartialEq.TheImpl as arp_slice
 use Rattle.ep_packet.specs.contracts.net.ip_headers.IpHeadersPartialEq.TheImpl as headers
+use Rattle.ep_packet.specs.contracts.net.lax_net_slice.LaxNetSlicePartialEq.TheImpl as lax_slices
 use Rattle.ep_packet.specs.contracts.net.net_headers.NetHeadersPartialEq.TheImpl as nets
 use Rattle.ep_packet.specs.contracts.net.net_slice.NetSlicePartialEq.TheImpl as slices
 use Rattle.ep_packet.specs.declared.net.ip_headers.IpHeaders.TheVariants as ip
+use Rattle.ep_packet.specs.declared.net.lax_net_slice.LaxNetSlice.TheVariants as lax_slice
 use Rattle.ep_packet.specs.declared.net.net_headers.NetHeaders.TheVariants as net
 use Rattle.ep_packet.specs.declared.net.net_slice.NetSlice.TheVariants as slice
 
@@ -46,3 +50,13 @@ same_slices four six arps (slice.Ipv6 p) (slice.Ipv6 q) =
 same_slices four six arps (slice.Arp p) (slice.Arp q) =
     one_part (arps p q) (ap slice.Arp) (λ is. cc)
 same_slices four six arps a b = (λ is. cc, λ is. cc)
+
+pub same_lax_slices : EqualIsSame lax4.ghosts.eq → EqualIsSame lax6.ghosts.eq
+    → EqualIsSame arp_slice.ghosts.eq → EqualIsSame lax_slices.ghosts.eq
+same_lax_slices four six arps (lax_slice.Ipv4 p) (lax_slice.Ipv4 q) =
+    one_part (four p q) (ap lax_slice.Ipv4) (λ is. cc)
+same_lax_slices four six arps (lax_slice.Ipv6 p) (lax_slice.Ipv6 q) =
+    one_part (six p q) (ap lax_slice.Ipv6) (λ is. cc)
+same_lax_slices four six arps (lax_slice.Arp p) (lax_slice.Arp q) =
+    one_part (arps p q) (ap lax_slice.Arp) (λ is. cc)
+same_lax_slices four six arps a b = (λ is. cc, λ is. cc)

@@ -6,6 +6,12 @@ pub mod HeadersWriteError
 pub mod IpHeaders
 pub mod IsTagged
 pub mod IpHeadersAt
+pub mod LaxFits
+pub mod LaxNetSlice
+pub mod LaxSliced
+pub mod LaxTags
+pub mod LaxView
+pub mod LaxWhole
 pub mod NetHeaders
 pub mod NetSlice
 pub mod PacketHeaders

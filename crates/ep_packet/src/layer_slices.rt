@@ -16,7 +16,10 @@ use crate::err::packet::SliceError;
 use crate::{NetSlice, TransportSlice, slice_fault};
 use ep_base::IpNumber;
 use ep_icmp::{Icmpv4Slice, Icmpv6Slice};
-use ep_ipslice::{IpPayloadSlice, IpSlice, Ipv4Slice, Ipv6Slice, laws};
+use ep_ip::{Ipv4HeaderSlice, Ipv6HeaderSlice};
+use ep_ipslice::{
+    IpPayloadSlice, IpSlice, Ipv4ExtensionsSlice, Ipv4Slice, Ipv6ExtensionsSlice, Ipv6Slice, laws,
+};
 use ep_link::ArpPacketSlice;
 use ep_tcpudp::{TcpSlice, UdpSlice};
 use std::marker::Model;
@@ -106,7 +109,10 @@ impl<'a> LayerSlices<'a> {
         let transport = match transport_in(packet.payload()) {
             Ok(transport) => transport,
             Err(error) => {
-                return Err(slice_fault::moved(error, ipv4_headers_len(&packet)));
+                return Err(slice_fault::moved(
+                    error,
+                    ipv4_headers_len(packet.header(), packet.extensions()),
+                ));
             }
         };
         Ok(LayerSlices {
@@ -125,7 +131,10 @@ impl<'a> LayerSlices<'a> {
         let transport = match transport_in(packet.payload()) {
             Ok(transport) => transport,
             Err(error) => {
-                return Err(slice_fault::moved(error, ipv6_headers_len(&packet)));
+                return Err(slice_fault::moved(
+                    error,
+                    ipv6_headers_len(packet.header(), packet.extensions()),
+                ));
             }
         };
         Ok(LayerSlices {
@@ -135,21 +144,28 @@ impl<'a> LayerSlices<'a> {
     }
 }
 
-// The number of bytes before the payload.
-fn ipv4_headers_len(packet: &Ipv4Slice<'_>) -> usize
-    ensures { result ≡ length packet.now.header + length (auth_bytes packet.now.auth) }
+/// The number of bytes before an IPv4 packet's payload.
+pub(crate) fn ipv4_headers_len(
+    header: &Ipv4HeaderSlice<'_>,
+    extensions: &Ipv4ExtensionsSlice<'_>,
+) -> usize
+    ensures { result ≡ length header.now + length (auth_bytes extensions.now.auth) }
 {
-    let header_len = packet.header().slice().len();
-    match &packet.extensions().auth {
+    let header_len = header.slice().len();
+    match &extensions.auth {
         Some(auth) => header_len + auth.slice().len(),
         None => header_len,
     }
 }
 
-fn ipv6_headers_len(packet: &Ipv6Slice<'_>) -> usize
-    ensures { result ≡ length packet.now.header + length packet.now.exts.slice }
+/// The number of bytes before an IPv6 packet's payload.
+pub(crate) fn ipv6_headers_len(
+    header: &Ipv6HeaderSlice<'_>,
+    extensions: &Ipv6ExtensionsSlice<'_>,
+) -> usize
+    ensures { result ≡ length header.now + length extensions.now.slice }
 {
-    packet.header().slice().len() + packet.extensions().slice().len()
+    header.slice().len() + extensions.slice().len()
 }
 
 // The message in the payload. None if the payload is a fragment or of a protocol that isn't read.

@@ -1,12 +1,14 @@
 //! The errors of each layer as those of all layers, with offsets from an earlier start.
-ghost use Rattle.std.specs.Prelude.{◌≡◌};
+ghost use Rattle.std.specs.Prelude.{◌≡◌, IfSome};
+ghost use Rattle.std.specs.Option.{option_map};
+ghost use Rattle.ep_packet.specs.LaxTags.{stop_by};
 ghost use Rattle.ep_packet.specs.Readable.{tcp_fault};
 ghost use Rattle.ep_packet.specs.SliceFault.{CanMove, bounded_by, offset_by, of_ip, of_ipv4, of_ipv6, of_linux_sll};
 ghost use Rattle.ep_packet.specs.SliceFault.{of_macsec, within};
 
 use crate::err::packet::SliceError;
 use ep_base::LenSource;
-use ep_base::err::LenError;
+use ep_base::err::{Layer, LenError};
 use ep_ipslice::err::{ip, ipv4, ipv6};
 use ep_link::err::linux_sll;
 use ep_tag::err::macsec;
@@ -78,6 +80,20 @@ pub(crate) fn moved(error: SliceError, offset: usize) -> SliceError
     match error {
         SliceError::Len(error) => SliceError::Len(error.add_offset(offset)),
         content => content,
+    }
+}
+
+/// The same error of a layer that starts `offset` bytes later, with that layer, if there is one.
+pub(crate) fn stop_moved(
+    stop: Option<(SliceError, Layer)>,
+    offset: usize,
+) -> Option<(SliceError, Layer)>
+    requires { IfSome stop (λ s. CanMove s.0 offset) }
+    ensures { result ≡ option_map (stop_by offset) stop }
+{
+    match stop {
+        Some((error, layer)) => Some((moved(error, offset), layer)),
+        None => None,
     }
 }
 

@@ -334,8 +334,8 @@ impl<'a> SlicedPacket<'a> {
     }
 }
 
-// A copy of the tag. A call of `clone` of a value with a model could fail, this can't.
-fn same_tag<'a>(tag: &SingleVlanSlice<'a>) -> SingleVlanSlice<'a>
+/// A copy of the tag. A call of `clone` of a value with a model could fail, this can't.
+pub(crate) fn same_tag<'a>(tag: &SingleVlanSlice<'a>) -> SingleVlanSlice<'a>
     ensures { result ≡ tag.now }
 {
     SingleVlanSlice::from_slice(tag.slice()).unwrap()

@@ -79,6 +79,8 @@ pub use ep_packet::Class;
 pub use ep_packet::IpFragment;
 pub use ep_packet::IpHeader;
 pub use ep_packet::IpHeaders;
+pub use ep_packet::LaxNetSlice;
+pub use ep_packet::LaxSlicedPacket;
 pub use ep_packet::Message;
 pub use ep_packet::NetHeaders;
 pub use ep_packet::NetSlice;

@@ -3,6 +3,7 @@
 mod errors;
 mod ip_headers;
 mod laws;
+mod lax_sliced_packet;
 mod net_headers;
 mod net_slice;
 mod packet_headers;

@@ -78,6 +78,7 @@ type IpPackets<'a> = (
     etherparse::LaxIpSlice<'a>,
     etherparse::LaxIpv4Slice<'a>,
     etherparse::LaxIpv6Slice<'a>,
+    etherparse::LaxNetSlice<'a>,
     etherparse::NetHeaders,
     etherparse::NetSlice<'a>,
 );
@@ -140,6 +141,7 @@ type Packets<'a> = (
     etherparse::Addresses,
     etherparse::Class<'a>,
     etherparse::IpFragment<'a>,
+    etherparse::LaxSlicedPacket<'a>,
     etherparse::Message<'a>,
     etherparse::PacketHeaders<'a>,
     etherparse::SlicedFragment<'a>,

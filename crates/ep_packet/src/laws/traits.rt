@@ -23,8 +23,9 @@ use crate::err::ip::HeadersWriteError;
 use crate::err::net::NetSetNextHeaderError;
 use crate::err::packet::{SliceError, TransportChecksumError};
 use crate::{
-    Addresses, Class, IpFragment, IpHeaders, Message, NetHeaders, NetSlice, PacketHeaders,
-    PayloadSlice, SlicedFragment, SlicedPacket, TransportHeader, TransportSlice, WholeMessage,
+    Addresses, Class, IpFragment, IpHeaders, LaxNetSlice, LaxSlicedPacket, Message, NetHeaders,
+    NetSlice, PacketHeaders, PayloadSlice, SlicedFragment, SlicedPacket, TransportHeader,
+    TransportSlice, WholeMessage,
 };
 use ep_base::laws::traits::Value;
 use std::hash::Hash;
@@ -69,6 +70,24 @@ pub fn packets_are_plain_data<'a>()
 {
     types_are_plain_data();
     net_is_plain_data();
+    ep_link::laws::traits::types_are_plain_data();
+    ep_tag::laws::traits::types_are_plain_data();
+}
+
+/// So are packets of the network layer that are there as far as they go, and such packets.
+pub fn lax_net_is_plain_data<'a>()
+    ensures { IsPlainData ⟦<LaxNetSlice<'a> as Value>⟧ }
+{
+    ep_ipslice::laws::traits::types_are_plain_data();
+    ep_link::laws::traits::types_are_plain_data();
+}
+
+pub fn lax_packets_are_plain_data<'a>()
+    ensures { IsPlainData ⟦<LaxSlicedPacket<'a> as Value>⟧ }
+{
+    types_are_plain_data();
+    lax_net_is_plain_data();
+    ep_base::laws::traits::types_are_plain_data();
     ep_link::laws::traits::types_are_plain_data();
     ep_tag::laws::traits::types_are_plain_data();
 }

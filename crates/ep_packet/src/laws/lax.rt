@@ -1,0 +1,26 @@
+//! Laws where packets that are there and packets as far as they are there meet.
+ghost use Rattle.std.specs.Prelude.{◌≡◌, ℕ, List, Ok};
+ghost use Rattle.ep_base.specs.declared.link.ether_type.EtherType.{EtherType};
+ghost use Rattle.ep_packet.specs.LaxSliced.{lax_sliced_ether_type, lax_sliced_ethernet, lax_sliced_ip};
+ghost use Rattle.ep_packet.specs.LaxSliced.{lax_sliced_linux_sll};
+ghost use Rattle.ep_packet.specs.LaxWhole.{whole_packet};
+ghost use Rattle.ep_packet.specs.Sliced.{sliced_ether_type, sliced_ethernet, sliced_ip, sliced_linux_sll};
+ghost use Rattle.ep_packet.specs.declared.sliced_packet.SlicedPacket.{SlicedPacket};
+
+/// A packet that is there is the packet as far as it is there: the same layers, of which nothing is
+/// missing, and nothing stopped the reading.
+pub fn whole_packets_are_lax_packets()
+    ensures ethernet { (bytes : List ℕ) (packet : SlicedPacket) → sliced_ethernet bytes ≡ Ok packet
+        → lax_sliced_ethernet bytes ≡ Ok (whole_packet packet) }
+    ensures linux_sll { (bytes : List ℕ) (packet : SlicedPacket) → sliced_linux_sll bytes ≡ Ok packet
+        → lax_sliced_linux_sll bytes ≡ Ok (whole_packet packet) }
+    ensures ether_type { (t : EtherType) (bytes : List ℕ) (packet : SlicedPacket)
+        → sliced_ether_type t bytes ≡ Ok packet
+        → lax_sliced_ether_type t bytes ≡ whole_packet packet }
+    ensures ip { (bytes : List ℕ) (packet : SlicedPacket) → sliced_ip bytes ≡ Ok packet
+        → lax_sliced_ip bytes ≡ Ok (whole_packet packet) }
+{
+    ep_ipslice::laws::whole_packets_are_lax_packets();
+    ep_tag::laws::macsec_lax::lax_reads_find_what_is_there();
+    ep_tcpudp::laws::udp::lax_reads_find_what_is_there();
+}

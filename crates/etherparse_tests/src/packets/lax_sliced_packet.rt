@@ -1,0 +1,237 @@
+//! The layers of packets as far as they are there. The bytes were worked out by hand after IEEE 802.3,
+//! 802.1Q and 802.1AE, libpcap's page on LINKTYPE_LINUX_SLL, and RFC 768, 791, 8200 and 9293.
+use crate::checks::{equal, fail};
+use ep_base::EtherType;
+use ep_base::err::{Layer, LenError};
+use ep_ip::err::ipv4;
+use ep_ipslice::err::ip;
+use ep_link::LinkSlice;
+use ep_packet::err::packet::SliceError;
+use ep_packet::{LaxNetSlice, LaxSlicedPacket, TransportSlice};
+use ep_tag::VlanSlice;
+use std::process::Abort;
+use std::test::*;
+
+// The functions below have no contracts, as tests alone call them.
+
+// An Ethernet frame with a VLAN tag with identifier 5 (byte 14), a MACsec header with a short length
+// of 42 (byte 18), a VLAN tag with identifier 9 (byte 26), an IPv4 packet from 10.0.0.1 to 10.0.0.2
+// (byte 30) and a UDP message from port 1 to port 2 (byte 50) with eight bytes of payload.
+const TAGGED: [u8; 66] = [
+    0, 0, 0, 0, 0, 0, 0, 0, 0, 0, 0, 0, 0x88, 0xa8, 0, 5, 0x88, 0xe5, 0, 42, 0, 0, 0, 1, 0x81, 0,
+    0, 9, 8, 0, 0x45, 0, 0, 0x24, 0, 7, 0, 0, 0x40, 0x11, 0x66, 0xc0, 10, 0, 0, 1, 10, 0, 0, 2, 0,
+    1, 0, 2, 0, 0x10, 0xdb, 0xb4, 1, 2, 3, 4, 5, 6, 7, 8,
+];
+
+// Number of tags, the length of the IP payload and whether bytes of it are missing, the UDP ports,
+// and the layer that stopped.
+type Layers = (
+    usize,
+    Option<(usize, bool)>,
+    Option<(u16, u16)>,
+    Option<Layer>,
+);
+
+fn layers(packet: &LaxSlicedPacket<'_>) -> Layers {
+    let payload = match packet.ip_payload() {
+        Some(payload) => Some((payload.payload.len(), payload.incomplete)),
+        None => None,
+    };
+    let ports = match &packet.transport {
+        Some(TransportSlice::Udp(datagram)) => {
+            Some((datagram.source_port(), datagram.destination_port()))
+        }
+        _ => None,
+    };
+    let stop = match packet.stop_err {
+        Some((_, layer)) => Some(layer),
+        None => None,
+    };
+    (packet.link_exts.len(), payload, ports, stop)
+}
+
+fn of_frame(bytes: &[u8]) -> Result<Layers, LenError> {
+    match LaxSlicedPacket::from_ethernet(bytes) {
+        Ok(packet) => Ok(layers(&packet)),
+        Err(error) => Err(error),
+    }
+}
+
+fn prefix(rt: impl Abort + Copy, len: usize) -> Result<Layers, LenError> {
+    match TAGGED.get(..len) {
+        Some(bytes) => of_frame(bytes),
+        None => fail(rt, "no prefix"),
+    }
+}
+
+// Cut at each byte, a frame shows each layer whose header is there.
+#[test]
+fn each_prefix_of_a_frame(rt: HostRuntime) {
+    for len in 0..14usize {
+        let error = LenError::too_few_bytes(Layer::Ethernet2Header, 14, len);
+        equal(rt, prefix(rt, len), Err(error));
+    }
+    for (start, end, tags, layer) in [
+        (14usize, 18usize, 0usize, Layer::VlanHeader),
+        (18, 26, 1, Layer::MacsecHeader),
+        (26, 30, 2, Layer::VlanHeader),
+        (30, 50, 3, Layer::Ipv4Header),
+    ] {
+        for len in start..end {
+            equal(rt, prefix(rt, len), Ok((tags, None, None, Some(layer))));
+        }
+    }
+    for len in 50..58usize {
+        let stop = Some(Layer::UdpHeader);
+        equal(
+            rt,
+            prefix(rt, len),
+            Ok((3, Some((len - 50, true)), None, stop)),
+        );
+    }
+    for len in 58..67usize {
+        let payload = Some((len - 50, len < 66));
+        equal(rt, prefix(rt, len), Ok((3, payload, Some((1, 2)), None)));
+    }
+}
+
+// The offset of the fault counts from the start of the frame.
+#[test]
+fn offset_of_the_fault(rt: HostRuntime) {
+    let wanted = LenError {
+        layer_start_offset: 50,
+        ..LenError::too_few_bytes(Layer::UdpHeader, 8, 4)
+    };
+    match LaxSlicedPacket::from_ethernet(&TAGGED[..54]) {
+        Ok(packet) => equal(
+            rt,
+            packet.stop_err,
+            Some((SliceError::Len(wanted), Layer::UdpHeader)),
+        ),
+        Err(_) => fail(rt, "no link header"),
+    }
+}
+
+// An IPv6 header where the ether type names IPv4.
+#[test]
+fn faults_of_the_content(rt: HostRuntime) {
+    let packet = LaxSlicedPacket::from_ether_type(EtherType::IPV4, &[0x60; 40]);
+    let error = ipv4::HeaderError::UnexpectedVersion { version_number: 6 };
+    equal(
+        rt,
+        packet.stop_err,
+        Some((SliceError::Ipv4(error), Layer::Ipv4Header)),
+    );
+    equal(rt, packet.net.is_some(), false);
+    equal(rt, packet.link.is_some(), true);
+}
+
+// Without a link header, and of neither version.
+#[test]
+fn ip_packets(rt: HostRuntime) {
+    match LaxSlicedPacket::from_ip(&TAGGED[30..60]) {
+        Ok(packet) => {
+            equal(
+                rt,
+                layers(&packet),
+                (0, Some((10, true)), Some((1, 2)), None),
+            );
+            equal(rt, packet.link.is_some(), false);
+        }
+        Err(_) => fail(rt, "no packet"),
+    }
+    let error = ip::HeaderError::UnsupportedIpVersion { version_number: 5 };
+    match LaxSlicedPacket::from_ip(&[0x50; 20]) {
+        Ok(_) => fail(rt, "a packet of version 5"),
+        Err(found) => equal(rt, found, ip::LaxHeaderSliceError::Content(error)),
+    }
+}
+
+// A header of a cooked capture before the first 24 bytes of that packet.
+const COOKED: [u8; 40] = [
+    0, 0, 0, 1, 0, 6, 1, 2, 3, 4, 5, 6, 0, 0, 8, 0, 0x45, 0, 0, 0x24, 0, 7, 0, 0, 0x40, 0x11, 0x66,
+    0xc0, 10, 0, 0, 1, 10, 0, 0, 2, 0, 1, 0, 2,
+];
+
+#[test]
+fn cooked_captures(rt: HostRuntime) {
+    match LaxSlicedPacket::from_linux_sll(&COOKED) {
+        Ok(packet) => {
+            let stop = Some(Layer::UdpHeader);
+            equal(rt, layers(&packet), (0, Some((4, true)), None, stop));
+            equal(
+                rt,
+                matches!(packet.link, Some(LinkSlice::LinuxSll(_))),
+                true,
+            );
+        }
+        Err(_) => fail(rt, "no packet"),
+    }
+    equal(
+        rt,
+        LaxSlicedPacket::from_linux_sll(&COOKED[..15]).is_err(),
+        true,
+    );
+}
+
+// The packet of the network layer, by its version.
+#[test]
+fn packets_of_the_network_layer(rt: HostRuntime) {
+    match LaxSlicedPacket::from_ethernet(&TAGGED[..50]) {
+        Ok(LaxSlicedPacket { net: Some(net), .. }) => {
+            equal(rt, net.ipv4_ref().is_some(), true);
+            equal(rt, net.ipv6_ref().is_some(), false);
+            equal(rt, net.arp_ref().is_some(), false);
+            equal(rt, net.ip_payload_ref().is_some(), true);
+            equal(rt, matches!(net, LaxNetSlice::Ipv4(_)), true);
+        }
+        _ => fail(rt, "no packet"),
+    }
+}
+
+// The ether type after the tags, and whether bytes after it are missing.
+fn ether_payload(packet: &LaxSlicedPacket<'_>) -> Option<(EtherType, bool)> {
+    match packet.ether_payload() {
+        Some(payload) => Some((payload.ether_type, payload.incomplete)),
+        None => None,
+    }
+}
+
+// Number and first of the VLAN identifiers, and whether the tags are read as a double tag.
+fn tags(packet: &LaxSlicedPacket<'_>) -> (usize, Option<u16>, bool) {
+    let ids = packet.vlan_ids();
+    let first = match ids.first() {
+        Some(id) => Some(id.value()),
+        None => None,
+    };
+    (
+        ids.len(),
+        first,
+        matches!(packet.vlan(), Some(VlanSlice::DoubleVlan(_))),
+    )
+}
+
+// The MACsec header between the VLAN tags promises 42 bytes after it, which end with the frame.
+#[test]
+fn tags_and_payloads_of_a_frame(rt: HostRuntime) {
+    for len in [60usize, 66] {
+        let frame = match TAGGED.get(..len) {
+            Some(frame) => frame,
+            None => fail(rt, "no prefix"),
+        };
+        match LaxSlicedPacket::from_ethernet(frame) {
+            Ok(packet) => {
+                equal(rt, tags(&packet), (2, Some(5), true));
+                equal(
+                    rt,
+                    ether_payload(&packet),
+                    Some((EtherType::IPV4, len < 66)),
+                );
+            }
+            Err(_) => fail(rt, "no link header"),
+        }
+    }
+    let packet = LaxSlicedPacket::from_ether_type(EtherType::ARP, &[0; 3]);
+    equal(rt, tags(&packet), (0, None, false));
+    equal(rt, ether_payload(&packet), Some((EtherType::ARP, false)));
+}
