@@ -4,11 +4,11 @@ import socket
 import struct
 
 import fields
+from expected import Packet
 from scapy.layers.inet import IP, TCP, UDP
 from scapy.layers.inet6 import IPv6
 from scapy.layers.l2 import Ether
 from scapy.utils import checksum
-from telling import Packet
 
 A_MAC, B_MAC = "02:00:00:00:00:01", "02:00:00:00:00:02"
 A4, B4 = "10.0.0.1", "10.0.0.2"
@@ -42,7 +42,7 @@ def v6(next_header, message, **known):
 
 
 def sealed(protocol, message, at, source=A4, target=B4):
-    """The message with its checksum at an offset, behind a pseudo header but for ICMP over IPv4."""
+    """The message with its checksum at an offset, over a pseudo header too, but for ICMP over IPv4."""
     family = socket.AF_INET6 if ":" in source else socket.AF_INET
     ends = socket.inet_pton(family, source) + socket.inet_pton(family, target)
     summed = message[:at] + b"\0\0" + message[at + 2 :]
@@ -61,26 +61,26 @@ def tcp(payload, source=A4, target=B4, options=b"", **known):
     return sealed(6, bytes(TCP(**known)) + options + payload, 16, source, target)
 
 
-def icmp(kind, code, behind, source=None, target=B6):
-    """An ICMP message, over IPv6 where a source is told."""
-    plain = bytes([kind, code, 0, 0]) + behind
+def icmp(kind, code, rest, source=None, target=B6):
+    """An ICMP message, over IPv6 where a source is given."""
+    plain = bytes([kind, code, 0, 0]) + rest
     return sealed(58, plain, 2, source, target) if source else sealed(1, plain, 2)
 
 
 def ip_packet(
     ip, line, kinds, check, net=None, transport=None, payload=b"", exts=(), tags=b"", **known
 ):
-    """An IP packet in an Ethernet frame, behind tags."""
+    """An IP packet in an Ethernet frame, after tags."""
     is_v4 = ip.version == 4
     ether_type = IPV4 if is_v4 else IPV6
     outer = int.from_bytes(tags[:2], "big") if tags else ether_type
     data = frame(outer, tags[2:] + (struct.pack("!H", ether_type) if tags else b"") + bytes(ip))
     net = net or (fields.ipv4(ip) if is_v4 else fields.ipv6(ip))
     fragment = known.pop("fragment", None)
-    told = fields.members(link(outer), list(exts), net, transport, payload, fragment)
+    members = fields.members(link(outer), list(exts), net, transport, payload, fragment)
     kinds = ("Ethernet", *known.pop("tag_kinds", ()), "IPv4" if is_v4 else "IPv6", *kinds)
     talk = f"{ip.src} > {ip.dst}"
-    return Packet(data, line, told, kinds, check=check, talk=talk, **known)
+    return Packet(data, line, members, kinds, check=check, talk=talk, **known)
 
 
 def refused(data, line, error, reason):

@@ -42,7 +42,7 @@ OF_MIXED = (
     (("port=1",), ()),
     (("host=10.0.0.1", "refused"), ()),
 )
-OF_REFUSED_WHOLE = (
+OF_REFUSED_MESSAGES = (
     (("refused",), (2, 4)),
     (("udp", "refused"), (2,)),
     (("tcp", "refused"), (4,)),
@@ -112,7 +112,7 @@ NO_CONDITIONS = (
     ("host=", ADDRESS),
     ("port=65536", PORT),
     ("port=-1", PORT),
-    # A long word is told whole.
+    # A long word is shown whole.
     ("host=2001:0db8:0000:0000:0000:0000:0000:0001:0002", ADDRESS),
 )
 
@@ -137,7 +137,7 @@ def no_conditions():
 
 CAPTURES = (
     Worked("mixed", 1, frames.MIXED, [*met(OF_MIXED), *no_conditions()]),
-    Worked("refused_whole", 1, frames.REFUSED_WHOLE, met(OF_REFUSED_WHOLE)),
+    Worked("refused_messages", 1, frames.REFUSED_MESSAGES, met(OF_REFUSED_MESSAGES)),
     Worked("arp_hosts", 1, frames.ARP, met(OF_ARP)),
     Worked("ip_protocols", 1, frames.IP_PROTOCOLS, met(OF_IP_PROTOCOLS)),
     Worked("others", 1, frames.OTHERS, met(OF_OTHERS)),

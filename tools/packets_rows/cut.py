@@ -3,29 +3,29 @@
 import dataclasses
 
 from build import ARP_TYPE, IPV4, frame, udp, v4
+from fragments import fragment4, waits
 from links import REQUEST, cooked
-from parts import part4, waits
+from messages import arp
 from refusals import cut_off
-from whole import arp
 
 
 def cut():
-    """With bytes of a header, of a message or only of the padding left out, and parts of a message.
+    """With bytes of a header, of a message or only of the padding left out, and a fragment.
 
     The last two: all bytes were captured, and a record that says less than was captured.
     """
     of = lambda packet, wire: dataclasses.replace(packet, wire=wire)
-    whole = bytes(v4(17, udp(b"abc")))
-    yield of(cut_off(frame(IPV4, whole[:6]), "IPv4 header", "Ipv4Header", 14, 20, 6), 45)
-    yield of(cut_off(frame(IPV4, whole[:30]), "IPv4 packet", "Ipv4Packet", 14, 31, 30), 45)
+    datagram = bytes(v4(17, udp(b"abc")))
+    yield of(cut_off(frame(IPV4, datagram[:6]), "IPv4 header", "Ipv4Header", 14, 20, 6), 45)
+    yield of(cut_off(frame(IPV4, datagram[:30]), "IPv4 packet", "Ipv4Packet", 14, 31, 30), 45)
     yield of(cut_off(frame(ARP_TYPE, bytes(REQUEST)[:7]), "ARP packet", "Arp", 14, 8, 7), 1514)
-    ask, *_ = arp()
-    yield of(ask, 60)
+    request, *_ = arp()
+    yield of(request, 60)
     message = udp(b"0123456789abcdef")
     line = "UDP fragment at 0 len 16, more follow (id 0x1234)"
-    yield of(part4(message, 17, 0, 16, 0x1234, line, waits(5), "UDP"), 60)
-    yield ask
-    yield of(ask, 20)
+    yield of(fragment4(message, 17, 0, 16, 0x1234, line, waits(5), "UDP"), 60)
+    yield request
+    yield of(request, 20)
 
 
 def cut_cooked():
@@ -36,7 +36,7 @@ def cut_cooked():
     yield arp_packet
 
 
-def lying():
+def wrong_length():
     """A record that says less than was captured, and none that was cut."""
-    ask, *_ = arp()
-    yield dataclasses.replace(ask, wire=20)
+    request, *_ = arp()
+    yield dataclasses.replace(request, wire=20)

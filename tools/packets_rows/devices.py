@@ -16,7 +16,7 @@ COLORED = (
     b"\x1b[1;31mbad checksum\x1b[0m\n"
 )
 FILE = "forms.pcap"
-# Words for a file, the status, and what is told behind the program's name. The cause is in the C library's words.
+# Words for a file, the status, and what is written after the program's name. The cause is in the C library's words.
 REFUSED = (
     ((), 3, "standard input: no capture file: the input is empty"),
     (("-",), 3, "standard input: no capture file: the input is empty"),
@@ -50,8 +50,8 @@ def on_terminal(program, folder, words, env=None, errors=False):
     os.close(slave)
     written = b""
     try:
-        while piece := os.read(master, 65536):
-            written += piece
+        while chunk := os.read(master, 65536):
+            written += chunk
     except OSError:
         # The terminal's other end is closed.
         pass
@@ -66,8 +66,8 @@ def inputs(program, folder):
         yield "standard input", (done.returncode, done.stdout) == (0, PLAIN)
     for name, status, wanted in REFUSED:
         done = run(program, folder, "show", *name)
-        told = done.returncode, done.stdout, done.stderr.decode()
-        yield f"refused: {name}", told == (status, b"", f"packets: {wanted}\n")
+        result = done.returncode, done.stdout, done.stderr.decode()
+        yield f"refused: {name}", result == (status, b"", f"packets: {wanted}\n")
     yield "the version", run(program, folder, "--version").stdout == f"packets {version()}\n".encode()
     for words in ([], ["list"], ["show", "--width"], ["json", "--utc"], ["summary", "--only", "tcq"]):
         done = run(program, folder, *words)
@@ -82,10 +82,10 @@ def terminals(program, folder):
     os.environ.pop("NO_COLOR", None)
     yield "a terminal", on_terminal(program, folder, ["show", FILE]) == (0, COLORED)
     for text in ("1", ""):
-        told = on_terminal(program, folder, ["show", FILE], {"NO_COLOR": text})
-        yield f"a terminal and NO_COLOR={text}", told == (0, PLAIN)
-    told = on_terminal(program, folder, ["show", "--color", "never", FILE])
-    yield "a terminal without colors", told == (0, PLAIN)
+        result = on_terminal(program, folder, ["show", FILE], {"NO_COLOR": text})
+        yield f"a terminal and NO_COLOR={text}", result == (0, PLAIN)
+    result = on_terminal(program, folder, ["show", "--color", "never", FILE])
+    yield "a terminal without colors", result == (0, PLAIN)
     yield "how far a run is", progress(program, folder) == (0, b"\r4 of 9 MiB\r8 of 9 MiB\r\x1b[K")
     yield "no terminal", run(program, folder, "summary", FILE).stderr == b""
 
@@ -101,7 +101,7 @@ def long_capture(folder):
 
 
 def progress(program, folder):
-    """What is told on a terminal of a file of 9 MiB: after each 4 MiB how many are read, and at the end nothing any more."""
+    """What a terminal shows of a file of 9 MiB: after each 4 MiB how many are read, and at the end nothing any more."""
     with long_capture(folder) as name:
         return on_terminal(program, folder, ["summary", name], errors=True)
 
@@ -123,14 +123,14 @@ def growing(program, folder):
     """Of a capture that grows, the line of a packet is there before the next one comes."""
     data = bytes_of(folder, FILE)
     child = subprocess.Popen([program, "show"], stdin=subprocess.PIPE, stdout=subprocess.PIPE)
-    told = []
-    for piece in (data, data[24:]):
-        child.stdin.write(piece)
+    lines = []
+    for chunk in (data, data[24:]):
+        child.stdin.write(chunk)
         child.stdin.flush()
-        told.append(child.stdout.readline())
+        lines.append(child.stdout.readline())
     child.stdin.close()
     rest = child.stdout.read()
-    yield "a capture that grows", (child.wait(60), told, rest) == (0, [PLAIN, PLAIN.replace(b"1  ", b"2  ", 1)], b"")
+    yield "a capture that grows", (child.wait(60), lines, rest) == (0, [PLAIN, PLAIN.replace(b"1  ", b"2  ", 1)], b"")
 
 
 def limited(program, folder):
@@ -153,9 +153,9 @@ def limited(program, folder):
         except subprocess.TimeoutExpired:
             status = None
             child.kill()
-        told = child.stdout.read()
+        written = child.stdout.read()
         child.stdin.close()
-        is_known = told == known if words[0] == "show" else told.startswith(known)
+        is_known = written == known if words[0] == "show" else written.startswith(known)
         yield f"an input that stays open: {words}", (status, is_known) == (0, True)
 
 

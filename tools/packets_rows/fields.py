@@ -18,62 +18,62 @@ def number(data, at, size=2):
 
 
 def members(link, exts, net=None, transport=None, payload=b"", fragment=None):
-    """The members of a packet's object behind `len`."""
-    told = {"link": link, "link_exts": exts}
-    told |= {"net": net} if net else {}
-    told |= {"transport": transport} if transport else {}
-    told |= {"payload_len": len(payload), "payload": payload.hex()}
-    return told | ({"fragment": fragment} if fragment else {})
+    """The members of a packet's object after `len`."""
+    packet = {"link": link, "link_exts": exts}
+    packet |= {"net": net} if net else {}
+    packet |= {"transport": transport} if transport else {}
+    packet |= {"payload_len": len(payload), "payload": payload.hex()}
+    return packet | ({"fragment": fragment} if fragment else {})
 
 
 def cut_off(layer, offset, required, there, source="Slice"):
-    told = {"required_len": required, "len": there, "len_source": source, "layer": layer}
-    return {"error": {"Len": told | {"layer_start_offset": offset}}}
+    error = {"required_len": required, "len": there, "len_source": source, "layer": layer}
+    return {"error": {"Len": error | {"layer_start_offset": offset}}}
 
 
 def vlan(vlan_id, ether_type, pcp=0, dei=False):
-    told = {
+    header = {
         "pcp": pcp,
         "drop_eligible_indicator": dei,
         "vlan_id": vlan_id,
         "ether_type": ether_type,
     }
-    return {"Vlan": told}
+    return {"Vlan": header}
 
 
 def ipv4(it, auth=None):
     """Of scapy's header, which was read again, so that its lengths and checksum are there."""
-    told = {"dscp": it.tos >> 2, "ecn": it.tos & 3, "total_len": it.len, "identification": it.id}
-    told |= {
+    header = {"dscp": it.tos >> 2, "ecn": it.tos & 3, "total_len": it.len, "identification": it.id}
+    header |= {
         "dont_fragment": "DF" in it.flags,
         "more_fragments": "MF" in it.flags,
         "fragment_offset": it.frag,
     }
-    told |= {"time_to_live": it.ttl, "protocol": it.proto, "header_checksum": it.chksum}
-    told |= {"source": it.src, "destination": it.dst, "options": bytes(it)[20 : 4 * it.ihl].hex()}
-    return {"Ipv4": told | ({"auth": auth} if auth else {})}
+    header |= {"time_to_live": it.ttl, "protocol": it.proto, "header_checksum": it.chksum}
+    header |= {"source": it.src, "destination": it.dst, "options": bytes(it)[20 : 4 * it.ihl].hex()}
+    return {"Ipv4": header | ({"auth": auth} if auth else {})}
 
 
 def ipv6(it, extensions=()):
-    told = {
+    header = {
         "traffic_class": it.tc,
         "flow_label": it.fl,
         "payload_length": it.plen,
         "next_header": it.nh,
     }
-    told |= {
+    header |= {
         "hop_limit": it.hlim,
         "source": it.src,
         "destination": it.dst,
         "extensions": list(extensions),
     }
-    return {"Ipv6": told}
+    return {"Ipv6": header}
 
 
 def arp(it, sender=None, target=None):
-    told = {"hw_addr_type": it.hwtype, "proto_addr_type": it.ptype, "operation": it.op}
-    told |= {"sender_hw_addr": it.hwsrc, "sender_protocol_addr": sender or it.psrc}
-    return {"Arp": told | {"target_hw_addr": it.hwdst, "target_protocol_addr": target or it.pdst}}
+    packet = {"hw_addr_type": it.hwtype, "proto_addr_type": it.ptype, "operation": it.op}
+    packet |= {"sender_hw_addr": it.hwsrc, "sender_protocol_addr": sender or it.psrc}
+    return {"Arp": packet | {"target_hw_addr": it.hwdst, "target_protocol_addr": target or it.pdst}}
 
 
 def udp(data):
@@ -82,27 +82,27 @@ def udp(data):
 
 
 def tcp(it, options=()):
-    told = {"source_port": it.sport, "destination_port": it.dport, "sequence_number": it.seq}
-    told |= {"acknowledgment_number": it.ack, "data_offset": it.dataofs}
-    told |= {name: letter in str(it.flags) for name, letter in FLAGS.items()}
-    told |= {"window_size": it.window, "checksum": it.chksum, "urgent_pointer": it.urgptr}
-    return {"Tcp": told | {"options": list(options)}}
+    header = {"source_port": it.sport, "destination_port": it.dport, "sequence_number": it.seq}
+    header |= {"acknowledgment_number": it.ack, "data_offset": it.dataofs}
+    header |= {name: letter in str(it.flags) for name, letter in FLAGS.items()}
+    header |= {"window_size": it.window, "checksum": it.chksum, "urgent_pointer": it.urgptr}
+    return {"Tcp": header | {"options": list(options)}}
 
 
 def icmp(name, data, more):
-    told = {
+    header = {
         "type_u8": data[0],
         "code_u8": data[1],
         "checksum": number(data, 2),
         "bytes5to8": data[4:8].hex(),
     }
-    return {name: told | more}
+    return {name: header | more}
 
 
-def part(next_header, offset, more, identification):
+def fragment(next_header, offset, more, identification):
     """A fragment header of IPv6."""
-    told = {"next_header": next_header, "fragment_offset": offset, "more_fragments": more}
-    return {"Fragment": told | {"identification": identification}}
+    header = {"next_header": next_header, "fragment_offset": offset, "more_fragments": more}
+    return {"Fragment": header | {"identification": identification}}
 
 
 def auth(next_header, spi, sequence, icv):

@@ -1,8 +1,8 @@
 """Frames in hex, written by hand or scapy's (2.5.0), that several captures are over."""
 
 # A TCP segment, a UDP datagram with a wrong checksum, an ARP packet, an ICMPv6 message in a VLAN,
-# two parts of a UDP datagram, an IPv4 header that is cut off, a TCP header of 4 words, a datagram
-# without a checksum, and a part of another one.
+# two fragments of a UDP datagram, an IPv4 header that is cut off, a TCP header of 4 words, a
+# datagram without a checksum, and a fragment of another one.
 MIXED = (
     "02000000000202000000000108004500002800010000400666cd0a0000010a00000201bbc8220000001100"
     "0000005002ffffd1f10000",
@@ -22,9 +22,9 @@ MIXED = (
     "02000000000202000000000108004500002412352000401134920a0000010a000002003514e9002051fd00"
     "01020304050607",
 )
-# Two parts of a UDP datagram that ends before its length says, and two of a TCP segment with a
+# Two fragments of a UDP datagram that ends before its length says, and two of a TCP segment with a
 # header of 4 words.
-REFUSED_WHOLE = (
+REFUSED_MESSAGES = (
     "02000000000202000000000108004500002c20012000401126be0a0000010a000002003514e900c8000000"
     "0102030405060708090a0b0c0d0e0f",
     "02000000000202000000000108004500002c20010003401146bb0a0000010a000002101112131415161718"
@@ -42,12 +42,12 @@ ARP = (
     "ffffffffffff020000000001080600060800060400010200000000010a0000010000000000000a000002",
     "ffffffffffff02000000000108060007080001040001050a000003000a000004",
 )
-# UDP datagrams behind hop-by-hop options, a routing header, destination options, and an
-# authentication header over IPv6 and IPv4; parts of messages over IPv6 that begin with destination
-# options and with an authentication header; a UDP datagram behind a fragment header that cuts
-# nothing; SCTP; an IPv4 header from 10.0.0.3 to 10.0.0.4, an IPv6 header and an Ethernet frame in
-# IPv4; a part behind an authentication header over IPv4; and over it the number of destination
-# options, which it doesn't have.
+# UDP datagrams after hop-by-hop options, a routing header, destination options, and an
+# authentication header over IPv6 and IPv4; fragments over IPv6 whose payloads start with
+# destination options and with an authentication header; a UDP datagram in an atomic fragment; SCTP;
+# an IPv4 header from 10.0.0.3 to 10.0.0.4, an IPv6 header and an Ethernet frame in IPv4; a fragment
+# with an authentication header over IPv4; and over it the number of destination options, which it
+# doesn't have.
 IP_PROTOCOLS = (
     "02000000000202000000000186dd600000000012004020010db800000000000000000000000120010db8"
     "00000000000000000000000211000104000000000009000a000a42f06162",
@@ -80,7 +80,7 @@ IP_PROTOCOLS = (
     "02000000000202000000000108004500001c00010000403c66a30a0000010a0000021100010400000000",
 )
 # A MACsec header with an encrypted payload, and one before a UDP datagram from port 53 to 4000; an
-# ARP packet from 10.0.0.5 to 10.0.0.6; two parts of the first segment above, of 16 and 4 bytes.
+# ARP packet from 10.0.0.5 to 10.0.0.6; two fragments of the first segment above, of 16 and 4 bytes.
 OTHERS = (
     "02000000000202000000000188e52d00000000090200000000010001736563726574",
     "02000000000202000000000188e501000000000908004500001f00010000401166cb0a0000010a00000200"
@@ -90,8 +90,8 @@ OTHERS = (
     "0000005002ffff",
     "02000000000202000000000108004500001856780002400600000a0000010a000002d1f10000",
 )
-# Parts of a UDP datagram over IPv4 and of one over IPv6 by turns.
-PARTS = (
+# Fragments of a UDP datagram over IPv4 and of one over IPv6 by turns.
+FRAGMENTS = (
     "02000000000202000000000108004500002412342000401134930a0000010a00000200350fa0001cb3ac61"
     "62636465666768",
     "02000000000202000000000186dd6000000000182c4020010db800000000000000000000000120010db800"

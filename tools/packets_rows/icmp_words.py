@@ -3,7 +3,7 @@ Parameters", RFC 792, RFC 1191 and RFC 4443."""
 
 from worked import Worked, shown
 
-# Type and code, what stands behind the checksum, and the words.
+# Type and code, what follows the checksum, and the words.
 OVER_IPV4 = (
     (0, 0, "00010002", "echo reply id 1 seq 2"),
     (0, 1, "00010002", "echo reply code 1"),
@@ -96,30 +96,30 @@ OVER_IPV6 = (
 
 
 def over_ipv4(rows):
-    for kind, code, behind, _ in rows:
-        size = 24 + len(behind) // 2
-        yield f"4500{size:04x}00010000400100000a0000010a000002{kind:02x}{code:02x}0000{behind}"
+    for kind, code, rest, _ in rows:
+        size = 24 + len(rest) // 2
+        yield f"4500{size:04x}00010000400100000a0000010a000002{kind:02x}{code:02x}0000{rest}"
 
 
 def over_ipv6(rows):
     ends = "20010db8000000000000000000000001" "20010db8000000000000000000000002"
-    for kind, code, behind, _ in rows:
-        yield f"6000000000083a40{ends}{kind:02x}{code:02x}0000{behind}"
+    for kind, code, rest, _ in rows:
+        yield f"6000000000083a40{ends}{kind:02x}{code:02x}0000{rest}"
 
 
-def told(sent, rows):
+def shown_rows(sent, rows):
     """The checksum is 0, which is wrong."""
     return [(["show"], shown(f"{sent} {row[3]} len 0  bad checksum" for row in rows))]
 
 
 CAPTURES = (
     Worked(
-        "icmp_words", 101, over_ipv4(OVER_IPV4), told("10.0.0.1 > 10.0.0.2 ICMP", OVER_IPV4)
+        "icmp_words", 101, over_ipv4(OVER_IPV4), shown_rows("10.0.0.1 > 10.0.0.2 ICMP", OVER_IPV4)
     ),
     Worked(
         "icmp6_words",
         101,
         over_ipv6(OVER_IPV6),
-        told("2001:db8::1 > 2001:db8::2 ICMPv6", OVER_IPV6),
+        shown_rows("2001:db8::1 > 2001:db8::2 ICMPv6", OVER_IPV6),
     ),
 )

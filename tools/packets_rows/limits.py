@@ -47,8 +47,8 @@ def still_open():
 
 
 def cut():
-    for words, told in CUT:
-        yield ["show", "--width", "5", *words], told
+    for words, lines in CUT:
+        yield ["show", "--width", "5", *words], lines
 
 
 MIXED = frames.MIXED

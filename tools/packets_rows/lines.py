@@ -154,7 +154,7 @@ REFUSALS = (
 RAW_REFUSALS = (
     ("4500001c000100", "refused: IPv4 header cut off: 20 bytes needed at byte 14, 7 there"),
 )
-PARTS = (
+FRAGMENTS = (
     "    1   0.000000 10.0.0.1 > 10.0.0.2 UDP fragment at 0 len 16, more follow (id 0x1234)",
     "    2   0.001500 2001:db8::1 > 2001:db8::2 UDP fragment at 0 len 16, more follow (id "
     "0x0a0b0c0d)",
@@ -163,7 +163,7 @@ PARTS = (
     "    4   0.004500 2001:db8::1 > 2001:db8::2 UDP fragment at 8 len 16, more follow (id "
     "0x0a0b0c0d, begun in packet 2) refused: overlaps another, its message is dropped",
 )
-# Spans of ten seconds: a message is dropped once two have ended behind its last part.
+# Spans of ten seconds: a message is dropped once two have ended after its last fragment.
 DROPPED = (
     "    1   0.000000 10.0.0.1 > 10.0.0.2 UDP fragment at 0 len 16, more follow (id 0x1234)",
     "    4  23.000000 10.0.0.1 > 10.0.0.2 UDP fragment at 16 len 16, last (id 0x1234)",
@@ -190,19 +190,19 @@ def ether_types():
 
 
 def worked(name, link_type, rows):
-    """A capture of frames, and the line of each behind its number and its time."""
+    """A capture of frames, and the line of each after its number and its time."""
     rows = list(rows)
-    told = [(["show"], shown(line for _, line in rows))]
-    return Worked(name, link_type, [frame for frame, _ in rows], told)
+    lines = shown(line for _, line in rows)
+    return Worked(name, link_type, [frame for frame, _ in rows], [(["show"], lines)])
 
 
 def spans(name, numbered, lines, still_open=()):
-    told = [
+    rows = [
         (["show", "--only", "fragments", "--forget", "10"], lines),
         (["summary", "--only", "gre", "--forget", "10"], ["no packets", *still_open]),
     ]
     picked = [frames.MIXED[number - 1] for number, _ in numbered]
-    return Worked(name, 1, picked, told, seconds=[second for _, second in numbered])
+    return Worked(name, 1, picked, rows, seconds=[second for _, second in numbered])
 
 
 CAPTURES = (
@@ -211,9 +211,9 @@ CAPTURES = (
     worked("ether_types", 1, ether_types()),
     worked("refusals", 1, REFUSALS),
     worked("raw_refusals", 101, RAW_REFUSALS),
-    Worked("parts", 1, frames.PARTS, [(["show"], PARTS)]),
+    Worked("fragments", 1, frames.FRAGMENTS, [(["show"], FRAGMENTS)]),
     Worked("numbered", 1, ["", frames.MIXED[4], "", frames.MIXED[5]], [(["show"], NUMBERED)]),
-    # Parts, and ARP packets.
+    # Fragments, and ARP packets.
     spans(
         "dropped",
         [(5, 0), (3, 11), (3, 22), (6, 23)],

@@ -1,12 +1,12 @@
-"""Captures of tags, of what isn't looked into, and of links other than Ethernet."""
+"""Captures of tags, of what isn't parsed, and of links other than Ethernet."""
 
 import struct
 
 import fields
 from build import A4, A6, A_MAC, ARP_TYPE, B4, B6, B_MAC, IPV4, IPV6
 from build import frame, icmp, ip_packet, link, udp, v4, v6
+from expected import Packet
 from scapy.layers.l2 import ARP, CookedLinux
-from telling import Packet
 
 MACS = f"{A_MAC} > {B_MAC}"
 PORTS4 = f"{A4}.53 > {B4}.4000"
@@ -16,7 +16,7 @@ WHO_HAS = f"ARP who has {B4}? tell {A4}"
 
 
 def vlan():
-    """IEEE 802.1Q. Each tag is told as its protocol, priority, drop eligibility and identifier."""
+    """IEEE 802.1Q. Each tag is given as its protocol, priority, drop eligibility and identifier."""
 
     def bytes_of(tags):
         return b"".join(struct.pack("!HH", it[0], it[1] << 13 | it[2] << 12 | it[3]) for it in tags)
@@ -33,8 +33,8 @@ def vlan():
     def other(tags, ether_type, line, body, net, kinds, payload):
         first, *rest = tags
         data = bytes_of(tags)[2:] + struct.pack("!H", ether_type) + body
-        told = fields.members(link(first[0]), exts_of(tags, ether_type), net, None, payload)
-        return Packet(frame(first[0], data), line, told, ("Ethernet", "VLAN", *kinds))
+        members = fields.members(link(first[0]), exts_of(tags, ether_type), net, None, payload)
+        return Packet(frame(first[0], data), line, members, ("Ethernet", "VLAN", *kinds))
 
     message, message6 = udp(b"abc"), udp(b"abc", A6, B6)
     yield packet(
@@ -73,7 +73,7 @@ def macsec():
         tag += struct.pack("!Q", sci) if sci is not None else b""
         return tag + (struct.pack("!H", ether_type) if ether_type else b"")
 
-    def told(ptype, an, short, number, sci=None, ether_type=None, end=False, scb=False):
+    def ext(ptype, an, short, number, sci=None, ether_type=None, end=False, scb=False):
         it = {"ptype": ptype} | ({"ether_type": ether_type} if ether_type else {})
         it |= {"endstation_id": end, "scb": scb, "an": an, "short_len": short, "packet_nr": number}
         return {"Macsec": it | ({"sci": sci} if sci is not None else {})}
@@ -81,13 +81,13 @@ def macsec():
     message = udp(b"abc")
     ip = v4(17, message)
     sci = 0x0200000000010001
-    known = {"exts": [told("Unmodified", 1, 0, 9, sci, IPV4)], "tag_kinds": ("MACsec",)}
+    known = {"exts": [ext("Unmodified", 1, 0, 9, sci, IPV4)], "tag_kinds": ("MACsec",)}
     known["tags"] = b"\x88\xe5" + header(0x21, 0, 9, sci)
     line = f"macsec an 1 pn 9 sci 0200000000010001 {PORTS4} UDP len 3  good"
     yield ip_packet(ip, line, ("UDP",), "good", None, fields.udp(message), b"abc", **known)
-    # The short length counts the ether type and 31 bytes. A check value of 16 bytes stands behind.
+    # The short length counts the ether type and 31 bytes. A check value of 16 bytes follows.
     known = {
-        "exts": [told("Unmodified", 0, 33, 10, None, IPV4, end=True)],
+        "exts": [ext("Unmodified", 0, 33, 10, None, IPV4, end=True)],
         "tag_kinds": ("MACsec",),
     }
     known["tags"] = b"\x88\xe5" + header(0x40, 33, 10)
@@ -102,29 +102,29 @@ def macsec():
     ):
         an = flags & 3
         data = frame(0x88E5, header(flags, 0, 4294967295, own) + b"secret")
-        exts = [told(ptype, an, 0, 4294967295, own)]
+        exts = [ext(ptype, an, 0, 4294967295, own)]
         members = fields.members(link(0x88E5), exts, None, None, b"secret")
         line = f"macsec an {an} pn 4294967295 {line}"
         yield Packet(data, line, members, ("Ethernet", "MACsec"))
     # A VLAN tag that is protected, of a frame for all.
     plain = header(0x10, 0, 11, None, 0x8100) + struct.pack("!HH", 5, ARP_TYPE) + bytes(REQUEST)
-    exts = [told("Unmodified", 0, 0, 11, None, 0x8100, scb=True), fields.vlan(5, ARP_TYPE)]
+    exts = [ext("Unmodified", 0, 0, 11, None, 0x8100, scb=True), fields.vlan(5, ARP_TYPE)]
     members = fields.members(link(0x88E5), exts, fields.arp(REQUEST))
     kinds = ("Ethernet", "VLAN", "MACsec", "ARP")
     yield Packet(frame(0x88E5, plain), f"macsec an 0 pn 11 vlan 5 {WHO_HAS}", members, kinds)
 
 
 def other():
-    """Ether types and protocols that aren't looked into, by IANA's names or by their numbers."""
+    """Ether types and protocols that aren't parsed, by IANA's names or by their numbers."""
     for ether_type, name, body in (
         (0x88B5, "ether type 0x88b5", b"data"),
         (0x88CC, "LLDP", bytes.fromhex("0207040200000000010000")),
-        # A length (IEEE 802.3), and behind it spanning tree.
+        # A length (IEEE 802.3), and after it spanning tree.
         (38, "LLC", bytes.fromhex("424203") + bytes(35)),
         (0x05DD, "ether type 0x05dd", b""),
     ):
-        told = fields.members(link(ether_type), [], None, None, body)
-        yield Packet(frame(ether_type, body), f"{MACS} {name} len {len(body)}", told, ("Ethernet",))
+        members = fields.members(link(ether_type), [], None, None, body)
+        yield Packet(frame(ether_type, body), f"{MACS} {name} len {len(body)}", members, ("Ethernet",))
     for number, name, kind, body in (
         (132, "SCTP", "SCTP", bytes(12)),
         (47, "GRE", "GRE", b"\0\0\x08\0"),

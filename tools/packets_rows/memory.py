@@ -1,5 +1,5 @@
-"""Which messages are dropped so that the incomplete ones take no more than SIZE, written by hand. Each takes 640 bytes, and those up
-to the greatest end of a fragment."""
+"""Which messages are dropped so that the incomplete ones take no more than SIZE, written by hand. Each takes 640 bytes,
+and those up to the greatest end of a fragment."""
 
 import struct
 
@@ -12,13 +12,13 @@ ENDS = "10.0.0.1 > 10.0.0.2"
 
 def frame(identification, offset, more, data):
     """An IPv4 fragment (RFC 791, 3.1)."""
-    place = offset // 8 | (0x2000 if more else 0)
+    flags_and_offset = offset // 8 | (0x2000 if more else 0)
     ends = bytes([10, 0, 0, 1, 10, 0, 0, 2])
-    parts = (0x4500, 20 + len(data), identification, place, 64 << 8 | 17, 0, *struct.unpack("!4H", ends))
-    total = sum(parts)
+    words = (0x4500, 20 + len(data), identification, flags_and_offset, 64 << 8 | 17, 0, *struct.unpack("!4H", ends))
+    total = sum(words)
     while total > 0xFFFF:
         total = (total & 0xFFFF) + (total >> 16)
-    header = struct.pack("!10H", *parts[:5], 0xFFFF - total, *parts[6:])
+    header = struct.pack("!10H", *words[:5], 0xFFFF - total, *words[6:])
     return (bytes.fromhex("02000000000202000000000108 00") + header + data).hex()
 
 
@@ -39,8 +39,8 @@ def waits(identification):
 
 
 def completes(identification):
-    begun = f"completes a message of 28 bytes begun in packet {identification}: 53 > 5353 UDP len 20  no checksum"
-    return f"{waits(identification)}, {begun}"
+    text = f"completes a message of 28 bytes begun in packet {identification}: 53 > 5353 UDP len 20  no checksum"
+    return f"{waits(identification)}, {text}"
 
 
 def note(count, size):
@@ -55,19 +55,19 @@ def counted(still_open, dropped, size):
 
 
 def of_three():
-    """Three first fragments take 656 bytes each, and a last one that begins a message 668."""
+    """Three first fragments take 656 bytes each, and a last one that starts a message 668."""
     numbers = (1, 2, 3)
-    whole = list(shown([*map(begins, numbers), *map(completes, numbers)]))
+    complete = list(shown([*map(begins, numbers), *map(completes, numbers)]))
     for size in ("1968", "2K", "1M", "1G"):
-        yield ["show", "--reassembly-memory", size], whole
-    yield ["show"], whole
+        yield ["show", "--reassembly-memory", size], complete
+    yield ["show"], complete
     # Message 1 is dropped with the third packet, and then the oldest with each.
-    cut = list(shown([*map(begins, numbers), *map(waits, numbers)]))
-    yield ["show", "--reassembly-memory", "1967"], [*cut, note(4, 1967)]
+    dropped = list(shown([*map(begins, numbers), *map(waits, numbers)]))
+    yield ["show", "--reassembly-memory", "1967"], [*dropped, note(4, 1967)]
     yield ["summary", "--only", "gre", "--reassembly-memory", "1967"], counted(2, 4, 1967)
     yield ["summary", "--only", "gre", "--reassembly-memory", "1K"], counted(1, 5, 1024)
     yield ["summary", "--only", "gre", "--reassembly-memory", "0"], counted(0, 6, 0)
-    yield ["show", "--reassembly-memory", "0"], [*cut, note(6, 0)]
+    yield ["show", "--reassembly-memory", "0"], [*dropped, note(6, 0)]
 
 
 def of_high():

@@ -1,4 +1,4 @@
-"""What is told on standard error of captures that are refused, and of packets that are passed over, by
+"""What is written on standard error of captures that are refused, and of packets that are passed over, by
 docs/PACKETS.md, docs/CAPTURES.md and the registry of link types (tcpdump.org/linktypes.html)."""
 
 import frames
@@ -31,7 +31,7 @@ def of_no_frame():
     note = passed_over(0, 0, 2)
     yield ["show", "--skip"], [LINE, note]
     yield ["show", "--skip", "--only", "arp"], [note]
-    # Behind the file header and the first record.
+    # After the file header and the first record.
     at = 24 + 16 + 4 + len(DATAGRAM) // 2
     yield ["show"], [LINE, f"packet 2, byte {at}: a packet has no ether type"]
 
@@ -45,12 +45,12 @@ def of_some_frames():
 
 def of_another_link(number, name):
     note = passed_over(2, 0, 0)
-    told = [
+    rows = [
         (["show"], [f"packet 1, byte 24: link type {number} is not read{name}; --skip passes over its packets"]),
         (["json", "--skip"], [note]),
         (["summary", "--skip"], [*EMPTY, note, note]),
     ]
-    return Worked(f"link_type_{number}", number, ["0102", "03"], told)
+    return Worked(f"link_type_{number}", number, ["0102", "03"], rows)
 
 
 CAPTURES = (

@@ -4,7 +4,7 @@ scapy's (2.5.0)."""
 import json
 
 import frames
-from telling import BEGIN
+from expected import BEGIN
 from worked import STEP, Worked
 
 # A frame, and its object from the link type on.
@@ -68,9 +68,9 @@ RAW_ERRORS = (
         '"layer":"Ipv4Header","layer_start_offset":14}}',
     ),
 )
-PARTS = (
+FRAGMENTS = (
     (
-        frames.PARTS[0],
+        frames.FRAGMENTS[0],
         '"Ethernet","len":50,"wire_len":50,"link":{"Ethernet2":{"source":"02:00:00:00:00:01",'
         '"destination":"02:00:00:00:00:02","ether_type":2048}},"link_exts":[],'
         '"net":{"Ipv4":{"dscp":0,"ecn":0,"total_len":36,"identification":4660,"dont_fragmen'
@@ -79,7 +79,7 @@ PARTS = (
         '"options":""}},"payload_len":16,"fragment":{"Waits":{"begun":1}}',
     ),
     (
-        frames.PARTS[2],
+        frames.FRAGMENTS[2],
         '"Ethernet","len":46,"wire_len":46,"link":{"Ethernet2":{"source":"02:00:00:00:00:01",'
         '"destination":"02:00:00:00:00:02","ether_type":2048}},"link_exts":[],'
         '"net":{"Ipv4":{"dscp":0,"ecn":0,"total_len":32,"identification":4660,"dont_fragmen'
@@ -94,8 +94,8 @@ PARTS = (
 
 def worked(name, link_type, words, rows):
     objects = [
-        f'{{"number":{at + 1},"time":{BEGIN + at * STEP},"interface":0,"link_type":{told}}}'
-        for at, (_, told) in enumerate(rows)
+        f'{{"number":{at + 1},"time":{BEGIN + at * STEP},"interface":0,"link_type":{members}}}'
+        for at, (_, members) in enumerate(rows)
     ]
     assert all(json.loads(it) for it in objects)
     return Worked(name, link_type, [frame for frame, _ in rows], [(words, objects)])
@@ -105,5 +105,5 @@ CAPTURES = (
     worked("headers", 1, ["json", "--payload"], HEADERS),
     worked("errors", 1, ["json"], ERRORS),
     worked("raw_errors", 101, ["json"], RAW_ERRORS),
-    worked("objects_of_parts", 1, ["json"], PARTS),
+    worked("objects_of_fragments", 1, ["json"], FRAGMENTS),
 )

@@ -1,4 +1,4 @@
-"""Captures of hosts whose checksums a network card fills in, or not: reports tell them apart."""
+"""Captures of hosts whose checksums a network card fills in, or not: reports distinguish them."""
 
 import fields
 from build import A4, A6, B4, B6, ip_packet, udp, v4, v6
@@ -7,7 +7,7 @@ TEXTS = {"good": "good", "bad": "bad checksum", "none": "no checksum"}
 
 
 def datagrams(*sent):
-    """UDP datagrams by their ends, and what their checksums tell."""
+    """UDP datagrams by their ends and their verdicts."""
     for source, target, check in sent:
         message = udp(b"abc", source, target)
         if check == "bad":

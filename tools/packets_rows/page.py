@@ -1,4 +1,4 @@
-"""What docs/PACKETS.md shows of a capture: what stands there is what has to be told."""
+"""What docs/PACKETS.md shows of a capture: what stands there is what has to be written."""
 
 import os
 import re
@@ -15,7 +15,7 @@ OBJECT = (
     '"operation":1,"sender_hw_addr":"02:00:00:00:00:01","sender_protocol_addr":"10.0.0.1",'
     '"target_hw_addr":"00:00:00:00:00:00","target_protocol_addr":"10.0.0.2"}},"payload_len":0}'
 )
-# A command line of the capture of the page, and the block behind it.
+# A command line of the capture of the page, and the block after it.
 EXAMPLE = r"    \$ packets (.+) mixed\.pcap\n((?:(?:    .*)?\n)+)"
 
 
@@ -28,18 +28,18 @@ def whole(lines, rest):
     return [line.replace("..", rest) if line.endswith(" ..") else line for line in lines]
 
 
-def told():
-    """The words of each example, and the lines that they tell."""
+def examples():
+    """The words of each example, and the lines that they write."""
     with open(PAGE, encoding="utf-8") as page:
         text = page.read()
     (rest,) = re.findall(r"\(line 6 continues: `(.+)`\)", text)
-    examples = re.findall(EXAMPLE, text)
-    assert [words.split()[0] for words, _ in examples] == ["show", "json", "summary"]
-    for words, block in examples:
+    found = re.findall(EXAMPLE, text)
+    assert [words.split()[0] for words, _ in found] == ["show", "json", "summary"]
+    for words, block in found:
         lines = [line[4:] for line in block.rstrip("\n").split("\n")]
         yield words.split(), whole(lines, rest)
 
 
 # An eighth of a second from one packet to the next.
 SECONDS = [0.25 + at / 8 for at in range(len(frames.MIXED))]
-CAPTURES = (Worked("page", 1, frames.MIXED, list(told()), seconds=SECONDS),)
+CAPTURES = (Worked("page", 1, frames.MIXED, list(examples()), seconds=SECONDS),)

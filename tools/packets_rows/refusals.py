@@ -5,7 +5,7 @@ import struct
 import fields
 from build import A4, A_MAC, ARP_TYPE, B4, IPV4, IPV6
 from build import frame, icmp, refused, tcp, udp, v4, v6
-from parts import part4, part6, refused as refused_part, waits
+from fragments import fragment4, fragment6, refused as refused_fragment, waits
 from scapy.layers.l2 import ARP
 
 
@@ -70,38 +70,38 @@ def reasons():
     )
 
 
-def parts():
-    """Each reason for which a part of a message is refused, but that there is no memory for it.
+def fragments():
+    """Each reason for which a fragment is refused, but that there is no memory for it.
 
     Only an overlap over IPv6 drops its message.
     """
     one = udp(b"0123456789abcdef")
     line = "UDP fragment at 0 len 11, more follow (id 0x0001) "
     line += "refused: more follow, and its 11 bytes are no multiple of 8"
-    told = refused_part({"UnalignedFragmentPayloadLen": {"offset": 0, "payload_len": 11}})
-    yield part4(one, 17, 0, 11, 1, line, told, "UDP", refused="fragment of no multiple of 8 bytes")
+    outcome = refused_fragment({"UnalignedFragmentPayloadLen": {"offset": 0, "payload_len": 11}})
+    yield fragment4(one, 17, 0, 11, 1, line, outcome, "UDP", refused="fragment of no multiple of 8 bytes")
     line = "UDP fragment at 65528 len 8, last (id 0x0001) "
     line += "refused: ends behind the 65535 bytes of the longest message"
-    told = refused_part({"SegmentTooBig": {"offset": 8191, "payload_len": 8, "max": 65535}})
+    outcome = refused_fragment({"SegmentTooBig": {"offset": 8191, "payload_len": 8, "max": 65535}})
     long = bytes(65528) + b"01234567"
-    yield part4(long, 17, 65528, 65536, 1, line, told, "UDP", refused="fragment behind 65535 bytes")
-    yield part4(one, 17, 16, 24, 2, "UDP fragment at 16 len 8, last (id 0x0002)", waits(3), "UDP")
+    yield fragment4(long, 17, 65528, 65536, 1, line, outcome, "UDP", refused="fragment behind 65535 bytes")
+    yield fragment4(one, 17, 16, 24, 2, "UDP fragment at 16 len 8, last (id 0x0002)", waits(3), "UDP")
     line = "UDP fragment at 24 len 8, last (id 0x0002, begun in packet 3) "
     line += "refused: ends at 32, its message at 24"
-    told = refused_part({"ConflictingEnd": {"previous_end": 24, "conflicting_end": 32}}, 3)
+    outcome = refused_fragment({"ConflictingEnd": {"previous_end": 24, "conflicting_end": 32}}, 3)
     end = "fragment against the end of its message"
-    yield part4(bytes(32), 17, 24, 32, 2, line, told, "UDP", refused=end)
+    yield fragment4(bytes(32), 17, 24, 32, 2, line, outcome, "UDP", refused=end)
     line = "UDP fragment at 8 len 8, last (id 0x0002, begun in packet 3) "
     line += "refused: ends at 16, its message at 24"
-    told = refused_part({"ConflictingEnd": {"previous_end": 24, "conflicting_end": 16}}, 3)
-    yield part4(bytes(16), 17, 8, 16, 2, line, told, "UDP", refused=end)
-    yield part6(
+    outcome = refused_fragment({"ConflictingEnd": {"previous_end": 24, "conflicting_end": 16}}, 3)
+    yield fragment4(bytes(16), 17, 8, 16, 2, line, outcome, "UDP", refused=end)
+    yield fragment6(
         one, 17, 0, 16, 3, "UDP fragment at 0 len 16, more follow (id 0x00000003)", waits(6), "UDP"
     )
     line = "UDP fragment at 8 len 8, more follow (id 0x00000003, begun in packet 6) "
     line += "refused: overlaps another, its message is dropped"
-    told = refused_part({"OverlappingFragment": {"offset": 1, "payload_len": 8}}, 6)
-    yield part6(one, 17, 8, 16, 3, line, told, "UDP", refused="fragment that overlaps another")
+    outcome = refused_fragment({"OverlappingFragment": {"offset": 1, "payload_len": 8}}, 6)
+    yield fragment6(one, 17, 8, 16, 3, line, outcome, "UDP", refused="fragment that overlaps another")
 
 
 def cut_off(data, name, layer, offset, required, there, source=None):
@@ -124,7 +124,7 @@ def cut_links():
     yield cut_off(frame(0x8100, b"\0\5"), "VLAN tag", "VlanHeader", 14, 4, 2)
     yield cut_off(frame(0x8100, b"\0\5\x81\0\0"), "VLAN tag", "VlanHeader", 18, 4, 1)
     yield cut_off(frame(0x88E5, b"\0\0\0"), "MACsec header", "MacsecHeader", 14, 6, 3)
-    # An SCI of eight bytes and an ether type are wanted.
+    # An SCI of eight bytes and an ether type are needed.
     yield cut_off(
         frame(0x88E5, struct.pack("!BBI", 0x20, 0, 1)), "MACsec header", "MacsecHeader", 14, 16, 6
     )
@@ -140,18 +140,18 @@ def cut_packets():
     """Layers of IP that are cut off."""
     by4, by6 = "Ipv4HeaderTotalLen", "Ipv6HeaderPayloadLen"
     datagram = udp(b"abc")
-    whole4, whole6 = bytes(v4(17, datagram)), bytes(v6(17, datagram))
+    packet4, packet6 = bytes(v4(17, datagram)), bytes(v6(17, datagram))
     optional = bytes(v4(17, datagram, options=bytes(4)))
     yield cut_off(frame(IPV4, optional[:20]), "IPv4 header", "Ipv4Header", 14, 24, 20)
-    yield cut_off(frame(IPV4, whole4[:30]), "IPv4 packet", "Ipv4Packet", 14, 31, 30)
+    yield cut_off(frame(IPV4, packet4[:30]), "IPv4 packet", "Ipv4Packet", 14, 31, 30)
     yield cut_off(
         frame(IPV4, v4(17, datagram, len=19)), "IPv4 packet", "Ipv4Packet", 14, 20, 19, by4
     )
     line = "authentication header", "IpAuthHeader", 34
     yield cut_off(frame(IPV4, v4(51, b"\x11\4\0\0")), *line, 12, 4, by4)
     yield cut_off(frame(IPV4, v4(51, struct.pack("!BBHII", 17, 4, 0, 1, 1))), *line, 24, 12, by4)
-    yield cut_off(frame(IPV6, whole6[:39]), "IPv6 header", "Ipv6Header", 14, 40, 39)
-    yield cut_off(frame(IPV6, whole6[:50]), "IPv6 packet", "Ipv6Packet", 14, 51, 50)
+    yield cut_off(frame(IPV6, packet6[:39]), "IPv6 header", "Ipv6Header", 14, 40, 39)
+    yield cut_off(frame(IPV6, packet6[:50]), "IPv6 packet", "Ipv6Packet", 14, 51, 50)
     line = "IPv6 extension header", "Ipv6ExtHeader", 54
     yield cut_off(frame(IPV6, v6(0, b"\x11\0\1")), *line, 8, 3, by6)
     yield cut_off(frame(IPV6, v6(60, b"\x11\1\1\4\0\0\0\0")), *line, 16, 8, by6)

@@ -1,7 +1,7 @@
-"""Reports of captures, written by hand, and captures that are refused on the way."""
+"""Reports of captures, written by hand, and captures that are refused after some packets."""
 
+import expected
 import frames
-import telling
 from worked import Worked
 
 TALKERS = """\
@@ -48,7 +48,7 @@ messages open at the end: 1
 packets a second, by spans of 0.001953125 s: 512 at most
 █
 """
-# Open messages are told where their fragments aren't among the packets.
+# Open messages are reported where their fragments aren't among the packets.
 OF_GRE = """\
 no packets
 
@@ -60,19 +60,19 @@ CUT_OFF = "packet 2, byte 94: the capture ends within a packet"
 def cut_off():
     """Of the file header, the first record, and two bytes of the second."""
     kinds, talk = ("Ethernet", "IPv4", "TCP"), "10.0.0.1 > 10.0.0.2"
-    it = telling.Packet(bytes.fromhex(frames.MIXED[0]), "", {}, kinds, check="good", talk=talk)
-    it.number, it.time = 1, telling.BEGIN
-    told = [
+    it = expected.Packet(bytes.fromhex(frames.MIXED[0]), "", {}, kinds, check="good", talk=talk)
+    it.number, it.time = 1, expected.BEGIN
+    rows = [
         (["show", "--width", "12"], ["    1   0.00", CUT_OFF]),
-        (["summary"], [*telling.summary([it], 0), CUT_OFF]),
+        (["summary"], [*expected.summary([it], 0), CUT_OFF]),
     ]
-    return Worked("cut_off", 1, frames.MIXED[:2], told, end=24 + 16 + 54 + 2)
+    return Worked("cut_off", 1, frames.MIXED[:2], rows, end=24 + 16 + 54 + 2)
 
 
-# What is passed over is told in the report, and on standard error.
+# What is passed over stands in the report, and on standard error.
 PASSED_OVER = "passed over: 0 of other links, 1 too long, 0 without a frame"
 NUMBERS = [f"{at + 1:5}" for at in range(len(frames.TALKERS))]
-# Behind the file header, and records of 20 bytes.
+# After the file header, and records of 20 bytes.
 TOO_LONG = f"packet 14, byte {24 + 13 * 36}: a packet of 100000 bytes is too long for a line"
 
 CAPTURES = (

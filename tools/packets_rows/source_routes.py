@@ -4,7 +4,7 @@ section 8.1). The checksum of each datagram is right for the destination with wh
 import ipaddress
 import struct
 
-from telling import BEGIN
+from expected import BEGIN
 from worked import STEP, Worked, shown
 
 LINK = "020000000002020000000001"
@@ -52,7 +52,7 @@ def ipv4(options, payload, number=17):
 
 
 def ipv6(extension, payload, first=43):
-    """A frame with an IPv6 header, whose extension headers begin with one of this number."""
+    """A frame with an IPv6 header, whose extension headers start with one of this number."""
     body = extension + payload
     header = struct.pack(">IHBB", 6 << 28, len(body), first, 64)
     ends = b"".join(map(packed, ENDS[6]))
@@ -84,7 +84,7 @@ def echo(version, destination):
 
 
 VIA4, VIA6 = "10.0.0.3", "2001:db8::3"
-# An option, and what is told of datagrams that were made for 10.0.0.9 and for 10.0.0.2.
+# An option, and the verdicts on datagrams that were made for 10.0.0.9 and for 10.0.0.2.
 OPTIONS = (
     (route(131, 4, VIA4, END[4]), GOOD, BAD),
     (route(137, 8, VIA4, END[4]), GOOD, BAD),
@@ -95,7 +95,7 @@ OPTIONS = (
     (route(131, 4, VIA4, END[4], size=10), UNKNOWN, UNKNOWN),
     (route(137, 5, VIA4, END[4]), UNKNOWN, UNKNOWN),
 )
-# A routing header, and what is told of datagrams that were made for 2001:db8::9 and 2001:db8::2.
+# A routing header, and the verdicts on datagrams that were made for 2001:db8::9 and 2001:db8::2.
 HEADERS = (
     (routing(0, 1, 0, VIA6, END[6]), GOOD, BAD),
     (routing(0, 0, 0, VIA6, END[6]), BAD, GOOD),
@@ -126,20 +126,20 @@ def others():
     loose, broken = route(131, 4, VIA4, END[4]), route(131, 4, VIA4, END[4], size=10)
     tcp, tcp6 = routing(0, 1, 0, END[6], after=6), routing(5, 1, 0, END[6], after=6)
     icmp, icmp6 = routing(4, 1, 0, END[6], after=58), routing(5, 1, 0, END[6], after=58)
-    asked = "10.0.0.1.443 > 10.0.0.2.51234 TCP [S] seq 17 win 65535 len 0  "
-    asked6 = "2001:db8::1.443 > 2001:db8::2.51234 TCP [S] seq 17 win 65535 len 0  "
-    pinged = "10.0.0.1 > 10.0.0.2 ICMP echo request id 7 seq 2 len 0  "
-    pinged6 = "2001:db8::1 > 2001:db8::2 ICMPv6 echo request id 7 seq 2 len 0  "
-    yield ipv4(loose, segment(4, END[4]), 6), asked + GOOD
-    yield ipv4(loose, segment(4, ENDS[4][1]), 6), asked + BAD
-    yield ipv4(broken, segment(4, END[4]), 6), asked + UNKNOWN
-    yield ipv6(tcp, segment(6, END[6])), asked6 + GOOD
-    yield ipv6(tcp6, segment(6, END[6])), asked6 + UNKNOWN
-    yield ipv6(icmp, echo(6, END[6])), pinged6 + GOOD
-    yield ipv6(icmp6, echo(6, END[6])), pinged6 + UNKNOWN
+    syn = "10.0.0.1.443 > 10.0.0.2.51234 TCP [S] seq 17 win 65535 len 0  "
+    syn6 = "2001:db8::1.443 > 2001:db8::2.51234 TCP [S] seq 17 win 65535 len 0  "
+    ping = "10.0.0.1 > 10.0.0.2 ICMP echo request id 7 seq 2 len 0  "
+    ping6 = "2001:db8::1 > 2001:db8::2 ICMPv6 echo request id 7 seq 2 len 0  "
+    yield ipv4(loose, segment(4, END[4]), 6), syn + GOOD
+    yield ipv4(loose, segment(4, ENDS[4][1]), 6), syn + BAD
+    yield ipv4(broken, segment(4, END[4]), 6), syn + UNKNOWN
+    yield ipv6(tcp, segment(6, END[6])), syn6 + GOOD
+    yield ipv6(tcp6, segment(6, END[6])), syn6 + UNKNOWN
+    yield ipv6(icmp, echo(6, END[6])), ping6 + GOOD
+    yield ipv6(icmp6, echo(6, END[6])), ping6 + UNKNOWN
     # ICMP over IPv4 has no pseudo header (RFC 792).
-    yield ipv4(loose, echo(4, END[4]), 1), pinged + GOOD
-    yield ipv4(broken, echo(4, END[4]), 1), pinged + GOOD
+    yield ipv4(loose, echo(4, END[4]), 1), ping + GOOD
+    yield ipv4(broken, echo(4, END[4]), 1), ping + GOOD
     unsummed = struct.pack(">HHHH", 53, 4000, 11, 0) + b"abc"
     yield ipv4(broken, unsummed), "10.0.0.1.53 > 10.0.0.2.4000 UDP len 3  no checksum"
     # GRE has a checksum of its own, which isn't read.
@@ -147,7 +147,7 @@ def others():
 
 
 def fragments():
-    """Two fragments behind a routing header of each type of a datagram, and their lines."""
+    """Two fragments after a routing header of each type of a datagram, and their lines."""
     at = "2001:db8::1 > 2001:db8::2 UDP fragment at"
     for kind, verdict in ((0, GOOD), (5, UNKNOWN)):
         data = datagram(6, END[6])
@@ -176,12 +176,12 @@ def capture(name, cases):
     cases = list(cases)
     lines = list(shown([line for _, line in cases]))
     bad = [line for line in lines if line.endswith(BAD)]
-    told = [
+    rows = [
         (("show",), lines),
         (("show", "--only", "bad"), bad),
         (("show", "--no-checksums"), map(unverified, lines)),
     ]
-    return Worked(name, 1, [frame for frame, _ in cases], told)
+    return Worked(name, 1, [frame for frame, _ in cases], rows)
 
 
 ROUTED = (
@@ -229,7 +229,7 @@ def objects():
         for at, (_, members) in enumerate(ROUTED)
     ]
     unverified = [line.replace(',"verdict":"Good"', "").replace(',"verdict":"None"', "") for line in lines]
-    told = [
+    rows = [
         (("json",), lines),
         (("json", "--no-checksums"), unverified),
         (
@@ -237,7 +237,7 @@ def objects():
             ["error: the argument '--only bad' cannot be used with '--no-checksums'"],
         ),
     ]
-    return Worked("final_destinations", 1, [frame for frame, _ in ROUTED], told)
+    return Worked("final_destinations", 1, [frame for frame, _ in ROUTED], rows)
 
 
 CAPTURES = (

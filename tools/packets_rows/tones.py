@@ -38,7 +38,7 @@ FORMS = (
     ),
     (("--utc", "--width", "40"), "    1 2023-11-14T22:13:20.000000Z 10.0.0"),
 )
-# The line of each packet, behind its number and time.
+# The line of each packet, after its number and time.
 TONED = (
     "10.0.0.1.443 > 10.0.0.2.51234 {c}TCP{e} [S] seq 17 win 65535 len 0  {g}good{e}",
     "10.0.0.1.53 > 10.0.0.2.5353 {c}UDP{e} len 4  {r}bad checksum{e}",
@@ -55,8 +55,8 @@ TONED = (
 
 
 def colored():
-    for line, behind in zip(shown([""] * len(TONED)), TONED, strict=True):
-        yield toned(f"{{d}}{line.rstrip()}{{e}} {behind}")
+    for line, rest in zip(shown([""] * len(TONED)), TONED, strict=True):
+        yield toned(f"{{d}}{line.rstrip()}{{e}} {rest}")
 
 
 CAPTURES = (

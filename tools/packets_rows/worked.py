@@ -1,9 +1,9 @@
-"""Captures of frames in hex, and what command lines tell of them, written by hand."""
+"""Captures of frames in hex, and what command lines write of them, by hand."""
 
 import dataclasses
 import struct
 
-import telling
+import expected
 
 # From one packet to the next.
 STEP = 1_500_000
@@ -13,7 +13,7 @@ STEP = 1_500_000
 class Worked:
     """A classic capture, high byte first, in microseconds.
 
-    `told` has words in front of the file's name, and the lines that they tell; `seconds` are the
+    `rows` has words before the file's name, and the lines that they write; `seconds` are the
     packets' times since the first, if not a step apart; `wire` how many bytes they had on the wire,
     if not those of the frames; of the file, `end` bytes are kept.
     """
@@ -21,7 +21,7 @@ class Worked:
     name: str
     link_type: int
     frames: list
-    told: list
+    rows: list
     seconds: list = None
     wire: list = None
     end: int = None
@@ -31,7 +31,7 @@ class Worked:
         for at, frame in enumerate(self.frames):
             data = bytes.fromhex(frame)
             since = int(self.seconds[at] * 10**9) if self.seconds else at * STEP
-            time = telling.BEGIN + since
+            time = expected.BEGIN + since
             size = len(data)
             wire = self.wire[at] if self.wire else size
             parts.append(struct.pack(">IIII", time // 10**9, time % 10**9 // 1000, size, wire))

@@ -5,9 +5,9 @@ import struct
 import fields
 from build import A4, A6, A_MAC, ARP_TYPE, B4, B6, B_MAC
 from build import frame, icmp, ip_packet, link, tcp, udp, v4, v6
+from expected import Packet
 from scapy.layers.inet import TCP
 from scapy.layers.l2 import ARP
-from telling import Packet
 
 ENDS4 = f"{A4} > {B4}"
 ENDS6 = f"{A6} > {B6}"
@@ -18,12 +18,12 @@ PORTS6 = f"{A6}.53 > {B6}.4000"
 def arp():
     """RFC 826: a request and its reply, padded, another operation, hardware and protocol."""
     zero = "00:00:00:00:00:00"
-    ask = ARP(op=1, hwsrc=A_MAC, psrc=A4, hwdst=zero, pdst=B4)
-    tell = ARP(op=2, hwsrc=B_MAC, psrc=B4, hwdst=A_MAC, pdst=A4)
+    request = ARP(op=1, hwsrc=A_MAC, psrc=A4, hwdst=zero, pdst=B4)
+    reply = ARP(op=2, hwsrc=B_MAC, psrc=B4, hwdst=A_MAC, pdst=A4)
     third = ARP(op=3, hwsrc=A_MAC, psrc=A4, hwdst=A_MAC, pdst=A4)
     for it, line, padding in (
-        (ask, f"ARP who has {B4}? tell {A4}", 0),
-        (tell, f"ARP {B4} is at {B_MAC}", 18),
+        (request, f"ARP who has {B4}? tell {A4}", 0),
+        (reply, f"ARP {B4} is at {B_MAC}", 18),
         (third, f"ARP operation 3 from {A_MAC} {A4} to {A_MAC} {A4}", 0),
     ):
         data = frame(ARP_TYPE, bytes(it) + bytes(padding))
@@ -34,27 +34,27 @@ def arp():
     data = frame(
         ARP_TYPE, struct.pack("!HHBBH", 15, 0x0800, 2, 4, 8) + b"\x18\x41\x0a\0\0\1\0\0\0\0\0\0"
     )
-    told = {
+    members = {
         "hw_addr_type": 15,
         "proto_addr_type": 0x0800,
         "operation": 8,
         "sender_hw_addr": "18:41",
     }
-    told |= {
+    members |= {
         "sender_protocol_addr": A4,
         "target_hw_addr": "00:00",
         "target_protocol_addr": "0.0.0.0",
     }
     line = f"ARP operation 8 hardware type 15 from 18:41 {A4} to 00:00 0.0.0.0"
-    yield Packet(data, line, fields.members(link(ARP_TYPE), [], {"Arp": told}), ("Ethernet", "ARP"))
+    yield Packet(data, line, fields.members(link(ARP_TYPE), [], {"Arp": members}), ("Ethernet", "ARP"))
     body = bytes.fromhex("020000000001") + b"\x12\x34" + bytes(6) + b"\x56\x78"
     data = frame(ARP_TYPE, struct.pack("!HHBBH", 1, 0x0BAD, 6, 2, 1) + body)
-    told = {"hw_addr_type": 1, "proto_addr_type": 0x0BAD, "operation": 1, "sender_hw_addr": A_MAC}
-    told |= {"sender_protocol_addr": "1234", "target_hw_addr": zero, "target_protocol_addr": "5678"}
+    members = {"hw_addr_type": 1, "proto_addr_type": 0x0BAD, "operation": 1, "sender_hw_addr": A_MAC}
+    members |= {"sender_protocol_addr": "1234", "target_hw_addr": zero, "target_protocol_addr": "5678"}
     yield Packet(
         data,
         f"ARP operation 1 from {A_MAC} to {zero}",
-        fields.members(link(ARP_TYPE), [], {"Arp": told}),
+        fields.members(link(ARP_TYPE), [], {"Arp": members}),
         ("Ethernet", "ARP"),
     )
 
@@ -102,7 +102,7 @@ def ipv6_udp():
         bytes.fromhex("fd0000000000"),
     )
     raw = lambda following, payload: bytes([following, (len(payload) + 2) // 8 - 1]) + payload
-    told = lambda kind, following, payload: {
+    extension = lambda kind, following, payload: {
         kind: {"next_header": following, "payload": payload.hex()}
     }
     auth = struct.pack("!BBHII", 17, 4, 0, 0x1001, 8) + icv
@@ -115,26 +115,26 @@ def ipv6_udp():
         return ip_packet(ip, line, ("UDP",), check, net, fields.udp(message), message[8:])
 
     yield packet(17, b"", [], tc=0xB9, fl=0xABCDE, hlim=255)
-    yield packet(0, raw(17, alert), [told("HopByHop", 17, alert)])
-    yield packet(60, raw(17, long), [told("DestinationOptions", 17, long)])
+    yield packet(0, raw(17, alert), [extension("HopByHop", 17, alert)])
+    yield packet(60, raw(17, long), [extension("DestinationOptions", 17, long)])
     # No segments are left, so that the checksum is one to the destination that is there.
-    yield packet(43, raw(17, routing), [told("Routing", 17, routing)])
-    # A fragment that is a whole message (RFC 6946).
+    yield packet(43, raw(17, routing), [extension("Routing", 17, routing)])
+    # An atomic fragment (RFC 6946).
     alone = struct.pack("!BBHI", 17, 0, 0, 0x0A0B0C0D)
-    yield packet(44, alone, [fields.part(17, 0, False, 0x0A0B0C0D)])
+    yield packet(44, alone, [fields.fragment(17, 0, False, 0x0A0B0C0D)])
     yield packet(51, auth, [{"Authentication": fields.auth(17, 0x1001, 8, icv)}])
     every = raw(60, alert) + raw(43, padded) + raw(44, routing) + struct.pack("!BBHI", 51, 0, 0, 5)
     every += struct.pack("!BBHII", 60, 4, 0, 0x1001, 9) + icv + raw(17, padded)
     extensions = [
-        told("HopByHop", 60, alert),
-        told("DestinationOptions", 43, padded),
-        told("Routing", 44, routing),
+        extension("HopByHop", 60, alert),
+        extension("DestinationOptions", 43, padded),
+        extension("Routing", 44, routing),
     ]
     extensions += [
-        fields.part(51, 0, False, 5),
+        fields.fragment(51, 0, False, 5),
         {"Authentication": fields.auth(60, 0x1001, 9, icv)},
     ]
-    yield packet(0, every, [*extensions, told("DestinationOptions", 17, padded)])
+    yield packet(0, every, [*extensions, extension("DestinationOptions", 17, padded)])
     yield packet(17, b"", [], good[:8] + b"abd", "bad", "bad checksum")
     yield packet(17, b"", [], good[:6] + b"\0\0abc", "none", "no checksum")
 
@@ -168,7 +168,7 @@ def tcp_segments():
         seq=17,
         window=65535,
     )
-    # Behind the end of the options nothing is told.
+    # After the end of the options nothing is shown.
     yield packet(
         "[S.] seq 4294967295 ack 18 win 0 len 0 options [mss 1460]",
         options=mss + b"\0" + b"\1\1\1",
@@ -251,25 +251,25 @@ def icmp_messages():
     echo = {"id": 7, "seq": 2}
     yield packet("echo request id 7 seq 2 len 4", icmp(8, 0, b"\0\7\0\2ping"), echo, b"ping")
     yield packet("echo reply id 7 seq 2 len 4", icmp(0, 0, b"\0\7\0\2ping"), echo, b"ping")
-    told = bytes(v4(17, udp(b"")))
-    yield packet("port unreachable len 28", icmp(3, 3, bytes(4) + told), {}, told)
-    too_long = icmp(3, 4, b"\0\0\5\x78" + told)
-    yield packet("fragmentation needed, mtu 1400 len 28", too_long, {"next_hop_mtu": 1400}, told)
-    to = icmp(5, 1, b"\x0a\0\0\3" + told)
+    original = bytes(v4(17, udp(b"")))
+    yield packet("port unreachable len 28", icmp(3, 3, bytes(4) + original), {}, original)
+    too_long = icmp(3, 4, b"\0\0\5\x78" + original)
+    yield packet("fragmentation needed, mtu 1400 len 28", too_long, {"next_hop_mtu": 1400}, original)
+    to = icmp(5, 1, b"\x0a\0\0\3" + original)
     yield packet(
         "redirect to 10.0.0.3 for the host len 28",
         to,
         {"gateway_internet_address": "10.0.0.3"},
-        told,
+        original,
     )
-    yield packet("time to live exceeded len 28", icmp(11, 0, bytes(4) + told), {}, told)
-    at = icmp(12, 0, b"\x14\0\0\0" + told)
-    yield packet("parameter problem at byte 20 len 28", at, {"pointer": 20}, told)
+    yield packet("time to live exceeded len 28", icmp(11, 0, bytes(4) + original), {}, original)
+    at = icmp(12, 0, b"\x14\0\0\0" + original)
+    yield packet("parameter problem at byte 20 len 28", at, {"pointer": 20}, original)
     times = {"originate_timestamp": 1, "receive_timestamp": 2, "transmit_timestamp": 86_400_000}
-    asked = icmp(13, 0, struct.pack("!HHIII", 7, 3, 1, 2, 86_400_000))
-    yield packet("timestamp request id 7 seq 3 len 0", asked, {"id": 7, "seq": 3} | times, b"")
-    told = icmp(14, 0, struct.pack("!HHIII", 7, 3, 1, 2, 86_400_000))
-    wrong = told[:2] + bytes([told[2] ^ 1]) + told[3:]
+    request = icmp(13, 0, struct.pack("!HHIII", 7, 3, 1, 2, 86_400_000))
+    yield packet("timestamp request id 7 seq 3 len 0", request, {"id": 7, "seq": 3} | times, b"")
+    reply = icmp(14, 0, struct.pack("!HHIII", 7, 3, 1, 2, 86_400_000))
+    wrong = reply[:2] + bytes([reply[2] ^ 1]) + reply[3:]
     yield packet("timestamp reply id 7 seq 3 len 0", wrong, {"id": 7, "seq": 3} | times, b"", "bad")
     yield packet("type 42 code 3 len 2", icmp(42, 3, b"\1\2\3\4xy"), {}, b"xy")
 
@@ -288,14 +288,14 @@ def icmp6_messages():
         "echo request id 1 seq 3 len 5", icmp(128, 0, b"\0\1\0\3hello", A6), echo, b"hello"
     )
     yield packet("echo reply id 1 seq 3 len 5", icmp(129, 0, b"\0\1\0\3hello", A6), echo, b"hello")
-    told = bytes(v6(17, udp(b"", A6, B6)))
+    original = bytes(v6(17, udp(b"", A6, B6)))
     yield packet(
-        "packet too big, mtu 1280 len 48", icmp(2, 0, b"\0\0\5\0" + told, A6), {"mtu": 1280}, told
+        "packet too big, mtu 1280 len 48", icmp(2, 0, b"\0\0\5\0" + original, A6), {"mtu": 1280}, original
     )
-    yield packet("no route len 48", icmp(1, 0, bytes(4) + told, A6), {}, told)
-    yield packet("hop limit exceeded len 48", icmp(3, 0, bytes(4) + told, A6), {}, told)
-    problem = icmp(4, 1, b"\0\0\0\x28" + told, A6)
-    yield packet("unknown next header at byte 40 len 48", problem, {"pointer": 40}, told)
+    yield packet("no route len 48", icmp(1, 0, bytes(4) + original, A6), {}, original)
+    yield packet("hop limit exceeded len 48", icmp(3, 0, bytes(4) + original, A6), {}, original)
+    problem = icmp(4, 1, b"\0\0\0\x28" + original, A6)
+    yield packet("unknown next header at byte 40 len 48", problem, {"pointer": 40}, original)
     target = bytes.fromhex("20010db8000000000000000000000002")
     yield packet("neighbor solicitation len 16", icmp(135, 0, bytes(4) + target, A6), {}, target)
     yield packet("type 200 code 1 len 2", icmp(200, 1, b"\1\2\3\4xy", A6), {}, b"xy")

@@ -15,7 +15,7 @@ VERDICTS = {"good": "Good", "bad": "Bad", "none": "None"}
 CONDITIONS = {
     "bad": lambda it: it.check == "bad",
     "refused": lambda it: it.refused,
-    "fragments": lambda it: it.part,
+    "fragments": lambda it: it.outcome,
     "cut": lambda it: it.cut,
 }
 EIGHTHS = " ▏▎▍▌▋▊▉█"
@@ -26,18 +26,18 @@ HEIGHTS = " ▁▂▃▄▅▆▇█"
 class Packet:
     """A packet, and what is known of it.
 
-    `data` was captured; `line` is that of `show` behind the time; `told` are the members of its
-    object behind `len`, but for the verdict; `kinds` are the protocols that it has headers of;
-    `check` is what its checksum tells, if it has a message; `part` is what became of a part of a
-    message; `refused` is why it is refused; `talk` are its addresses.
+    `data` was captured; `line` is that of `show` after the time; `members` are those of its object
+    after `len`, but for the verdict; `kinds` are the protocols that it has headers of; `check` is
+    the verdict on its checksum, if it has a message; `outcome` is what became of a fragment;
+    `refused` is why it is refused; `talk` are its addresses.
     """
 
     data: bytes
     line: str
-    told: dict
+    members: dict
     kinds: tuple
     check: str = None
-    part: str = None
+    outcome: str = None
     refused: str = None
     talk: str = None
     interface: int = 0
@@ -71,7 +71,7 @@ def shown(packets):
 
 def objects(packets, link_type):
     for it in packets:
-        told = {
+        members = {
             "number": it.number,
             "time": it.time,
             "interface": it.interface,
@@ -79,8 +79,8 @@ def objects(packets, link_type):
             "len": it.len,
             "wire_len": it.wire_len,
         }
-        told |= it.told | ({"verdict": VERDICTS[it.check]} if it.check else {})
-        yield json.dumps(told, separators=(",", ":"))
+        members |= it.members | ({"verdict": VERDICTS[it.check]} if it.check else {})
+        yield json.dumps(members, separators=(",", ":"))
 
 
 def share(part, whole):
@@ -184,11 +184,11 @@ def summary(packets, still_open):
     if any(chosen for _, chosen in checked):
         *lines, _ = table(packets, "checksum", checked)
         yield from [*lines, *offload(packets), ""]
-    parts = [it for it in packets if it.part]
-    if parts:
+    fragments = [it for it in packets if it.outcome]
+    if fragments:
         named = {"completing a message": "completes", "refused": "refused"}
-        rows = [(name, [it for it in parts if it.part == part]) for name, part in named.items()]
-        *lines, _ = table(packets, "fragments", [("all fragments", parts), *rows])
+        rows = [(name, [it for it in fragments if it.outcome == outcome]) for name, outcome in named.items()]
+        *lines, _ = table(packets, "fragments", [("all fragments", fragments), *rows])
         yield from [*lines, f"messages open at the end: {still_open}", ""]
     talkers = sorted(
         by(packets, lambda it: it.talk), key=lambda found: -sum(it.len for it in found[1])
@@ -202,14 +202,14 @@ def summary(packets, still_open):
 def met(packets):
     """The numbers of the packets that meet a condition: lines are cut to five columns."""
     for word, holds in CONDITIONS.items():
-        told = [f"{it.number:5}" for it in packets if holds(it)]
-        yield ["show", "--width", "5", "--only", word], told
+        numbers = [f"{it.number:5}" for it in packets if holds(it)]
+        yield ["show", "--width", "5", "--only", word], numbers
 
 
 def outputs(packets, link_type, still_open):
-    """What three command lines tell, by their words, and of fragments those of conditions."""
+    """What three command lines write, by their words, and of fragments those of conditions."""
     yield ["show"], shown(packets)
     yield ["json", "--payload"], objects(packets, link_type)
     yield ["summary"], summary(packets, still_open)
-    if any(it.part or it.cut for it in packets):
+    if any(it.outcome or it.cut for it in packets):
         yield from met(packets)
