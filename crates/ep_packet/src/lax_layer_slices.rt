@@ -13,7 +13,7 @@ ghost use Rattle.ep_packet.specs.SliceFault.{fault_offset};
 ghost use Rattle.ep_packet.specs.Sliced.{read_transport};
 
 use crate::err::packet::SliceError;
-use crate::layer_slices::{ipv4_headers_len, ipv6_headers_len, read_transport};
+use crate::layer_slices::{len_of_ipv4, len_of_ipv6, read_transport};
 use crate::{LaxNetSlice, TransportSlice, slice_fault};
 use ep_base::err::Layer;
 use ep_base::{EtherType, IpNumber};
@@ -135,7 +135,7 @@ impl<'a> LaxLayerSlices<'a> {
     fn in_ipv4(packet: LaxIpv4Slice<'a>, stop: Option<(SliceError, Layer)>) -> Self
         ensures { result ≡ in_lax_ipv4 packet.entry stop }
     {
-        let headers_len = ipv4_headers_len(packet.header(), packet.extensions());
+        let headers_len = len_of_ipv4(packet.header(), packet.extensions());
         let (transport, stop) = transport_in(packet.payload(), headers_len, stop);
         LaxLayerSlices {
             net: Some(LaxNetSlice::Ipv4(packet)),
@@ -147,7 +147,7 @@ impl<'a> LaxLayerSlices<'a> {
     fn in_ipv6(packet: LaxIpv6Slice<'a>, stop: Option<(SliceError, Layer)>) -> Self
         ensures { result ≡ in_lax_ipv6 packet.entry stop }
     {
-        let headers_len = ipv6_headers_len(packet.header(), packet.extensions());
+        let headers_len = len_of_ipv6(packet.header(), packet.extensions());
         let (transport, stop) = transport_in(packet.payload(), headers_len, stop);
         LaxLayerSlices {
             net: Some(LaxNetSlice::Ipv6(packet)),

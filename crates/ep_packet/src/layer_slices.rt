@@ -109,10 +109,7 @@ impl<'a> LayerSlices<'a> {
         let transport = match transport_in(packet.payload()) {
             Ok(transport) => transport,
             Err(error) => {
-                return Err(slice_fault::moved(
-                    error,
-                    ipv4_headers_len(packet.header(), packet.extensions()),
-                ));
+                return Err(slice_fault::moved(error, ipv4_headers_len(&packet)));
             }
         };
         Ok(LayerSlices {
@@ -131,10 +128,7 @@ impl<'a> LayerSlices<'a> {
         let transport = match transport_in(packet.payload()) {
             Ok(transport) => transport,
             Err(error) => {
-                return Err(slice_fault::moved(
-                    error,
-                    ipv6_headers_len(packet.header(), packet.extensions()),
-                ));
+                return Err(slice_fault::moved(error, ipv6_headers_len(&packet)));
             }
         };
         Ok(LayerSlices {
@@ -144,28 +138,35 @@ impl<'a> LayerSlices<'a> {
     }
 }
 
-/// The number of bytes before an IPv4 packet's payload.
-pub(crate) fn ipv4_headers_len(
-    header: &Ipv4HeaderSlice<'_>,
-    extensions: &Ipv4ExtensionsSlice<'_>,
-) -> usize
-    ensures { result ≡ length header.now + length (auth_bytes extensions.now.auth) }
+// The number of bytes before the payload.
+fn ipv4_headers_len(packet: &Ipv4Slice<'_>) -> usize
+    ensures { result ≡ length packet.now.header + length (auth_bytes packet.now.auth) }
+{
+    len_of_ipv4(packet.header(), packet.extensions())
+}
+
+fn ipv6_headers_len(packet: &Ipv6Slice<'_>) -> usize
+    ensures { result ≡ length packet.now.header + length packet.now.exts.slice }
+{
+    len_of_ipv6(packet.header(), packet.extensions())
+}
+
+/// The length of an IPv4 header and of what extends it.
+pub(crate) fn len_of_ipv4(header: &Ipv4HeaderSlice<'_>, exts: &Ipv4ExtensionsSlice<'_>) -> usize
+    ensures { result ≡ length header.now + length (auth_bytes exts.now.auth) }
 {
     let header_len = header.slice().len();
-    match &extensions.auth {
+    match &exts.auth {
         Some(auth) => header_len + auth.slice().len(),
         None => header_len,
     }
 }
 
-/// The number of bytes before an IPv6 packet's payload.
-pub(crate) fn ipv6_headers_len(
-    header: &Ipv6HeaderSlice<'_>,
-    extensions: &Ipv6ExtensionsSlice<'_>,
-) -> usize
-    ensures { result ≡ length header.now + length extensions.now.slice }
+/// The length of an IPv6 header and of its extension headers.
+pub(crate) fn len_of_ipv6(header: &Ipv6HeaderSlice<'_>, exts: &Ipv6ExtensionsSlice<'_>) -> usize
+    ensures { result ≡ length header.now + length exts.now.slice }
 {
-    header.slice().len() + extensions.slice().len()
+    header.slice().len() + exts.slice().len()
 }
 
 // The message in the payload. None if the payload is a fragment or of a protocol that isn't read.

@@ -81,17 +81,16 @@ fn each_prefix_of_a_frame(rt: HostRuntime) {
             equal(rt, prefix(rt, len), Ok((tags, None, None, Some(layer))));
         }
     }
-    for len in 50..58usize {
-        let stop = Some(Layer::UdpHeader);
-        equal(
-            rt,
-            prefix(rt, len),
-            Ok((3, Some((len - 50, true)), None, stop)),
-        );
-    }
-    for len in 58..67usize {
-        let payload = Some((len - 50, len < 66));
-        equal(rt, prefix(rt, len), Ok((3, payload, Some((1, 2)), None)));
+    for len in 50..67usize {
+        let Some(payload) = TAGGED.get(50..len) else {
+            fail(rt, "no prefix");
+        };
+        let wanted = if len < 58 {
+            (3, Some((payload.len(), true)), None, Some(Layer::UdpHeader))
+        } else {
+            (3, Some((payload.len(), len < 66)), Some((1, 2)), None)
+        };
+        equal(rt, prefix(rt, len), Ok(wanted));
     }
 }
 
