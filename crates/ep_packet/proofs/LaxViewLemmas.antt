@@ -1,6 +1,7 @@
 -- The tags of a packet, as far as it is there, tag by tag.
-use Rattle.std.proofs.Common.{◌≡◌, ◌∙◌, ℕ, ◌||◌, Bool, true, false, List, [], ◌∷◌, ◌++◌, refl, ap, arith}
-use Rattle.ep_packet.specs.LaxView.{any_is_cut, is_cut_tag, lax_vlan_ids_of, lax_vlan_tags}
+use Rattle.std.proofs.Common.{◌≡◌, ◌∙◌, ℕ, ◌+◌, ◌<◌, Bool, List, [], ◌∷◌, ◌++◌, length, take, get_or, refl, ap, arith, take-suc}
+use Rattle.ep_base.specs.declared.len_source.LenSource.{LenSource}
+use Rattle.ep_packet.specs.LaxView.{bound_after, bound_by, lax_vlan_ids_of, lax_vlan_tags}
 use Rattle.ep_tag.specs.Vlan.{vlan_id_of}
 use Rattle.ep_tag.specs.declared.link.lax_link_ext_slice.LaxLinkExtSlice.{LaxLinkExtSlice}
 use Rattle.ep_tag.specs.declared.link.lax_link_ext_slice.LaxLinkExtSlice.TheVariants.{Vlan, Macsec}
@@ -17,16 +18,14 @@ lax_ids_more [] t = refl
 lax_ids_more (Vlan bytes ∷ tags) t = ap (λ (xs : List ℕ). vlan_id_of bytes ∷ xs) (lax_ids_more tags t)
 lax_ids_more (Macsec m ∷ tags) t = lax_ids_more tags t
 
-cut_more : (tags : List LaxLinkExtSlice) (t : LaxLinkExtSlice)
-    → any_is_cut (tags ++ t ∷ []) ≡ (any_is_cut tags || is_cut_tag t)
-cut_more [] t = grind arith
-cut_more (u ∷ tags) t = grind (arith, cut_more tags t)
+bound_last : (bound : Bool × LenSource) (tags : List LaxLinkExtSlice) (t : LaxLinkExtSlice)
+    → bound_after bound (tags ++ t ∷ []) ≡ bound_by (bound_after bound tags) t
+bound_last bound [] t = refl
+bound_last bound (u ∷ tags) t = bound_last (bound_by bound u) tags t
 
-pub none_cut_more : (tags : List LaxLinkExtSlice) (t : LaxLinkExtSlice) → any_is_cut tags ≡ false
-    → is_cut_tag t ≡ false → any_is_cut (tags ++ t ∷ []) ≡ false
-none_cut_more tags t none here = grind (arith, cut_more)
-
-pub one_cut : (prefix back : List LaxLinkExtSlice) (t : LaxLinkExtSlice) → is_cut_tag t ≡ true
-    → any_is_cut (prefix ++ t ∷ back) ≡ true
-one_cut [] back t here = ap (λ (b : Bool). b || any_is_cut back) here
-one_cut (u ∷ prefix) back t here = grind (arith, one_cut prefix back t here)
+pub bound_more : (bound : Bool × LenSource) (tags : List LaxLinkExtSlice) (i : ℕ) (t : LaxLinkExtSlice)
+    → i < length tags → t ≡ get_or tags i t
+    → bound_after bound (take (i + 1) tags) ≡ bound_by (bound_after bound (take i tags)) t
+bound_more bound tags i t lt is =
+    let next : take (i + 1) tags ≡ take i tags ++ t ∷ [] = grind (arith, take-suc) in
+    ap (bound_after bound) next ∙ bound_last bound (take i tags) t

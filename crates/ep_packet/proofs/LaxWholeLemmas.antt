@@ -91,7 +91,7 @@ pub record WholeParts : Type 0 where
 len_same : (t : LinkExtSlice) → lax_tag_len (whole_tag t) ≡ tag_len t
 len_same t = grind arith
 
-payload_same : (t : LinkExtSlice)
+pub payload_same : (t : LinkExtSlice)
     → lax_payload_after (whole_tag t) ≡ option_map complete_ether (payload_after t)
 payload_same t = grind arith
 

@@ -11,6 +11,7 @@ mod HeadersOfPackets
 mod HeadersOfTags
 mod LaxFitsLemmas
 mod LaxLayersLemmas
+mod LaxPayloads
 mod LaxTagsLemmas
 mod LaxViewLemmas
 mod LaxWholeLemmas

@@ -1,12 +1,15 @@
 -- The tags of a packet, as far as it is there, and what the last ether type names.
-use Rattle.std.specs.Prelude.{◌-◌, ◌==◌, if◌then◌else◌, ◌||◌, Bool, false, List, [], ◌∷◌, length, map, slice_get}
+use Rattle.std.specs.Prelude.{◌-◌, ◌==◌, if◌then◌else◌, Bool, true, false, List, [], ◌∷◌, length, map, slice_get}
 use Rattle.std.specs.Prelude.{ℕ, Option, Some, None}
 use Rattle.std.specs.Option.{option_map}
+use Rattle.ep_base.specs.declared.len_source.LenSource.{LenSource}
+use Rattle.ep_base.specs.declared.len_source.LenSource.TheVariants.{MacsecShortLength, Slice}
 use Rattle.ep_link.specs.declared.link.link_slice.LinkSlice.{LinkSlice}
 use Rattle.ep_packet.specs.PacketView.{link_payload}
 use Rattle.ep_packet.specs.declared.lax_sliced_packet.LaxSlicedPacket.{LaxSlicedPacket}
 use Rattle.ep_tag.specs.Ether.{LaxEtherPayload, complete_ether}
 use Rattle.ep_tag.specs.LinkExt.{lax_payload_after}
+use Rattle.ep_tag.specs.Macsec.{short_len_of}
 use Rattle.ep_tag.specs.MacsecLax.{LaxMacsecPayload, LaxModified, LaxUnmodified}
 use Rattle.ep_tag.specs.Vlan.{vlan_id_of}
 use Rattle.ep_tag.specs.declared.link.lax_link_ext_slice.LaxLinkExtSlice.{LaxLinkExtSlice}
@@ -26,21 +29,27 @@ abbrev pub is_incomplete : LaxMacsecPayload → Bool
 is_incomplete (LaxUnmodified p) = p.incomplete
 is_incomplete (LaxModified incomplete bytes) = incomplete
 
-abbrev pub is_cut_tag : LaxLinkExtSlice → Bool
-is_cut_tag (Vlan bytes) = false
-is_cut_tag (Macsec m) = is_incomplete m.payload
+-- whether bytes are missing of what follows the tags, and what bounds it: the last MACsec header with a
+-- short length above 0 says both
+abbrev pub bound_by : Bool × LenSource → LaxLinkExtSlice → Bool × LenSource
+bound_by bound (Vlan bytes) = bound
+bound_by bound (Macsec m) = if short_len_of m.header == 0 then bound
+    else (if is_incomplete m.payload then (true, Slice) else (false, MacsecShortLength))
 
-abbrev pub any_is_cut : List LaxLinkExtSlice → Bool
-any_is_cut [] = false
-any_is_cut (t ∷ tags) = is_cut_tag t || any_is_cut tags
+abbrev pub bound_after : Bool × LenSource → List LaxLinkExtSlice → Bool × LenSource
+bound_after bound [] = bound
+bound_after bound (t ∷ tags) = bound_after (bound_by bound t) tags
 
 -- what the last of the ether types names: that of the last tag, or without one the link header's
 abbrev pub lax_named_by : Option LinkSlice → Option LaxLinkExtSlice → Option LaxEtherPayload
 lax_named_by header None = option_map complete_ether (link_payload header)
 lax_named_by header (Some t) = lax_payload_after t
 
--- with whether a tag's payload, of which it is the end, lacks bytes
+-- the same with its bound
+abbrev pub bounded : Bool × LenSource → LaxEtherPayload → LaxEtherPayload
+bounded bound p = record p { incomplete = bound.0; len_source = bound.1 }
+
 abbrev pub lax_ether_payload_in : LaxSlicedPacket → Option LaxEtherPayload
 lax_ether_payload_in packet =
-    option_map (λ (p : LaxEtherPayload). record p { incomplete = any_is_cut packet.link_exts.items })
+    option_map (bounded (bound_after (false, Slice) packet.link_exts.items))
     (lax_named_by packet.link (slice_get packet.link_exts.items (length packet.link_exts.items - 1)))

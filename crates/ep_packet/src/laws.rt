@@ -11,5 +11,5 @@ pub mod traits;
 
 pub use faults::{offsets_at_literals, refusals_are_first_faults};
 pub use headers::{ipv6_headers_agree_with_view, ipv6_headers_at_a_literal};
-pub use lax::whole_packets_are_lax_packets;
+pub use lax::{payloads_of_whole_packets, whole_packets_are_lax_packets};
 pub use readable::{messages_at_literals, readable_messages};

@@ -9,7 +9,7 @@ ghost use Rattle.ep_packet.specs.PacketView.{vlan_slice_of};
 
 use crate::err::packet::SliceError;
 use crate::lax_layer_slices::LaxLayerSlices;
-use crate::lax_tagged_slice::{LaxTaggedSlice, is_cut};
+use crate::lax_tagged_slice::{LaxTaggedSlice, bound_after};
 use crate::sliced_packet::same_tag;
 use crate::{LaxNetSlice, TransportSlice, slice_fault};
 use arrayvec::ArrayVec;
@@ -27,9 +27,11 @@ use ep_tag::{
 /// The layers of a packet as far as they are there, as in a capture that holds only the first bytes of
 /// each packet, each borrowed from the packet's bytes.
 ///
-/// Reading stops at the first fault. A length field that promises more than is there is no fault: the
-/// payload is all that is there, `incomplete` is true, and the slice is the source of its length. A
-/// total length below IPv4's header bounds nothing, and neither does a UDP length below 8.
+/// Where IPv4's total length, IPv6's payload length or MACsec's short length promises more than is there,
+/// the payload is all that is there, `incomplete` is true, and the slice is the source of its length.
+/// A UDP length above what is there, or below 8, takes all that is there, and so does a total length
+/// below IPv4's header and an IPv6 payload length of 0. A header that isn't whole by its own length is
+/// a fault, and reading stops at the first one.
 #[derive(Clone, Debug, PartialEq, Eq, Drop)]
 pub struct LaxSlicedPacket<'a> {
     /// The link header with all bytes after it, or without one an ether type and its payload.
@@ -38,14 +40,19 @@ pub struct LaxSlicedPacket<'a> {
     pub link_exts: ArrayVec<LaxLinkExtSlice<'a>, 3>,
     /// The packet of the network layer, with its extension headers.
     pub net: Option<LaxNetSlice<'a>>,
-    /// The message of the transport layer: what is there of it, where its header is whole.
+    /// The message of the transport layer: what is there of it, where its header is whole. There is
+    /// none in a fragment.
     pub transport: Option<TransportSlice<'a>>,
-    /// The fault that stopped the reading, and the layer in which it is. An offset in it counts from
-    /// the start of the slice that was read.
+    /// The fault that stopped the reading, and the layer that was being read. An offset in it counts
+    /// in bytes from the start of the slice. There is none, too, where nothing more is read: before a
+    /// fourth tag, in a modified MACsec payload, a fragment, or a protocol that isn't known.
     pub stop_err: Option<(SliceError, Layer)>,
 }
 
 impl<'a> LaxSlicedPacket<'a> {
+    /// The greatest number of tags after a link header.
+    pub const LINK_EXTS_CAP: usize = 3;
+
     /// The layers of an Ethernet II frame (RFC 894; IEEE 802.3, clause 3), in the same order as
     /// [`SlicedPacket::from_ethernet`](crate::SlicedPacket::from_ethernet) reads them. Refused is a
     /// slice shorter than the link header, and nothing else.
@@ -126,8 +133,8 @@ impl<'a> LaxSlicedPacket<'a> {
         }
     }
 
-    /// What the last ether type names, also if it was read. Bytes of it are missing where they are of
-    /// what follows a MACsec header.
+    /// What the last ether type names, also if it was read. The last MACsec header with a short length
+    /// above 0 says whether bytes of it are missing, and bounds it; without one none are missing.
     pub fn ether_payload(&self) -> Option<LaxEtherPayloadSlice<'a>>
         ensures { result ≡ lax_ether_payload_in self.now }
     {
@@ -142,10 +149,14 @@ impl<'a> LaxSlicedPacket<'a> {
             },
         };
         match named {
-            Some(payload) => Some(LaxEtherPayloadSlice {
-                incomplete: is_cut(&self.link_exts),
-                ..payload
-            }),
+            Some(payload) => {
+                let (incomplete, len_source) = bound_after(&self.link_exts);
+                Some(LaxEtherPayloadSlice {
+                    incomplete,
+                    len_source,
+                    ..payload
+                })
+            }
             None => None,
         }
     }

@@ -1,16 +1,17 @@
 //! The tags before a payload, as far as they are there.
-ghost use Rattle.std.specs.Prelude.{◌≡◌, length, IfErr, IfOk};
+ghost use Rattle.std.specs.Prelude.{◌≡◌, false, length, IfErr, IfOk};
 ghost use Rattle.ep_packet.specs.LaxTags.{LaxTagged, lax_tag_at, lax_tags_in};
 ghost use Rattle.ep_packet.specs.LaxFits.{TagFits, TagsFit};
-ghost use Rattle.ep_packet.specs.LaxView.{any_is_cut, is_cut_tag};
+ghost use Rattle.ep_base.specs.declared.len_source.LenSource.TheVariants.{Slice};
+ghost use Rattle.ep_packet.specs.LaxView.{bound_after, bound_by};
 ghost use Rattle.ep_packet.specs.SliceFault.{fault_offset};
 ghost use Rattle.ep_packet.specs.Tags.{most_tags};
 
 use crate::err::packet::SliceError;
 use crate::slice_fault;
 use arrayvec::ArrayVec;
-use ep_base::EtherType;
 use ep_base::err::Layer;
+use ep_base::{EtherType, LenSource};
 use ep_tag::{
     LaxEtherPayloadSlice, LaxLinkExtSlice, LaxMacsecPayloadSlice, LaxMacsecSlice, SingleVlanSlice,
 };
@@ -110,26 +111,34 @@ fn tag_of<'a>(
     }
 }
 
-/// Whether bytes of the payload of one of the tags are missing.
-pub(crate) fn is_cut(tags: &ArrayVec<LaxLinkExtSlice<'_>, 3>) -> bool
-    ensures { result ≡ any_is_cut tags.now.items }
+/// Whether bytes are missing of what follows the tags, and what bounds it: the last MACsec header with
+/// a short length above 0 says both.
+pub(crate) fn bound_after(tags: &ArrayVec<LaxLinkExtSlice<'_>, 3>) -> (bool, LenSource)
+    ensures { result ≡ bound_after (false, Slice) tags.now.items }
 {
+    let mut bound = (false, LenSource::Slice);
     for tag in tags.as_slice() {
-        if is_cut_tag(tag) {
-            return true;
-        }
+        bound = bound_by(bound, tag);
     }
-    false
+    bound
 }
 
-fn is_cut_tag(tag: &LaxLinkExtSlice<'_>) -> bool
-    ensures { result ≡ is_cut_tag tag.now }
+fn bound_by(bound: (bool, LenSource), tag: &LaxLinkExtSlice<'_>) -> (bool, LenSource)
+    ensures { result ≡ bound_by bound tag.now }
 {
-    match tag {
-        LaxLinkExtSlice::Vlan(_) => false,
-        LaxLinkExtSlice::Macsec(macsec) => match &macsec.payload {
-            LaxMacsecPayloadSlice::Unmodified(payload) => payload.incomplete,
-            LaxMacsecPayloadSlice::Modified { incomplete, .. } => *incomplete,
-        },
+    let LaxLinkExtSlice::Macsec(macsec) = tag else {
+        return bound;
+    };
+    if macsec.header.short_len().value() == 0 {
+        return bound;
+    }
+    let incomplete = match &macsec.payload {
+        LaxMacsecPayloadSlice::Unmodified(payload) => payload.incomplete,
+        LaxMacsecPayloadSlice::Modified { incomplete, .. } => *incomplete,
+    };
+    if incomplete {
+        (true, LenSource::Slice)
+    } else {
+        (false, LenSource::MacsecShortLength)
     }
 }

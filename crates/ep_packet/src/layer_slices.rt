@@ -151,7 +151,7 @@ fn ipv6_headers_len(packet: &Ipv6Slice<'_>) -> usize
     len_of_ipv6(packet.header(), packet.extensions())
 }
 
-/// The length of an IPv4 header and of what extends it.
+/// The length in bytes of an IPv4 header and of its authentication header.
 pub(crate) fn len_of_ipv4(header: &Ipv4HeaderSlice<'_>, exts: &Ipv4ExtensionsSlice<'_>) -> usize
     ensures { result ≡ length header.now + length (auth_bytes exts.now.auth) }
 {
@@ -162,7 +162,7 @@ pub(crate) fn len_of_ipv4(header: &Ipv4HeaderSlice<'_>, exts: &Ipv4ExtensionsSli
     }
 }
 
-/// The length of an IPv6 header and of its extension headers.
+/// The length in bytes of an IPv6 header and of its extension headers.
 pub(crate) fn len_of_ipv6(header: &Ipv6HeaderSlice<'_>, exts: &Ipv6ExtensionsSlice<'_>) -> usize
     ensures { result ≡ length header.now + length exts.now.slice }
 {
