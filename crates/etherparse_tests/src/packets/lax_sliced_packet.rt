@@ -1,14 +1,15 @@
 //! The layers of packets as far as they are there. The bytes were worked out by hand after IEEE 802.3,
 //! 802.1Q and 802.1AE, libpcap's page on LINKTYPE_LINUX_SLL, and RFC 768, 791, 8200 and 9293.
 use crate::checks::{equal, fail};
-use ep_base::EtherType;
 use ep_base::err::{Layer, LenError};
+use ep_base::{EtherType, LenSource};
 use ep_ip::err::ipv4;
 use ep_ipslice::err::ip;
 use ep_link::LinkSlice;
 use ep_packet::err::packet::SliceError;
 use ep_packet::{LaxNetSlice, LaxSlicedPacket, TransportSlice};
 use ep_tag::VlanSlice;
+use ep_tag::err::macsec;
 use std::process::Abort;
 use std::test::*;
 
@@ -111,6 +112,138 @@ fn offset_of_the_fault(rt: HostRuntime) {
     }
 }
 
+// The fields of an error of too few bytes: how many are needed, how many are there, what bounds them,
+// and the offset of the layer; and the layers that the error names and that stopped.
+type Short = (usize, usize, LenSource, usize, Layer, Layer);
+
+fn short(packet: &LaxSlicedPacket<'_>) -> Option<Short> {
+    match packet.stop_err {
+        Some((SliceError::Len(error), layer)) => Some((
+            error.required_len,
+            error.len,
+            error.len_source,
+            error.layer_start_offset,
+            error.layer,
+            layer,
+        )),
+        _ => None,
+    }
+}
+
+fn short_in_frame(bytes: &[u8]) -> Option<Short> {
+    match LaxSlicedPacket::from_ethernet(bytes) {
+        Ok(packet) => short(&packet),
+        Err(_) => None,
+    }
+}
+
+fn short_after(ether_type: EtherType, bytes: &[u8]) -> Option<Short> {
+    short(&LaxSlicedPacket::from_ether_type(ether_type, bytes))
+}
+
+// Within the MACsec header, and within the VLAN tag after it.
+#[test]
+fn faults_of_tags(rt: HostRuntime) {
+    let layer = Layer::MacsecHeader;
+    equal(
+        rt,
+        short_in_frame(&TAGGED[..20]),
+        Some((6, 2, LenSource::Slice, 18, layer, layer)),
+    );
+    let layer = Layer::VlanHeader;
+    equal(
+        rt,
+        short_in_frame(&TAGGED[..28]),
+        Some((4, 2, LenSource::Slice, 26, layer, layer)),
+    );
+    let layer = Layer::Arp;
+    equal(
+        rt,
+        short_after(EtherType::ARP, &[0; 3]),
+        Some((8, 3, LenSource::Slice, 0, layer, layer)),
+    );
+    let packet = LaxSlicedPacket::from_ether_type(EtherType::MACSEC, &[0x80; 20]);
+    let error = macsec::HeaderError::UnexpectedVersion;
+    equal(
+        rt,
+        packet.stop_err,
+        Some((SliceError::Macsec(error), Layer::MacsecHeader)),
+    );
+}
+
+// A whole IPv4 packet of 24 bytes with 4 of a UDP header, which its total length bounds, and 39 bytes
+// of one of 40 with 19 of a TCP header.
+#[test]
+fn faults_of_messages(rt: HostRuntime) {
+    let mut bytes = [0; 40];
+    bytes[0] = 0x45;
+    bytes[3] = 24;
+    bytes[9] = 17;
+    let layer = Layer::UdpHeader;
+    equal(
+        rt,
+        short_after(EtherType::IPV4, &bytes),
+        Some((8, 4, LenSource::Ipv4HeaderTotalLen, 20, layer, layer)),
+    );
+    bytes[3] = 40;
+    bytes[9] = 6;
+    let layer = Layer::TcpHeader;
+    equal(
+        rt,
+        short_after(EtherType::IPV4, &bytes[..39]),
+        Some((20, 19, LenSource::Slice, 20, layer, layer)),
+    );
+}
+
+// 11 of the 16 bytes of destination options after hop-by-hop options, in a packet that promises 40
+// after its header.
+const OPTIONS: [u8; 73] = [
+    0, 0, 0, 0, 0, 0, 0, 0, 0, 0, 0, 0, 0x86, 0xdd, 0x60, 0, 0, 0, 0, 40, 0, 0x40, 0xfd, 0, 0, 0,
+    0, 0, 0, 0, 0, 0, 0, 0, 0, 0, 0, 1, 0xfd, 0, 0, 0, 0, 0, 0, 0, 0, 0, 0, 0, 0, 0, 0, 2, 0x3c, 0,
+    1, 4, 0, 0, 0, 0, 0x11, 1, 1, 0x0c, 0, 0, 0, 0, 0, 0, 0,
+];
+
+// 15 of the 24 bytes of an authentication header, after a VLAN tag and an IPv4 header with options.
+const AUTH: [u8; 57] = [
+    0, 0, 0, 0, 0, 0, 0, 0, 0, 0, 0, 0, 0x81, 0, 0, 5, 8, 0, 0x46, 0, 0, 0x38, 0, 7, 0, 0, 0x40,
+    0x33, 0, 0, 10, 0, 0, 1, 10, 0, 0, 2, 1, 1, 1, 0, 0x11, 4, 0, 0, 0, 0, 0, 1, 0, 0, 0, 2, 0xaa,
+    0xbb, 0xcc,
+];
+
+// The headers before the one that is cut are there, and its bytes are the payload's first.
+#[test]
+fn faults_of_extension_headers(rt: HostRuntime) {
+    equal(
+        rt,
+        short_in_frame(&OPTIONS),
+        Some((
+            16,
+            11,
+            LenSource::Slice,
+            62,
+            Layer::Ipv6ExtHeader,
+            Layer::Ipv6DestOptionsHeader,
+        )),
+    );
+    let layer = Layer::IpAuthHeader;
+    equal(
+        rt,
+        short_in_frame(&AUTH),
+        Some((24, 15, LenSource::Slice, 42, layer, layer)),
+    );
+    for (frame, tags, payload_len) in [(&OPTIONS[..], 0, 11), (&AUTH[..], 1, 15)] {
+        match LaxSlicedPacket::from_ethernet(frame) {
+            Ok(packet) => {
+                let (tag_count, payload, ports, _) = layers(&packet);
+                equal(rt, tag_count, tags);
+                equal(rt, payload, Some((payload_len, true)));
+                equal(rt, ports, None);
+            }
+            Err(_) => fail(rt, "no link header"),
+        }
+    }
+}
+
 // An IPv6 header where the ether type names IPv4.
 #[test]
 fn faults_of_the_content(rt: HostRuntime) {
@@ -188,10 +321,10 @@ fn packets_of_the_network_layer(rt: HostRuntime) {
     }
 }
 
-// The ether type after the tags, and whether bytes after it are missing.
-fn ether_payload(packet: &LaxSlicedPacket<'_>) -> Option<(EtherType, bool)> {
+// The ether type after the tags, whether bytes after it are missing, and what bounds them.
+fn ether_payload(packet: &LaxSlicedPacket<'_>) -> Option<(EtherType, bool, LenSource)> {
     match packet.ether_payload() {
-        Some(payload) => Some((payload.ether_type, payload.incomplete)),
+        Some(payload) => Some((payload.ether_type, payload.incomplete, payload.len_source)),
         None => None,
     }
 }
@@ -221,16 +354,42 @@ fn tags_and_payloads_of_a_frame(rt: HostRuntime) {
         match LaxSlicedPacket::from_ethernet(frame) {
             Ok(packet) => {
                 equal(rt, tags(&packet), (2, Some(5), true));
-                equal(
-                    rt,
-                    ether_payload(&packet),
-                    Some((EtherType::IPV4, len < 66)),
-                );
+                let wanted = if len < 66 {
+                    (EtherType::IPV4, true, LenSource::Slice)
+                } else {
+                    (EtherType::IPV4, false, LenSource::MacsecShortLength)
+                };
+                equal(rt, ether_payload(&packet), Some(wanted));
             }
             Err(_) => fail(rt, "no link header"),
         }
     }
     let packet = LaxSlicedPacket::from_ether_type(EtherType::ARP, &[0; 3]);
     equal(rt, tags(&packet), (0, None, false));
-    equal(rt, ether_payload(&packet), Some((EtherType::ARP, false)));
+    equal(
+        rt,
+        ether_payload(&packet),
+        Some((EtherType::ARP, false, LenSource::Slice)),
+    );
+}
+
+// The outer MACsec header promises 40 bytes, of which 30 are there; the inner one leaves 20, which are
+// a whole IPv4 packet.
+const NESTED: [u8; 52] = [
+    0, 0, 0, 0, 0, 0, 0, 0, 0, 0, 0, 0, 0x88, 0xe5, 0, 42, 0, 0, 0, 1, 0x88, 0xe5, 0, 22, 0, 0, 0,
+    2, 8, 0, 0x45, 0, 0, 20, 0, 7, 0, 0, 0x40, 0, 0, 0, 10, 0, 0, 1, 10, 0, 0, 2, 0, 0,
+];
+
+// The last MACsec header bounds what follows it.
+#[test]
+fn payload_after_two_macsec_headers(rt: HostRuntime) {
+    match LaxSlicedPacket::from_ethernet(&NESTED) {
+        Ok(packet) => {
+            let wanted = (EtherType::IPV4, false, LenSource::MacsecShortLength);
+            equal(rt, ether_payload(&packet), Some(wanted));
+            equal(rt, layers(&packet), (2, Some((0, false)), None, None));
+        }
+        Err(_) => fail(rt, "no link header"),
+    }
+    equal(rt, LaxSlicedPacket::LINK_EXTS_CAP, 3);
 }
