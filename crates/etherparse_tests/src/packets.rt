@@ -1,5 +1,6 @@
 //! Packets that are read: sliced, and as headers of their own.
 
+mod cut_frames;
 mod errors;
 mod ip_headers;
 mod laws;
