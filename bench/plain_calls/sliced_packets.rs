@@ -170,18 +170,18 @@ struct Packet<'a> {
     transport: Option<Transport<'a>>,
 }
 
-pub enum LinkTag<'a> {
+enum LinkTag<'a> {
     Vlan(Tag<'a>),
     Macsec(Macsec<'a>),
 }
 
-pub enum Net<'a> {
+enum Net<'a> {
     V4(Ipv4<'a>),
     V6(Ipv6<'a>),
     Arp(Arp<'a>),
 }
 
-pub enum Transport<'a> {
+enum Transport<'a> {
     Udp(Datagram<'a>),
     Tcp(Segment<'a>),
     Icmpv4(Message<'a>),
@@ -189,17 +189,17 @@ pub enum Transport<'a> {
 }
 
 /// A MACsec header; the ether type is that of an unmodified payload.
-pub struct Macsec<'a> {
+struct Macsec<'a> {
     header: &'a [u8],
     ether_type: Option<u16>,
     payload: &'a [u8],
 }
 
 /// The ether type of what comes next, its bytes, and their place in the frame.
-pub struct Rest<'a> {
-    pub ether_type: u16,
-    pub bytes: &'a [u8],
-    pub at: usize,
+struct Rest<'a> {
+    ether_type: u16,
+    bytes: &'a [u8],
+    at: usize,
 }
 
 const ETHERNET_HEADER: usize = 14;
@@ -208,7 +208,11 @@ const VLAN_HEADER: usize = 4;
 impl<'a> Packet<'a> {
     fn parse(bytes: &'a [u8]) -> Result<Packet<'a>, Fault> {
         let link = Frame::parse(bytes)?;
-        let mut rest = Some(Rest::after_link(&link));
+        let mut rest = Some(Rest {
+            ether_type: u16::from_be_bytes([link.header[12], link.header[13]]),
+            bytes: link.payload,
+            at: ETHERNET_HEADER,
+        });
         let mut tags = [const { None }; 3];
         for slot in &mut tags {
             let Some((tag, following)) = rest.as_ref().map_or(Ok(None), LinkTag::parse)? else {
@@ -230,30 +234,9 @@ impl<'a> Packet<'a> {
     }
 }
 
-impl<'a> Rest<'a> {
-    pub fn after_link(link: &Frame<'a>) -> Rest<'a> {
-        Rest {
-            ether_type: u16::from_be_bytes([link.header[12], link.header[13]]),
-            bytes: link.payload,
-            at: ETHERNET_HEADER,
-        }
-    }
-}
-
-/// A tag and what follows it.
-type Tagged<'a> = (LinkTag<'a>, Option<Rest<'a>>);
-
 impl<'a> LinkTag<'a> {
-    /// The tag that the ether type names, if it names one.
-    fn parse(rest: &Rest<'a>) -> Result<Option<Tagged<'a>>, Fault> {
-        LinkTag::parse_with(Macsec::parse, rest)
-    }
-
-    /// The same, where this reads a MACsec header and its payload.
-    pub fn parse_with(
-        parse_macsec: impl FnOnce(&'a [u8]) -> Result<Macsec<'a>, Fault>,
-        rest: &Rest<'a>,
-    ) -> Result<Option<Tagged<'a>>, Fault> {
+    /// The tag that the ether type names, if it names one, and what follows it.
+    fn parse(rest: &Rest<'a>) -> Result<Option<(LinkTag<'a>, Option<Rest<'a>>)>, Fault> {
         match rest.ether_type {
             0x8100 | 0x88a8 | 0x9100 => {
                 let tag = Tag::parse(rest.bytes).map_err(|fault| fault.moved(rest.at))?;
@@ -265,7 +248,7 @@ impl<'a> LinkTag<'a> {
                 Ok(Some((LinkTag::Vlan(tag), Some(following))))
             }
             0x88e5 => {
-                let macsec = parse_macsec(rest.bytes).map_err(|fault| fault.moved(rest.at))?;
+                let macsec = Macsec::parse(rest.bytes).map_err(|fault| fault.moved(rest.at))?;
                 let following = macsec.ether_type.map(|ether_type| Rest {
                     ether_type,
                     bytes: macsec.payload,
@@ -281,13 +264,6 @@ impl<'a> LinkTag<'a> {
 impl<'a> Macsec<'a> {
     /// As IEEE 802.1AE has it (clause 9).
     fn parse(bytes: &'a [u8]) -> Result<Macsec<'a>, Fault> {
-        let (macsec, len) = Macsec::parse_lax(bytes)?;
-        need(len, bytes, 0)?;
-        Ok(macsec)
-    }
-
-    /// The header with what is there of its payload, and the length that both have by the header.
-    pub fn parse_lax(bytes: &'a [u8]) -> Result<(Macsec<'a>, usize), Fault> {
         need(6, bytes, 0)?;
         if bytes[0] & 0x80 != 0 {
             return Err(Fault::Version(1));
@@ -302,9 +278,12 @@ impl<'a> Macsec<'a> {
         let header_len = 6 + identifier_len + ether_type_len;
         need(header_len, bytes, 0)?;
         let (header, rest) = bytes.split_at(header_len);
-        let payload_len = match short_len {
-            0 => rest.len(),
-            short_len => short_len - ether_type_len,
+        let payload = if short_len == 0 {
+            rest
+        } else {
+            let payload_len = short_len - ether_type_len;
+            need(header_len + payload_len, bytes, 0)?;
+            &rest[..payload_len]
         };
         let ether_type = if is_modified {
             None
@@ -314,12 +293,11 @@ impl<'a> Macsec<'a> {
                 header[header_len - 1],
             ]))
         };
-        let macsec = Macsec {
+        Ok(Macsec {
             header,
             ether_type,
-            payload: &rest[..payload_len.min(rest.len())],
-        };
-        Ok((macsec, header_len + payload_len))
+            payload,
+        })
     }
 }
 
@@ -353,7 +331,7 @@ fn layers<'a>(rest: &Rest<'a>) -> Result<Layers<'a>, Fault> {
 
 impl<'a> Transport<'a> {
     /// The message that the payload is, unless it is a part of one or its protocol is another.
-    pub fn parse(payload: &Payload<'a>) -> Result<Option<Transport<'a>>, Fault> {
+    fn parse(payload: &Payload<'a>) -> Result<Option<Transport<'a>>, Fault> {
         if payload.is_fragment {
             return Ok(None);
         }
@@ -371,14 +349,8 @@ impl<'a> Transport<'a> {
 fn sum_of_frame(frame: &[u8]) -> u64 {
     match Packet::parse(frame) {
         Ok(packet) => sum_of_packet(&packet),
-        Err(fault) => sum_of_fault(&fault),
-    }
-}
-
-pub fn sum_of_fault(fault: &Fault) -> u64 {
-    match fault {
-        Fault::Short { needed, found, at } => (needed + found + at) as u64,
-        _ => 1,
+        Err(Fault::Short { needed, found, at }) => (needed + found + at) as u64,
+        Err(_) => 1,
     }
 }
 
@@ -392,7 +364,7 @@ fn sum_of_packet(packet: &Packet) -> u64 {
         .wrapping_add(transport)
 }
 
-pub fn sum_of_link(frame: &Frame) -> u64 {
+fn sum_of_link(frame: &Frame) -> u64 {
     let [a, b, c, d, e, f, g, h, i, j, k, l, m, n] = *frame.header;
     sum_of_address([a, b, c, d, e, f])
         + sum_of_address([g, h, i, j, k, l])
@@ -400,7 +372,7 @@ pub fn sum_of_link(frame: &Frame) -> u64 {
         + frame.payload.len() as u64
 }
 
-pub fn sum_of_tag(tag: &LinkTag) -> u64 {
+fn sum_of_tag(tag: &LinkTag) -> u64 {
     match tag {
         LinkTag::Vlan(tag) => {
             let [a, b, c, d] = *tag.header;
@@ -410,7 +382,7 @@ pub fn sum_of_tag(tag: &LinkTag) -> u64 {
     }
 }
 
-pub fn sum_of_net(packet: &Net) -> u64 {
+fn sum_of_net(packet: &Net) -> u64 {
     match packet {
         Net::V4(packet) => {
             u64::from(packet.address(12).to_bits())
@@ -435,7 +407,7 @@ fn sum_of_payload(payload: &Payload) -> u64 {
     u64::from(payload.number) + u64::from(payload.is_fragment) + sum_of_bytes(payload.bytes)
 }
 
-pub fn sum_of_transport(message: &Transport) -> u64 {
+fn sum_of_transport(message: &Transport) -> u64 {
     match message {
         Transport::Udp(datagram) => {
             let [a, b, c, d, ..] = *datagram.header;

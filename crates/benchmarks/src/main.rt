@@ -18,7 +18,6 @@ mod ip_packets;
 mod ipv4_headers;
 mod ipv6_extensions;
 mod job;
-mod lax_packets;
 mod links;
 mod measured;
 mod order;

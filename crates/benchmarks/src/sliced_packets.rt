@@ -2,14 +2,10 @@
 use crate::job::Job;
 use crate::links::{sum_of_address, sum_of_bytes};
 use crate::random::Random;
-use ep_base::IpNumber;
-use ep_base::err::LenError;
-use ep_ip::{Ipv4HeaderSlice, Ipv6HeaderSlice};
-use ep_ipslice::IpPayloadSlice;
-use ep_link::{ArpPacketSlice, LinkSlice};
+use ep_link::LinkSlice;
 use ep_packet::err::packet::SliceError;
 use ep_packet::{NetSlice, SlicedPacket, TransportSlice};
-use ep_tag::{LinkExtSlice, SingleVlanSlice};
+use ep_tag::LinkExtSlice;
 use ep_tcpudp::TcpSlice;
 use std::alloc::{AllocError, Global};
 
@@ -190,29 +186,19 @@ fn append_udp(
 fn sum_of_frame(frame: &[u8]) -> u64 {
     match SlicedPacket::from_ethernet(frame) {
         Ok(packet) => sum_of_packet(&packet),
-        Err(error) => sum_of_error(&error),
+        Err(SliceError::Len(error)) => (error.required_len as u64)
+            .wrapping_add(error.len as u64)
+            .wrapping_add(error.layer_start_offset as u64),
+        Err(_) => 1,
     }
-}
-
-/// Of too few bytes the lengths and the offset, else 1; it has no contract, as the sum is compared
-/// with that of a plain program.
-pub fn sum_of_error(error: &SliceError) -> u64 {
-    match error {
-        SliceError::Len(error) => sum_of_len_error(error),
-        _ => 1,
-    }
-}
-
-/// It has no contract: the sum is compared with that of a plain program.
-pub fn sum_of_len_error(error: &LenError) -> u64 {
-    (error.required_len as u64)
-        .wrapping_add(error.len as u64)
-        .wrapping_add(error.layer_start_offset as u64)
 }
 
 /// The sum of all parts; it has no contract, as it is compared with that of a plain program.
 fn sum_of_packet(packet: &SlicedPacket) -> u64 {
-    let mut sum = sum_of_link(&packet.link);
+    let mut sum = match &packet.link {
+        Some(link) => sum_of_link(link),
+        None => 2,
+    };
     for tag in packet.link_exts.as_slice() {
         sum = sum.wrapping_add(sum_of_tag(tag));
     }
@@ -220,71 +206,60 @@ fn sum_of_packet(packet: &SlicedPacket) -> u64 {
         Some(packet) => sum_of_net(packet),
         None => 3,
     };
-    sum.wrapping_add(net)
-        .wrapping_add(sum_of_transport(&packet.transport))
+    let transport = match &packet.transport {
+        Some(message) => sum_of_transport(message),
+        None => 4,
+    };
+    sum.wrapping_add(net).wrapping_add(transport)
 }
 
 /// It has no contract: the sum is compared with that of a plain program.
-pub fn sum_of_link(link: &Option<LinkSlice>) -> u64 {
+fn sum_of_link(link: &LinkSlice) -> u64 {
     match link {
-        Some(LinkSlice::Ethernet2(frame)) => sum_of_address(frame.destination())
+        LinkSlice::Ethernet2(frame) => sum_of_address(frame.destination())
             .wrapping_add(sum_of_address(frame.source()))
             .wrapping_add(u64::from(frame.ether_type().0))
             .wrapping_add(frame.payload_slice().len() as u64),
-        Some(_) => 5,
-        None => 2,
+        _ => 5,
     }
 }
 
 /// It has no contract: the sum is compared with that of a plain program.
 fn sum_of_tag(tag: &LinkExtSlice) -> u64 {
     match tag {
-        LinkExtSlice::Vlan(tag) => sum_of_vlan(tag),
+        LinkExtSlice::Vlan(tag) => u64::from(tag.vlan_identifier().value())
+            .wrapping_add(u64::from(tag.ether_type().0))
+            .wrapping_add(tag.payload_slice().len() as u64),
         LinkExtSlice::Macsec(macsec) => macsec.header_len() as u64,
     }
-}
-
-/// It has no contract: the sum is compared with that of a plain program.
-pub fn sum_of_vlan(tag: &SingleVlanSlice) -> u64 {
-    u64::from(tag.vlan_identifier().value())
-        .wrapping_add(u64::from(tag.ether_type().0))
-        .wrapping_add(tag.payload_slice().len() as u64)
 }
 
 /// It has no contract: the sum is compared with that of a plain program.
 fn sum_of_net(packet: &NetSlice) -> u64 {
     match packet {
         NetSlice::Ipv4(packet) => {
-            let payload = sum_of_ip_payload(packet.payload());
-            sum_of_ipv4_addresses(packet.header()).wrapping_add(payload)
+            let (header, payload) = (packet.header(), packet.payload());
+            u64::from(u32::from_be_bytes(header.source()))
+                .wrapping_add(u64::from(u32::from_be_bytes(header.destination())))
+                .wrapping_add(u64::from(payload.ip_number.0))
+                .wrapping_add(u64::from(payload.fragmented))
+                .wrapping_add(sum_of_bytes(payload.payload))
         }
         NetSlice::Ipv6(packet) => {
-            let payload = sum_of_ip_payload(packet.payload());
-            sum_of_ipv6_addresses(packet.header())
+            let (header, payload) = (packet.header(), packet.payload());
+            u64::from_be_bytes(half(header.source()))
+                .wrapping_add(u64::from_be_bytes(half(header.destination())))
                 .wrapping_add(packet.extensions().slice().len() as u64)
-                .wrapping_add(payload)
+                .wrapping_add(u64::from(payload.ip_number.0))
+                .wrapping_add(u64::from(payload.fragmented))
+                .wrapping_add(sum_of_bytes(payload.payload))
         }
-        NetSlice::Arp(packet) => sum_of_arp(packet),
+        NetSlice::Arp(packet) => u64::from(packet.operation().0)
+            .wrapping_add(sum_of_bytes(packet.sender_hw_addr()))
+            .wrapping_add(sum_of_bytes(packet.sender_protocol_addr()))
+            .wrapping_add(sum_of_bytes(packet.target_hw_addr()))
+            .wrapping_add(sum_of_bytes(packet.target_protocol_addr())),
     }
-}
-
-/// It has no contract: the sum is compared with that of a plain program.
-fn sum_of_ip_payload(payload: &IpPayloadSlice) -> u64 {
-    sum_of_payload(payload.ip_number, payload.fragmented, payload.payload)
-}
-
-/// It has no contract: the sum is compared with that of a plain program.
-pub fn sum_of_ipv4_addresses(header: &Ipv4HeaderSlice) -> u64 {
-    let source = u32::from_be_bytes(header.source());
-    let destination = u32::from_be_bytes(header.destination());
-    u64::from(source).wrapping_add(u64::from(destination))
-}
-
-/// It has no contract: the sum is compared with that of a plain program.
-pub fn sum_of_ipv6_addresses(header: &Ipv6HeaderSlice) -> u64 {
-    let source = u64::from_be_bytes(half(header.source()));
-    let destination = u64::from_be_bytes(half(header.destination()));
-    source.wrapping_add(destination)
 }
 
 /// The second half of an address, which identifies an interface. It has no contract: the sum is
@@ -295,35 +270,18 @@ fn half(address: [u8; 16]) -> [u8; 8] {
 }
 
 /// It has no contract: the sum is compared with that of a plain program.
-pub fn sum_of_payload(ip_number: IpNumber, fragmented: bool, payload: &[u8]) -> u64 {
-    u64::from(ip_number.0)
-        .wrapping_add(u64::from(fragmented))
-        .wrapping_add(sum_of_bytes(payload))
-}
-
-/// It has no contract: the sum is compared with that of a plain program.
-pub fn sum_of_arp(packet: &ArpPacketSlice) -> u64 {
-    u64::from(packet.operation().0)
-        .wrapping_add(sum_of_bytes(packet.sender_hw_addr()))
-        .wrapping_add(sum_of_bytes(packet.sender_protocol_addr()))
-        .wrapping_add(sum_of_bytes(packet.target_hw_addr()))
-        .wrapping_add(sum_of_bytes(packet.target_protocol_addr()))
-}
-
-/// It has no contract: the sum is compared with that of a plain program.
-pub fn sum_of_transport(message: &Option<TransportSlice>) -> u64 {
+fn sum_of_transport(message: &TransportSlice) -> u64 {
     match message {
-        Some(TransportSlice::Udp(datagram)) => u64::from(datagram.source_port())
+        TransportSlice::Udp(datagram) => u64::from(datagram.source_port())
             .wrapping_add(u64::from(datagram.destination_port()))
             .wrapping_add(sum_of_bytes(datagram.payload())),
-        Some(TransportSlice::Tcp(segment)) => sum_of_segment(segment),
-        Some(TransportSlice::Icmpv4(message)) => u64::from(message.type_u8())
+        TransportSlice::Tcp(segment) => sum_of_segment(segment),
+        TransportSlice::Icmpv4(message) => u64::from(message.type_u8())
             .wrapping_add(u64::from(message.code_u8()))
             .wrapping_add(sum_of_bytes(message.payload())),
-        Some(TransportSlice::Icmpv6(message)) => u64::from(message.type_u8())
+        TransportSlice::Icmpv6(message) => u64::from(message.type_u8())
             .wrapping_add(u64::from(message.code_u8()))
             .wrapping_add(sum_of_bytes(message.payload())),
-        None => 4,
     }
 }
 
