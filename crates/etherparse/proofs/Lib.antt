@@ -29,6 +29,7 @@ mod JoinedDatagrams
 mod Joining
 mod Kept
 mod KeptMemory
+mod LateWrites
 mod Lengths
 mod LinkedExts
 mod Literals

@@ -5,6 +5,7 @@ pub mod BuiltFrames
 pub mod BuiltLaws
 pub mod BuiltSteps
 pub mod Counts
+pub mod DeferredBytes
 pub mod FragmentBytes
 pub mod Fragments
 pub mod IpDefragBuf

@@ -23,10 +23,10 @@ abbrev pub stored_room : Option (SmallVec StoredFragment) → ℕ
 stored_room None = 0
 stored_room (Some ms) = ms.capacity
 
--- the capacity of these
-abbrev pub room_in : {A B : Type 0} → Vec ℕ A → Vec IpFragRange B → Option (SmallVec StoredFragment) → Room
-room_in bytes sections stored_fragments = record {
-  for_bytes = vec_capacity bytes;
+-- the capacity of these, and of so many bytes
+abbrev pub room_in : {B : Type 0} → ℕ → Vec IpFragRange B → Option (SmallVec StoredFragment) → Room
+room_in for_bytes sections stored_fragments = record {
+  for_bytes = for_bytes;
   for_sections = vec_capacity sections;
   for_fragments = stored_room stored_fragments;
 }

@@ -1,5 +1,7 @@
 //! Reassembly of fragmented IP packets (RFC 791, section 3.2; RFC 8200, section 4.5).
 
+mod datagram_bytes;
+mod deferred_bytes;
 mod fragment;
 pub(crate) mod ip_defrag_buf;
 mod ip_defrag_error;
@@ -12,6 +14,7 @@ mod overlap_rule;
 mod pool_calls;
 mod reassemblies;
 mod reassembly;
+mod reassembly_buf;
 mod renewed_timestamps;
 mod retain_reassemblies;
 mod sections;

@@ -13,7 +13,7 @@ ghost use Rattle.etherparse.specs.declared.defrag.stored_fragment.Location.TheVa
 ghost use Rattle.etherparse.specs.Fragments.{Fragment, fragment, with_all_accepted, end_of, named_end, refusal_at};
 ghost use Rattle.etherparse.specs.Fragments.{accepted_count, IsRepeat, refusal_of, with_accepted, is_complete};
 ghost use Rattle.etherparse.specs.Fragments.{Complete};
-ghost use Rattle.etherparse.specs.IpDefragBuf.{Contents, Shows, ShowsAccepted, IsSound, AnswersAdd, Stops, Writes};
+ghost use Rattle.etherparse.specs.IpDefragBuf.{Contents, Shows, ShowsAccepted, IsSound, AnswersAdd, Stops};
 ghost use Rattle.etherparse.specs.IpDefragBuf.{unless_refused, is_whole, rule_of, empty_of, left_after, none_stored};
 ghost use Rattle.etherparse.specs.IpDefragBuf.{FindsLocation, HasRoom, SameButRoom};
 ghost use Rattle.etherparse.specs.IpDefragError.{is_out_of_memory};
@@ -22,6 +22,7 @@ ghost use Rattle.etherparse.specs.StoredFragment.{emptied, listed_in, stored_of,
 ghost use Rattle.etherparse.specs.FragmentBytes.{text_of};
 ghost use Rattle.etherparse.specs.Room.{NoLessRoom, new_room, room_in, wanted_end};
 
+use super::datagram_bytes::DatagramBytes;
 use super::overlap_rule::OverlapRule;
 use super::sections::add_range;
 use super::stored_fragment::{
@@ -35,39 +36,41 @@ use std::marker::Model;
 
 /// The fragments of one datagram, put together as they come, beside the number of the protocol of
 /// its payload, or nothing where that is known elsewhere.
+/// Its bytes are a `Vec<u8>`; in a pool, where nobody sees them before the datagram is complete, they
+/// may be written late.
 ///
 /// Bytes of a later fragment overwrite those of an earlier one (RFC 791, section 3.2); a buffer
 /// made by [`IpDefragBuf::new_refusing_overlap`] refuses a fragment that overlaps another, and
 /// drops the datagram (RFC 5722; RFC 8200, section 4.5).
 #[derive(Debug, Drop)]
-pub struct IpDefragBuf<Number = IpNumber> {
+pub struct IpDefragBuf<Number = IpNumber, Bytes: DatagramBytes = Vec<u8>> {
     ip_number: Number,
-    data: Vec<u8>,
-    sections: Vec<IpFragRange>,
+    pub(super) data: Bytes,
+    pub(super) sections: Vec<IpFragRange>,
     end: Option<u16>,
     // Where overlaps are refused: the accepted fragments in order, each once.
     stored_fragments: Option<StoredFragments>,
 }
 
-impl<Number> Model for IpDefragBuf<Number> {
+impl<Number, Bytes: DatagramBytes> Model for IpDefragBuf<Number, Bytes> {
     ghost Value = { Contents Number };
 
     ghost view = { λ buf. record {
       ip_number = buf.ip_number;
-      bytes = buf.data.items;
+      bytes = Bytes.shown buf.data;
       sections = buf.sections.items;
       end = buf.end;
       stored_fragments = listed_in buf.stored_fragments;
-      room = room_in buf.data buf.sections buf.stored_fragments;
+      room = room_in (Bytes.capacity buf.data) buf.sections buf.stored_fragments;
     } };
 
     ghost invariant = { λ buf. IsSound record {
       ip_number = buf.ip_number;
-      bytes = buf.data.items;
+      bytes = Bytes.shown buf.data;
       sections = buf.sections.items;
       end = buf.end;
       stored_fragments = listed_in buf.stored_fragments;
-      room = room_in buf.data buf.sections buf.stored_fragments;
+      room = room_in (Bytes.capacity buf.data) buf.sections buf.stored_fragments;
     } };
 }
 
@@ -91,24 +94,6 @@ impl PartialEq for IpDefragBuf {
 
 impl Eq for IpDefragBuf {
     ghost laws = { Prim.search (comparing, rules) depth 14 };
-}
-
-// Writes bytes at an index, over those that are there, and 0 at each new index before it. There is
-// capacity for them.
-#[inline(always)]
-fn write_at(buffer: &mut Vec<u8>, start: usize, bytes: &[u8])
-    requires room { start + length bytes.now ≤ vec_capacity buffer.old }
-    requires fits { start + length bytes.now ≤ 65535 }
-    ensures writes { Writes buffer.old.items buffer.new.items start bytes.now }
-    ensures room { vec_capacity buffer.old ≤ vec_capacity buffer.new }
-{
-    if start == buffer.len() {
-        buffer.extend_from_slice(bytes).unwrap();
-    } else {
-        let end = start + bytes.len();
-        buffer.resize(buffer.len().max(end), 0).unwrap();
-        buffer[start..end].copy_from_slice(bytes);
-    }
 }
 
 // For how many bytes beside those that are there a fragment reserves capacity. The first one, where
@@ -231,16 +216,39 @@ impl<Number: Drop> IpDefragBuf<Number> {
         }
     }
 
-    fn empty(
+    /// The bytes that are there, with 0 at each offset whose byte is missing.
+    pub fn data(&self) -> &Vec<u8>
+        ensures bytes { result.now.items ≡ self.now.bytes }
+        ensures room { vec_capacity result.now ≡ self.now.room.for_bytes }
+    {
+        &self.data
+    }
+
+    /// The bytes and the sections, whose memory may serve another datagram.
+    pub fn take_bufs(self) -> (Vec<u8>, Vec<IpFragRange>)
+        ensures bytes { result.0.items ≡ self.bytes }
+        ensures sections { result.1.items ≡ self.sections }
+        ensures text { (fs : List Fragment) → Shows self fs → Complete fs
+            → result.0.items ≡ text_of fs }
+        ensures short { length result.0.items ≤ 65535 }
+        ensures room { vec_capacity result.0 ≡ self.room.for_bytes }
+        ensures sections_room { vec_capacity result.1 ≡ self.room.for_sections }
+    {
+        (self.data, self.sections)
+    }
+}
+
+impl<Number: Drop, Bytes: DatagramBytes + Drop> IpDefragBuf<Number, Bytes> {
+    pub(super) fn empty(
         ip_number: Number,
-        mut data: Vec<u8>,
+        mut data: Bytes,
         mut sections: Vec<IpFragRange>,
         stored_fragments: Option<StoredFragments>,
-    ) -> IpDefragBuf<Number>
+    ) -> IpDefragBuf<Number, Bytes>
         requires { IfSome (listed_in stored_fragments) (λ ms. ms ≡ []) }
         ensures empty { Shows result [] }
         ensures value { result
-            ≡ empty_of ip_number (listed_in stored_fragments) (room_in «data» sections stored_fragments) }
+            ≡ empty_of ip_number (listed_in stored_fragments) (room_in (Bytes.capacity «data») sections stored_fragments) }
     {
         data.clear();
         sections.clear();
@@ -251,14 +259,6 @@ impl<Number: Drop> IpDefragBuf<Number> {
             end: None,
             stored_fragments,
         }
-    }
-
-    /// The bytes that are there, with 0 at each offset whose byte is missing.
-    pub fn data(&self) -> &Vec<u8>
-        ensures bytes { result.now.items ≡ self.now.bytes }
-        ensures room { vec_capacity result.now ≡ self.now.room.for_bytes }
-    {
-        &self.data
     }
 
     /// How many bytes it holds: the greatest end of its fragments.
@@ -413,7 +413,8 @@ impl<Number: Drop> IpDefragBuf<Number> {
             return Err(IpDefragError::AllocationFailure { len });
         }
 
-        write_at(&mut self.data, usize::from(stored_fragment.start), bytes);
+        self.data
+            .write_at(usize::from(stored_fragment.start), bytes);
         add_range(
             &mut self.sections,
             IpFragRange {
@@ -439,19 +440,6 @@ impl<Number: Drop> IpDefragBuf<Number> {
         ensures complete { (fs : List Fragment) → Shows self.now fs → IsTrue result ↔ Complete fs }
     {
         is_one_whole(self.end, &self.sections)
-    }
-
-    /// The bytes and the sections, whose memory may serve another datagram.
-    pub fn take_bufs(self) -> (Vec<u8>, Vec<IpFragRange>)
-        ensures bytes { result.0.items ≡ self.bytes }
-        ensures sections { result.1.items ≡ self.sections }
-        ensures text { (fs : List Fragment) → Shows self fs → Complete fs
-            → result.0.items ≡ text_of fs }
-        ensures short { length result.0.items ≤ 65535 }
-        ensures room { vec_capacity result.0 ≡ self.room.for_bytes }
-        ensures sections_room { vec_capacity result.1 ≡ self.room.for_sections }
-    {
-        (self.data, self.sections)
     }
 }
 

@@ -19,9 +19,10 @@ ghost use Rattle.etherparse.specs.ReassemblyTable.{fragment_of};
 ghost use Rattle.etherparse.specs.Refused.{error_in, refused_by};
 ghost use Rattle.etherparse.specs.Repeats.{TakesRepeat};
 
+use super::reassembly_buf::ReassemblyBuf;
 use super::spare_buffers::SpareBuffers;
 use super::start_order::StartOrder;
-use crate::defrag::{IpDefragBuf, IpDefragError, OverlapRule, checked_end};
+use crate::defrag::{IpDefragError, OverlapRule, checked_end};
 use ep_packet::SlicedFragment;
 use indexmap::IndexMap;
 use indexmap::map::Entry;
@@ -33,7 +34,7 @@ use std::hash::{BuildHasher, Hash};
 #[derive(Debug, Drop)]
 pub struct Reassembly<T> {
     /// Its fragments. The number of its protocol is in its name.
-    pub buf: IpDefragBuf<()>,
+    pub buf: ReassemblyBuf,
     /// That of the fragment accepted last.
     pub timestamp: T,
 }
@@ -116,7 +117,7 @@ fn first_fragment_error(received: &SlicedFragment<'_>) -> IpDefragError
 }
 
 // The bytes of a datagram that is complete. Its sections are spare now.
-fn finish(spare: &mut SpareBuffers, buf: IpDefragBuf<()>) -> Vec<u8>
+fn finish(spare: &mut SpareBuffers, buf: ReassemblyBuf) -> Vec<u8>
     requires { HasSlots spare.old 1 }
     ensures bytes { result.items ≡ buf.bytes }
     ensures short { length result.items ≤ 65535 }
@@ -125,10 +126,10 @@ fn finish(spare: &mut SpareBuffers, buf: IpDefragBuf<()>) -> Vec<u8>
     ensures bytes_stay { spare.new.bytes ≡ spare.old.bytes }
     ensures sections_room { capacities spare.new.sections.items
         ≡ capacities spare.old.sections.items ++ buf.room.for_sections ∷ [] }
-    ensures room { vec_capacity result ≡ buf.room.for_bytes }
+    ensures room { buf.room.for_bytes ≤ vec_capacity result }
     ensures slots { (count : ℕ) → HasSlots spare.old (count + 1) → HasSlots spare.new count }
 {
-    let (bytes, sections) = buf.take_bufs();
+    let (bytes, sections) = buf.into_bufs();
     spare.sections.push_reserved(sections);
     bytes
 }
@@ -217,7 +218,7 @@ pub(crate) fn add_fragment<K: Eq + Hash + Drop, T: Drop, S: BuildHasher>(
                 return Err(first_fragment_error(received));
             }
             let (bytes, sections, taken) = spare.take(alloc);
-            let buf = IpDefragBuf::of_rule(rule, alloc, (), bytes, sections);
+            let buf = ReassemblyBuf::starting(rule, alloc, bytes, sections);
             let mut started = entry.insert_entry(Reassembly { buf, timestamp });
             let buf = &mut started.get_mut().buf;
             match buf.add(received.offset, received.more_fragments, received.bytes) {

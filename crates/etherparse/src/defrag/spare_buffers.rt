@@ -5,7 +5,8 @@ ghost use Rattle.std.specs.Prelude.{vec_capacity, IfSome};
 ghost use Rattle.etherparse.specs.Memory.{capacities, freed, memory_of};
 ghost use Rattle.etherparse.specs.SpareBuffers.{HasSlots, NoFewerSlots, SameBuffers, SameCounts};
 
-use crate::defrag::{IpDefragBuf, IpFragRange};
+use super::reassembly_buf::ReassemblyBuf;
+use crate::defrag::IpFragRange;
 use std::alloc::Global;
 
 /// Buffers of reassemblies that ended, each kind in a list of its own: the bytes of a datagram are
@@ -110,7 +111,7 @@ impl SpareBuffers {
     }
 
     /// Takes back those that were spare of a reassembly that didn't start.
-    pub(crate) fn give_back(&mut self, buf: IpDefragBuf<()>, taken: Taken)
+    pub(crate) fn give_back(&mut self, buf: ReassemblyBuf, taken: Taken)
         requires bytes { taken.bytes ≡ true → vec_len self.old.bytes < vec_capacity self.old.bytes }
         requires sections { taken.sections ≡ true
             → vec_len self.old.sections < vec_capacity self.old.sections }
@@ -126,7 +127,7 @@ impl SpareBuffers {
         ensures no_fewer { NoFewerSlots self.old self.new }
         ensures slots { (count : ℕ) → HasSlots self.old (count + 1) → HasSlots self.new count }
     {
-        let (bytes, sections) = buf.take_bufs();
+        let (bytes, sections) = buf.into_memory();
         if taken.bytes {
             self.bytes.push_reserved(bytes);
         }
@@ -136,7 +137,7 @@ impl SpareBuffers {
     }
 
     /// Takes both buffers of a reassembly that ended. There are slots for them.
-    pub(crate) fn give(&mut self, buf: IpDefragBuf<()>)
+    pub(crate) fn give(&mut self, buf: ReassemblyBuf)
         requires { HasSlots self.old 1 }
         ensures bytes { vec_len self.new.bytes ≡ vec_len self.old.bytes + 1 }
         ensures sections { vec_len self.new.sections ≡ vec_len self.old.sections + 1 }
@@ -146,7 +147,7 @@ impl SpareBuffers {
             ≡ capacities self.old.sections.items ++ buf.room.for_sections ∷ [] }
         ensures no_fewer { NoFewerSlots self.old self.new }
     {
-        let (bytes, sections) = buf.take_bufs();
+        let (bytes, sections) = buf.into_memory();
         self.bytes.push_reserved(bytes);
         self.sections.push_reserved(sections);
     }

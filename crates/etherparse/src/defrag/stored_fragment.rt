@@ -9,6 +9,7 @@ ghost use Rattle.etherparse.specs.StoredFragment.{stored_cmp, reach_of};
 ghost use Rattle.etherparse.specs.Room.{HasStoredRoom, stored_room};
 
 use super::IpFragRange;
+use super::datagram_bytes::DatagramBytes;
 use super::sections::shares_offset;
 use smallvec::SmallVec;
 use std::alloc::AllocError;
@@ -53,10 +54,9 @@ pub(crate) enum Location {
 }
 
 // Whether the list holds the bytes from an index on.
-fn has_bytes(there: &[u8], start: u16, bytes: &[u8]) -> bool
+pub(super) fn has_bytes(there: &[u8], start: usize, bytes: &[u8]) -> bool
     ensures { IsTrue result ↔ HasBytes there.now start bytes.now }
 {
-    let start = usize::from(start);
     start <= there.len() && there[start..].starts_with(bytes)
 }
 
@@ -77,18 +77,18 @@ fn search(
 
 // Looks for a fragment among the stored ones, whose bytes are there. It takes as many steps as
 // their number has binary digits.
-pub(crate) fn find_location(
+pub(crate) fn find_location<Bytes: DatagramBytes>(
     stored_fragments: &[StoredFragment],
     sections: &[IpFragRange],
-    there: &[u8],
+    there: &Bytes,
     stored_fragment: StoredFragment,
     bytes: &[u8],
 ) -> Location
     requires { AreOrdered sections.now }
-    ensures { IsLocation stored_fragments.now sections.now there.now stored_fragment bytes.now result }
+    ensures { IsLocation stored_fragments.now sections.now (Bytes.shown there.now) stored_fragment bytes.now result }
 {
     match search(stored_fragments, stored_fragment) {
-        Ok(_) if has_bytes(there, stored_fragment.start, bytes) => Location::Repeat,
+        Ok(_) if there.has_bytes(usize::from(stored_fragment.start), bytes) => Location::Repeat,
         Ok(_) => Location::Clash,
         Err(_) if shares_offset(sections, stored_fragment.reach()) => Location::Clash,
         Err(index) => Location::At(index),

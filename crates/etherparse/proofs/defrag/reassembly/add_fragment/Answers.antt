@@ -76,9 +76,9 @@ returns-in-Err-add-clause-memory g c =
     let buffers = c.make_slots.ensures.buffers in
     let take = c.take-bytes.ensures in
     let back = c.give_back.ensures in
-    let was : c.get_mut-in-Ok-Vacant.result.now.buf ≡ c.of_rule-buf.result = search rules in
+    let was : c.get_mut-in-Ok-Vacant.result.now.buf ≡ c.starting-buf.result = search rules in
     let is : c.swap_remove-in-Err-add.result.buf ≡ c.add-in-Ok-Vacant.new.self = search rules in
-    let first = was ∙ c.of_rule-buf.ensures.value in
+    let first = was ∙ c.starting-buf.ensures.value in
     let more = c.add-in-Ok-Vacant.ensures.room in
     keeps_gone _ _ _ _ _ _
     (given_back _ _ _ _ _ _ _
@@ -97,14 +97,14 @@ returns-in-Err-add-clause-succeeds g c finds =
     let n = index_map_len c.args.reassemblies.now in
     let m = memory_of c.args.spare.now
     (room_for (names_room c.args.reassemblies.now) c.args.starts.now.room) in
-    let was : c.get_mut-in-Ok-Vacant.result.now.buf ≡ c.of_rule-buf.result = search rules in
+    let was : c.get_mut-in-Ok-Vacant.result.now.buf ≡ c.starting-buf.result = search rules in
     let none : get g.K.PartialEq.eq c.args.reassemblies.now c.args.name ≡ None = search rules in
     let bytes = taken_next _ _ _ _ _ buffers.bytes take.bytes_room take.no_bytes in
     let sections = taken_next _ _ _ _ _ buffers.sections take.sections_room take.no_sections in
     let can : CanBegin n m f =
     begins (get g.K.PartialEq.eq c.args.reassemblies.now c.args.name) n m f none finds in
     c.in-Err-add.ensures.succeeds
-    (subst (λ (b : Contents Unit). HasRoom b f) (sym (was ∙ c.of_rule-buf.ensures.value))
+    (subst (λ (b : Contents Unit). HasRoom b f) (sym (was ∙ c.starting-buf.ensures.value))
     (first_has_room c.args.rule f n m c.take-bytes.result.0 c.take-bytes.result.1 can bytes.fits
     sections.fits))
 
@@ -112,8 +112,8 @@ pub returns-in-Ok-2-add-clause-memory : goal.returns-in-Ok-2-add-clause-memory
 returns-in-Ok-2-add-clause-memory g c =
     let buffers = c.make_slots.ensures.buffers in
     let take = c.take-bytes.ensures in
-    let was : c.get_mut-in-Ok-Vacant.result.now.buf ≡ c.of_rule-buf.result = search rules in
-    let first = was ∙ c.of_rule-buf.ensures.value in
+    let was : c.get_mut-in-Ok-Vacant.result.now.buf ≡ c.starting-buf.result = search rules in
+    let first = was ∙ c.starting-buf.ensures.value in
     let more = c.add-in-Ok-Vacant.ensures.room in
     keeps_started _ _ _ _ _
     (record { buf = c.add-in-Ok-Vacant.new.self; timestamp = c.args.timestamp }) _ _
@@ -128,9 +128,9 @@ returns-in-Ok-add-clause-memory g c =
     let buffers = c.make_slots.ensures.buffers in
     let take = c.take-bytes.ensures in
     let ended = c.finish-in-Ok-add.ensures in
-    let was : c.get_mut-in-Ok-Vacant.result.now.buf ≡ c.of_rule-buf.result = search rules in
+    let was : c.get_mut-in-Ok-Vacant.result.now.buf ≡ c.starting-buf.result = search rules in
     let is : c.swap_remove-in-Ok-add.result.buf ≡ c.add-in-Ok-Vacant.new.self = search rules in
-    let first = was ∙ c.of_rule-buf.ensures.value in
+    let first = was ∙ c.starting-buf.ensures.value in
     let more = c.add-in-Ok-Vacant.ensures.room in
     let bytes : TakenNext (capacities c.args.spare.now.bytes.items)
     (capacities c.finish-in-Ok-add.new.spare.bytes.items) (vec_capacity c.take-bytes.result.0) =
@@ -280,8 +280,8 @@ returns-in-Ok-2-add-clause-tracks g c =
 pub returns-in-Err-add-clause-refused : goal.returns-in-Err-add-clause-refused
 returns-in-Err-add-clause-refused g c kept fs shows begins =
     let none : get g.K.PartialEq.eq c.args.reassemblies.now c.args.name ≡ None = search rules in
-    let was : c.get_mut-in-Ok-Vacant.result.now.buf ≡ c.of_rule-buf.result = search rules in
+    let was : c.get_mut-in-Ok-Vacant.result.now.buf ≡ c.starting-buf.result = search rules in
     first_refused kept c.args.rule _ (fragment_of c.args.received.now) c.in-Err-add.error _ fs
-    (ap (λ (b : Contents Unit). rule_of b) was ∙ c.of_rule-buf.ensures.rule) none shows begins
+    (ap (λ (b : Contents Unit). rule_of b) was ∙ c.starting-buf.ensures.rule) none shows begins
     (c.in-Err-add.ensures.refused []
-    (subst (λ (b : Contents Unit). Shows b []) (sym was) c.of_rule-buf.ensures.empty))
+    (subst (λ (b : Contents Unit). Shows b []) (sym was) c.starting-buf.ensures.empty))

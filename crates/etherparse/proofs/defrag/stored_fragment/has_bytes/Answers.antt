@@ -1,4 +1,4 @@
-use Rattle.std.proofs.Common.{arith, ap, ◌∙◌, ◌-◌, drop, length}
+use Rattle.std.proofs.Common.{arith, ◌-◌, drop, length}
 use Rattle.std.proofs.lemmas.List.{take_all, length-drop}
 use Rattle.etherparse.proofs.HasBytesLemmas.{has_bytes_is}
 use Rattle.etherparse.proofs.defrag.stored_fragment.has_bytes.Goals as goal
@@ -6,9 +6,8 @@ use Rattle.etherparse.proofs.defrag.stored_fragment.has_bytes.Goals as goal
 pub returns-then-start-there : goal.returns-then-start-there
 returns-then-start-there c =
     has_bytes_is c.args.there.now c.args.bytes.now _ c.args.start c.starts_with.result
-    (omega (arith, c.if-start-there.true, c.from-start.ensures))
-    (take_all (length c.args.there.now - c.from-start.result)
-    (drop c.from-start.result c.args.there.now)
-    (omega (arith, length-drop c.from-start.result c.args.there.now))
-    ∙ ap (λ n. drop n c.args.there.now) c.from-start.ensures)
+    (omega (arith, c.if-start-there.true))
+    (take_all (length c.args.there.now - c.args.start)
+    (drop c.args.start c.args.there.now)
+    (omega (arith, length-drop c.args.start c.args.there.now)))
     c.starts_with.ensures.bound c.starts_with.ensures.value

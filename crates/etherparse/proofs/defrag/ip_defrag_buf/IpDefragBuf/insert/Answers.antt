@@ -26,7 +26,7 @@ invariant_of-self-then-not-reserve_stored g c =
 pub invariant_of-self-then-not-stored_fragment : goal.invariant_of-self-then-not-stored_fragment
 invariant_of-self-then-not-stored_fragment g c =
     sound_add _ _ (fragment c.args.offset c.args.stored_fragment.more_fragments c.args.bytes.now)
-    c.try_reserve.new.self.items c.write_at.new.buffer.items
+    (g.Bytes.DatagramBytes.shown c.try_reserve.new.self) (g.Bytes.DatagramBytes.shown c.write_at.new.self)
     c.try_reserve-else-is_err.new.self.items c.args.stored_fragment c.self.invariant
     c.add_range.ensures.ordered
     (goes c.args.self.now _
@@ -42,7 +42,7 @@ invariant_of-self-then-not-stored_fragment g c =
 pub invariant_of-self-else-not-stored_fragment : goal.invariant_of-self-else-not-stored_fragment
 invariant_of-self-else-not-stored_fragment g c =
     sound_add _ _ (fragment c.args.offset c.args.stored_fragment.more_fragments c.args.bytes.now)
-    c.try_reserve.new.self.items c.write_at.new.buffer.items
+    (g.Bytes.DatagramBytes.shown c.try_reserve.new.self) (g.Bytes.DatagramBytes.shown c.write_at.new.self)
     c.try_reserve-else-is_err.new.self.items c.args.stored_fragment c.self.invariant
     c.add_range.ensures.ordered
     (goes c.args.self.now _

@@ -1,6 +1,6 @@
 use Rattle.std.proofs.Common.{arith, ◌∙◌, ◌≡◌, length}
 use Rattle.etherparse.proofs.Written.{written}
-use Rattle.etherparse.proofs.defrag.ip_defrag_buf.write_at.Goals as goal
+use Rattle.etherparse.proofs.defrag.datagram_bytes.write_at.Goals as goal
 
 pub returns-else-start-len-clause-writes : goal.returns-else-start-len-clause-writes
 returns-else-start-len-clause-writes c =
