@@ -6,6 +6,7 @@ mod errors;
 mod fragments;
 mod frames;
 mod hasher_states;
+mod late_fragments;
 mod lengths;
 mod memory;
 mod names;

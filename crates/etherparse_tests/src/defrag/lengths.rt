@@ -16,8 +16,8 @@ const GREAT: &[usize] = &[8192, 65_515, 65_528];
 
 const LONGEST: usize = 65_535;
 
-// Bytes in which each differs from those next to it.
-fn text(alloc: Global) -> Result<Vec<u8>, AllocError> {
+/// Bytes in which each differs from those next to it; no contract, as above.
+pub fn text(alloc: Global) -> Result<Vec<u8>, AllocError> {
     let mut text = Vec::with_capacity(alloc, LONGEST)?;
     for position in 0..LONGEST {
         text.push((position % 251) as u8)?;
@@ -71,8 +71,8 @@ fn is_buffered(
     );
 }
 
-// A frame with a fragment of protocol 253 at this offset.
-fn frame(
+/// A frame with a fragment of protocol 253 at this offset; no contract, as above.
+pub fn frame(
     alloc: Global,
     version: u8,
     units: u16,
