@@ -11,10 +11,11 @@ use crate::err::packet::SliceError;
 use crate::lax_layer_slices::LaxLayerSlices;
 use crate::lax_tagged_slice::{LaxTaggedSlice, bound_after};
 use crate::sliced_packet::same_tag;
+use crate::tagged_slice::ether_payload;
 use crate::{LaxNetSlice, TransportSlice, slice_fault};
 use arrayvec::ArrayVec;
+use ep_base::EtherType;
 use ep_base::err::{Layer, LenError};
-use ep_base::{EtherType, LenSource};
 use ep_ipslice::err::ip;
 use ep_ipslice::{LaxIpPayloadSlice, LaxIpSlice};
 use ep_link::err::linux_sll;
@@ -93,16 +94,8 @@ impl<'a> LaxSlicedPacket<'a> {
     pub fn from_ether_type(ether_type: EtherType, slice: &'a [u8]) -> LaxSlicedPacket<'a>
         ensures exact { result ≡ lax_sliced_ether_type ether_type slice.now }
     {
-        let payload = EtherPayloadSlice {
-            ether_type,
-            len_source: LenSource::Slice,
-            payload: slice,
-        };
-        let link = EtherPayloadSlice {
-            ether_type,
-            len_source: LenSource::Slice,
-            payload: slice,
-        };
+        let payload = ether_payload(ether_type, slice);
+        let link = ether_payload(ether_type, slice);
         Self::after_link(LinkSlice::EtherPayload(link), payload, 0)
     }
 

@@ -14,10 +14,10 @@ ghost use Rattle.ep_tag.specs.LinkExt.{fields_of};
 use crate::err::packet::SliceError;
 use crate::laws::refusals_are_first_faults;
 use crate::layer_headers::LayerHeaders;
-use crate::tagged_slice::{TaggedSlice, source_after};
+use crate::tagged_slice::{TaggedSlice, ether_payload, source_after};
 use crate::{NetHeaders, PayloadSlice, TransportHeader, slice_fault};
 use arrayvec::ArrayVec;
-use ep_base::{EtherType, LenSource};
+use ep_base::EtherType;
 use ep_ipslice::laws;
 use ep_link::{Ethernet2Header, Ethernet2Slice, LinkHeader};
 use ep_tag::{
@@ -99,12 +99,7 @@ impl<'a> PacketHeaders<'a> {
         laws::rows_in_slots_are_views();
         laws::ipv6_packet_found_is_there();
         refusals_are_first_faults();
-        let payload = EtherPayloadSlice {
-            ether_type,
-            len_source: LenSource::Slice,
-            payload: slice,
-        };
-        Self::after_link(None, payload, 0)
+        Self::after_link(None, ether_payload(ether_type, slice), 0)
     }
 
     /// The headers of an IP packet of the version in the upper half of its first byte, without a

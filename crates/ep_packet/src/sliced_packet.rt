@@ -18,10 +18,10 @@ ghost use Rattle.ep_packet.specs.Tags.{vlan_ids_of};
 use crate::err::packet::SliceError;
 use crate::laws::refusals_are_first_faults;
 use crate::layer_slices::LayerSlices;
-use crate::tagged_slice::{TaggedSlice, source_after};
+use crate::tagged_slice::{TaggedSlice, ether_payload, source_after};
 use crate::{NetSlice, TransportSlice, slice_fault};
 use arrayvec::ArrayVec;
-use ep_base::{EtherType, LenSource};
+use ep_base::EtherType;
 use ep_ipslice::IpPayloadSlice;
 use ep_link::{Ethernet2Header, Ethernet2Slice, LinkSlice, LinuxSllHeader, LinuxSllSlice};
 use ep_tag::laws::macsec::payload_is_read;
@@ -135,16 +135,8 @@ impl<'a> SlicedPacket<'a> {
     {
         payload_is_read();
         refusals_are_first_faults();
-        let payload = EtherPayloadSlice {
-            ether_type,
-            len_source: LenSource::Slice,
-            payload: slice,
-        };
-        let link = EtherPayloadSlice {
-            ether_type,
-            len_source: LenSource::Slice,
-            payload: slice,
-        };
+        let payload = ether_payload(ether_type, slice);
+        let link = ether_payload(ether_type, slice);
         Self::after_link(LinkSlice::EtherPayload(link), payload, 0)
     }
 

@@ -3,6 +3,7 @@ ghost use Rattle.std.specs.Prelude.{◌≡◌, ◌≤◌, length, IfErr, IfOk, I
 ghost use Rattle.ep_packet.specs.PacketView.{has_short_len, source_after};
 ghost use Rattle.ep_packet.specs.Parts.{TagIn, TagsIn};
 ghost use Rattle.ep_packet.specs.SliceFault.{fault_offset};
+ghost use Rattle.ep_packet.specs.Sliced.{ether_payload};
 ghost use Rattle.ep_packet.specs.Tags.{Tagged, most_tags, tag_at, tags_in};
 
 use crate::err::packet::SliceError;
@@ -69,6 +70,17 @@ impl<'a> TaggedSlice<'a> {
             len,
             last: Some(rest),
         })
+    }
+}
+
+/// What the ether type names: all bytes of the slice, which alone bounds them.
+pub(crate) fn ether_payload(ether_type: EtherType, slice: &[u8]) -> EtherPayloadSlice<'_>
+    ensures { result ≡ ether_payload ether_type slice.now }
+{
+    EtherPayloadSlice {
+        ether_type,
+        len_source: LenSource::Slice,
+        payload: slice,
     }
 }
 

@@ -28,7 +28,7 @@ abbrev pub payload_after : LinkExtSlice → Option EtherPayload
 payload_after (tag.Vlan bytes) = Some (vlan.payload_of bytes)
 payload_after (tag.Macsec m) = named_payload m.payload
 
--- the same of a tag after which bytes may be missing; after a VLAN tag none are
+-- the same of a tag after which bytes may be missing; a VLAN tag doesn't say that some are
 abbrev pub lax_tag_len : LaxLinkExtSlice → ℕ
 lax_tag_len (lax_tag.Vlan bytes) = vlan.vlan_len
 lax_tag_len (lax_tag.Macsec m) = length m.header

@@ -8,7 +8,8 @@ use ep_base::{IpNumber, LenSource};
 pub struct LaxIpPayloadSlice<'a> {
     /// Whether bytes of the payload are missing.
     pub incomplete: bool,
-    /// The number of the protocol that the payload starts with.
+    /// The number of what the payload starts with: that of its protocol, or of the extension header
+    /// that has a fault.
     pub ip_number: IpNumber,
     /// Whether the payload is a fragment: other packets hold the rest of the datagram.
     pub fragmented: bool,

@@ -7,7 +7,7 @@ use super::{LaxEtherPayloadSlice, LaxMacsecSlice, LinkExtHeader, SingleVlanSlice
 /// A tag between a link header and the packet, with what there is of what follows it, borrowed.
 #[derive(Clone, Debug, PartialEq, Eq, Drop)]
 pub enum LaxLinkExtSlice<'a> {
-    /// A VLAN tag. It states no length, so that nothing after it is missing.
+    /// A VLAN tag. It states no length, so that it doesn't say whether bytes after it are missing.
     Vlan(SingleVlanSlice<'a>),
     /// A MACsec header.
     Macsec(LaxMacsecSlice<'a>),
@@ -36,7 +36,8 @@ impl<'a> LaxLinkExtSlice<'a> {
     }
 
     /// What there is of what the tag's ether type names, where it has one: none after a modified
-    /// MACsec payload.
+    /// MACsec payload. After a VLAN tag `incomplete` is false, also where the tag lies in a payload
+    /// of which bytes are missing.
     pub fn ether_payload(&self) -> Option<LaxEtherPayloadSlice<'a>>
         ensures { result ≡ lax_payload_after self.now }
     {
