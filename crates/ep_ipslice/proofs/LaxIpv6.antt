@@ -1,6 +1,6 @@
 -- The IPv6 packet, as far as it is there.
 use Rattle.std.proofs.Common.{◌≡◌, ◌∙◌, sym, ap, refl, ℕ, ◌+◌, ◌-◌, ◌≤◌, ◌<◌, ◌^◌, Bool, false, List, ◌++◌}
-use Rattle.std.proofs.Common.{length, drop, Option, Some, Result, Ok, arith}
+use Rattle.std.proofs.Common.{length, drop, Option, Some, None, IfSome, Result, Ok, arith}
 use Rattle.std.proofs.lemmas.Bool.{ltb-false}
 use Rattle.std.proofs.lemmas.List.{drop_at, length-drop}
 use Rattle.std.specs.Option.{option_map}
@@ -43,6 +43,15 @@ pub fault_moves : RowMoves → (bytes header body : List ℕ) (first : ℕ) (pie
 fault_moves moves bytes header body first pieces last rest fault n enough most taken chain found =
     moves view_order first body pieces last rest fault (40 + n) chain found
     (omega (arith, enough, most, ap length taken, body_fits bytes header))
+
+-- the fault that was found, if there is one, can be counted from the start of the packet
+pub faults_move : RowMoves → (bytes body : List ℕ) (first : ℕ) (pieces : List Piece) (last : ℕ)
+    (rest : List ℕ) (found : Option Fault) → length bytes < 2 ^ 64 → 40 + length body ≤ length bytes
+    → Chain view_order first body pieces last rest → found ≡ fault_of view_order pieces last rest
+    → IfSome found (λ f. CanMove f.0 40)
+faults_move moves bytes body first pieces last rest None most within chain is = tt
+faults_move moves bytes body first pieces last rest (Some f) most within chain is =
+    moves view_order first body pieces last rest f 40 chain (sym is) (omega (arith, most, within))
 
 -- the parts of a row in what is there
 row_in : IsFound → HasLeast → (bytes header : List ℕ) (pieces : List Piece) (last : ℕ) (rest : List ℕ)

@@ -40,12 +40,12 @@ number_is order passed number (piece ∷ pieces) last row =
     number_is order (passed ++ piece.0 ∷ []) (num piece.1 0 1) pieces last row.2
 
 -- the parts of a row in a body
-record RowIn (bytes header : List ℕ) (pieces : List Piece) (last : ℕ) (rest : List ℕ) : Type 0 where
-  pieces_are : headers_in_slots (next_header_of header) (body_of bytes header) ≡ pieces
-  number : number_after (next_header_of header) pieces ≡ last
-  left : rest_after bytes header pieces ≡ rest
+pub record RowIn (bytes header : List ℕ) (pieces : List Piece) (last : ℕ) (rest : List ℕ) : Type 0 where
+  pub pieces_are : headers_in_slots (next_header_of header) (body_of bytes header) ≡ pieces
+  pub number : number_after (next_header_of header) pieces ≡ last
+  pub left : rest_after bytes header pieces ≡ rest
 
-row_in : RowsFound → (bytes header : List ℕ) (pieces : List Piece) (last : ℕ) (rest : List ℕ)
+pub row_in : RowsFound → (bytes header : List ℕ) (pieces : List Piece) (last : ℕ) (rest : List ℕ)
     → Chain slot_of (next_header_of header) (body_of bytes header) pieces last rest
     → RowIn bytes header pieces last rest
 row_in found bytes header pieces last rest chain = record {
@@ -54,7 +54,7 @@ row_in found bytes header pieces last rest chain = record {
   left = grind (arith, drop_at);
 }
 
-fault_is : (bytes header : List ℕ) (pieces : List Piece) (last : ℕ) (rest : List ℕ)
+pub fault_is : (bytes header : List ℕ) (pieces : List Piece) (last : ℕ) (rest : List ℕ)
     → RowIn bytes header pieces last rest
     → fault_after bytes header pieces ≡ fault_of slot_of pieces last rest
 fault_is bytes header pieces last rest row = grind arith

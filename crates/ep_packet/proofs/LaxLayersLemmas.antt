@@ -1,5 +1,5 @@
 -- The offsets of faults in layers, as far as these are there, lie within the bytes.
-use Rattle.std.proofs.Common.{◌≡◌, ◌∙◌, sym, subst, refl, ℕ, ◌+◌, ◌≤◌, ◌<◌, ◌^◌, List}
+use Rattle.std.proofs.Common.{◌≡◌, sym, subst, refl, ℕ, ◌+◌, ◌≤◌, ◌<◌, ◌^◌, List}
 use Rattle.std.proofs.Common.{length, Option, Some, None, Result, Ok, Err, IfErr, IfSome, arith}
 use Rattle.std.specs.Option.{option_map}
 use Rattle.ep_base.specs.SliceError.{CanMove}
@@ -16,8 +16,7 @@ use Rattle.ep_packet.specs.LaxSliced.{LaxLayers, auth_stop, ipv6_exts_stop, lax_
 use Rattle.ep_packet.specs.LaxSliced.{lax_layers_in, lax_message_at, lax_message_in, lax_transport_in}
 use Rattle.ep_packet.specs.LaxSliced.{of_auth, of_ipv4_header, of_ipv6_exts, of_ipv6_header}
 use Rattle.ep_packet.specs.LaxTags.{LaxTagged, Stop}
-use Rattle.ep_packet.specs.SliceFault.{fault_offset, within}
-use Rattle.ep_packet.specs.declared.err.packet.slice_error.SliceError.{SliceError}
+use Rattle.ep_packet.specs.SliceFault.{fault_offset}
 use Rattle.ep_tag.specs.Ether.{LaxEtherPayload}
 
 pub message_at_start : (number : ℕ) (bytes : List ℕ)
@@ -45,7 +44,7 @@ pub record Ipv6Moves : Type 0 where
       → lax_ipv6_packet_at bytes ≡ Err e → (n : ℕ) → length bytes + n < 2 ^ 64 → CanMove e n
 
 -- what stops, so many bytes of headers before a message
-transport_moves : (size n : ℕ) (p : IpPayload) (stop : Option Stop) → n ≤ size
+pub transport_moves : (size n : ℕ) (p : IpPayload) (stop : Option Stop) → n ≤ size
     → IfSome stop (Moves size) → IfSome (lax_transport_in n p stop).1 (Moves size)
 transport_moves size n p (Some stop) fits moves = moves
 transport_moves size n p None fits moves = grind (arith, message_in_at_start)
@@ -62,7 +61,7 @@ ipv4_move : (size : ℕ) (e : HeaderSliceError Ipv4HeaderFault) (n : ℕ) → si
     → fault_offset (of_ipv4_header e) + n < 2 ^ 64
 ipv4_move size e n fits moves = grind arith
 
-ipv6_move : (size : ℕ) (e : HeaderSliceError Ipv6HeaderFault) (n : ℕ) → size + n < 2 ^ 64 → CanMove e n
+pub ipv6_move : (size : ℕ) (e : HeaderSliceError Ipv6HeaderFault) (n : ℕ) → size + n < 2 ^ 64 → CanMove e n
     → fault_offset (of_ipv6_header e) + n < 2 ^ 64
 ipv6_move size e n fits moves = grind arith
 
@@ -72,13 +71,13 @@ auth_moves : (size : ℕ) (stop : Option (HeaderSliceError AuthFault))
 auth_moves size None moves = tt
 auth_moves size (Some e) moves = λ n fits. auth_move size e n fits (moves n fits)
 
-exts_moves : (size : ℕ) (stop : Option Fault)
+pub exts_moves : (size : ℕ) (stop : Option Fault)
     → ((n : ℕ) → size + n < 2 ^ 64 → IfSome stop (λ f. CanMove f.0 n))
     → IfSome (option_map ipv6_exts_stop stop) (Moves size)
 exts_moves size None moves = tt
 exts_moves size (Some f) moves = λ n fits. exts_move size f n fits (moves n fits)
 
-ipv4_moves : Ipv4Moves → (bytes : List ℕ) (r : Result StoppedIpv4 (HeaderSliceError Ipv4HeaderFault))
+pub ipv4_moves : Ipv4Moves → (bytes : List ℕ) (r : Result StoppedIpv4 (HeaderSliceError Ipv4HeaderFault))
     → lax_ipv4_packet_at bytes ≡ r → IfSome (lax_ipv4_layers r).stop (Moves (length bytes))
 ipv4_moves law bytes (Ok s) at = transport_moves (length bytes) _ s.0.payload _ (law.headers bytes s at)
     (auth_moves (length bytes) s.1 (law.stop bytes s at))
@@ -91,7 +90,7 @@ ipv6_moves law bytes (Ok s) at = transport_moves (length bytes) _ s.0.payload _ 
 ipv6_moves law bytes (Err e) at = λ n fits. ipv6_move (length bytes) e n fits (law.header bytes e at n fits)
 
 -- as the code names what it has
-named_moves : (named : Option LaxEtherPayload) (p : LaxEtherPayload) (bytes : List ℕ) (stop : Option Stop)
+pub named_moves : (named : Option LaxEtherPayload) (p : LaxEtherPayload) (bytes : List ℕ) (stop : Option Stop)
     → IfSome stop (Moves (length bytes)) → named ≡ Some p → bytes ≡ p.payload
     → IfSome named (λ q. IfSome stop (Moves (length q.payload)))
 named_moves named p bytes stop moves is same =
@@ -116,7 +115,7 @@ pub ipv6_stop_moves : Ipv6Moves → (named : Option LaxEtherPayload) (p : LaxEth
 ipv6_stop_moves law named p bytes l is same layers = named_moves named p bytes l.stop
     (stop_of (length bytes) l _ layers (ipv6_moves law bytes (lax_ipv6_packet_at bytes) refl)) is same
 
-some_later : (size link_len len : ℕ) (stop : Option Stop) (n : ℕ) → IfSome stop (Moves n) → len + n ≤ size
+pub some_later : (size link_len len : ℕ) (stop : Option Stop) (n : ℕ) → IfSome stop (Moves n) → len + n ≤ size
     → link_len + size < 2 ^ 64 → IfSome stop (λ s. fault_offset s.0 + (link_len + len) < 2 ^ 64)
 some_later size link_len len None n moves fits most = tt
 some_later size link_len len (Some s) n moves fits most = moves (link_len + len) (omega (arith, fits, most))

@@ -29,7 +29,7 @@ either true false source = refl
 either false true source = refl
 either false false source = refl
 
-bound_whole : (source : LenSource) (tags : List LinkExtSlice)
+pub bound_whole : (source : LenSource) (tags : List LinkExtSlice)
     → bound_after (false, source) (map whole_tag tags)
     ≡ (false, if any_has_short_len tags then MacsecShortLength else source)
 bound_whole source [] = refl
@@ -43,7 +43,7 @@ named_whole : (header : Option LinkSlice) (t : Option LinkExtSlice)
 named_whole header None = refl
 named_whole header (Some t) = payload_same t
 
-last_whole : (tags : List LinkExtSlice)
+pub last_whole : (tags : List LinkExtSlice)
     → slice_get (map whole_tag tags) (length (map whole_tag tags) - 1)
     ≡ option_map whole_tag (slice_get tags (length tags - 1))
 last_whole tags = ap (λ (n : ℕ). slice_get (map whole_tag tags) (n - 1)) (length-map tags whole_tag)

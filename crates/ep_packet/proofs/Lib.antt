@@ -9,11 +9,16 @@ mod HeadersOfLayers
 mod HeadersOfMessages
 mod HeadersOfPackets
 mod HeadersOfTags
+mod LaxCutLemmas
 mod LaxFitsLemmas
+mod LaxHeadersAt
+mod LaxHeadersLemmas
 mod LaxLayersLemmas
 mod LaxPayloads
+mod LaxSameHeaderLemmas
 mod LaxTagsLemmas
 mod LaxViewLemmas
+mod LaxWholeHeaderLemmas
 mod LaxWholeLemmas
 mod MessageFaults
 mod PacketViewLemmas

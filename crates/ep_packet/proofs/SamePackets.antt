@@ -29,7 +29,7 @@ packets_same link tag net transport a b = record_same
       transport = transport i;
     })
 
-pairs_same : {A B : Type 0} {first : A → A → Bool} {second : B → B → Bool} → EqualIsSame first
+pub pairs_same : {A B : Type 0} {first : A → A → Bool} {second : B → B → Bool} → EqualIsSame first
     → EqualIsSame second → EqualIsSame (λ (x y : A × B). first x.0 y.0 && second x.1 y.1)
 pairs_same one two a b = two_parts (one a.0 b.0) (two a.1 b.1) (λ x y i. (x i, y i))
     (λ is. (ap (λ (p : _ × _). p.0) is, ap (λ (p : _ × _). p.1) is))

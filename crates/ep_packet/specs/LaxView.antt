@@ -1,9 +1,11 @@
 -- The tags of a packet, as far as it is there, and what the last ether type names.
 use Rattle.std.specs.Prelude.{◌-◌, ◌==◌, if◌then◌else◌, Bool, true, false, List, [], ◌∷◌, length, map, slice_get}
-use Rattle.std.specs.Prelude.{ℕ, Option, Some, None}
+use Rattle.std.specs.Prelude.{ℕ, Option, Some, None, is_some}
 use Rattle.std.specs.Option.{option_map}
 use Rattle.ep_base.specs.declared.len_source.LenSource.{LenSource}
 use Rattle.ep_base.specs.declared.len_source.LenSource.TheVariants.{MacsecShortLength, Slice}
+use Rattle.ep_base.specs.declared.link.ether_type.EtherType.{EtherType}
+use Rattle.ep_ipslice.specs.Packet.{IpPayload}
 use Rattle.ep_link.specs.declared.link.link_slice.LinkSlice.{LinkSlice}
 use Rattle.ep_packet.specs.PacketView.{link_payload}
 use Rattle.ep_packet.specs.declared.lax_sliced_packet.LaxSlicedPacket.{LaxSlicedPacket}
@@ -49,7 +51,19 @@ lax_named_by header (Some t) = lax_payload_after t
 abbrev pub bounded : Bool × LenSource → LaxEtherPayload → LaxEtherPayload
 bounded bound p = record p { incomplete = bound.0; len_source = bound.1 }
 
+abbrev pub lax_last_payload : LaxSlicedPacket → Option LaxEtherPayload
+lax_last_payload packet = lax_named_by packet.link
+    (slice_get packet.link_exts.items (length packet.link_exts.items - 1))
+
 abbrev pub lax_ether_payload_in : LaxSlicedPacket → Option LaxEtherPayload
 lax_ether_payload_in packet =
-    option_map (bounded (bound_after (false, Slice) packet.link_exts.items))
-    (lax_named_by packet.link (slice_get packet.link_exts.items (length packet.link_exts.items - 1)))
+    option_map (bounded (bound_after (false, Slice) packet.link_exts.items)) (lax_last_payload packet)
+
+-- the last ether type, if nothing after it was parsed
+abbrev pub lax_payload_ether_type_in : LaxSlicedPacket → Option EtherType
+lax_payload_ether_type_in packet = if is_some packet.net then None
+    else option_map (λ (p : LaxEtherPayload). p.ether_type) (lax_last_payload packet)
+
+abbrev pub is_lax_fragment : Option (Bool × IpPayload) → Bool
+is_lax_fragment None = false
+is_lax_fragment (Some p) = p.1.fragmented

@@ -4,6 +4,7 @@ mod faults;
 pub mod hashes;
 mod headers;
 mod lax;
+mod lax_headers;
 mod readable;
 pub mod same_headers;
 pub mod sliced;
@@ -11,5 +12,6 @@ pub mod traits;
 
 pub use faults::{offsets_at_literals, refusals_are_first_faults};
 pub use headers::{ipv6_headers_agree_with_view, ipv6_headers_at_a_literal};
-pub use lax::{payloads_of_whole_packets, whole_packets_are_lax_packets};
+pub use lax::{cut_messages_are_found, payloads_of_whole_packets, whole_packets_are_lax_packets};
+pub use lax_headers::lax_headers_are_those_of_slices;
 pub use readable::{messages_at_literals, readable_messages};

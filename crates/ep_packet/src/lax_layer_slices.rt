@@ -5,9 +5,9 @@ ghost use Rattle.ep_ipslice.specs.Compared.{lax_value};
 ghost use Rattle.ep_ipslice.specs.LaxPackets.{lax_ipv4_packet_at, lax_ipv6_packet_at};
 ghost use Rattle.ep_link.specs.Arp.{packet_at};
 ghost use Rattle.ep_packet.specs.LaxFits.{Moves};
-ghost use Rattle.ep_packet.specs.LaxSliced.{LaxLayers, exts_stop, in_lax_ip, in_lax_ipv4, in_lax_ipv6, lax_arp_layers};
+ghost use Rattle.ep_packet.specs.LaxSliced.{LaxLayers, auth_stop, exts_stop, in_lax_ip, in_lax_ipv4, in_lax_ipv6, lax_arp_layers};
 ghost use Rattle.ep_packet.specs.LaxSliced.{lax_ipv4_layers, lax_ipv6_layers, lax_layers_in, lax_message_at};
-ghost use Rattle.ep_packet.specs.LaxSliced.{lax_transport_in, message_layer, no_layers, of_auth, of_exts};
+ghost use Rattle.ep_packet.specs.LaxSliced.{ipv6_exts_stop, lax_transport_in, message_layer, no_layers, of_auth, of_exts};
 ghost use Rattle.ep_packet.specs.LaxSliced.{of_ipv4_header, of_ipv6_exts, of_ipv6_header};
 ghost use Rattle.ep_packet.specs.SliceFault.{fault_offset};
 ghost use Rattle.ep_packet.specs.Sliced.{read_transport};
@@ -106,13 +106,7 @@ impl<'a> LaxLayerSlices<'a> {
         ensures { result ≡ lax_ipv4_layers (lax_ipv4_packet_at slice.now) }
     {
         match LaxIpv4Slice::from_slice(slice) {
-            Ok((packet, fault)) => {
-                let stop = match fault {
-                    Some(error) => Some((of_auth(error), Layer::IpAuthHeader)),
-                    None => None,
-                };
-                Self::in_ipv4(packet, stop)
-            }
+            Ok((packet, fault)) => Self::in_ipv4(packet, auth_stop(fault)),
             Err(error) => Self::none(Some((of_ipv4_header(error), Layer::Ipv4Header))),
         }
     }
@@ -121,13 +115,7 @@ impl<'a> LaxLayerSlices<'a> {
         ensures { result ≡ lax_ipv6_layers (lax_ipv6_packet_at slice.now) }
     {
         match LaxIpv6Slice::from_slice(slice) {
-            Ok((packet, fault)) => {
-                let stop = match fault {
-                    Some((error, layer)) => Some((of_ipv6_exts(error), layer)),
-                    None => None,
-                };
-                Self::in_ipv6(packet, stop)
-            }
+            Ok((packet, fault)) => Self::in_ipv6(packet, exts_stop(fault)),
             Err(error) => Self::none(Some((of_ipv6_header(error), Layer::Ipv6Header))),
         }
     }
@@ -157,9 +145,9 @@ impl<'a> LaxLayerSlices<'a> {
     }
 }
 
-// The message in the payload after so many bytes of headers, or what stops there, unless the headers
-// were stopped.
-fn transport_in<'a>(
+/// The message in the payload after so many bytes of headers, or what stops there, unless the headers
+/// were stopped.
+pub(crate) fn transport_in<'a>(
     payload: &LaxIpPayloadSlice<'a>,
     headers_len: usize,
     stop: Option<(SliceError, Layer)>,
@@ -211,7 +199,8 @@ fn message_layer(ip_number: IpNumber) -> Layer
     }
 }
 
-fn of_ipv4_header(error: ipv4::HeaderSliceError) -> SliceError
+/// Why there is no IPv4 header, as a fault of all layers.
+pub(crate) fn of_ipv4_header(error: ipv4::HeaderSliceError) -> SliceError
     ensures { result ≡ of_ipv4_header error }
 {
     match error {
@@ -220,12 +209,35 @@ fn of_ipv4_header(error: ipv4::HeaderSliceError) -> SliceError
     }
 }
 
-fn of_ipv6_header(error: ipv6::HeaderSliceError) -> SliceError
+/// Why there is no IPv6 header, as a fault of all layers.
+pub(crate) fn of_ipv6_header(error: ipv6::HeaderSliceError) -> SliceError
     ensures { result ≡ of_ipv6_header error }
 {
     match error {
         ipv6::HeaderSliceError::Len(error) => SliceError::Len(error),
         ipv6::HeaderSliceError::Content(error) => SliceError::Ipv6(error),
+    }
+}
+
+/// What stopped the headers of an IPv4 packet, with its layer.
+pub(crate) fn auth_stop(fault: Option<ip_auth::HeaderSliceError>) -> Option<(SliceError, Layer)>
+    ensures { result ≡ option_map auth_stop fault }
+{
+    match fault {
+        Some(error) => Some((of_auth(error), Layer::IpAuthHeader)),
+        None => None,
+    }
+}
+
+/// What stopped the headers of an IPv6 packet, with its layer.
+pub(crate) fn exts_stop(
+    fault: Option<(ipv6_exts::HeaderSliceError, Layer)>,
+) -> Option<(SliceError, Layer)>
+    ensures { result ≡ option_map ipv6_exts_stop fault }
+{
+    match fault {
+        Some((error, layer)) => Some((of_ipv6_exts(error), layer)),
+        None => None,
     }
 }
 

@@ -4,7 +4,8 @@ ghost use Rattle.ep_ipslice.specs.Compared.{lax_value};
 ghost use Rattle.ep_packet.specs.LaxNetSlice.{lax_ip_payload_of};
 ghost use Rattle.ep_packet.specs.LaxSliced.{lax_packet_after, lax_sliced_ether_type, lax_sliced_ethernet};
 ghost use Rattle.ep_packet.specs.LaxSliced.{lax_sliced_ip, lax_sliced_linux_sll};
-ghost use Rattle.ep_packet.specs.LaxView.{lax_ether_payload_in, lax_vlan_ids_of, lax_vlan_tags};
+ghost use Rattle.ep_packet.specs.LaxView.{is_lax_fragment, lax_ether_payload_in, lax_last_payload};
+ghost use Rattle.ep_packet.specs.LaxView.{lax_payload_ether_type_in, lax_vlan_ids_of, lax_vlan_tags};
 ghost use Rattle.ep_packet.specs.PacketView.{vlan_slice_of};
 
 use crate::err::packet::SliceError;
@@ -131,17 +132,7 @@ impl<'a> LaxSlicedPacket<'a> {
     pub fn ether_payload(&self) -> Option<LaxEtherPayloadSlice<'a>>
         ensures { result ≡ lax_ether_payload_in self.now }
     {
-        let named = match self.link_exts.as_slice().last() {
-            Some(tag) => tag.ether_payload(),
-            None => match &self.link {
-                Some(link) => match link.ether_payload() {
-                    Some(payload) => Some(LaxEtherPayloadSlice::from(payload)),
-                    None => None,
-                },
-                None => None,
-            },
-        };
-        match named {
+        match self.last_payload() {
             Some(payload) => {
                 let (incomplete, len_source) = bound_after(&self.link_exts);
                 Some(LaxEtherPayloadSlice {
@@ -151,6 +142,47 @@ impl<'a> LaxSlicedPacket<'a> {
                 })
             }
             None => None,
+        }
+    }
+
+    // What the last ether type names, as its own header bounds it.
+    fn last_payload(&self) -> Option<LaxEtherPayloadSlice<'a>>
+        ensures { result ≡ lax_last_payload self.now }
+    {
+        match self.link_exts.as_slice().last() {
+            Some(tag) => tag.ether_payload(),
+            None => match &self.link {
+                Some(link) => match link.ether_payload() {
+                    Some(payload) => Some(LaxEtherPayloadSlice::from(payload)),
+                    None => None,
+                },
+                None => None,
+            },
+        }
+    }
+
+    /// The ether type of a payload that wasn't parsed: the last one, if there is no packet of the
+    /// network layer, also where that packet or the tag that the ether type names has a fault. `None`
+    /// for a modified MACsec payload, and if the packet has no ether type.
+    pub fn payload_ether_type(&self) -> Option<EtherType>
+        ensures { result ≡ lax_payload_ether_type_in self.now }
+    {
+        if self.net.is_some() {
+            return None;
+        }
+        match self.last_payload() {
+            Some(payload) => Some(payload.ether_type),
+            None => None,
+        }
+    }
+
+    /// Whether the payload of an IP packet is a fragment, where there is one.
+    pub fn is_ip_payload_fragmented(&self) -> bool
+        ensures { result ≡ is_lax_fragment (lax_ip_payload_of self.now.net) }
+    {
+        match self.ip_payload() {
+            Some(payload) => payload.fragmented,
+            None => false,
         }
     }
 

@@ -6,7 +6,10 @@ mod addresses;
 mod class;
 pub mod err;
 pub mod laws;
+mod lax_layer_headers;
 mod lax_layer_slices;
+mod lax_packet_headers;
+mod lax_payload_slice;
 mod lax_sliced_packet;
 mod lax_tagged_slice;
 mod layer_headers;
@@ -23,9 +26,14 @@ mod transport;
 
 pub use addresses::Addresses;
 pub use class::{Class, IpFragment, WholeMessage};
+pub use lax_packet_headers::LaxPacketHeaders;
+pub use lax_payload_slice::LaxPayloadSlice;
 pub use lax_sliced_packet::LaxSlicedPacket;
 pub use message::{Message, read_message};
-pub use net::{IpHeader, IpHeaders, LaxNetSlice, NetHeaders, NetSlice};
+pub use net::{
+    IpHeader, IpHeaders, IpHeadersIpv6LaxFromSliceResult, IpHeadersLaxFromSliceResult, LaxNetSlice,
+    NetHeaders, NetSlice,
+};
 pub use packet_headers::PacketHeaders;
 pub use payload_slice::PayloadSlice;
 pub use sliced_fragment::SlicedFragment;

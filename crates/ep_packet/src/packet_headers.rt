@@ -168,38 +168,52 @@ impl<'a> PacketHeaders<'a> {
     pub fn vlan(&self) -> Option<VlanHeader>
         ensures { result ≡ vlan_header_of (vlan_headers self.now.link_exts.items) }
     {
-        let mut outer: Option<&SingleVlanHeader> = None;
-        for tag in self.link_exts.as_slice() {
-            if let LinkExtHeader::Vlan(tag) = tag {
-                match outer {
-                    Some(outer) => {
-                        return Some(VlanHeader::Double(DoubleVlanHeader {
-                            outer: same_tag(outer),
-                            inner: same_tag(tag),
-                        }));
-                    }
-                    None => outer = Some(tag),
-                }
-            }
-        }
-        match outer {
-            Some(tag) => Some(VlanHeader::Single(same_tag(tag))),
-            None => None,
-        }
+        vlan_in(&self.link_exts)
     }
 
     /// The identifiers of all VLAN tags, the outer one first.
     pub fn vlan_ids(&self) -> ArrayVec<VlanId, 3>
         ensures { result.items ≡ ids_in self.now.link_exts.items }
     {
-        let mut ids = ArrayVec::new();
-        for tag in self.link_exts.as_slice() {
-            if let LinkExtHeader::Vlan(tag) = tag {
-                ids.push(tag.vlan_id);
+        vlan_ids_in(&self.link_exts)
+    }
+}
+
+/// The first two VLAN tags of these, or the only one.
+pub(crate) fn vlan_in(tags: &ArrayVec<LinkExtHeader, 3>) -> Option<VlanHeader>
+    ensures { result ≡ vlan_header_of (vlan_headers tags.now.items) }
+{
+    let mut outer: Option<&SingleVlanHeader> = None;
+    for tag in tags.as_slice() {
+        if let LinkExtHeader::Vlan(tag) = tag {
+            match outer {
+                Some(outer) => {
+                    return Some(VlanHeader::Double(DoubleVlanHeader {
+                        outer: same_tag(outer),
+                        inner: same_tag(tag),
+                    }));
+                }
+                None => outer = Some(tag),
             }
         }
-        ids
     }
+    match outer {
+        Some(tag) => Some(VlanHeader::Single(same_tag(tag))),
+        None => None,
+    }
+}
+
+/// The identifiers of the VLAN tags of these, the outer one first.
+pub(crate) fn vlan_ids_in(tags: &ArrayVec<LinkExtHeader, 3>) -> ArrayVec<VlanId, 3>
+    ensures { result.items ≡ ids_in tags.now.items }
+{
+    let mut ids = ArrayVec::new();
+    for tag in tags.as_slice() {
+        if let LinkExtHeader::Vlan(tag) = tag {
+            ids.push(tag.vlan_id);
+        }
+    }
+    ids
 }
 
 // The layers in what the last ether type after the tags names, or the modified payload of a MACsec

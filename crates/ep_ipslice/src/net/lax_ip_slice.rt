@@ -5,16 +5,14 @@ ghost use Rattle.std.specs.Option.{option_map};
 ghost use Rattle.ep_ipslice.specs.declared.net.lax_ip_slice.LaxIpSlice.TheVariants as view;
 ghost use Rattle.ep_ipslice.specs.Compared.{lax_value};
 ghost use Rattle.ep_ipslice.specs.IpSlice.{IsAddress};
-ghost use Rattle.ep_ipslice.specs.LaxIp.{auth_stop, ipv4_header_fault, ipv6_header_fault, lax_destination_of};
-ghost use Rattle.ep_ipslice.specs.LaxIp.{lax_ip_packet_at, lax_ipv4_in, lax_ipv6_in, lax_payload_of, lax_source_of};
-ghost use Rattle.ep_ipslice.specs.LaxIp.{map_content, row_stop};
+ghost use Rattle.ep_ipslice.specs.LaxIp.{auth_stop, lax_destination_of, lax_ip_packet_at, lax_ipv4_in, lax_ipv6_in};
+ghost use Rattle.ep_ipslice.specs.LaxIp.{lax_payload_of, lax_source_of, row_stop};
 
 use super::{LaxIpPayloadSlice, LaxIpv4Slice, LaxIpv6Slice};
 use crate::err::ip::{HeaderError, LaxHeaderSliceError};
 use ep_base::IpNumber;
 use ep_base::err::{Layer, LenError};
 use ep_ext::err::{ip_auth, ip_exts, ipv6_exts};
-use ep_ip::err::{ipv4, ipv6};
 use std::net::{IpAddr, Ipv4Addr, Ipv6Addr};
 
 /// An IP packet of either version (RFC 791; RFC 8200), as far as it is there, borrowed.
@@ -44,17 +42,51 @@ impl<'a> LaxIpSlice<'a> {
         let version_number = slice[0] >> 4;
         if version_number == 4 {
             return match LaxIpv4Slice::from_slice(slice) {
-                Ok((packet, fault)) => Ok((LaxIpSlice::Ipv4(packet), stop_of_ipv4(fault))),
-                Err(error) => Err(of_ipv4(error)),
+                Ok((packet, fault)) => Ok((LaxIpSlice::Ipv4(packet), Self::stop_of_ipv4(fault))),
+                Err(error) => Err(HeaderError::of_ipv4_slice(error)),
             };
         }
         if version_number == 6 {
             return match LaxIpv6Slice::from_slice(slice) {
-                Ok((packet, fault)) => Ok((LaxIpSlice::Ipv6(packet), stop_of_ipv6(fault))),
-                Err(error) => Err(of_ipv6(error)),
+                Ok((packet, fault)) => Ok((LaxIpSlice::Ipv6(packet), Self::stop_of_ipv6(fault))),
+                Err(error) => Err(HeaderError::of_ipv6_slice(error)),
             };
         }
         Err(LaxHeaderSliceError::Content(HeaderError::UnsupportedIpVersion { version_number }))
+    }
+
+    /// What stopped an IPv4 packet, as a fault of either version.
+    pub fn stop_of_ipv4(
+        fault: Option<ip_auth::HeaderSliceError>,
+    ) -> Option<(ip_exts::HeadersSliceError, Layer)>
+        ensures { result ≡ option_map auth_stop fault }
+    {
+        let error = match fault {
+            Some(ip_auth::HeaderSliceError::Len(error)) => ip_exts::HeadersSliceError::Len(error),
+            Some(ip_auth::HeaderSliceError::Content(error)) => {
+                ip_exts::HeadersSliceError::Content(ip_exts::HeaderError::Ipv4Ext(error))
+            }
+            None => return None,
+        };
+        Some((error, Layer::IpAuthHeader))
+    }
+
+    /// What stopped an IPv6 packet, as a fault of either version.
+    pub fn stop_of_ipv6(
+        fault: Option<(ipv6_exts::HeaderSliceError, Layer)>,
+    ) -> Option<(ip_exts::HeadersSliceError, Layer)>
+        ensures { result ≡ option_map row_stop fault }
+    {
+        match fault {
+            Some((ipv6_exts::HeaderSliceError::Len(error), layer)) => {
+                Some((ip_exts::HeadersSliceError::Len(error), layer))
+            }
+            Some((ipv6_exts::HeaderSliceError::Content(error), layer)) => {
+                let error = ip_exts::HeaderError::Ipv6Ext(error);
+                Some((ip_exts::HeadersSliceError::Content(error), layer))
+            }
+            None => None,
+        }
     }
 
     /// The IPv4 packet, if it is one.
@@ -142,63 +174,5 @@ impl<'a> From<LaxIpv6Slice<'a>> for LaxIpSlice<'a> {
 
     fn from(packet: LaxIpv6Slice<'a>) -> Self {
         LaxIpSlice::Ipv6(packet)
-    }
-}
-
-// The fault of a header of version 4.
-fn of_ipv4(error: ipv4::HeaderSliceError) -> LaxHeaderSliceError
-    ensures { result ≡ map_content ipv4_header_fault error }
-{
-    match error {
-        ipv4::HeaderSliceError::Len(error) => LaxHeaderSliceError::Len(error),
-        ipv4::HeaderSliceError::Content(error) => {
-            LaxHeaderSliceError::Content(HeaderError::of_ipv4(error))
-        }
-    }
-}
-
-// The fault of a header of version 6.
-fn of_ipv6(error: ipv6::HeaderSliceError) -> LaxHeaderSliceError
-    ensures { result ≡ map_content ipv6_header_fault error }
-{
-    match error {
-        ipv6::HeaderSliceError::Len(error) => LaxHeaderSliceError::Len(error),
-        ipv6::HeaderSliceError::Content(error) => {
-            LaxHeaderSliceError::Content(HeaderError::of_ipv6(error))
-        }
-    }
-}
-
-// What stopped an IPv4 packet, as a fault of either version.
-fn stop_of_ipv4(
-    fault: Option<ip_auth::HeaderSliceError>,
-) -> Option<(ip_exts::HeadersSliceError, Layer)>
-    ensures { result ≡ option_map auth_stop fault }
-{
-    let error = match fault {
-        Some(ip_auth::HeaderSliceError::Len(error)) => ip_exts::HeadersSliceError::Len(error),
-        Some(ip_auth::HeaderSliceError::Content(error)) => {
-            ip_exts::HeadersSliceError::Content(ip_exts::HeaderError::Ipv4Ext(error))
-        }
-        None => return None,
-    };
-    Some((error, Layer::IpAuthHeader))
-}
-
-// What stopped an IPv6 packet, as a fault of either version.
-fn stop_of_ipv6(
-    fault: Option<(ipv6_exts::HeaderSliceError, Layer)>,
-) -> Option<(ip_exts::HeadersSliceError, Layer)>
-    ensures { result ≡ option_map row_stop fault }
-{
-    match fault {
-        Some((ipv6_exts::HeaderSliceError::Len(error), layer)) => {
-            Some((ip_exts::HeadersSliceError::Len(error), layer))
-        }
-        Some((ipv6_exts::HeaderSliceError::Content(error), layer)) => {
-            let error = ip_exts::HeaderError::Ipv6Ext(error);
-            Some((ip_exts::HeadersSliceError::Content(error), layer))
-        }
-        None => None,
     }
 }

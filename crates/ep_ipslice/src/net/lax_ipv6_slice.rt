@@ -1,18 +1,23 @@
 //! The IPv6 packet, as far as it is there.
 
-ghost use Rattle.std.specs.Prelude.{◌≡◌, ◌&&◌, nat_eq};
+ghost use Rattle.std.specs.Prelude.{◌≡◌, ◌≤◌, ◌+◌, ◌&&◌, length, nat_eq, IfErr, IfOk, IfSome, Err, Ok};
 ghost use Rattle.std.specs.Cmp.Lexicographic.{pointwise};
 ghost use Rattle.std.specs.Cmp.Rules.{comparing};
+ghost use Rattle.std.specs.Option.{option_map};
 ghost use Rattle.std.specs.Ordering.{on};
 ghost use Rattle.std.proofs.Common.{rules};
+ghost use Rattle.ep_base.specs.SliceError.{CanMove};
+ghost use Rattle.ep_ip.specs.Ipv6Fault.{header_at};
 ghost use Rattle.ep_ipslice.specs.Compared.{compared_as, lax_ordered_as, lax_value};
-ghost use Rattle.ep_ipslice.specs.LaxPackets.{LaxIpv6Packet, lax_ipv6_packet_at};
+ghost use Rattle.ep_ipslice.specs.Ipv6Packet.{body_of};
+ghost use Rattle.ep_ipslice.specs.LaxPackets.{LaxIpv6Packet, is_ipv6_cut, lax_ipv6_packet_at, lax_ipv6_source};
+ghost use Rattle.ep_ipslice.specs.LaxPackets.{row_fault_within};
 
 use super::body::fault_within;
 use super::ipv6_slice::body_of;
 use super::{Ipv6ExtensionsSlice, LaxIpPayloadSlice};
-use ep_base::IpNumber;
 use ep_base::err::Layer;
+use ep_base::{IpNumber, LenSource};
 use ep_ext::err::ipv6_exts;
 use ep_ext::laws;
 use ep_ip::err::ipv6::HeaderSliceError;
@@ -64,11 +69,10 @@ impl<'a> LaxIpv6Slice<'a> {
     {
         laws::whole_header_is_found();
         laws::faults_can_be_moved();
-        let header = match Ipv6HeaderSlice::from_slice(slice) {
-            Ok(header) => header,
+        let (header, len_source, incomplete, body) = match Self::header_and_body(slice) {
+            Ok(parts) => parts,
             Err(error) => return Err(error),
         };
-        let (body, len_source, incomplete) = body_of(&header, slice);
         let (exts, ip_number, payload, fault) = Ipv6ExtensionsSlice::from_slice_lax(
             header.next_header(),
             body,
@@ -85,12 +89,44 @@ impl<'a> LaxIpv6Slice<'a> {
                 payload,
             },
         };
+        Ok((packet, Self::fault_of_body(fault, len_source)))
+    }
+
+    /// The header at the start of the slice, and the bytes after it that are extension headers and
+    /// payload, as far as they are there, with what their length came from and whether bytes of them
+    /// are missing. Refused is what [`Ipv6HeaderSlice::from_slice`] refuses.
+    pub fn header_and_body(
+        slice: &'a [u8],
+    ) -> Result<(Ipv6HeaderSlice<'a>, LenSource, bool, &'a [u8]), HeaderSliceError>
+        ensures header { IfOk result (λ r. header_at slice.now ≡ Ok r.0) }
+        ensures source { IfOk result (λ r. r.1 ≡ lax_ipv6_source slice.now r.0) }
+        ensures incomplete { IfOk result (λ r. r.2 ≡ is_ipv6_cut slice.now r.0) }
+        ensures body { IfOk result (λ r. r.3.now ≡ body_of slice.now r.0) }
+        // The body lies after the header.
+        ensures within { IfOk result (λ r. 40 + length r.3.now ≤ length slice.now) }
+        ensures err { IfErr result (λ e. header_at slice.now ≡ Err e) }
+    {
+        let header = match Ipv6HeaderSlice::from_slice(slice) {
+            Ok(header) => header,
+            Err(error) => return Err(error),
+        };
+        let (body, len_source, incomplete) = body_of(&header, slice);
+        Ok((header, len_source, incomplete, body))
+    }
+
+    /// The fault of an extension header, with its layer, in a body whose length came from
+    /// `len_source`. The offset in an error of too few bytes counts from the start of the body
+    /// before, and from that of the packet after the call.
+    pub fn fault_of_body(
+        fault: Option<(ipv6_exts::HeaderSliceError, Layer)>,
+        len_source: LenSource,
+    ) -> Option<(ipv6_exts::HeaderSliceError, Layer)>
+        requires { IfSome fault (λ f. CanMove f.0 40) }
+        ensures { result ≡ option_map (row_fault_within len_source) fault }
+    {
         match fault {
-            Some((error, layer)) => {
-                let error = fault_within(error, len_source, Ipv6Header::LEN);
-                Ok((packet, Some((error, layer))))
-            }
-            None => Ok((packet, None)),
+            Some((error, layer)) => Some((fault_within(error, len_source, Ipv6Header::LEN), layer)),
+            None => None,
         }
     }
 

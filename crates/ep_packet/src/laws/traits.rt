@@ -6,6 +6,8 @@ ghost use Rattle.std.specs.Hash as fed;
 ghost use Rattle.std.specs.Ordering.{nat_cmp};
 ghost use Rattle.ep_base.specs.Traits.{CopyIsValue, CopyNeverFails, HashIsOf, IsPlainData};
 ghost use Rattle.ep_packet.specs.Class.{as_class, fragment_values};
+ghost use Rattle.ep_packet.specs.LaxPacketHeaders.{lax_headers_parsed};
+ghost use Rattle.ep_packet.specs.LaxPayload.{lax_payload_parsed};
 ghost use Rattle.ep_packet.specs.PacketHeaders.{headers_parsed};
 ghost use Rattle.ep_packet.specs.Payload.{hashed_as, ordered_as, payload_parsed};
 ghost use Rattle.ep_packet.specs.Readable.{as_read};
@@ -14,6 +16,8 @@ ghost use Rattle.ep_packet.specs.declared.class.Class.{Class as ClassValue};
 ghost use Rattle.ep_packet.specs.declared.class.Class.TheVariants as returned;
 ghost use Rattle.ep_packet.specs.declared.class.IpFragment.{IpFragment as IpFragmentValue};
 ghost use Rattle.ep_packet.specs.declared.class.WholeMessage.{WholeMessage as WholeValue};
+ghost use Rattle.ep_packet.specs.declared.lax_packet_headers.LaxPacketHeaders.{LaxPacketHeaders};
+ghost use Rattle.ep_packet.specs.declared.lax_payload_slice.LaxPayloadSlice.{LaxPayloadSlice};
 ghost use Rattle.ep_packet.specs.declared.message.Message.{Message as MessageValue};
 ghost use Rattle.ep_packet.specs.declared.packet_headers.PacketHeaders.{PacketHeaders};
 ghost use Rattle.ep_packet.specs.declared.payload_slice.PayloadSlice.{PayloadSlice};
@@ -23,9 +27,9 @@ use crate::err::ip::HeadersWriteError;
 use crate::err::net::NetSetNextHeaderError;
 use crate::err::packet::{SliceError, TransportChecksumError};
 use crate::{
-    Addresses, Class, IpFragment, IpHeaders, LaxNetSlice, LaxSlicedPacket, Message, NetHeaders,
-    NetSlice, PacketHeaders, PayloadSlice, SlicedFragment, SlicedPacket, TransportHeader,
-    TransportSlice, WholeMessage,
+    Addresses, Class, IpFragment, IpHeaders, LaxNetSlice, LaxPacketHeaders, LaxPayloadSlice,
+    LaxSlicedPacket, Message, NetHeaders, NetSlice, PacketHeaders, PayloadSlice, SlicedFragment,
+    SlicedPacket, TransportHeader, TransportSlice, WholeMessage,
 };
 use ep_base::laws::traits::Value;
 use std::hash::Hash;
@@ -187,6 +191,39 @@ pub fn packet_headers_compare_by_value<'a>()
     net_is_plain_data();
     copies_of_payloads_are_values();
     payloads_compare_by_value();
+    ep_link::laws::traits::types_are_plain_data();
+    ep_tag::laws::traits::types_are_plain_data();
+}
+
+/// A copy of a payload that is there as far as it goes has the same value, and takes no memory. Such
+/// payloads are equal if they have the same value.
+pub fn lax_payloads_compare_by_value<'a>()
+    ensures copies { (value copy : LaxPayloadSlice)
+        → ⟦<LaxPayloadSlice<'a> as Clone>⟧.is_clone value copy
+        → lax_payload_parsed copy ≡ lax_payload_parsed value }
+    ensures fails { CopyNeverFails ⟦<LaxPayloadSlice<'a> as Clone>⟧.is_infallible }
+    ensures equal { (a b : LaxPayloadSlice) → IsTrue (⟦<LaxPayloadSlice<'a> as PartialEq>⟧.eq a b)
+        ↔ (lax_payload_parsed a ≡ lax_payload_parsed b) }
+{
+    ep_ipslice::laws::traits::lax_payloads_are_equal_by_value();
+    ep_link::laws::traits::types_are_plain_data();
+    ep_tag::laws::traits::types_are_plain_data();
+}
+
+/// The same of headers of a packet, as far as it is there: equal are those whose link headers, tags,
+/// other headers, payloads and faults are.
+pub fn lax_headers_compare_by_value<'a>()
+    ensures copies { (value copy : LaxPacketHeaders)
+        → ⟦<LaxPacketHeaders<'a> as Clone>⟧.is_clone value copy
+        → lax_headers_parsed copy ≡ lax_headers_parsed value }
+    ensures fails { CopyNeverFails ⟦<LaxPacketHeaders<'a> as Clone>⟧.is_infallible }
+    ensures equal { (a b : LaxPacketHeaders) → IsTrue (⟦<LaxPacketHeaders<'a> as PartialEq>⟧.eq a b)
+        ↔ (lax_headers_parsed a ≡ lax_headers_parsed b) }
+{
+    types_are_plain_data();
+    net_is_plain_data();
+    lax_payloads_compare_by_value();
+    ep_base::laws::traits::types_are_plain_data();
     ep_link::laws::traits::types_are_plain_data();
     ep_tag::laws::traits::types_are_plain_data();
 }

@@ -1,6 +1,7 @@
 ghost use Rattle.std.specs.Prelude.{◌≡◌};
-ghost use Rattle.ep_ipslice.specs.LaxIp.{ipv4_header_fault, ipv6_header_fault};
+ghost use Rattle.ep_ipslice.specs.LaxIp.{ipv4_header_fault, ipv6_header_fault, map_content};
 
+use super::LaxHeaderSliceError;
 use ep_ip::err::{ipv4, ipv6};
 use thiserror::Error;
 
@@ -22,6 +23,30 @@ pub enum HeaderError {
 }
 
 impl HeaderError {
+    /// Why a slice starts with no IPv4 header, as a fault of either version.
+    pub fn of_ipv4_slice(error: ipv4::HeaderSliceError) -> LaxHeaderSliceError
+        ensures { result ≡ map_content ipv4_header_fault error }
+    {
+        match error {
+            ipv4::HeaderSliceError::Len(error) => LaxHeaderSliceError::Len(error),
+            ipv4::HeaderSliceError::Content(error) => {
+                LaxHeaderSliceError::Content(HeaderError::of_ipv4(error))
+            }
+        }
+    }
+
+    /// Why a slice starts with no IPv6 header, as a fault of either version.
+    pub fn of_ipv6_slice(error: ipv6::HeaderSliceError) -> LaxHeaderSliceError
+        ensures { result ≡ map_content ipv6_header_fault error }
+    {
+        match error {
+            ipv6::HeaderSliceError::Len(error) => LaxHeaderSliceError::Len(error),
+            ipv6::HeaderSliceError::Content(error) => {
+                LaxHeaderSliceError::Content(HeaderError::of_ipv6(error))
+            }
+        }
+    }
+
     // The fault of a header of version 4.
     pub(crate) fn of_ipv4(error: ipv4::HeaderError) -> Self
         ensures { result ≡ ipv4_header_fault error }

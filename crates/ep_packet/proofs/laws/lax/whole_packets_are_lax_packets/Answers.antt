@@ -1,3 +1,4 @@
+use Rattle.ep_packet.proofs.LaxWholeHeaderLemmas as headers
 use Rattle.ep_packet.proofs.LaxWholeLemmas.{WholeParts, ether_type_whole, ethernet_whole, ip_packet_whole, linux_sll_whole}
 use Rattle.ep_packet.proofs.laws.lax.whole_packets_are_lax_packets.Goals as goal
 
@@ -21,3 +22,12 @@ returns-clause-ether_type c = ether_type_whole (parts c)
 
 pub returns-clause-ip : goal.returns-clause-ip
 returns-clause-ip c = ip_packet_whole (parts c)
+
+pub returns-clause-ethernet_headers : goal.returns-clause-ethernet_headers
+returns-clause-ethernet_headers c = headers.ethernet_whole (parts c)
+
+pub returns-clause-ether_type_headers : goal.returns-clause-ether_type_headers
+returns-clause-ether_type_headers c = headers.ether_type_whole (parts c)
+
+pub returns-clause-ip_headers : goal.returns-clause-ip_headers
+returns-clause-ip_headers c = headers.ip_whole (parts c)
