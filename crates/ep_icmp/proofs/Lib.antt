@@ -11,3 +11,8 @@ pub mod Icmpv6Kinds
 pub mod Layouts
 pub mod Outcomes
 pub mod Sums
+pub mod Flags
+pub mod NdpHeaders
+pub mod NdpItems
+pub mod NdpAgain
+pub mod NdpSame

@@ -6,3 +6,6 @@ pub mod Icmpv6
 pub mod Icmpv6Fault
 pub mod Layout
 pub mod Limit
+pub mod Ndp
+pub mod NdpOptions
+pub mod NdpValid

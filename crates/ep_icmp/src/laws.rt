@@ -3,4 +3,5 @@
 pub mod examples;
 pub mod icmpv4;
 pub mod icmpv6;
+pub mod ndp;
 pub mod traits;

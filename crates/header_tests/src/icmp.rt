@@ -6,3 +6,4 @@ mod icmpv6;
 mod icmpv6_messages;
 mod laws;
 mod long_payloads;
+mod ndp;

@@ -1,8 +1,9 @@
 //! What `Clone` and `PartialEq` of the types here mean, each clause about the relation that the
 //! type's own impl names.
 
-ghost use Rattle.ep_base.specs.Traits.{IsPlainData};
+ghost use Rattle.ep_base.specs.Traits.{CopyIsValue, CopyNeverFails, IsPlainData};
 
+use crate::icmpv6::ndp;
 use crate::{
     IcmpEchoHeader, Icmpv4Header, Icmpv4Slice, Icmpv4Type, Icmpv6Header, Icmpv6Slice, Icmpv6Type,
     icmpv4, icmpv6,
@@ -32,4 +33,23 @@ pub fn types_are_plain_data<'a>()
     ensures icmpv6_parameter_problem_header { IsPlainData
         ⟦<icmpv6::ParameterProblemHeader as Value>⟧ }
     ensures icmpv6_time_exceeded_code { IsPlainData ⟦<icmpv6::TimeExceededCode as Value>⟧ }
+    ensures ndp_header { IsPlainData ⟦<ndp::NdpHeader as Value>⟧ }
+    ensures ndp_invalid { IsPlainData ⟦<ndp::NdpInvalid as Value>⟧ }
+    ensures ndp_message { IsPlainData ⟦<ndp::NdpMessage as Value>⟧ }
+    ensures ndp_option { IsPlainData ⟦<ndp::NdpOption<'a> as Value>⟧ }
+    ensures ndp_option_data { IsPlainData ⟦<ndp::NdpOptionData<'a> as Value>⟧ }
+    ensures ndp_option_error { IsPlainData ⟦<ndp::NdpOptionError as Value>⟧ }
+    ensures ndp_prefix_information { IsPlainData ⟦<ndp::PrefixInformation as Value>⟧ }
+    ensures ndp_slice { IsPlainData ⟦<ndp::NdpSlice<'a> as Value>⟧ }
+{}
+
+/// A copy of an iterator over options has the bytes that the iterator has left.
+pub fn copies_are_values<'a>()
+    ensures ndp_options_iterator { CopyIsValue ⟦<ndp::NdpOptionsIterator<'a> as Clone>⟧.is_clone }
+{}
+
+/// To copy one takes no memory and doesn't fail.
+pub fn copies_never_fail<'a>()
+    ensures ndp_options_iterator { CopyNeverFails
+        ⟦<ndp::NdpOptionsIterator<'a> as Clone>⟧.is_infallible }
 {}

@@ -1,5 +1,5 @@
 //! An ICMPv6 message, borrowed.
-ghost use Rattle.std.specs.Prelude.{◌≡◌, ℕ, false, List, ◌++◌, length, drop, slice_range, IfOk, Ok, nat_eq};
+ghost use Rattle.std.specs.Prelude.{◌≡◌, ◌≤◌, ℕ, false, List, ◌++◌, length, drop, slice_range, IfOk, Ok, nat_eq};
 ghost use Rattle.std.specs.Cmp.Lexicographic.{pointwise};
 ghost use Rattle.std.specs.Cmp.Rules.{comparing};
 ghost use Rattle.std.proofs.Common.{rules};
@@ -93,10 +93,7 @@ impl<'a> Icmpv6Slice<'a> {
     pub fn is_checksum_valid(&self, source: [u8; 16], destination: [u8; 16]) -> bool
         ensures { result ≡ all_ones (pseudo source destination (length self.now) ++ self.now) }
     {
-        let len = (self.slice.len() % (1 << 32)) as u32;
-        let pseudo = pseudo_sum_v6(source, destination, ip_number::IPV6_ICMP, len);
-        let (header, payload) = self.slice.split_at(Icmpv6Header::MIN_LEN);
-        message_sum(pseudo, header, payload).ones_complement() == 0
+        is_sum_valid(self.slice, source, destination)
     }
 
     /// Bytes 4 to 7, whatever the type says of them.
@@ -202,6 +199,17 @@ impl<'a> Icmpv6Slice<'a> {
             checksum: self.checksum(),
         }
     }
+}
+
+// Whether a pseudo header and a message, of at least 8 bytes, sum to all ones.
+pub(super) fn is_sum_valid(message: &[u8], source: [u8; 16], destination: [u8; 16]) -> bool
+    requires { 8 ≤ length message.now }
+    ensures { result ≡ all_ones (pseudo source destination (length message.now) ++ message.now) }
+{
+    let len = (message.len() % (1 << 32)) as u32;
+    let pseudo = pseudo_sum_v6(source, destination, ip_number::IPV6_ICMP, len);
+    let (header, payload) = message.split_at(Icmpv6Header::MIN_LEN);
+    message_sum(pseudo, header, payload).ones_complement() == 0
 }
 
 impl<'a> PartialEq for Icmpv6Slice<'a> {

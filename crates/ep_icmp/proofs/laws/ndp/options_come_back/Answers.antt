@@ -1,0 +1,5 @@
+use Rattle.ep_icmp.proofs.NdpAgain.{options_come_back}
+use Rattle.ep_icmp.proofs.laws.ndp.options_come_back.Goals as goal
+
+pub returns : goal.returns
+returns c = options_come_back

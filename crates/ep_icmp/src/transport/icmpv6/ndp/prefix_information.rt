@@ -1,0 +1,38 @@
+//! What a router announces of a prefix.
+ghost use Rattle.std.specs.Prelude.{◌≡◌, length};
+ghost use Rattle.ep_icmp.specs.NdpOptions as spec;
+
+/// A prefix that a router announces (RFC 4861, section 4.6.2).
+#[derive(Clone, Copy, Debug, PartialEq, Eq)]
+pub struct PrefixInformation {
+    /// How many leading bits of the prefix are valid, 0 to 128.
+    pub prefix_length: u8,
+    /// Addresses of the prefix are on the link: bit L.
+    pub on_link: bool,
+    /// A host may form an address with the prefix (RFC 4862): bit A.
+    pub autonomous: bool,
+    /// How long the prefix is on the link, in seconds; all ones: for ever.
+    pub valid_lifetime: u32,
+    /// How long addresses formed with it are preferred, in seconds; all ones: for ever.
+    pub preferred_lifetime: u32,
+    /// The prefix. Its bits after `prefix_length` are to be ignored.
+    pub prefix: [u8; 16],
+}
+
+#[tactic(auto, using(ep_base::proofs::Bits::masks, crate::proofs::Flags::flag_tests))]
+impl PrefixInformation {
+    // The fields that the 32 bytes of an option encode.
+    pub(super) fn of_bytes(bytes: &[u8]) -> PrefixInformation
+        requires { length bytes.now ≡ 32 }
+        ensures { result ≡ spec.prefix_of bytes.now }
+    {
+        PrefixInformation {
+            prefix_length: bytes[2],
+            on_link: bytes[3] & 128 != 0,
+            autonomous: bytes[3] & 64 != 0,
+            valid_lifetime: u32::from_be_bytes(bytes[4..8].try_into().unwrap()),
+            preferred_lifetime: u32::from_be_bytes(bytes[8..12].try_into().unwrap()),
+            prefix: bytes[16..32].try_into().unwrap(),
+        }
+    }
+}
