@@ -1,5 +1,6 @@
 //! Laws of ICMP messages that no single call's contract states.
 
+pub mod constants;
 pub mod examples;
 pub mod icmpv4;
 pub mod icmpv6;

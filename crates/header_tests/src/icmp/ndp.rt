@@ -1,9 +1,9 @@
 //! Messages of neighbor discovery (RFC 4861), as scapy 2.5.0 makes them, and neighbours of theirs.
 use crate::checks::{equal, equal_bytes, fail, is_written, reads, shows};
+use ep_base::err::Layer;
 use ep_icmp::Icmpv6Slice;
 use ep_icmp::icmpv6::ndp::{NdpHeader, NdpOptionsIterator, NdpSlice};
 use ep_icmp::laws::ndp;
-use ep_base::err::Layer;
 use std::process::Abort;
 
 #[rattlefmt::skip]
@@ -82,7 +82,11 @@ fn is_message(rt: impl Abort + AllocGlobal + Copy, bytes: &[u8], len: usize, tex
         fail(rt, "no message");
     };
     shows(rt, &header.message, text);
-    equal(rt, (header.header_len(), options.len()), (len, bytes.len().wrapping_sub(len)));
+    equal(
+        rt,
+        (header.header_len(), options.len()),
+        (len, bytes.len().wrapping_sub(len)),
+    );
     equal(rt, header.message.header_len(), len);
     let Some((prefix, rest)) = bytes.split_at_checked(len) else {
         fail(rt, "no header");
@@ -103,7 +107,11 @@ fn is_view(rt: impl Abort + AllocGlobal + Copy, bytes: &[u8], header: &NdpHeader
         fail(rt, "no message");
     };
     equal(rt, message.header(), *header);
-    equal(rt, (message.type_u8(), message.code_u8()), (header.message.type_u8(), 0));
+    equal(
+        rt,
+        (message.type_u8(), message.code_u8()),
+        (header.message.type_u8(), 0),
+    );
     equal(rt, message.checksum(), icmpv6.checksum());
     equal(rt, message.header_len(), header.header_len());
     equal_bytes(rt, message.slice(), bytes);
@@ -138,7 +146,9 @@ fn flags_of_neighbor_advertisements(rt: HostRuntime) {
 
 // The text starts so, and its target is all zeros.
 fn has_flags(rt: impl Abort + AllocGlobal + Copy, header: &NdpHeader, start: &str) {
-    match format!(in rt.alloc(); "{start}target: [0, 0, 0, 0, 0, 0, 0, 0, 0, 0, 0, 0, 0, 0, 0, 0] }}") {
+    match format!(in rt.alloc();
+        "{start}target: [0, 0, 0, 0, 0, 0, 0, 0, 0, 0, 0, 0, 0, 0, 0, 0] }}"
+    ) {
         Ok(text) => shows(rt, &header.message, &text),
         Err(_) => fail(rt, "no memory"),
     }
@@ -189,7 +199,11 @@ fn is_cut(rt: impl Abort + AllocGlobal + Copy, bytes: &[u8], index: usize, len: 
         None => equal(rt, index, 0),
         Some(Ok(message)) => equal(rt, (message.slice().len(), index >= len), (index, true)),
         Some(Err(error)) => {
-            equal(rt, (error.required_len, error.len, index < len), (len, index, true));
+            equal(
+                rt,
+                (error.required_len, error.len, index < len),
+                (len, index, true),
+            );
             equal(rt, error.layer, Layer::Icmpv6);
         }
     }
@@ -242,7 +256,11 @@ fn has_options(rt: impl Abort + AllocGlobal + Copy, bytes: &[u8], texts: &[&str]
             _ => fail(rt, "no option"),
         }
     }
-    equal(rt, (options.next().is_none(), options.rest().len()), (true, 0));
+    equal(
+        rt,
+        (options.next().is_none(), options.rest().len()),
+        (true, 0),
+    );
 }
 
 // Options of types that have no variant, or of another length than their type has.
@@ -299,17 +317,28 @@ fn options_with_a_fault(rt: HostRuntime) {
             }
             _ => fail(rt, "no fault"),
         }
-        equal(rt, (options.next().is_none(), options.rest().len()), (true, 0));
+        equal(
+            rt,
+            (options.next().is_none(), options.rest().len()),
+            (true, 0),
+        );
     }
 }
 
 const ROUTER: [u8; 16] = [254, 128, 0, 0, 0, 0, 0, 0, 0, 0, 0, 0, 0, 0, 0, 1];
+
 const ALL_ROUTERS: [u8; 16] = [255, 2, 0, 0, 0, 0, 0, 0, 0, 0, 0, 0, 0, 0, 0, 2];
+
 const ALL_NODES: [u8; 16] = [255, 2, 0, 0, 0, 0, 0, 0, 0, 0, 0, 0, 0, 0, 0, 1];
+
 const SOLICITED_NODE: [u8; 16] = [255, 2, 0, 0, 0, 0, 0, 0, 0, 0, 0, 1, 255, 0, 0, 2];
+
 const UNSPECIFIED: [u8; 16] = [0, 0, 0, 0, 0, 0, 0, 0, 0, 0, 0, 0, 0, 0, 0, 0];
+
 const NEIGHBOR: [u8; 16] = [254, 128, 0, 0, 0, 0, 0, 0, 0, 0, 0, 0, 0, 0, 0, 2];
+
 const HOST: [u8; 16] = [32, 1, 13, 184, 0, 0, 0, 0, 0, 0, 0, 0, 0, 0, 0, 16];
+
 const GLOBAL: [u8; 16] = [32, 1, 13, 184, 0, 0, 0, 0, 0, 0, 0, 0, 0, 0, 0, 1];
 
 #[rattlefmt::skip]
@@ -345,7 +374,11 @@ fn validity(rt: HostRuntime) {
     for (bytes, hop_limit, source, destination, text) in VALIDITY.iter() {
         match NdpSlice::from_slice(bytes) {
             Some(Ok(message)) => {
-                shows(rt, &message.is_valid(*hop_limit, *source, *destination), text);
+                shows(
+                    rt,
+                    &message.is_valid(*hop_limit, *source, *destination),
+                    text,
+                );
             }
             _ => fail(rt, "no message"),
         }
