@@ -16,3 +16,4 @@ pub mod NdpHeaders
 pub mod NdpItems
 pub mod NdpAgain
 pub mod NdpSame
+pub mod GroupRecords

@@ -4,8 +4,11 @@ pub mod Icmpv4
 pub mod Icmpv4Fault
 pub mod Icmpv6
 pub mod Icmpv6Fault
+pub mod Igmp
 pub mod Layout
 pub mod Limit
+pub mod Mld
+pub mod Multicast
 pub mod Ndp
 pub mod NdpOptions
 pub mod NdpValid

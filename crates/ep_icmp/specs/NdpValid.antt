@@ -72,7 +72,7 @@ refusals hop_limit source destination bytes =
     ∷ (not (num bytes 1 1 == 0), invalid.Code (num bytes 1 1))
     ∷ message_refusals source destination (message_of bytes)
 
--- an unspecified source has no link-layer address to tell: in solicitations such an option is
+-- an unspecified source has no link-layer address to give: in solicitations such an option is
 -- refused
 abbrev pub refuses_source_option : List ℕ → NdpMessage → Bool
 refuses_source_option source RouterSolicitation = is_unspecified source

@@ -7,5 +7,5 @@ mod transport;
 
 pub use transport::{
     IcmpEchoHeader, Icmpv4Header, Icmpv4Slice, Icmpv4Type, Icmpv6Header, Icmpv6Slice, Icmpv6Type,
-    icmpv4, icmpv6,
+    icmpv4, icmpv6, igmp, multicast,
 };

@@ -9,6 +9,8 @@ pub mod icmpv6;
 mod icmpv6_header;
 mod icmpv6_slice;
 mod icmpv6_type;
+pub mod igmp;
+pub mod multicast;
 
 pub use icmp_echo_header::IcmpEchoHeader;
 pub use icmpv4_header::Icmpv4Header;

@@ -6,4 +6,5 @@ mod icmpv6;
 mod icmpv6_messages;
 mod laws;
 mod long_payloads;
+mod multicast;
 mod ndp;

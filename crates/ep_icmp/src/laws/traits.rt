@@ -3,10 +3,12 @@
 
 ghost use Rattle.ep_base.specs.Traits.{CopyIsValue, CopyNeverFails, IsPlainData};
 
+use crate::icmpv6::mld::MldMessage;
 use crate::icmpv6::ndp;
+use crate::igmp::IgmpMessage;
 use crate::{
     IcmpEchoHeader, Icmpv4Header, Icmpv4Slice, Icmpv4Type, Icmpv6Header, Icmpv6Slice, Icmpv6Type,
-    icmpv4, icmpv6,
+    icmpv4, icmpv6, multicast,
 };
 use ep_base::laws::traits::Value;
 
@@ -33,6 +35,10 @@ pub fn types_are_plain_data<'a>()
     ensures icmpv6_parameter_problem_header { IsPlainData
         ⟦<icmpv6::ParameterProblemHeader as Value>⟧ }
     ensures icmpv6_time_exceeded_code { IsPlainData ⟦<icmpv6::TimeExceededCode as Value>⟧ }
+    ensures multicast_error { IsPlainData ⟦<multicast::MulticastError as Value>⟧ }
+    ensures multicast_group_record { IsPlainData ⟦<multicast::GroupRecord<'a, 16> as Value>⟧ }
+    ensures multicast_group_record_error { IsPlainData ⟦<multicast::GroupRecordError as Value>⟧ }
+    ensures multicast_sources { IsPlainData ⟦<multicast::Sources<'a, 16> as Value>⟧ }
     ensures ndp_header { IsPlainData ⟦<ndp::NdpHeader as Value>⟧ }
     ensures ndp_invalid { IsPlainData ⟦<ndp::NdpInvalid as Value>⟧ }
     ensures ndp_message { IsPlainData ⟦<ndp::NdpMessage as Value>⟧ }
@@ -43,13 +49,20 @@ pub fn types_are_plain_data<'a>()
     ensures ndp_slice { IsPlainData ⟦<ndp::NdpSlice<'a> as Value>⟧ }
 {}
 
-/// A copy of an iterator over options has the bytes that the iterator has left.
+/// A copy is the value: of an iterator what it has left.
 pub fn copies_are_values<'a>()
+    ensures group_records { CopyIsValue ⟦<multicast::GroupRecords<'a, 16> as Clone>⟧.is_clone }
+    ensures igmp_message { CopyIsValue ⟦<IgmpMessage<'a> as Clone>⟧.is_clone }
+    ensures mld_message { CopyIsValue ⟦<MldMessage<'a> as Clone>⟧.is_clone }
     ensures ndp_options_iterator { CopyIsValue ⟦<ndp::NdpOptionsIterator<'a> as Clone>⟧.is_clone }
 {}
 
 /// To copy one takes no memory and doesn't fail.
 pub fn copies_never_fail<'a>()
+    ensures group_records { CopyNeverFails
+        ⟦<multicast::GroupRecords<'a, 16> as Clone>⟧.is_infallible }
+    ensures igmp_message { CopyNeverFails ⟦<IgmpMessage<'a> as Clone>⟧.is_infallible }
+    ensures mld_message { CopyNeverFails ⟦<MldMessage<'a> as Clone>⟧.is_infallible }
     ensures ndp_options_iterator { CopyNeverFails
         ⟦<ndp::NdpOptionsIterator<'a> as Clone>⟧.is_infallible }
 {}

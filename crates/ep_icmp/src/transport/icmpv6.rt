@@ -1,6 +1,7 @@
 //! What the kinds of ICMPv6 messages carry (RFC 4443).
 
 mod dest_unreachable_code;
+pub mod mld;
 pub mod ndp;
 mod parameter_problem_code;
 mod parameter_problem_header;

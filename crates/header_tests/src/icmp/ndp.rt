@@ -2,8 +2,10 @@
 use crate::checks::{equal, equal_bytes, fail, is_written, reads, shows};
 use ep_base::err::Layer;
 use ep_icmp::Icmpv6Slice;
-use ep_icmp::icmpv6::ndp::{NdpHeader, NdpOptionsIterator, NdpSlice};
-use ep_icmp::laws::ndp;
+use ep_icmp::icmpv6::ndp::{
+    NdpHeader, NdpMessage, NdpOption, NdpOptionData, NdpOptionsIterator, NdpSlice,
+};
+use ep_icmp::laws::{constants, multicast, ndp, neighbors};
 use std::process::Abort;
 
 #[rattlefmt::skip]
@@ -386,6 +388,26 @@ fn validity(rt: HostRuntime) {
 }
 
 #[test]
+fn data_of_an_option(rt: HostRuntime) {
+    let Some(Ok(message)) = NdpSlice::from_slice(NEIGHBOR_ADVERTISEMENT) else {
+        fail(rt, "no message");
+    };
+    equal(
+        rt,
+        matches!(message.message(), NdpMessage::NeighborAdvertisement { .. }),
+        true,
+    );
+    let address = [2, 0, 0x5e, 0x10, 0x20, 0x30];
+    match message.options().next() {
+        Some(Ok(NdpOption::TargetLinkLayerAddress(found))) => {
+            equal_bytes(rt, found.slice(), &address);
+            equal(rt, found == NdpOptionData::new(&address), true);
+        }
+        _ => fail(rt, "no address"),
+    }
+}
+
+#[test]
 fn laws(rt: HostRuntime) {
     equal(rt, ndp::lengths(), [8, 40]);
     let header = header_of(rt, NEIGHBOR_ADVERTISEMENT);
@@ -394,4 +416,13 @@ fn laws(rt: HostRuntime) {
     equal(rt, matches!(again, Some(Ok(_))), true);
     ndp::items_are_options();
     ndp::options_come_back();
+    multicast::items_are_records();
+    constants::icmpv4_numbers();
+    constants::icmpv6_numbers();
+    neighbors::messages();
+    neighbors::options();
+    neighbors::items();
+    neighbors::listener_messages();
+    neighbors::group_messages();
+    neighbors::records();
 }

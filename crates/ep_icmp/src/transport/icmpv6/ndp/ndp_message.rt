@@ -11,9 +11,9 @@ use arrayvec::ArrayVec;
 /// code is 0, and reserved bits aren't kept.
 #[derive(Clone, Copy, Debug, PartialEq, Eq)]
 pub enum NdpMessage {
-    /// A host asks routers for an advertisement (type 133, section 4.1).
+    /// A host requests advertisements of routers (type 133, section 4.1).
     RouterSolicitation,
-    /// A router tells of itself (type 134, section 4.2).
+    /// A router advertises itself (type 134, section 4.2).
     RouterAdvertisement {
         /// The hop limit for packets to send, 0 where the router gives none.
         cur_hop_limit: u8,
@@ -28,9 +28,9 @@ pub enum NdpMessage {
         /// The time between repeated solicitations, in milliseconds; 0: not given.
         retrans_timer: u32,
     },
-    /// A node asks for the link-layer address of a target (type 135, section 4.3).
+    /// A node requests the link-layer address of a target (type 135, section 4.3).
     NeighborSolicitation {
-        /// The address that is asked for.
+        /// The address whose link-layer address is requested.
         target: [u8; 16],
     },
     /// The answer to it, or an unsolicited change (type 136, section 4.4).
