@@ -1,6 +1,6 @@
 -- Records of multicast groups, with addresses of n bytes: 4 over IPv4 (RFC 3376, section 4.2), 16
 -- over IPv6 (RFC 3810, section 5.2).
-use Rattle.std.specs.Prelude.{◌≡◌, ◌⊎◌, map, ℕ, zero, suc, ◌+◌, ◌-◌, ◌*◌, ◌<◌, ◌≤◌, nat_lt, if◌then◌else◌, List, [], ◌∷◌, ◌++◌, length}
+use Rattle.std.specs.Prelude.{◌≡◌, ◌⊎◌, map, ℕ, zero, suc, ◌+◌, ◌-◌, ◌*◌, ◌<◌, ◌≤◌, ◌==◌, nat_lt, if◌then◌else◌, List, [], ◌∷◌, ◌++◌, length}
 use Rattle.std.specs.Prelude.{slice_range, drop, take, Option, Some, None, Result, Ok, Err}
 use Rattle.std.specs.List.{All, concat}
 use Rattle.ep_base.specs.Bytes.{num}
@@ -49,6 +49,16 @@ pub record RecordsLeft : Type 0 where
   pub rest : List ℕ
   pub end : ℕ
   pub count : ℕ
+
+-- what is left after a step: nothing after a fault
+abbrev pub left_after_record : Result ℕ GroupRecordError → RecordsLeft → RecordsLeft
+left_after_record (Ok size) left =
+    record left { rest = drop size left.rest; count = left.count - 1 }
+left_after_record (Err f) left = record left { rest = []; count = 0 }
+
+abbrev pub left_after : ℕ → RecordsLeft → RecordsLeft
+left_after n left = if left.count == 0 then left else
+    left_after_record (size_at n (left.end - length left.rest) left.rest) left
 
 -- a record and those after it, or a fault, which is the last item
 abbrev pub record_and : Result ℕ GroupRecordError → List ℕ

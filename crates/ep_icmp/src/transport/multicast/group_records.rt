@@ -71,6 +71,7 @@ impl<'a, const N: usize> Iterator for GroupRecords<'a, N> {
         ensures steps { YieldsFirst (multicast.records_of N) self.old result self.new }
         ensures goes { MakesProgress (λ _. ⊤) (item_count (multicast.records_of N))
             self.old result self.new }
+        ensures rest { self.new ≡ multicast.left_after N self.old }
     {
         if self.count == 0 {
             return None;

@@ -84,7 +84,8 @@ impl NdpHeader {
         ensures ok { OnOk result (buffer.new.items ≡ buffer.old.items ++ ndp.encoding self.now) }
         ensures err { OnErr result (buffer.new.items ≡ buffer.old.items) }
         // It fails only where capacity was missing, and capacity never shrinks.
-        ensures succeeds { vec_len buffer.old + 40 ≤ vec_capacity buffer.old → IsOk result }
+        ensures succeeds { vec_len buffer.old + length (ndp.encoding self.now)
+            ≤ vec_capacity buffer.old → IsOk result }
         ensures capacity { vec_capacity buffer.old ≤ vec_capacity buffer.new }
     {
         buffer.extend_from_slice(self.to_bytes().as_slice())
