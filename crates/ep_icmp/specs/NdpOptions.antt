@@ -1,7 +1,7 @@
 -- The options of neighbor discovery: which bytes encode which option (RFC 4861, section 4.6; RFC
 -- 8106, section 5), and the items that bytes are read as.
 use Rattle.std.specs.Prelude.{◌≡◌, ◌⊎◌, map, ℕ, zero, suc, ◌+◌, ◌-◌, ◌*◌, ◌/◌, ◌%◌, ◌^◌, ◌<◌, ◌≤◌, ◌==◌, ◌&&◌, ◌||◌, nat_le, nat_lt}
-use Rattle.std.specs.Prelude.{not, Bool, IsTrue, List, [], ◌∷◌, ◌++◌, length, slice_range, drop, take, replicate}
+use Rattle.std.specs.Prelude.{not, Bool, true, IsTrue, List, [], ◌∷◌, ◌++◌, length, slice_range, drop, take, replicate}
 use Rattle.std.specs.Prelude.{if◌then◌else◌, Option, Some, None, Result, Ok, Err}
 use Rattle.std.specs.List.{All, concat}
 use Rattle.std.specs.Int.{w32, to_be_bytes}
@@ -56,13 +56,17 @@ option_of bytes = option_of_kind (num bytes 0 1) (num bytes 1 1) bytes
 abbrev pub of_kind : ℕ → List ℕ → List ℕ
 of_kind kind content = kind ∷ ((2 + length content) / 8) ∷ content
 
+-- what follows type and length of a prefix, up to the prefix
+abbrev pub prefix_fields : PrefixInformation → List ℕ
+prefix_fields p =
+    p.prefix_length ∷ (flag p.on_link 128 + flag p.autonomous 64) ∷ to_be_bytes w32 p.valid_lifetime
+    ++ to_be_bytes w32 p.preferred_lifetime ++ replicate 4 0
+
 -- the bytes of an option; reserved bits are 0
 abbrev pub option_bytes : NdpOption → List ℕ
 option_bytes (option.SourceLinkLayerAddress address) = of_kind 1 address
 option_bytes (option.TargetLinkLayerAddress address) = of_kind 2 address
-option_bytes (option.PrefixInformation p) = of_kind 3 (p.prefix_length ∷
-    (flag p.on_link 128 + flag p.autonomous 64) ∷ to_be_bytes w32 p.valid_lifetime
-    ++ to_be_bytes w32 p.preferred_lifetime ++ replicate 4 0 ++ p.prefix)
+option_bytes (option.PrefixInformation p) = of_kind 3 (prefix_fields p ++ p.prefix)
 option_bytes (option.RedirectedHeader packet) = of_kind 4 (replicate 6 0 ++ packet)
 option_bytes (option.Mtu mtu) = of_kind 5 (0 ∷ 0 ∷ to_be_bytes w32 mtu)
 option_bytes (option.RecursiveDnsServer lifetime addresses) =
@@ -70,6 +74,21 @@ option_bytes (option.RecursiveDnsServer lifetime addresses) =
 option_bytes (option.DnsSearchList lifetime names) =
     of_kind 31 (0 ∷ 0 ∷ to_be_bytes w32 lifetime ++ names)
 option_bytes (option.Unknown kind bytes) = of_kind kind bytes
+
+-- an option of so many bytes, which fit its type, can be written: its second byte counts their units
+abbrev pub has_len : ℕ → Bool → Bool
+has_len len fits = fits && ((len % 8 == 0) && nat_le len 2040)
+
+-- what the option carries fits its type: addresses of 16 bytes, and names that aren't missing (RFC
+-- 8106, sections 5.1 and 5.2)
+abbrev pub fits_kind : NdpOption → Bool
+fits_kind (option.RecursiveDnsServer lifetime addresses) =
+    not (length addresses == 0) && (length addresses % 16 == 0)
+fits_kind (option.DnsSearchList lifetime names) = not (length names == 0)
+fits_kind _ = true
+
+abbrev pub is_writable : NdpOption → Bool
+is_writable x = has_len (length (option_bytes x)) (fits_kind x)
 
 -- what an iterator has left: bytes, and how many there were at first
 pub record Left : Type 0 where

@@ -45,6 +45,7 @@ pub fn types_are_plain_data<'a>()
     ensures ndp_option { IsPlainData ⟦<ndp::NdpOption<'a> as Value>⟧ }
     ensures ndp_option_data { IsPlainData ⟦<ndp::NdpOptionData<'a> as Value>⟧ }
     ensures ndp_option_error { IsPlainData ⟦<ndp::NdpOptionError as Value>⟧ }
+    ensures ndp_option_write_error { IsPlainData ⟦<ndp::NdpOptionWriteError as Value>⟧ }
     ensures ndp_prefix_information { IsPlainData ⟦<ndp::PrefixInformation as Value>⟧ }
     ensures ndp_slice { IsPlainData ⟦<ndp::NdpSlice<'a> as Value>⟧ }
 {}

@@ -3,7 +3,8 @@ use crate::checks::{equal, equal_bytes, fail, is_written, reads, shows};
 use ep_base::err::Layer;
 use ep_icmp::Icmpv6Slice;
 use ep_icmp::icmpv6::ndp::{
-    NdpHeader, NdpMessage, NdpOption, NdpOptionData, NdpOptionsIterator, NdpSlice,
+    NdpHeader, NdpMessage, NdpOption, NdpOptionData, NdpOptionWriteError, NdpOptionsIterator,
+    NdpSlice,
 };
 use ep_icmp::laws::{constants, multicast, ndp, neighbors};
 use std::process::Abort;
@@ -405,6 +406,73 @@ fn data_of_an_option(rt: HostRuntime) {
         }
         _ => fail(rt, "no address"),
     }
+}
+
+// The options of both messages are written as they were read.
+#[test]
+fn written_options(rt: HostRuntime) {
+    for (bytes, _, _) in MESSAGES.iter() {
+        writes_options(rt, bytes);
+    }
+}
+
+fn writes_options(rt: impl Abort + AllocGlobal + Copy, bytes: &[u8]) {
+    let Some(Ok(message)) = NdpSlice::from_slice(bytes) else {
+        fail(rt, "no message");
+    };
+    let mut options = message.options();
+    let mut written = Vec::new(rt.alloc());
+    for _ in 0..8u8 {
+        if let Some(Ok(option)) = options.next() {
+            equal(rt, option.write(&mut written), Ok(()));
+        }
+    }
+    equal_bytes(rt, &written, message.options_slice());
+}
+
+// Options whose bytes no option of their type has, and how many these are.
+#[test]
+fn options_that_are_not_written(rt: HostRuntime) {
+    let seven = NdpOptionData::new(&[0; 7]);
+    is_not_written(rt, &NdpOption::SourceLinkLayerAddress(seven), 9);
+    let many = NdpOptionData::new(&[0; 2046]);
+    is_not_written(rt, &NdpOption::TargetLinkLayerAddress(many), 2048);
+    let half = NdpOptionData::new(&[0; 24]);
+    let servers = NdpOption::RecursiveDnsServer {
+        lifetime: 1,
+        addresses: half,
+    };
+    is_not_written(rt, &servers, 32);
+    let none = NdpOptionData::new(&[]);
+    let names = NdpOption::DnsSearchList {
+        lifetime: 1,
+        names: none,
+    };
+    is_not_written(rt, &names, 8);
+}
+
+fn is_not_written(rt: impl Abort + AllocGlobal + Copy, option: &NdpOption<'_>, len: usize) {
+    let mut written = Vec::new(rt.alloc());
+    equal(
+        rt,
+        option.write(&mut written),
+        Err(NdpOptionWriteError::Length(len)),
+    );
+    equal_bytes(rt, &written, &[]);
+}
+
+#[test]
+fn errors_of_writing_as_text(rt: HostRuntime) {
+    reads(
+        rt,
+        &NdpOptionWriteError::Length(9),
+        "no neighbor discovery option of this type has 9 byte(s)",
+    );
+    reads(
+        rt,
+        &NdpOptionWriteError::Memory,
+        "no memory left for a neighbor discovery option",
+    );
 }
 
 #[test]

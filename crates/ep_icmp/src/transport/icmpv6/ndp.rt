@@ -16,7 +16,7 @@ pub use ndp_invalid::NdpInvalid;
 pub use ndp_message::NdpMessage;
 pub use ndp_option::NdpOption;
 pub use ndp_option_data::NdpOptionData;
-pub use ndp_option_error::NdpOptionError;
+pub use ndp_option_error::{NdpOptionError, NdpOptionWriteError};
 pub use ndp_options_iterator::NdpOptionsIterator;
 pub use ndp_slice::NdpSlice;
 pub use prefix_information::PrefixInformation;

@@ -218,7 +218,7 @@ fn is_solicited_node(address: &[u8; 16]) -> bool
 }
 
 // A flag at its bit.
-fn flag(set: bool, worth: u8) -> u8
+pub(super) fn flag(set: bool, worth: u8) -> u8
     ensures { result ≡ ndp.flag set worth }
 {
     if set { worth } else { 0 }

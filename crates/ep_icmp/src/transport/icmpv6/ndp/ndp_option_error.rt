@@ -1,4 +1,4 @@
-//! Why options of neighbor discovery can't be read.
+//! Why options of neighbor discovery can't be read or written.
 
 use thiserror::Error;
 
@@ -23,4 +23,15 @@ pub enum NdpOptionError {
         /// The offset of the option.
         offset: usize,
     },
+}
+
+/// Why an option of neighbor discovery was not written.
+#[derive(Clone, Copy, Debug, PartialEq, Eq, Error)]
+pub enum NdpOptionWriteError {
+    /// No memory was left.
+    #[error("no memory left for a neighbor discovery option")]
+    Memory,
+    /// No option of its type has so many bytes.
+    #[error("no neighbor discovery option of this type has {0} byte(s)")]
+    Length(usize),
 }

@@ -2,6 +2,8 @@
 ghost use Rattle.std.specs.Prelude.{◌≡◌, length};
 ghost use Rattle.ep_icmp.specs.NdpOptions as spec;
 
+use super::ndp_message::flag;
+
 /// A prefix that a router announces (RFC 4861, section 4.6.2).
 #[derive(Clone, Copy, Debug, PartialEq, Eq)]
 pub struct PrefixInformation {
@@ -34,5 +36,31 @@ impl PrefixInformation {
             preferred_lifetime: u32::from_be_bytes(bytes[8..12].try_into().unwrap()),
             prefix: bytes[16..32].try_into().unwrap(),
         }
+    }
+
+    // What follows type and length in an option, up to the prefix, with reserved bits 0.
+    pub(super) fn field_bytes(&self) -> [u8; 14]
+        ensures bytes { result ≡ spec.prefix_fields self.now }
+        ensures size { length self.now.prefix ≡ 16 }
+    {
+        let [v0, v1, v2, v3] = self.valid_lifetime.to_be_bytes();
+        let [p0, p1, p2, p3] = self.preferred_lifetime.to_be_bytes();
+        let flags = flag(self.on_link, 128) + flag(self.autonomous, 64);
+        [
+            self.prefix_length,
+            flags,
+            v0,
+            v1,
+            v2,
+            v3,
+            p0,
+            p1,
+            p2,
+            p3,
+            0,
+            0,
+            0,
+            0,
+        ]
     }
 }
