@@ -112,10 +112,10 @@ fn is_view(rt: impl Abort + AllocGlobal + Copy, bytes: &[u8], header: &NdpHeader
     equal(rt, message.header(), *header);
     equal(
         rt,
-        (message.type_u8(), message.code_u8()),
-        (header.message.type_u8(), 0),
+        (header.message.type_u8(), message.code_u8()),
+        (icmpv6.type_u8(), 0),
     );
-    equal(rt, message.checksum(), icmpv6.checksum());
+    equal(rt, header.checksum, icmpv6.checksum());
     equal(rt, message.header_len(), header.header_len());
     equal_bytes(rt, message.slice(), bytes);
     equal_bytes(rt, message.options().rest(), message.options_slice());

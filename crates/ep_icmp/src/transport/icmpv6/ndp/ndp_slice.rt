@@ -82,25 +82,11 @@ impl<'a> NdpSlice<'a> {
         self.slice
     }
 
-    /// The type, byte 0: 133 to 137.
-    pub fn type_u8(&self) -> u8
-        ensures { result ≡ num self.now 0 1 }
-    {
-        self.slice[0]
-    }
-
     /// The code, byte 1.
     pub fn code_u8(&self) -> u8
         ensures { result ≡ num self.now 1 1 }
     {
         self.slice[1]
-    }
-
-    /// The checksum, bytes 2 and 3.
-    pub fn checksum(&self) -> u16
-        ensures { result ≡ num self.now 2 2 }
-    {
-        u16::from_be_bytes([self.slice[2], self.slice[3]])
     }
 
     /// The message and its fields.
@@ -139,7 +125,7 @@ impl<'a> NdpSlice<'a> {
     {
         NdpHeader {
             message: self.message(),
-            checksum: self.checksum(),
+            checksum: u16::from_be_bytes([self.slice[2], self.slice[3]]),
         }
     }
 
