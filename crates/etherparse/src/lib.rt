@@ -42,6 +42,8 @@ pub use ep_icmp::Icmpv6Slice;
 pub use ep_icmp::Icmpv6Type;
 pub use ep_icmp::icmpv4;
 pub use ep_icmp::icmpv6;
+pub use ep_icmp::igmp;
+pub use ep_icmp::multicast;
 pub use ep_ip::Ipv4Header;
 pub use ep_ip::Ipv4HeaderSlice;
 pub use ep_ip::Ipv4Options;
