@@ -7,8 +7,8 @@
    No call keeps a pointer, blocks or ends the process.
    Calls may call malloc, realloc and free, which come from one allocator and align blocks as
    usual. None is made in a signal handler, nor in the forked child of a process with threads.
-   A pool begins as zeros, which is not open, and only these calls change it. It isn't copied, and
-   stays on the thread that opened it. */
+   A pool begins as zeros, which is not open, and only these calls change it. It isn't copied. Any
+   thread may use it, if each call to it begins after the one before has returned. */
 #ifndef ETHERPARSE_H
 #define ETHERPARSE_H
 #include <stdbool.h>

@@ -1,7 +1,12 @@
 //! Safe Rust over `libetherparse` and `libnetlines`, whose code is proved.
 //!
 //! The exports require nothing but what a slice's type says, and of a session or a pool that only they
-//! changed it, so that each call is safe.
+//! changed it, one call after another, so that each call is safe.
+//!
+//! `build.rs` looks for the libraries in the folder that `ETHERPARSE_LIB_DIR` names, else by pkg-config. The feature
+//! `static` links the static ones; `rpath` has this crate's own tests and examples find the shared ones.
+
+#![deny(missing_docs)]
 
 mod packet;
 mod plan;
@@ -11,7 +16,7 @@ mod refusal;
 
 pub use packet::{Link, Net, Packet, Transport};
 pub use plan::{
-    BuildError, Plan, PlanField, PlannedAddresses, PlannedEcho, PlannedLink, PlannedTcp, PlannedTransport, build,
+    build, BuildError, Plan, PlanField, PlannedAddresses, PlannedEcho, PlannedLink, PlannedTcp, PlannedTransport,
 };
 pub use pool::{AddError, Message, PartRefusal, Pool};
 pub use refusal::{Fault, Layer, LenSource, Refusal};
@@ -44,6 +49,16 @@ pub enum Verdict {
     Good,
     /// It is wrong.
     Bad,
+}
+
+impl fmt::Display for Verdict {
+    fn fmt(&self, f: &mut fmt::Formatter<'_>) -> fmt::Result {
+        f.write_str(match self {
+            Verdict::None => "none",
+            Verdict::Good => "good",
+            Verdict::Bad => "bad",
+        })
+    }
 }
 
 fn verdict(number: u32) -> Option<Verdict> {
@@ -108,12 +123,16 @@ pub struct Session {
     raw: raw::NetlinesSession,
 }
 
+// SAFETY: what the pointer leads to is on the heap, of one allocator for all threads, and reached by this pointer alone; the
+// libraries have no memory of a thread's own (tools/test_exports looks for it). Calls take the session by `&mut`, so none
+// begins before the last one has returned.
+unsafe impl Send for Session {}
+
 impl Session {
     /// A session that took no byte.
     pub fn open() -> Result<Session, OutOfMemory> {
         let mut session = raw::NetlinesSession { is_open: false, held: std::ptr::null_mut() };
-        // SAFETY: it begins as zeros. Here and below these calls alone change it, and it stays on its
-        // thread, since a pointer isn't `Send`.
+        // SAFETY: it begins as zeros. Here and below these calls alone change it.
         match unsafe { raw::netlines_open(&mut session) } {
             raw::NETLINES_ANSWERED => Ok(Session { raw: session }),
             _ => Err(OutOfMemory),
@@ -144,6 +163,21 @@ impl Session {
     pub fn finish(mut self) -> Result<Vec<u8>, OutOfMemory> {
         with_output(|output, written| unsafe {
             raw::netlines_finish(&mut self.raw, output.as_mut_ptr(), output.len(), written)
+        })
+    }
+}
+
+impl Session {
+    /// The answers to these chunks, each when it is fed, and last those that are left.
+    pub fn answers<C: AsRef<[u8]>>(
+        self,
+        chunks: impl IntoIterator<Item = C>,
+    ) -> impl Iterator<Item = Result<Vec<u8>, OutOfMemory>> {
+        let mut session = Some(self);
+        let mut chunks = chunks.into_iter();
+        std::iter::from_fn(move || match chunks.next() {
+            Some(chunk) => session.as_mut().map(|session| session.feed(chunk.as_ref())),
+            None => session.take().map(Session::finish),
         })
     }
 }

@@ -1,7 +1,7 @@
 //! Packets that were sliced.
 
-use crate::Refusal;
 use crate::raw::{EpArp, EpIcmp, EpIpv4, EpIpv6, EpLink, EpPacket, EpPart, EpTag, EpTcp, EpUdp};
+use crate::Refusal;
 use std::net::{Ipv4Addr, Ipv6Addr};
 
 /// A packet that was sliced, over the bytes that it was sliced from.
@@ -148,5 +148,60 @@ impl EpIpv6 {
     #[must_use]
     pub fn destination_addr(&self) -> Ipv6Addr {
         self.destination.into()
+    }
+}
+
+/// Fields by the names that the headers of the Rust crate etherparse give them, where etherparse.h has others.
+macro_rules! named {
+    ($($kind:ident { $($name:ident: $type:ty = $field:ident, $doc:literal;)* })*) => { $(
+        impl $kind { $(
+            #[doc = $doc]
+            #[must_use]
+            pub fn $name(&self) -> $type {
+                self.$field
+            }
+        )* }
+    )* };
+}
+
+named! {
+    EpLink {
+        ether_type: u16 = protocol, "Of Ethernet II: the ether type.";
+        protocol_type: u16 = protocol, "Of a cooked capture: the protocol's number.";
+        arp_hrd_type: u16 = hardware_type, "Of a cooked capture: the hardware type (ARPHRD).";
+        sender_address_valid_length: u16 = address_len, "Of a cooked capture: how many bytes of the address are the sender's.";
+        sender_address: [u8; 8] = address, "Of a cooked capture: the sender's address.";
+    }
+    EpTag {
+        pcp: u8 = priority, "Of VLAN: the priority code point.";
+        drop_eligible_indicator: bool = drop_eligible, "Of VLAN: whether the frame may be dropped first.";
+        endstation_id: bool = end_station, "Of MACsec: bit ES.";
+        scb: bool = single_copy_broadcast, "Of MACsec: bit SCB.";
+        userdata_changed: bool = changed, "Of MACsec: bit C.";
+        an: u8 = association, "Of MACsec: the association number.";
+        packet_nr: u32 = packet_number, "Of MACsec: the packet number.";
+    }
+    EpArp {
+        hw_addr_type: u16 = hardware_type, "The kind of hardware address.";
+        proto_addr_type: u16 = protocol_type, "The kind of protocol address, an ether type.";
+        sender_hw_addr: EpPart = sender_hardware, "The sender's hardware address.";
+        sender_protocol_addr: EpPart = sender_protocol, "The sender's protocol address.";
+        target_hw_addr: EpPart = target_hardware, "The target's hardware address.";
+        target_protocol_addr: EpPart = target_protocol, "The target's protocol address.";
+    }
+    EpUdp {
+        length: u16 = stated_len, "The length, as the header states it.";
+    }
+}
+
+impl EpTag {
+    /// Of MACsec: the secure channel identifier, if there is one.
+    #[must_use]
+    pub fn sci(&self) -> Option<u64> {
+        if self.has_channel {
+            Some(self.channel)
+        } else {
+            None
+        }
     }
 }

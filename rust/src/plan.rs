@@ -24,27 +24,59 @@ pub enum PlannedLink {
     /// None.
     None,
     /// Of Ethernet II, and up to two VLAN tags of these identifiers, the outer one first.
-    Ethernet2 { source: [u8; 6], destination: [u8; 6], vlan_ids: Vec<u16> },
+    Ethernet2 {
+        /// The source address.
+        source: [u8; 6],
+        /// The destination address.
+        destination: [u8; 6],
+        /// The identifiers, at most two, each up to 4095.
+        vlan_ids: Vec<u16>,
+    },
     /// Of a Linux cooked capture of an Ethernet device.
-    LinuxSll { packet_type: u16, address_len: u16, address: [u8; 8] },
+    LinuxSll {
+        /// 0 to us, 1 broadcast, 2 multicast, 3 to others, 4 from us.
+        packet_type: u16,
+        /// How many bytes of the address are the sender's.
+        address_len: u16,
+        /// The sender's address.
+        address: [u8; 8],
+    },
 }
 
 /// The addresses of a plan, which say its IP version.
 #[derive(Clone, Copy, Debug, PartialEq, Eq)]
 pub enum PlannedAddresses {
     /// Of IPv4.
-    V4 { source: Ipv4Addr, destination: Ipv4Addr },
+    V4 {
+        /// The source address.
+        source: Ipv4Addr,
+        /// The destination address.
+        destination: Ipv4Addr,
+    },
     /// Of IPv6.
-    V6 { source: Ipv6Addr, destination: Ipv6Addr },
+    V6 {
+        /// The source address.
+        source: Ipv6Addr,
+        /// The destination address.
+        destination: Ipv6Addr,
+    },
 }
 
 /// The transport header of a plan.
 #[derive(Clone, Debug, PartialEq, Eq)]
 pub enum PlannedTransport {
     /// None: the payload has this number.
-    None { payload_number: u8 },
+    None {
+        /// The IP protocol number of the payload.
+        payload_number: u8,
+    },
     /// Of UDP.
-    Udp { source_port: u16, destination_port: u16 },
+    Udp {
+        /// The source port.
+        source_port: u16,
+        /// The destination port.
+        destination_port: u16,
+    },
     /// Of TCP.
     Tcp(PlannedTcp),
     /// Of an echo over IPv4.
@@ -56,20 +88,35 @@ pub enum PlannedTransport {
 /// A TCP header of a plan.
 #[derive(Clone, Debug, Default, PartialEq, Eq)]
 pub struct PlannedTcp {
+    /// The source port.
     pub source_port: u16,
+    /// The destination port.
     pub destination_port: u16,
+    /// The sequence number.
     pub sequence_number: u32,
+    /// The acknowledgment number.
     pub acknowledgment_number: u32,
+    /// The window.
     pub window_size: u16,
+    /// The urgent pointer.
     pub urgent_pointer: u16,
+    /// Flag NS: ECN nonce.
     pub ns: bool,
+    /// Flag FIN: no more data.
     pub fin: bool,
+    /// Flag SYN: sequence numbers are synchronized.
     pub syn: bool,
+    /// Flag RST: the connection is reset.
     pub rst: bool,
+    /// Flag PSH: push.
     pub psh: bool,
+    /// Flag ACK: the acknowledgment number counts.
     pub ack: bool,
+    /// Flag URG: the urgent pointer counts.
     pub urg: bool,
+    /// Flag ECE: ECN echo.
     pub ece: bool,
+    /// Flag CWR: congestion window reduced.
     pub cwr: bool,
     /// At most 40 bytes. They are filled up with 0 to whole words.
     pub options: Vec<u8>,
@@ -78,8 +125,11 @@ pub struct PlannedTcp {
 /// An echo request or its reply.
 #[derive(Clone, Copy, Debug, Default, PartialEq, Eq)]
 pub struct PlannedEcho {
+    /// Whether it is the reply.
     pub is_reply: bool,
+    /// The identifier.
     pub id: u16,
+    /// The sequence number.
     pub sequence: u16,
 }
 
@@ -115,12 +165,26 @@ impl fmt::Display for BuildError {
     fn fmt(&self, f: &mut fmt::Formatter<'_>) -> fmt::Result {
         match self {
             BuildError::OutOfMemory => f.write_str("out of memory"),
-            BuildError::Refused(field) => write!(f, "no packet has such a field: {field:?}"),
+            BuildError::Refused(field) => write!(f, "no packet has such a field: {field}"),
         }
     }
 }
 
 impl Error for BuildError {}
+
+impl fmt::Display for PlanField {
+    fn fmt(&self, f: &mut fmt::Formatter<'_>) -> fmt::Result {
+        f.write_str(match self {
+            PlanField::PacketType => "packet type",
+            PlanField::TagCount => "number of tags",
+            PlanField::OuterVlanId => "identifier of the outer tag",
+            PlanField::InnerVlanId => "identifier of the inner tag",
+            PlanField::Transport => "transport",
+            PlanField::OptionsLen => "length of the options",
+            PlanField::Payload => "payload",
+        })
+    }
+}
 
 impl PlanField {
     // The other fields hold what a `Plan` can't say wrongly.

@@ -18,6 +18,9 @@ pub struct Pool {
     room: Vec<u8>,
 }
 
+// SAFETY: as of a `Session`.
+unsafe impl Send for Pool {}
+
 /// A message that is complete.
 #[derive(Clone, Debug, PartialEq, Eq)]
 pub struct Message {
@@ -83,7 +86,7 @@ impl fmt::Display for PartRefusal {
                 write!(f, "a part of {len} bytes at offset {offset}, and no multiple of 8")
             }
             PartRefusal::TooLong { offset, len } => {
-                write!(f, "a part of {len} bytes at offset {offset}, which ends behind byte 65535")
+                write!(f, "a part of {len} bytes at offset {offset}, which ends beyond byte 65535")
             }
             PartRefusal::ConflictingEnd { previous_end, end } => {
                 write!(f, "a part that ends at {end}, of a message that ends at {previous_end}")
@@ -107,7 +110,15 @@ impl fmt::Display for AddError {
     }
 }
 
-impl Error for AddError {}
+impl Error for AddError {
+    fn source(&self) -> Option<&(dyn Error + 'static)> {
+        match self {
+            AddError::Frame(refusal) => Some(refusal),
+            AddError::Part(refusal) => Some(refusal),
+            AddError::OutOfMemory => None,
+        }
+    }
+}
 
 impl PartRefusal {
     fn from_raw(raw: &EpPartRefusal) -> Option<PartRefusal> {
@@ -137,8 +148,7 @@ impl Pool {
     /// A pool with no message.
     pub fn new() -> Result<Pool, OutOfMemory> {
         let mut raw = EpPool { is_open: false, held: std::ptr::null_mut() };
-        // SAFETY: it begins as zeros. Here and below these calls alone change it, and it stays on its thread,
-        // since a pointer isn't `Send`.
+        // SAFETY: it begins as zeros. Here and below these calls alone change it.
         match unsafe { raw::ep_pool_new(&mut raw) } {
             raw::DONE => Ok(Pool { raw, room: vec![0; 65535] }),
             _ => Err(OutOfMemory),
@@ -169,6 +179,18 @@ impl Pool {
                 _ => AddError::OutOfMemory,
             }),
         }
+    }
+
+    /// The messages that these Ethernet II frames complete, each frame with its time and channel; and why a frame isn't
+    /// taken, after which the next ones are.
+    pub fn messages<'p, F: AsRef<[u8]> + 'p, I: IntoIterator<Item = (F, u64, u32)>>(
+        &'p mut self,
+        frames: I,
+    ) -> impl Iterator<Item = Result<Message, AddError>> + 'p
+    where
+        I::IntoIter: 'p,
+    {
+        frames.into_iter().filter_map(move |(frame, time, channel)| self.add(frame.as_ref(), time, channel).transpose())
     }
 
     /// Drops the messages whose last part came before this time.

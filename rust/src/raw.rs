@@ -39,46 +39,87 @@ pub const REFUSAL_AUTH_HEADER_LEN: u32 = 10;
 pub const REFUSAL_HOP_BY_HOP_NOT_AT_START: u32 = 11;
 /// A TCP data offset below 5.
 pub const REFUSAL_TCP_DATA_OFFSET: u32 = 12;
+/// The field `link` of a plan.
 pub const FIELD_LINK: u32 = 1;
+/// The field `packet_type` of a plan.
 pub const FIELD_PACKET_TYPE: u32 = 2;
+/// The field `tag_count` of a plan.
 pub const FIELD_TAG_COUNT: u32 = 3;
+/// The field `outer_vlan_id` of a plan.
 pub const FIELD_OUTER_VLAN_ID: u32 = 4;
+/// The field `inner_vlan_id` of a plan.
 pub const FIELD_INNER_VLAN_ID: u32 = 5;
+/// The field `ip_version` of a plan.
 pub const FIELD_IP_VERSION: u32 = 6;
+/// The field `transport` of a plan.
 pub const FIELD_TRANSPORT: u32 = 7;
+/// The field `options_len` of a plan.
 pub const FIELD_OPTIONS_LEN: u32 = 8;
+/// The field `payload` of a plan.
 pub const FIELD_PAYLOAD: u32 = 9;
+/// The layer `linux sll header`.
 pub const LAYER_LINUX_SLL_HEADER: u32 = 1;
+/// The layer `ethernet2 header`.
 pub const LAYER_ETHERNET2_HEADER: u32 = 2;
+/// The layer `ether payload`.
 pub const LAYER_ETHER_PAYLOAD: u32 = 3;
+/// The layer `vlan header`.
 pub const LAYER_VLAN_HEADER: u32 = 4;
+/// The layer `macsec header`.
 pub const LAYER_MACSEC_HEADER: u32 = 5;
+/// The layer `macsec packet`.
 pub const LAYER_MACSEC_PACKET: u32 = 6;
+/// The layer `ip header`.
 pub const LAYER_IP_HEADER: u32 = 7;
+/// The layer `ipv4 header`.
 pub const LAYER_IPV4_HEADER: u32 = 8;
+/// The layer `ipv4 packet`.
 pub const LAYER_IPV4_PACKET: u32 = 9;
+/// The layer `ip auth header`.
 pub const LAYER_IP_AUTH_HEADER: u32 = 10;
+/// The layer `ipv6 header`.
 pub const LAYER_IPV6_HEADER: u32 = 11;
+/// The layer `ipv6 packet`.
 pub const LAYER_IPV6_PACKET: u32 = 12;
+/// The layer `ipv6 ext header`.
 pub const LAYER_IPV6_EXT_HEADER: u32 = 13;
+/// The layer `ipv6 hop by hop header`.
 pub const LAYER_IPV6_HOP_BY_HOP_HEADER: u32 = 14;
+/// The layer `ipv6 dest options header`.
 pub const LAYER_IPV6_DEST_OPTIONS_HEADER: u32 = 15;
+/// The layer `ipv6 route header`.
 pub const LAYER_IPV6_ROUTE_HEADER: u32 = 16;
+/// The layer `ipv6 frag header`.
 pub const LAYER_IPV6_FRAG_HEADER: u32 = 17;
+/// The layer `udp header`.
 pub const LAYER_UDP_HEADER: u32 = 18;
+/// The layer `udp payload`.
 pub const LAYER_UDP_PAYLOAD: u32 = 19;
+/// The layer `tcp header`.
 pub const LAYER_TCP_HEADER: u32 = 20;
+/// The layer `icmpv4`.
 pub const LAYER_ICMPV4: u32 = 21;
+/// The layer `icmpv4 timestamp`.
 pub const LAYER_ICMPV4_TIMESTAMP: u32 = 22;
+/// The layer `icmpv4 timestamp reply`.
 pub const LAYER_ICMPV4_TIMESTAMP_REPLY: u32 = 23;
+/// The layer `icmpv6`.
 pub const LAYER_ICMPV6: u32 = 24;
+/// The layer `arp`.
 pub const LAYER_ARP: u32 = 25;
+/// The length comes from: slice.
 pub const SOURCE_SLICE: u32 = 1;
+/// The length comes from: macsec short length.
 pub const SOURCE_MACSEC_SHORT_LENGTH: u32 = 2;
+/// The length comes from: ipv4 header total len.
 pub const SOURCE_IPV4_HEADER_TOTAL_LEN: u32 = 3;
+/// The length comes from: ipv6 header payload len.
 pub const SOURCE_IPV6_HEADER_PAYLOAD_LEN: u32 = 4;
+/// The length comes from: udp header len.
 pub const SOURCE_UDP_HEADER_LEN: u32 = 5;
+/// The length comes from: tcp header len.
 pub const SOURCE_TCP_HEADER_LEN: u32 = 6;
+/// The length comes from: arp addr lengths.
 pub const SOURCE_ARP_ADDR_LENGTHS: u32 = 7;
 /// The answers are written.
 pub const NETLINES_ANSWERED: u32 = 0;
@@ -587,7 +628,7 @@ pub struct NetlinesSession {
     pub held: *mut std::ffi::c_void,
 }
 
-unsafe extern "C" {
+extern "C" {
     pub(crate) fn ep_build(plan: *const EpPlan, payload: *const u8, payload_len: usize, output: *mut u8, output_len: usize) -> EpBuilt;
     pub(crate) fn ep_checksum(bytes: *const u8, bytes_len: usize) -> u16;
     pub(crate) fn ep_checksum_is_right(bytes: *const u8, bytes_len: usize) -> bool;
@@ -610,198 +651,22 @@ unsafe extern "C" {
     pub(crate) fn netlines_close(session: *mut NetlinesSession);
 }
 
-// The layout of the exports' sources.
-const _: () = assert!(size_of::<EpRefusal>() == 40);
-const _: () = assert!(std::mem::offset_of!(EpRefusal, kind) == 0);
-const _: () = assert!(std::mem::offset_of!(EpRefusal, layer) == 4);
-const _: () = assert!(std::mem::offset_of!(EpRefusal, needed) == 8);
-const _: () = assert!(std::mem::offset_of!(EpRefusal, there) == 16);
-const _: () = assert!(std::mem::offset_of!(EpRefusal, place) == 24);
-const _: () = assert!(std::mem::offset_of!(EpRefusal, source) == 32);
-const _: () = assert!(std::mem::offset_of!(EpRefusal, value) == 36);
-const _: () = assert!(size_of::<EpPartRefusal>() == 24);
-const _: () = assert!(std::mem::offset_of!(EpPartRefusal, kind) == 0);
-const _: () = assert!(std::mem::offset_of!(EpPartRefusal, offset) == 4);
-const _: () = assert!(std::mem::offset_of!(EpPartRefusal, previous_end) == 6);
-const _: () = assert!(std::mem::offset_of!(EpPartRefusal, end) == 8);
-const _: () = assert!(std::mem::offset_of!(EpPartRefusal, len) == 16);
-const _: () = assert!(size_of::<EpMessage>() == 56);
-const _: () = assert!(std::mem::offset_of!(EpMessage, len) == 0);
-const _: () = assert!(std::mem::offset_of!(EpMessage, ip_version) == 8);
-const _: () = assert!(std::mem::offset_of!(EpMessage, number) == 12);
-const _: () = assert!(std::mem::offset_of!(EpMessage, ipv4_source) == 13);
-const _: () = assert!(std::mem::offset_of!(EpMessage, ipv4_destination) == 17);
-const _: () = assert!(std::mem::offset_of!(EpMessage, ipv6_source) == 21);
-const _: () = assert!(std::mem::offset_of!(EpMessage, ipv6_destination) == 37);
-const _: () = assert!(size_of::<EpAdded>() == 128);
-const _: () = assert!(std::mem::offset_of!(EpAdded, status) == 0);
-const _: () = assert!(std::mem::offset_of!(EpAdded, refusal) == 8);
-const _: () = assert!(std::mem::offset_of!(EpAdded, part) == 48);
-const _: () = assert!(std::mem::offset_of!(EpAdded, message) == 72);
-const _: () = assert!(size_of::<EpBuilt>() == 16);
-const _: () = assert!(std::mem::offset_of!(EpBuilt, status) == 0);
-const _: () = assert!(std::mem::offset_of!(EpBuilt, field) == 4);
-const _: () = assert!(std::mem::offset_of!(EpBuilt, len) == 8);
-const _: () = assert!(size_of::<EpLink>() == 32);
-const _: () = assert!(std::mem::offset_of!(EpLink, kind) == 0);
-const _: () = assert!(std::mem::offset_of!(EpLink, protocol) == 4);
-const _: () = assert!(std::mem::offset_of!(EpLink, destination) == 6);
-const _: () = assert!(std::mem::offset_of!(EpLink, source) == 12);
-const _: () = assert!(std::mem::offset_of!(EpLink, packet_type) == 18);
-const _: () = assert!(std::mem::offset_of!(EpLink, hardware_type) == 20);
-const _: () = assert!(std::mem::offset_of!(EpLink, address_len) == 22);
-const _: () = assert!(std::mem::offset_of!(EpLink, address) == 24);
-const _: () = assert!(size_of::<EpPart>() == 16);
-const _: () = assert!(std::mem::offset_of!(EpPart, offset) == 0);
-const _: () = assert!(std::mem::offset_of!(EpPart, len) == 8);
-const _: () = assert!(size_of::<EpTag>() == 48);
-const _: () = assert!(std::mem::offset_of!(EpTag, header) == 0);
-const _: () = assert!(std::mem::offset_of!(EpTag, kind) == 16);
-const _: () = assert!(std::mem::offset_of!(EpTag, ether_type) == 20);
-const _: () = assert!(std::mem::offset_of!(EpTag, vlan_id) == 22);
-const _: () = assert!(std::mem::offset_of!(EpTag, priority) == 24);
-const _: () = assert!(std::mem::offset_of!(EpTag, drop_eligible) == 25);
-const _: () = assert!(std::mem::offset_of!(EpTag, end_station) == 26);
-const _: () = assert!(std::mem::offset_of!(EpTag, single_copy_broadcast) == 27);
-const _: () = assert!(std::mem::offset_of!(EpTag, encrypted) == 28);
-const _: () = assert!(std::mem::offset_of!(EpTag, changed) == 29);
-const _: () = assert!(std::mem::offset_of!(EpTag, has_channel) == 30);
-const _: () = assert!(std::mem::offset_of!(EpTag, association) == 31);
-const _: () = assert!(std::mem::offset_of!(EpTag, short_len) == 32);
-const _: () = assert!(std::mem::offset_of!(EpTag, packet_number) == 36);
-const _: () = assert!(std::mem::offset_of!(EpTag, channel) == 40);
-const _: () = assert!(size_of::<EpIpv4>() == 72);
-const _: () = assert!(std::mem::offset_of!(EpIpv4, header) == 0);
-const _: () = assert!(std::mem::offset_of!(EpIpv4, extensions) == 16);
-const _: () = assert!(std::mem::offset_of!(EpIpv4, payload) == 32);
-const _: () = assert!(std::mem::offset_of!(EpIpv4, source) == 48);
-const _: () = assert!(std::mem::offset_of!(EpIpv4, destination) == 52);
-const _: () = assert!(std::mem::offset_of!(EpIpv4, total_len) == 56);
-const _: () = assert!(std::mem::offset_of!(EpIpv4, identification) == 58);
-const _: () = assert!(std::mem::offset_of!(EpIpv4, fragment_offset) == 60);
-const _: () = assert!(std::mem::offset_of!(EpIpv4, header_checksum) == 62);
-const _: () = assert!(std::mem::offset_of!(EpIpv4, dscp) == 64);
-const _: () = assert!(std::mem::offset_of!(EpIpv4, ecn) == 65);
-const _: () = assert!(std::mem::offset_of!(EpIpv4, time_to_live) == 66);
-const _: () = assert!(std::mem::offset_of!(EpIpv4, protocol) == 67);
-const _: () = assert!(std::mem::offset_of!(EpIpv4, payload_number) == 68);
-const _: () = assert!(std::mem::offset_of!(EpIpv4, dont_fragment) == 69);
-const _: () = assert!(std::mem::offset_of!(EpIpv4, more_fragments) == 70);
-const _: () = assert!(std::mem::offset_of!(EpIpv4, is_part) == 71);
-const _: () = assert!(size_of::<EpIpv6>() == 104);
-const _: () = assert!(std::mem::offset_of!(EpIpv6, header) == 0);
-const _: () = assert!(std::mem::offset_of!(EpIpv6, extensions) == 16);
-const _: () = assert!(std::mem::offset_of!(EpIpv6, payload) == 32);
-const _: () = assert!(std::mem::offset_of!(EpIpv6, source) == 48);
-const _: () = assert!(std::mem::offset_of!(EpIpv6, destination) == 64);
-const _: () = assert!(std::mem::offset_of!(EpIpv6, flow_label) == 80);
-const _: () = assert!(std::mem::offset_of!(EpIpv6, identification) == 84);
-const _: () = assert!(std::mem::offset_of!(EpIpv6, payload_length) == 88);
-const _: () = assert!(std::mem::offset_of!(EpIpv6, fragment_offset) == 90);
-const _: () = assert!(std::mem::offset_of!(EpIpv6, traffic_class) == 92);
-const _: () = assert!(std::mem::offset_of!(EpIpv6, next_header) == 93);
-const _: () = assert!(std::mem::offset_of!(EpIpv6, hop_limit) == 94);
-const _: () = assert!(std::mem::offset_of!(EpIpv6, payload_number) == 95);
-const _: () = assert!(std::mem::offset_of!(EpIpv6, has_fragment_header) == 96);
-const _: () = assert!(std::mem::offset_of!(EpIpv6, more_fragments) == 97);
-const _: () = assert!(std::mem::offset_of!(EpIpv6, is_part) == 98);
-const _: () = assert!(size_of::<EpArp>() == 88);
-const _: () = assert!(std::mem::offset_of!(EpArp, packet) == 0);
-const _: () = assert!(std::mem::offset_of!(EpArp, sender_hardware) == 16);
-const _: () = assert!(std::mem::offset_of!(EpArp, sender_protocol) == 32);
-const _: () = assert!(std::mem::offset_of!(EpArp, target_hardware) == 48);
-const _: () = assert!(std::mem::offset_of!(EpArp, target_protocol) == 64);
-const _: () = assert!(std::mem::offset_of!(EpArp, hardware_type) == 80);
-const _: () = assert!(std::mem::offset_of!(EpArp, protocol_type) == 82);
-const _: () = assert!(std::mem::offset_of!(EpArp, operation) == 84);
-const _: () = assert!(size_of::<EpUdp>() == 40);
-const _: () = assert!(std::mem::offset_of!(EpUdp, header) == 0);
-const _: () = assert!(std::mem::offset_of!(EpUdp, payload) == 16);
-const _: () = assert!(std::mem::offset_of!(EpUdp, source_port) == 32);
-const _: () = assert!(std::mem::offset_of!(EpUdp, destination_port) == 34);
-const _: () = assert!(std::mem::offset_of!(EpUdp, stated_len) == 36);
-const _: () = assert!(std::mem::offset_of!(EpUdp, checksum) == 38);
-const _: () = assert!(size_of::<EpTcp>() == 64);
-const _: () = assert!(std::mem::offset_of!(EpTcp, header) == 0);
-const _: () = assert!(std::mem::offset_of!(EpTcp, payload) == 16);
-const _: () = assert!(std::mem::offset_of!(EpTcp, sequence_number) == 32);
-const _: () = assert!(std::mem::offset_of!(EpTcp, acknowledgment_number) == 36);
-const _: () = assert!(std::mem::offset_of!(EpTcp, source_port) == 40);
-const _: () = assert!(std::mem::offset_of!(EpTcp, destination_port) == 42);
-const _: () = assert!(std::mem::offset_of!(EpTcp, window_size) == 44);
-const _: () = assert!(std::mem::offset_of!(EpTcp, checksum) == 46);
-const _: () = assert!(std::mem::offset_of!(EpTcp, urgent_pointer) == 48);
-const _: () = assert!(std::mem::offset_of!(EpTcp, ns) == 50);
-const _: () = assert!(std::mem::offset_of!(EpTcp, fin) == 51);
-const _: () = assert!(std::mem::offset_of!(EpTcp, syn) == 52);
-const _: () = assert!(std::mem::offset_of!(EpTcp, rst) == 53);
-const _: () = assert!(std::mem::offset_of!(EpTcp, psh) == 54);
-const _: () = assert!(std::mem::offset_of!(EpTcp, ack) == 55);
-const _: () = assert!(std::mem::offset_of!(EpTcp, urg) == 56);
-const _: () = assert!(std::mem::offset_of!(EpTcp, ece) == 57);
-const _: () = assert!(std::mem::offset_of!(EpTcp, cwr) == 58);
-const _: () = assert!(size_of::<EpIcmp>() == 40);
-const _: () = assert!(std::mem::offset_of!(EpIcmp, header) == 0);
-const _: () = assert!(std::mem::offset_of!(EpIcmp, payload) == 16);
-const _: () = assert!(std::mem::offset_of!(EpIcmp, checksum) == 32);
-const _: () = assert!(std::mem::offset_of!(EpIcmp, icmp_type) == 34);
-const _: () = assert!(std::mem::offset_of!(EpIcmp, code) == 35);
-const _: () = assert!(std::mem::offset_of!(EpIcmp, rest) == 36);
-const _: () = assert!(size_of::<EpPacket>() == 656);
-const _: () = assert!(std::mem::offset_of!(EpPacket, refusal) == 0);
-const _: () = assert!(std::mem::offset_of!(EpPacket, link) == 40);
-const _: () = assert!(std::mem::offset_of!(EpPacket, tag_count) == 72);
-const _: () = assert!(std::mem::offset_of!(EpPacket, tags) == 80);
-const _: () = assert!(std::mem::offset_of!(EpPacket, ether_payload) == 224);
-const _: () = assert!(std::mem::offset_of!(EpPacket, net) == 240);
-const _: () = assert!(std::mem::offset_of!(EpPacket, transport) == 244);
-const _: () = assert!(std::mem::offset_of!(EpPacket, ipv4) == 248);
-const _: () = assert!(std::mem::offset_of!(EpPacket, ipv6) == 320);
-const _: () = assert!(std::mem::offset_of!(EpPacket, arp) == 424);
-const _: () = assert!(std::mem::offset_of!(EpPacket, udp) == 512);
-const _: () = assert!(std::mem::offset_of!(EpPacket, tcp) == 552);
-const _: () = assert!(std::mem::offset_of!(EpPacket, icmp) == 616);
-const _: () = assert!(size_of::<EpPlan>() == 176);
-const _: () = assert!(std::mem::offset_of!(EpPlan, link) == 0);
-const _: () = assert!(std::mem::offset_of!(EpPlan, destination) == 4);
-const _: () = assert!(std::mem::offset_of!(EpPlan, source) == 10);
-const _: () = assert!(std::mem::offset_of!(EpPlan, packet_type) == 16);
-const _: () = assert!(std::mem::offset_of!(EpPlan, address_len) == 18);
-const _: () = assert!(std::mem::offset_of!(EpPlan, address) == 20);
-const _: () = assert!(std::mem::offset_of!(EpPlan, tag_count) == 28);
-const _: () = assert!(std::mem::offset_of!(EpPlan, outer_vlan_id) == 32);
-const _: () = assert!(std::mem::offset_of!(EpPlan, inner_vlan_id) == 34);
-const _: () = assert!(std::mem::offset_of!(EpPlan, ip_version) == 36);
-const _: () = assert!(std::mem::offset_of!(EpPlan, ipv4_source) == 40);
-const _: () = assert!(std::mem::offset_of!(EpPlan, ipv4_destination) == 44);
-const _: () = assert!(std::mem::offset_of!(EpPlan, ipv6_source) == 48);
-const _: () = assert!(std::mem::offset_of!(EpPlan, ipv6_destination) == 64);
-const _: () = assert!(std::mem::offset_of!(EpPlan, hops) == 80);
-const _: () = assert!(std::mem::offset_of!(EpPlan, payload_number) == 81);
-const _: () = assert!(std::mem::offset_of!(EpPlan, transport) == 84);
-const _: () = assert!(std::mem::offset_of!(EpPlan, source_port) == 88);
-const _: () = assert!(std::mem::offset_of!(EpPlan, destination_port) == 90);
-const _: () = assert!(std::mem::offset_of!(EpPlan, is_reply) == 92);
-const _: () = assert!(std::mem::offset_of!(EpPlan, echo_id) == 94);
-const _: () = assert!(std::mem::offset_of!(EpPlan, echo_sequence) == 96);
-const _: () = assert!(std::mem::offset_of!(EpPlan, sequence_number) == 100);
-const _: () = assert!(std::mem::offset_of!(EpPlan, acknowledgment_number) == 104);
-const _: () = assert!(std::mem::offset_of!(EpPlan, window_size) == 108);
-const _: () = assert!(std::mem::offset_of!(EpPlan, urgent_pointer) == 110);
-const _: () = assert!(std::mem::offset_of!(EpPlan, ns) == 112);
-const _: () = assert!(std::mem::offset_of!(EpPlan, fin) == 113);
-const _: () = assert!(std::mem::offset_of!(EpPlan, syn) == 114);
-const _: () = assert!(std::mem::offset_of!(EpPlan, rst) == 115);
-const _: () = assert!(std::mem::offset_of!(EpPlan, psh) == 116);
-const _: () = assert!(std::mem::offset_of!(EpPlan, ack) == 117);
-const _: () = assert!(std::mem::offset_of!(EpPlan, urg) == 118);
-const _: () = assert!(std::mem::offset_of!(EpPlan, ece) == 119);
-const _: () = assert!(std::mem::offset_of!(EpPlan, cwr) == 120);
-const _: () = assert!(std::mem::offset_of!(EpPlan, options_len) == 128);
-const _: () = assert!(std::mem::offset_of!(EpPlan, options) == 136);
-const _: () = assert!(size_of::<EpPool>() == 16);
-const _: () = assert!(std::mem::offset_of!(EpPool, is_open) == 0);
-const _: () = assert!(std::mem::offset_of!(EpPool, held) == 8);
-const _: () = assert!(size_of::<NetlinesSession>() == 16);
-const _: () = assert!(std::mem::offset_of!(NetlinesSession, is_open) == 0);
-const _: () = assert!(std::mem::offset_of!(NetlinesSession, held) == 8);
+// The sizes of the exports' sources, whose offsets are in tests/layout.rs.
+const _: () = assert!(std::mem::size_of::<EpRefusal>() == 40);
+const _: () = assert!(std::mem::size_of::<EpPartRefusal>() == 24);
+const _: () = assert!(std::mem::size_of::<EpMessage>() == 56);
+const _: () = assert!(std::mem::size_of::<EpAdded>() == 128);
+const _: () = assert!(std::mem::size_of::<EpBuilt>() == 16);
+const _: () = assert!(std::mem::size_of::<EpLink>() == 32);
+const _: () = assert!(std::mem::size_of::<EpPart>() == 16);
+const _: () = assert!(std::mem::size_of::<EpTag>() == 48);
+const _: () = assert!(std::mem::size_of::<EpIpv4>() == 72);
+const _: () = assert!(std::mem::size_of::<EpIpv6>() == 104);
+const _: () = assert!(std::mem::size_of::<EpArp>() == 88);
+const _: () = assert!(std::mem::size_of::<EpUdp>() == 40);
+const _: () = assert!(std::mem::size_of::<EpTcp>() == 64);
+const _: () = assert!(std::mem::size_of::<EpIcmp>() == 40);
+const _: () = assert!(std::mem::size_of::<EpPacket>() == 656);
+const _: () = assert!(std::mem::size_of::<EpPlan>() == 176);
+const _: () = assert!(std::mem::size_of::<EpPool>() == 16);
+const _: () = assert!(std::mem::size_of::<NetlinesSession>() == 16);

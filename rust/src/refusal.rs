@@ -133,13 +133,47 @@ impl LenSource {
     }
 }
 
+impl fmt::Display for LenSource {
+    fn fmt(&self, f: &mut fmt::Formatter<'_>) -> fmt::Result {
+        f.write_str(match self {
+            LenSource::Slice => "bytes that were passed",
+            LenSource::MacsecShortLength => "MACsec short length",
+            LenSource::Ipv4HeaderTotalLen => "IPv4 total length",
+            LenSource::Ipv6HeaderPayloadLen => "IPv6 payload length",
+            LenSource::UdpHeaderLen => "UDP length",
+            LenSource::TcpHeaderLen => "TCP data offset",
+            LenSource::ArpAddrLengths => "ARP address lengths",
+        })
+    }
+}
+
+impl fmt::Display for Fault {
+    fn fmt(&self, f: &mut fmt::Formatter<'_>) -> fmt::Result {
+        f.write_str(match self {
+            Fault::LinuxSllPacketType => "packet type of a Linux cooked capture",
+            Fault::LinuxSllHardwareType => "hardware type of a Linux cooked capture",
+            Fault::MacsecVersion => "MACsec version",
+            Fault::MacsecShortLen => "MACsec short length",
+            Fault::IpVersion => "IP version",
+            Fault::Ipv4Version => "IPv4 version",
+            Fault::Ipv4HeaderLen => "IPv4 header length",
+            Fault::Ipv6Version => "IPv6 version",
+            Fault::AuthHeaderLen => "authentication header length",
+            Fault::HopByHopNotAtStart => "hop-by-hop options not at the start",
+            Fault::TcpDataOffset => "TCP data offset",
+        })
+    }
+}
+
+// Of a length 0 and of a header's place there is no value to show.
 impl fmt::Display for Refusal {
     fn fmt(&self, f: &mut fmt::Formatter<'_>) -> fmt::Result {
         match self {
             Refusal::TooFewBytes { layer, needed, there, place, .. } => {
                 write!(f, "{layer} at byte {place} needs {needed} bytes, and {there} are there")
             }
-            Refusal::Header { fault, value, .. } => write!(f, "{fault:?}: {value}"),
+            Refusal::Header { fault: fault @ (Fault::AuthHeaderLen | Fault::HopByHopNotAtStart), .. } => fault.fmt(f),
+            Refusal::Header { fault, value, .. } => write!(f, "{fault}: {value}"),
         }
     }
 }

@@ -1,13 +1,13 @@
 //! What the wrapper returns for packets, and the answers to the worked rows.
 
 use etherparse_proved::{
-    Fault, Layer, LenSource, Link, Net, Refusal, Session, Transport, Verdict, answers, checksum, checksum_is_right, raw,
-    slice_ethernet, slice_ip, slice_linux_sll, verdict_ethernet, verdict_ip, verdict_linux_sll,
+    answers, checksum, checksum_is_right, raw, slice_ethernet, slice_ip, slice_linux_sll, verdict_ethernet, verdict_ip,
+    verdict_linux_sll, Fault, Layer, LenSource, Link, Net, Refusal, Session, Transport, Verdict,
 };
 use std::fs;
 use std::path::Path;
 
-const TOP: &str = concat!(env!("CARGO_MANIFEST_DIR"), "/..");
+const TABLES: &str = concat!(env!("CARGO_MANIFEST_DIR"), "/tests/tables");
 
 fn bytes(hex: &str) -> Vec<u8> {
     if hex == "-" {
@@ -18,7 +18,7 @@ fn bytes(hex: &str) -> Vec<u8> {
 
 /// The rows of the table: the call, the bytes, and the expected fields.
 fn rows() -> Vec<(String, Vec<u8>, Vec<(String, String)>)> {
-    let table = fs::read_to_string(Path::new(TOP).join("c/tests/packets.txt")).unwrap();
+    let table = fs::read_to_string(Path::new(TABLES).join("packets.txt")).unwrap();
     let rows = table.lines().filter(|line| !line.starts_with('#'));
     rows.map(|line| {
         let mut words = line.split(' ');
@@ -46,9 +46,12 @@ fn table() {
         let wanted = [Some(Verdict::None), Some(Verdict::Good), Some(Verdict::Bad), None];
         assert_eq!(verdict, wanted[number(&fields, "verdict").unwrap_or(3)]);
         let kind = fields.iter().find(|field| field.0 == "refusal.kind").map_or("NONE", |field| field.1.as_str());
-        let Err(refusal) = found else {
-            assert_eq!(kind, "NONE");
-            continue;
+        let refusal = match found {
+            Err(refusal) => refusal,
+            Ok(_) => {
+                assert_eq!(kind, "NONE");
+                continue;
+            }
         };
         refused += 1;
         let layer = Layer(number(&fields, "refusal.layer").unwrap() as u32);
@@ -76,13 +79,20 @@ fn table() {
 fn layers_borrow_the_frame() {
     let frame = bytes("02000000000202000000000108004500002400070000401166c00a0000010a000002000100020010dbb40102030405060708");
     let packet = slice_ethernet(&frame).unwrap();
-    let Some(Net::Ipv4(ip)) = packet.net() else { panic!() };
+    let ip = match packet.net() {
+        Some(Net::Ipv4(ip)) => ip,
+        other => panic!("{other:?}"),
+    };
     assert_eq!(ip.source_addr().to_string(), "10.0.0.1");
     assert_eq!(ip.destination_addr().to_string(), "10.0.0.2");
     assert_eq!(packet.bytes_of(ip.header), &frame[14..34]);
-    let Some(Transport::Udp(datagram)) = packet.transport() else { panic!() };
+    let datagram = match packet.transport() {
+        Some(Transport::Udp(datagram)) => datagram,
+        other => panic!("{other:?}"),
+    };
+    assert_eq!(datagram.length(), 16);
     assert_eq!((datagram.source_port, datagram.destination_port), (1, 2));
-    assert!(matches!(packet.link(), Some(Link::Ethernet2(_))));
+    assert!(matches!(packet.link(), Some(Link::Ethernet2(link)) if link.ether_type() == 0x0800));
     assert!(packet.tags().is_empty());
     let payload = packet.payload();
     drop(packet);
@@ -93,7 +103,14 @@ fn layers_borrow_the_frame() {
 fn faults_have_texts() {
     let refusal = slice_ip(&[0x50; 41]).unwrap_err();
     assert_eq!(refusal, Refusal::Header { layer: Layer(raw::LAYER_IP_HEADER), fault: Fault::IpVersion, value: 5 });
+    assert_eq!(refusal.to_string(), "IP version: 5");
     assert_eq!(Layer(raw::LAYER_ARP).to_string(), "arp");
+    assert_eq!(LenSource::Slice.to_string(), "bytes that were passed");
+    // Destination options, and after them hop-by-hop options (RFC 8200, section 4.1).
+    let headers = bytes("6000000000103c40").into_iter().chain([0; 40]).chain([59]).chain([0; 7]);
+    let refusal = slice_ip(&headers.collect::<Vec<_>>()).unwrap_err();
+    assert_eq!(refusal.to_string(), "hop-by-hop options not at the start");
+    assert_eq!(Verdict::Good.to_string(), "good");
     let error: Box<dyn std::error::Error> = slice_ethernet(&[0; 13]).unwrap_err().into();
     assert_eq!(error.to_string(), "ethernet2 header at byte 0 needs 14 bytes, and 13 are there");
 }
@@ -111,10 +128,10 @@ fn sums() {
 #[test]
 fn rows_are_answered() {
     let mut count = 0;
-    for entry in fs::read_dir(Path::new(TOP).join("crates/netlines_rows/data")).unwrap() {
+    for entry in fs::read_dir(Path::new(TABLES).join("rows")).unwrap() {
         let path = entry.unwrap().path();
-        let shown_to_differ = path.file_stem().is_some_and(|name| name == "wrong_on_purpose");
-        if path.extension().is_some_and(|extension| extension == "in") && !shown_to_differ {
+        let shown_to_differ = path.file_stem().map_or(false, |name| name == "wrong_on_purpose");
+        if path.extension().map_or(false, |extension| extension == "in") && !shown_to_differ {
             let wanted = fs::read(path.with_extension("out")).unwrap();
             let text = fs::read(&path).unwrap();
             assert!(answers(&text).unwrap() == wanted, "{}", path.display());
@@ -126,6 +143,8 @@ fn rows_are_answered() {
                 }
                 found.extend(session.finish().unwrap());
                 assert!(found == wanted, "{} in pieces of {size}", path.display());
+                let found = Session::open().unwrap().answers(text.chunks(size)).collect::<Result<Vec<_>, _>>().unwrap();
+                assert!(found.concat() == wanted, "{} as an iterator, in pieces of {size}", path.display());
             }
             count += 1;
         }

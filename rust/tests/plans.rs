@@ -7,7 +7,7 @@ use std::collections::HashMap;
 use std::fs;
 use std::path::Path;
 
-const TABLE: &str = concat!(env!("CARGO_MANIFEST_DIR"), "/../c/tests/plans.txt");
+const TABLE: &str = concat!(env!("CARGO_MANIFEST_DIR"), "/tests/tables/plans.txt");
 
 fn bytes(hex: &str) -> Vec<u8> {
     if hex == "-" {
@@ -123,7 +123,10 @@ fn table() {
     for line in fs::read_to_string(Path::new(TABLE)).unwrap().lines().filter(|line| !line.starts_with('#')) {
         let mut words = line.split(' ');
         let (payload, wanted) = (bytes(words.next().unwrap()), words.next().unwrap());
-        let Some(plan) = Fields(words.map(|word| word.split_once('=').unwrap()).collect()).plan() else { continue };
+        let plan = match Fields(words.map(|word| word.split_once('=').unwrap()).collect()).plan() {
+            Some(plan) => plan,
+            None => continue,
+        };
         match wanted.strip_prefix("refused=") {
             Some(number) => {
                 let index = numbers.iter().position(|known| known.to_string() == number).unwrap();
@@ -150,5 +153,5 @@ fn longest_payload() {
     assert_eq!(build(&plan, &[0; 65507]).unwrap().len(), 65535);
     let error = build(&plan, &[0; 65508]).unwrap_err();
     assert_eq!(error, BuildError::Refused(PlanField::Payload));
-    assert_eq!(error.to_string(), "no packet has such a field: Payload");
+    assert_eq!(error.to_string(), "no packet has such a field: payload");
 }

@@ -1,10 +1,10 @@
 //! Messages that come in parts.
 
-use etherparse_proved::{AddError, Message, PartRefusal, Pool, slice_ethernet};
+use etherparse_proved::{slice_ethernet, AddError, Message, PartRefusal, Pool};
 use std::fs;
 use std::net::{IpAddr, Ipv4Addr, Ipv6Addr};
 
-const TABLE: &str = concat!(env!("CARGO_MANIFEST_DIR"), "/../c/tests/pools.txt");
+const TABLE: &str = concat!(env!("CARGO_MANIFEST_DIR"), "/tests/tables/pools.txt");
 
 fn bytes(hex: &str) -> Vec<u8> {
     let hex = hex.trim_matches('-');
@@ -69,7 +69,7 @@ fn errors() {
     let part = |refusal| text(AddError::Part(refusal));
     assert_eq!(part(PartRefusal::Unaligned { offset: 5, len: 9 }), "a part of 9 bytes at offset 5, and no multiple of 8");
     let long = PartRefusal::TooLong { offset: 8191, len: 8 };
-    assert_eq!(part(long), "a part of 8 bytes at offset 8191, which ends behind byte 65535");
+    assert_eq!(part(long), "a part of 8 bytes at offset 8191, which ends beyond byte 65535");
     let end = PartRefusal::ConflictingEnd { previous_end: 16, end: 24 };
     assert_eq!(part(end), "a part that ends at 24, of a message that ends at 16");
     let overlap = PartRefusal::Overlapping { offset: 1, len: 8 };

@@ -1,0 +1,204 @@
+"""Packets that are sliced, verdicts on their messages, and checksums."""
+
+import enum
+import struct
+from dataclasses import dataclass
+from typing import Any, Callable, Dict, Optional, Tuple, Type
+
+from . import _raw
+from ._arguments import Buffer, bytes_of
+from ._layers import Arp, Icmp, Ipv4, Ipv6, Link, Tag, Tcp, Udp
+from ._lazy import Lazy, Reader, part, reads
+from ._libraries import etherparse
+
+
+def names_of(prefix: str) -> Dict[int, str]:
+    """The names of constants with this prefix, by their values."""
+    names = [name for name in vars(_raw) if name.startswith(prefix)]
+    return {getattr(_raw, name): name[len(prefix) :].lower() for name in names}
+
+
+_REASONS = names_of("REFUSAL_")
+_LAYERS = {value: name.replace("_", " ") for value, name in names_of("LAYER_").items()}
+_KINDS = {
+    _raw.REFUSAL_LINUX_SLL_PACKET_TYPE: "packet type of a Linux cooked capture",
+    _raw.REFUSAL_LINUX_SLL_HARDWARE_TYPE: "hardware type of a Linux cooked capture",
+    _raw.REFUSAL_MACSEC_VERSION: "MACsec version",
+    _raw.REFUSAL_MACSEC_SHORT_LEN: "MACsec short length",
+    _raw.REFUSAL_IP_VERSION: "IP version",
+    _raw.REFUSAL_IPV4_VERSION: "IPv4 version",
+    _raw.REFUSAL_IPV4_HEADER_LEN: "IPv4 header length",
+    _raw.REFUSAL_IPV6_VERSION: "IPv6 version",
+    _raw.REFUSAL_AUTH_HEADER_LEN: "authentication header length",
+    _raw.REFUSAL_HOP_BY_HOP_NOT_AT_START: "hop-by-hop options not at the start",
+    _raw.REFUSAL_TCP_DATA_OFFSET: "TCP data offset",
+}
+# What is refused there is no value of a field but 0, or where a header stands.
+_KINDS_WITHOUT_VALUE = (_raw.REFUSAL_AUTH_HEADER_LEN, _raw.REFUSAL_HOP_BY_HOP_NOT_AT_START)
+
+
+class Refused(ValueError):
+    """A packet that breaks its format.
+
+    `kind` and `layer` are numbered as in etherparse.h, `reason` is the name that `kind` has there after EP_REFUSAL_. Of
+    too few bytes `needed`, `there`, `place` and `source` are set, of a header that breaks its format `value`, the field
+    that it holds.
+    """
+
+    def __init__(
+        self, kind: int, layer: int, needed: int = 0, there: int = 0, place: int = 0, source: int = 0, value: int = 0
+    ) -> None:
+        super().__init__(kind, layer, needed, there, place, source, value)
+        self.kind = kind
+        self.reason = _REASONS[kind]
+        self.layer = layer
+        self.needed = needed
+        self.there = there
+        self.place = place
+        self.source = source
+        self.value = value
+
+    def __str__(self) -> str:
+        if self.kind == _raw.REFUSAL_TOO_FEW_BYTES:
+            layer = _LAYERS[self.layer]
+            return f"{layer} at byte {self.place} needs {self.needed} bytes, and {self.there} are there"
+        if self.kind in _KINDS_WITHOUT_VALUE:
+            return _KINDS[self.kind]
+        return f"{_KINDS[self.kind]}: {self.value}"
+
+
+# Kind, layer, numbers of bytes, place, source and value of an `EpRefusal`.
+_REFUSAL = struct.Struct("IINNNII")
+
+
+def refused(refusal: Any) -> Refused:
+    """The error of an `EpRefusal`, or of the bytes that begin with one."""
+    return Refused(*_REFUSAL.unpack_from(refusal))
+
+
+# The numbers that are read here, of layers and of kinds, are of four bytes, the lowest first, of which all but that are 0.
+_AT = {name: getattr(_raw.EpPacket, name).offset for name, _ in _raw.EpPacket._fields_}
+_TAG_LEN = _raw.EpPacket.tags.size // 3
+# Where the payload of a packet stands by the number of its transport, else by its network layer.
+_AFTER_TRANSPORT = {
+    1: _AT["icmp"] + _raw.EpIcmp.payload.offset,
+    6: _AT["tcp"] + _raw.EpTcp.payload.offset,
+    17: _AT["udp"] + _raw.EpUdp.payload.offset,
+    58: _AT["icmp"] + _raw.EpIcmp.payload.offset,
+}
+_AFTER_NET = {4: _AT["ipv4"] + _raw.EpIpv4.payload.offset, 6: _AT["ipv6"] + _raw.EpIpv6.payload.offset}
+_ARP = 1
+
+
+def _layer(kind: Type[Lazy], name: str, number: str, *numbers: int) -> Tuple[int, Reader]:
+    """Reads a layer that is there where this field of the packet has one of these numbers."""
+    number_at, of = _AT[number], kind._of
+    return _AT[name], lambda frame, raw, at: of(frame, raw, at) if raw[number_at] in numbers else None
+
+
+def _tags(frame: bytes, raw: bytes, at: int) -> Tuple[Tag, ...]:
+    return tuple(Tag._of(frame, raw, at + index * _TAG_LEN) for index in range(raw[_AT["tag_count"]]))
+
+
+def _payload(frame: bytes, raw: bytes, _: int) -> bytes:
+    net = raw[_AT["net"]]
+    if net == _ARP:
+        return b""
+    at = _AFTER_TRANSPORT.get(raw[_AT["transport"]]) or _AFTER_NET.get(net) or _AT["ether_payload"]
+    return part(frame, raw, at)
+
+
+@reads(
+    {
+        "link": _layer(Link, "link", "link", 1, 2),
+        "tags": (_AT["tags"], _tags),
+        "arp": _layer(Arp, "arp", "net", _ARP),
+        "ipv4": _layer(Ipv4, "ipv4", "net", 4),
+        "ipv6": _layer(Ipv6, "ipv6", "net", 6),
+        "udp": _layer(Udp, "udp", "transport", 17),
+        "tcp": _layer(Tcp, "tcp", "transport", 6),
+        "icmp": _layer(Icmp, "icmp", "transport", 1, 58),
+        "payload": (0, _payload),
+    }
+)
+@dataclass(frozen=True)
+class Packet(Lazy):
+    """A packet that was sliced. A layer that isn't there is None.
+
+    `tags` are the VLAN tags and MACsec headers after the link header, in their order, `payload` is the innermost one: of
+    the message, else of the IP packet, else what the last ether type names. An ARP packet has none.
+    """
+
+    link: Optional[Link]
+    tags: Tuple[Tag, ...]
+    arp: Optional[Arp]
+    ipv4: Optional[Ipv4]
+    ipv6: Optional[Ipv6]
+    udp: Optional[Udp]
+    tcp: Optional[Tcp]
+    icmp: Optional[Icmp]
+    payload: bytes
+
+
+def _sliced(call: Callable[[bytes, int], Any], name: str, data: Buffer) -> Packet:
+    frame = data if type(data) is bytes else bytes_of(name, data)
+    raw = bytes(call(frame, len(frame)))
+    if raw[0]:
+        raise refused(raw)
+    return Packet._of(frame, raw, 0)
+
+
+def slice_ethernet(frame: Buffer) -> Packet:
+    """Slices an Ethernet II frame; raises Refused."""
+    return _sliced(etherparse.ep_slice_ethernet, "frame", frame)
+
+
+def slice_linux_sll(packet: Buffer) -> Packet:
+    """Slices a packet of a Linux cooked capture; raises Refused."""
+    return _sliced(etherparse.ep_slice_linux_sll, "packet", packet)
+
+
+def slice_ip(packet: Buffer) -> Packet:
+    """Slices an IP packet of either version; raises Refused."""
+    return _sliced(etherparse.ep_slice_ip, "packet", packet)
+
+
+class Verdict(enum.Enum):
+    """What the checksum of a message says."""
+
+    NONE = 0
+    GOOD = 1
+    BAD = 2
+
+
+def _verdict(call: Callable[[bytes, int], int], name: str, data: Buffer) -> Optional[Verdict]:
+    taken = bytes_of(name, data)
+    number = call(taken, len(taken))
+    return Verdict(number) if number < 3 else None
+
+
+def verdict_ethernet(frame: Buffer) -> Optional[Verdict]:
+    """The verdict on the message in an Ethernet II frame; None where it has no uncut message that can be read."""
+    return _verdict(etherparse.ep_verdict_ethernet, "frame", frame)
+
+
+def verdict_linux_sll(packet: Buffer) -> Optional[Verdict]:
+    """That in a packet of a Linux cooked capture."""
+    return _verdict(etherparse.ep_verdict_linux_sll, "packet", packet)
+
+
+def verdict_ip(packet: Buffer) -> Optional[Verdict]:
+    """That in an IP packet of either version."""
+    return _verdict(etherparse.ep_verdict_ip, "packet", packet)
+
+
+def checksum(data: Buffer) -> int:
+    """The Internet checksum (RFC 1071), as it stands in a header."""
+    taken = bytes_of("data", data)
+    return int(etherparse.ep_checksum(taken, len(taken)))
+
+
+def checksum_is_right(data: Buffer) -> bool:
+    """Whether the words of the bytes sum to all ones."""
+    taken = bytes_of("data", data)
+    return bool(etherparse.ep_checksum_is_right(taken, len(taken)))

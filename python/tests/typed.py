@@ -1,0 +1,64 @@
+"""What the package's types say, for mypy --strict, which reads this alone: each line that it has to refuse says so, and one
+that it doesn't refuse is reported as well."""
+
+from array import array
+from ipaddress import IPv4Address, IPv6Address
+from typing import List, Optional, Tuple, Union
+
+import etherparse_proved as ep
+
+
+def ports(frame: bytes) -> Optional[Tuple[int, int]]:
+    packet = ep.slice_ethernet(frame)
+    if packet.udp is not None:
+        return packet.udp.source_port, packet.udp.destination_port
+    return None
+
+
+def addresses(frame: bytearray) -> List[Union[IPv4Address, IPv6Address]]:
+    packet = ep.slice_ethernet(frame)
+    if packet.ipv4:
+        return [packet.ipv4.source, packet.ipv4.destination]
+    return [packet.ipv6.source] if packet.ipv6 else []
+
+
+def messages(frames: List[memoryview]) -> List[bytes]:
+    with ep.Pool() as pool:
+        found = [pool.add(frame, time) for time, frame in enumerate(frames)]
+    return [message.data for message in found if message]
+
+
+def text(numbers: "array[int]") -> str:
+    with ep.Session() as session:
+        return (session.feed(numbers) + session.finish()).decode()
+
+
+def built() -> bytes:
+    link = ep.PlannedEthernet(bytes(6), bytes(6), vlan_ids=[5])
+    return ep.build(b"", source="::1", destination=IPv6Address("::2"), transport=ep.PlannedTcp(1, 2, syn=True), link=link)
+
+
+def why(error: ep.Refused) -> Tuple[str, int]:
+    return error.reason, error.needed
+
+
+version: str = ep.__version__
+verdict: Optional[ep.Verdict] = ep.verdict_ip(b"")
+vlan_ids: List[int] = [tag.vlan_id for tag in ep.slice_ethernet(b"").tags]
+
+packet = ep.slice_ethernet(b"")
+packet.udp.source_port  # type: ignore[union-attr]
+packet.upd  # type: ignore[attr-defined]
+packet.payload = b""  # type: ignore[misc]
+assert packet.udp and packet.ipv4 and packet.link
+packet.udp.source_prt  # type: ignore[attr-defined]
+packet.udp.source_port = 1  # type: ignore[misc]
+packet.ipv4.source.upper()  # type: ignore[attr-defined]
+packet.link.source + 1  # type: ignore[operator]
+ep.slice_ethernet("frame")  # type: ignore[arg-type]
+ep.Pool().add(b"", 1.5)  # type: ignore[arg-type]
+ep.Pool().tiem = 1  # type: ignore[attr-defined]
+ep.PlannedUdp("1", 2)  # type: ignore[arg-type]
+ep.PlannedTcp(1, 2, syns=True)  # type: ignore[call-arg]
+ep.build(b"", source="::1", destination="::2", transport="udp")  # type: ignore[arg-type]
+ep.no_such_call  # type: ignore[attr-defined]
