@@ -4,6 +4,7 @@ mod cut_frames;
 mod errors;
 mod ip_headers;
 mod laws;
+mod lax_packet_headers;
 mod lax_sliced_packet;
 mod net_headers;
 mod net_slice;

@@ -65,6 +65,8 @@ type Tags<'a> = (
 type IpPackets<'a> = (
     etherparse::IpHeader,
     etherparse::IpHeaders,
+    etherparse::IpHeadersIpv6LaxFromSliceResult<'a>,
+    etherparse::IpHeadersLaxFromSliceResult<'a>,
     etherparse::IpPayloadSlice<'a>,
     etherparse::IpSlice<'a>,
     etherparse::Ipv4Header,
@@ -141,6 +143,8 @@ type Packets<'a> = (
     etherparse::Addresses,
     etherparse::Class<'a>,
     etherparse::IpFragment<'a>,
+    etherparse::LaxPacketHeaders<'a>,
+    etherparse::LaxPayloadSlice<'a>,
     etherparse::LaxSlicedPacket<'a>,
     etherparse::Message<'a>,
     etherparse::PacketHeaders<'a>,

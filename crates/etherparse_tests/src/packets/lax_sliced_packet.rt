@@ -5,6 +5,7 @@ use ep_base::err::{Layer, LenError};
 use ep_base::{EtherType, LenSource};
 use ep_ip::err::ipv4;
 use ep_ipslice::err::ip;
+use ep_ipslice::{LaxIpSlice, LaxIpv4Slice, LaxIpv6Slice};
 use ep_link::LinkSlice;
 use ep_packet::err::packet::SliceError;
 use ep_packet::{LaxNetSlice, LaxSlicedPacket, TransportSlice};
@@ -18,7 +19,7 @@ use std::test::*;
 // An Ethernet frame with a VLAN tag with identifier 5 (byte 14), a MACsec header with a short length
 // of 42 (byte 18), a VLAN tag with identifier 9 (byte 26), an IPv4 packet from 10.0.0.1 to 10.0.0.2
 // (byte 30) and a UDP message from port 1 to port 2 (byte 50) with eight bytes of payload.
-const TAGGED: [u8; 66] = [
+pub(super) const TAGGED: [u8; 66] = [
     0, 0, 0, 0, 0, 0, 0, 0, 0, 0, 0, 0, 0x88, 0xa8, 0, 5, 0x88, 0xe5, 0, 42, 0, 0, 0, 1, 0x81, 0,
     0, 9, 8, 0, 0x45, 0, 0, 0x24, 0, 7, 0, 0, 0x40, 0x11, 0x66, 0xc0, 10, 0, 0, 1, 10, 0, 0, 2, 0,
     1, 0, 2, 0, 0x10, 0xdb, 0xb4, 1, 2, 3, 4, 5, 6, 7, 8,
@@ -197,14 +198,14 @@ fn faults_of_messages(rt: HostRuntime) {
 
 // 11 of the 16 bytes of destination options after hop-by-hop options, in a packet that promises 40
 // after its header.
-const OPTIONS: [u8; 73] = [
+pub(super) const OPTIONS: [u8; 73] = [
     0, 0, 0, 0, 0, 0, 0, 0, 0, 0, 0, 0, 0x86, 0xdd, 0x60, 0, 0, 0, 0, 40, 0, 0x40, 0xfd, 0, 0, 0,
     0, 0, 0, 0, 0, 0, 0, 0, 0, 0, 0, 1, 0xfd, 0, 0, 0, 0, 0, 0, 0, 0, 0, 0, 0, 0, 0, 0, 2, 0x3c, 0,
     1, 4, 0, 0, 0, 0, 0x11, 1, 1, 0x0c, 0, 0, 0, 0, 0, 0, 0,
 ];
 
 // 15 of the 24 bytes of an authentication header, after a VLAN tag and an IPv4 header with options.
-const AUTH: [u8; 57] = [
+pub(super) const AUTH: [u8; 57] = [
     0, 0, 0, 0, 0, 0, 0, 0, 0, 0, 0, 0, 0x81, 0, 0, 5, 8, 0, 0x46, 0, 0, 0x38, 0, 7, 0, 0, 0x40,
     0x33, 0, 0, 10, 0, 0, 1, 10, 0, 0, 2, 1, 1, 1, 0, 0x11, 4, 0, 0, 0, 0, 0, 1, 0, 0, 0, 2, 0xaa,
     0xbb, 0xcc,
@@ -280,7 +281,7 @@ fn ip_packets(rt: HostRuntime) {
 }
 
 // A header of a cooked capture before the first 24 bytes of that packet.
-const COOKED: [u8; 40] = [
+pub(super) const COOKED: [u8; 40] = [
     0, 0, 0, 1, 0, 6, 1, 2, 3, 4, 5, 6, 0, 0, 8, 0, 0x45, 0, 0, 0x24, 0, 7, 0, 0, 0x40, 0x11, 0x66,
     0xc0, 10, 0, 0, 1, 10, 0, 0, 2, 0, 1, 0, 2,
 ];
@@ -392,4 +393,75 @@ fn payload_after_two_macsec_headers(rt: HostRuntime) {
         Err(_) => fail(rt, "no link header"),
     }
     equal(rt, LaxSlicedPacket::LINK_EXTS_CAP, 3);
+}
+
+// The version of a packet of the network layer, its payload's length and whether bytes are missing.
+fn version(packet: &LaxNetSlice<'_>) -> (u8, Option<(usize, bool)>) {
+    let version = match packet {
+        LaxNetSlice::Ipv4(_) => 4,
+        LaxNetSlice::Ipv6(_) => 6,
+        LaxNetSlice::Arp(_) => 0,
+    };
+    let payload = match packet.ip_payload_ref() {
+        Some(payload) => Some((payload.payload.len(), payload.incomplete)),
+        None => None,
+    };
+    (version, payload)
+}
+
+// A packet of either version is one of IP, and that one of the network layer.
+#[test]
+fn packets_of_either_version(rt: HostRuntime) {
+    match LaxIpv4Slice::from_slice(&TAGGED[30..60]) {
+        Ok((packet, _)) => {
+            let packet = LaxIpSlice::from(packet);
+            equal(rt, packet.ipv4().is_some(), true);
+            equal(
+                rt,
+                version(&LaxNetSlice::from(packet)),
+                (4, Some((10, true))),
+            );
+        }
+        Err(_) => fail(rt, "no packet"),
+    }
+    match LaxIpv6Slice::from_slice(&OPTIONS[14..]) {
+        Ok((packet, _)) => {
+            let packet = LaxIpSlice::from(packet);
+            equal(rt, packet.ipv6().is_some(), true);
+            equal(
+                rt,
+                version(&LaxNetSlice::from(packet)),
+                (6, Some((11, true))),
+            );
+        }
+        Err(_) => fail(rt, "no packet"),
+    }
+}
+
+// The last ether type, where no packet of the network layer is there, and whether that is a fragment.
+#[test]
+fn ether_types_and_fragments(rt: HostRuntime) {
+    for (len, wanted) in [
+        (16usize, Some(EtherType(0x88a8))),
+        (20, Some(EtherType::MACSEC)),
+        (40, Some(EtherType::IPV4)),
+        (50, None),
+    ] {
+        match TAGGED.get(..len) {
+            Some(frame) => match LaxSlicedPacket::from_ethernet(frame) {
+                Ok(packet) => {
+                    equal(rt, packet.payload_ether_type(), wanted);
+                    equal(rt, packet.is_ip_payload_fragmented(), false);
+                }
+                Err(_) => fail(rt, "no link header"),
+            },
+            None => fail(rt, "no prefix"),
+        }
+    }
+    let mut bytes = [0; 24];
+    bytes[0] = 0x45;
+    bytes[3] = 60;
+    bytes[6] = 0x20;
+    let packet = LaxSlicedPacket::from_ether_type(EtherType::IPV4, &bytes);
+    equal(rt, packet.is_ip_payload_fragmented(), true);
 }
