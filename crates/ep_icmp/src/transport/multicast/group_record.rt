@@ -37,7 +37,8 @@ impl<'a, const N: usize> GroupRecord<'a, N> {
 
     /// The record's bytes.
     pub fn slice(&self) -> &'a [u8]
-        ensures { result.now ≡ self.now }
+        ensures bytes { result.now ≡ self.now }
+        ensures record { multicast.IsRecord N self.now }
     {
         self.slice
     }
