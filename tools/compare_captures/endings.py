@@ -12,8 +12,8 @@ LINE = f"frame 0 {'0a' * 64}\n".encode()
 REFUSED = (
     (("lines",), b"", 3, "standard input: no capture file: the input is empty"),
     (("lines", "-"), b"", 3, "standard input: no capture file: the input is empty"),
-    (("capture",), b"wait\n", 3, "standard input: line 1 hands in no frame"),
-    (("capture", "two.lines"), b"", 3, "two.lines: line 2 hands in no frame"),
+    (("capture",), b"wait\n", 3, "standard input: line 1 has no frame"),
+    (("capture", "two.lines"), b"", 3, "two.lines: line 2 has no frame"),
     (("lines", "nothing.pcap"), b"", 1, "nothing.pcap: cannot be opened: No such file or directory (os error 2)"),
     (("capture", "."), b"", 4, ".: the input cannot be read: it is a directory"),
 )

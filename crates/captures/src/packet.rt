@@ -25,7 +25,7 @@ pub struct Packet<'a> {
     /// How many bytes it had on the wire, those of its link's own header among them, as its record
     /// says: the Original Packet Length of draft-ietf-opsawg-pcap (section 5) and of
     /// draft-ietf-opsawg-pcapng (sections 4.3, 4.4 and A.1). Where it was cut as it was captured, it
-    /// is more than the captured bytes. A record that lies may say less.
+    /// is more than the captured bytes. A wrong record may say less.
     pub wire_len: u32,
     /// Its bytes as an Ethernet II frame.
     pub frame: Frame<'a>,

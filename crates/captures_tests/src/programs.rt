@@ -195,7 +195,7 @@ const ERRORS: &[(RunError, &str, u8)] = &[
     (RunError::WriteZero, "the output takes no more bytes", 4),
     (RunError::Memory, "out of memory", 5),
     (RunError::TooManyReads, "too many reads", 5),
-    (RunError::BadLine(7), "line 7 hands in no frame", 3),
+    (RunError::BadLine(7), "line 7 has no frame", 3),
     (RunError::Capture(CaptureError::NotCapture, THIRD), "no capture file", 3),
     (
         RunError::Capture(CaptureError::LinkType(105), THIRD),
@@ -439,10 +439,10 @@ const NO_LINES: &[(RunError, Look, &str)] = &[
     (
         RunError::BadLine(1),
         Look::Capture,
-        "line 1 hands in no frame: the input is a capture, `captures lines` reads it",
+        "line 1 has no frame: the input is a capture, `captures lines` reads it",
     ),
-    (RunError::BadLine(1), Look::Gzip, "line 1 hands in no frame: the input is compressed, `gzip -dc` opens it"),
-    (RunError::BadLine(1), Look::Text, "line 1 hands in no frame"),
+    (RunError::BadLine(1), Look::Gzip, "line 1 has no frame: the input is compressed, `gzip -dc` opens it"),
+    (RunError::BadLine(1), Look::Text, "line 1 has no frame"),
     (RunError::Read, Look::Directory, "the input cannot be read: it is a directory"),
 ];
 

@@ -81,13 +81,13 @@ const REPORTS: &[(Subject<'static>, RunError, &str, &str)] = &[
         "",
         "packets: a b/x.pcap: packet 3, byte 112: the capture ends within a packet\n",
     ),
-    (FILE, RunError::BadLine(2), "", "packets: a b/x.pcap: line 2 hands in no frame\n"),
+    (FILE, RunError::BadLine(2), "", "packets: a b/x.pcap: line 2 has no frame\n"),
     (FILE, RunError::TooManyReads, "", "packets: a b/x.pcap: too many reads\n"),
     (FILE, RunError::Write, "", "packets: the output cannot be written\n"),
     (FILE, RunError::WriteZero, "", "packets: the output takes no more bytes\n"),
     (FILE, RunError::Memory, "", "packets: out of memory\n"),
     (STANDARD_INPUT, RunError::Read, "", "captures: standard input: the input cannot be read\n"),
-    (STANDARD_INPUT, RunError::BadLine(1), "", "captures: standard input: line 1 hands in no frame\n"),
+    (STANDARD_INPUT, RunError::BadLine(1), "", "captures: standard input: line 1 has no frame\n"),
     (STANDARD_INPUT, RunError::Write, "", "captures: the output cannot be written\n"),
 ];
 

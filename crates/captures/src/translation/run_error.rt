@@ -35,7 +35,7 @@ pub enum RunError {
     /// The line with this number, counted from 1, of the input of
     /// [`write_capture`](crate::write_capture) gives no frame, or one that a line of `run` can't
     /// hold.
-    #[error("line {0} hands in no frame")]
+    #[error("line {0} has no frame")]
     BadLine(u64),
 }
 

@@ -99,8 +99,7 @@ fn times_of_packets(rt: HostRuntime) {
     }
 }
 
-// Of the packets of scapy's files the first 20 bytes were captured. A record that lies is as it
-// stands.
+// Of the packets of scapy's files the first 20 bytes were captured. A wrong record is as it stands.
 #[test]
 fn cut_packets(rt: HostRuntime) {
     for file in [LITTLE_CUT, BIG_CUT] {
