@@ -4,6 +4,7 @@ grows, outputs that take nothing more or that nobody reads, and files that aren'
 import contextlib
 import os
 import pty
+import re
 import struct
 import subprocess
 import tempfile
@@ -16,6 +17,9 @@ COLORED = (
     b"\x1b[1;31mbad checksum\x1b[0m\n"
 )
 FILE = "forms.pcap"
+# How the lines of conditions begin in the help.
+CONDITIONS = ("eth, vlan, macsec, arp, ip4, ip6", "icmp, icmp6, udp, tcp, sctp", "0 to 255", "bad", "refused", "fragments", "cut")
+CONDITIONS += ("host=ADDRESS", "port=NUMBER")
 # Words for a file, the status, and what is written after the program's name. The cause is in the C library's words.
 REFUSED = (
     ((), 3, "standard input: no capture file: the input is empty"),
@@ -68,14 +72,65 @@ def inputs(program, folder):
         done = run(program, folder, "show", *name)
         result = done.returncode, done.stdout, done.stderr.decode()
         yield f"refused: {name}", result == (status, b"", f"packets: {wanted}\n")
+        named = run(program, folder, *(("-r", *name) if name else ("-n",)))
+        result = named.returncode, named.stdout, named.stderr.decode()
+        yield f"refused without a command: {name}", result == (status, b"", f"packets: {wanted}\n")
     yield "the version", run(program, folder, "--version").stdout == f"packets {version()}\n".encode()
-    for words in ([], ["list"], ["show", "--width"], ["json", "--utc"], ["summary", "--only", "tcq"]):
+    done = run(program, folder)
+    yield "no words", (done.returncode, done.stdout) == (2, b"") and b"\nUsage: packets [OPTIONS] [FILE]\n" in done.stderr
+    for words in (["--utc", "show"], ["show", "--width"], ["json", "--utc"], ["summary", "--only", "tcq"]):
         done = run(program, folder, *words)
         yield f"no command: {words}", done.returncode == 2 and done.stderr.startswith(b"error: ")
     for words in (["--help"], ["show", "--help"], ["json", "--help"], ["summary", "--help"]):
         done = run(program, folder, *words)
         usage = "\nUsage: " + " ".join(["packets", *words[:-1]])
         yield f"help: {words}", done.returncode == 0 and usage.encode() in done.stdout
+        yield f"conditions: {words}", all(f"\n            {it} ".encode() in done.stdout for it in CONDITIONS)
+        yield f"examples: {words}", len(re.findall(rb"(?m)^  .*packets.* ", done.stdout.partition(b"\nExamples:\n")[2])) == 3
+
+
+# The words for files, the status, what is written on standard output, and on standard error.
+SECOND = "nothing.pcap: cannot be opened: No such file or directory (os error 2)"
+EMPTY = "empty.pcap: no capture file: the input is empty"
+SEVERAL = (
+    ((FILE, FILE), 0, 2 * PLAIN, ()),
+    ((FILE, "nothing.pcap", FILE), 1, 2 * PLAIN, (SECOND,)),
+    (("empty.pcap", "nothing.pcap", FILE), 3, PLAIN, (EMPTY, SECOND)),
+    ((FILE, ".", "empty.pcap"), 4, PLAIN, (".: the input cannot be read: it is a directory", EMPTY)),
+)
+# What a compressed file is, by its first bytes, and what opens it.
+COMPRESSED = (("gz", b"\x1f\x8b\x08\0", "zcat"), ("zst", b"\x28\xb5\x2f\xfd", "zstdcat"))
+COMPRESSED += (("xz", b"\xfd7zXZ\0", "xzcat"), ("bz2", b"BZh91AY", "bzcat"))
+
+
+def several(program, folder):
+    """Several files, and the counts of all of them."""
+    for words in ([], ["show"]):
+        for names, status, wanted, noted in SEVERAL:
+            done = run(program, folder, *words, *names)
+            errors = "".join(f"packets: {it}\n" for it in noted).encode()
+            yield f"files: {words} {names}", (done.returncode, done.stdout, done.stderr) == (status, wanted, errors)
+    one = run(program, folder, "json", FILE).stdout
+    yield "objects of files", run(program, folder, "json", FILE, FILE).stdout == 2 * one
+    for names, status in (((FILE, "mixed.pcap"), 0), (("nothing.pcap", "mixed.pcap", FILE), 1), ((FILE, "mixed.pcap", "empty.pcap"), 3)):
+        done = run(program, folder, "summary", *names)
+        first = done.stdout.decode().split("\n")[1]
+        yield f"counts of {names}", (done.returncode, first.split()[0]) == (status, "11")
+    done = run(program, folder, "summary", "empty.pcap", "nothing.pcap")
+    yield "no counts", (done.returncode, done.stdout) == (3, b"")
+
+
+def compressed(program, folder):
+    """The words that read a compressed file."""
+    for suffix, prefix, opener in COMPRESSED:
+        with tempfile.NamedTemporaryFile(suffix=f".{suffix}") as file:
+            file.write(prefix)
+            file.flush()
+            for command in ("show", "json", "summary"):
+                done = run(program, folder, command, file.name)
+                words = f"`{opener} {file.name} | packets {command}` reads it"
+                wanted = f"packets: {file.name}: no capture file: the input is compressed, {words}\n"
+                yield f"a compressed file: {suffix}", (done.returncode, done.stderr.decode()) == (3, wanted)
 
 
 def terminals(program, folder):
@@ -161,5 +216,5 @@ def limited(program, folder):
 
 def checked(program, folder):
     """The name of each check, and whether all was well."""
-    for checks in (inputs, terminals, takers, growing, limited):
+    for checks in (inputs, several, compressed, terminals, takers, growing, limited):
         yield from checks(program, folder)

@@ -1,6 +1,7 @@
 """The three outputs of a capture, by docs/PACKETS.md and docs/JSON.md, of what its packets are."""
 
 import dataclasses
+import datetime
 import decimal
 import json
 
@@ -61,12 +62,36 @@ class Packet:
         return len(self.data) < self.wire_len
 
 
-def shown(packets):
+def seconds_between(start, end):
+    """Seconds to the microsecond, cut towards zero."""
+    seconds = decimal.Decimal(end - start) / 10**9
+    return seconds.quantize(decimal.Decimal("0.000001"), decimal.ROUND_DOWN)
+
+
+def epoch(time):
+    """Seconds since 1970, with nine digits of the fraction where six don't hold it."""
+    text = f"{time // 10**9}.{time % 10**9:09}"
+    return text if time % 1000 else text[:-3]
+
+
+def utc(time):
+    whole = datetime.datetime.fromtimestamp(time // 10**9, datetime.timezone.utc)
+    return f"{whole:%Y-%m-%dT%H:%M:%S}.{time % 10**9 // 1000:06}Z"
+
+
+def shown(packets, form="relative"):
+    """The lines, with times of this form."""
+    before = packets[0]
     for it in packets:
-        seconds = decimal.Decimal(it.time - packets[0].time) / 10**9
-        time = seconds.quantize(decimal.Decimal("0.000001"), decimal.ROUND_DOWN)
+        times = {
+            "relative": seconds_between(packets[0].time, it.time),
+            "delta": seconds_between(before.time, it.time),
+            "epoch": epoch(it.time),
+            "utc": utc(it.time),
+        }
+        before = it
         cut = f", cut at {len(it.data)} of {it.wire_len} bytes" if it.cut else ""
-        yield f"{it.number:5} {time:10} {it.line}{cut}"
+        yield f"{it.number:5} {times[form]:>10} {it.line}{cut}"
 
 
 def objects(packets, link_type):
@@ -147,6 +172,23 @@ def rate(packets):
     yield "".join(HEIGHTS[steps(count, max(counts), 8)] for count in counts)
 
 
+def rounded(count, nanoseconds):
+    """How many there are in a second, if there are so many in that time."""
+    return int((decimal.Decimal(count * 10**9) / nanoseconds).quantize(decimal.Decimal(1), decimal.ROUND_HALF_UP))
+
+
+def period(packets):
+    """When the earliest and the latest packet came, and what came in a second between them."""
+    times = [it.time for it in packets]
+    since = max(times) - min(times)
+    yield f"earliest packet: {utc(min(times))}"
+    yield f"latest packet: {utc(max(times))}, {seconds_between(min(times), max(times))} s later"
+    if since:
+        tenths = rounded(10 * len(packets), since)
+        bits = rounded(8 * sum(it.wire_len for it in packets), since)
+        yield f"on average {tenths // 10}.{tenths % 10} packets and {bits} bits a second"
+
+
 def lengths(packets):
     """The packets that were cut, and all bytes, if not all were captured."""
     wire, captured = sum(it.wire_len for it in packets), sum(len(it.data) for it in packets)
@@ -196,6 +238,7 @@ def summary(packets, still_open):
     assert len(talkers) <= 10
     yield from table(packets, "from > to", talkers)
     yield from sizes(packets)
+    yield from period(packets)
     yield from rate(packets)
 
 
@@ -211,5 +254,8 @@ def outputs(packets, link_type, still_open):
     yield ["show"], shown(packets)
     yield ["json", "--payload"], objects(packets, link_type)
     yield ["summary"], summary(packets, still_open)
+    if any(it.time % 1000 for it in packets):
+        for form in ("delta", "epoch", "utc"):
+            yield ["show", "--time", form], shown(packets, form)
     if any(it.outcome or it.cut for it in packets):
         yield from met(packets)

@@ -84,7 +84,7 @@ def fragments():
     line += "refused: ends behind the 65535 bytes of the longest message"
     outcome = refused_fragment({"SegmentTooBig": {"offset": 8191, "payload_len": 8, "max": 65535}})
     long = bytes(65528) + b"01234567"
-    yield fragment4(long, 17, 65528, 65536, 1, line, outcome, "UDP", refused="fragment behind 65535 bytes")
+    yield fragment4(long, 17, 65528, 65536, 1, line, outcome, "UDP", refused="fragment beyond 65535 bytes")
     yield fragment4(one, 17, 16, 24, 2, "UDP fragment at 16 len 8, last (id 0x0002)", waits(3), "UDP")
     line = "UDP fragment at 24 len 8, last (id 0x0002, begun in packet 3) "
     line += "refused: ends at 32, its message at 24"

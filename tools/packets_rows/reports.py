@@ -29,6 +29,9 @@ and 2 more
    packets   share  bytes of a frame
         13 100.0 %      32 to 63     ████████████████████████████████
 
+earliest packet: 2023-11-14T22:13:20.000000Z
+latest packet: 2023-11-14T22:13:20.018000Z, 0.018000 s later
+on average 722.2 packets and 115556 bits a second
 packets a second, by spans of 0.001953125 s: 1024 at most
 █▄▄█▄▄█▄▄▄
 
@@ -45,6 +48,8 @@ messages open at the end: 1
    packets   share  bytes of a frame
          1 100.0 %      32 to 63     ████████████████████████████████
 
+earliest packet: 2023-11-14T22:13:20.003000Z
+latest packet: 2023-11-14T22:13:20.003000Z, 0.000000 s later
 packets a second, by spans of 0.001953125 s: 512 at most
 █
 """

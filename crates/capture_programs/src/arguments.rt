@@ -2,8 +2,8 @@
 use clap::{Arg, ArgAction, Command, value_parser};
 use std::alloc::{AllocError, Global};
 
-/// A program that needs a command, and has this name under whatever name it is called. It has no
-/// contract: tests compare what words request.
+/// A program that has this name under whatever name it is called. It has no contract: tests compare
+/// what words request.
 pub fn program<'a>(
     alloc: Global,
     name: &'a str,
@@ -12,7 +12,6 @@ pub fn program<'a>(
     Command::new(alloc, name)
         .about(about)
         .version("1.0.0")
-        .subcommand_required(true)
         .bin_name(name)
 }
 

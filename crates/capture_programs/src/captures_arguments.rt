@@ -13,7 +13,7 @@ pub fn command<'a>(alloc: Global) -> Result<Command<'a>, AllocError> {
         PROGRAM,
         "Turns capture files into lines, and lines into capture files",
     )?;
-    let program = with_command(program, lines(alloc))?;
+    let program = with_command(program.subcommand_required(true), lines(alloc))?;
     with_command(program, capture(alloc))
 }
 

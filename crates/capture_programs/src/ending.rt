@@ -56,12 +56,12 @@ pub fn unopened<P: Eprint>(rt: &P, subject: Subject<'_>, error: io::Error) -> Ex
 /// The exit status of a run; `closed` says whether its output was found closed. An error is reported
 /// on standard error, with this note after it, but not a failed write to a closed output. Where the
 /// report fails too, the status still says it.
-pub fn exit_code<P: Eprint>(
+pub fn exit_code<P: Eprint, N: fmt::Display + Drop>(
     rt: &P,
     subject: Subject<'_>,
     ended: Result<(), RunError>,
     closed: bool,
-    note: &'static str,
+    note: N,
 ) -> ExitCode
     ensures { exit_status result ≡ run_status closed ended }
 {
@@ -76,7 +76,11 @@ pub fn exit_code<P: Eprint>(
 }
 
 // Only what the input has to do with is reported with its name.
-fn report_error<P: Eprint>(rt: &P, subject: Subject<'_>, reported: ReportedError) {
+fn report_error<P: Eprint, N: fmt::Display + Drop>(
+    rt: &P,
+    subject: Subject<'_>,
+    reported: ReportedError<N>,
+) {
     let program = subject.program;
     let _ = match reported.error {
         RunError::Write | RunError::WriteZero | RunError::Memory => {

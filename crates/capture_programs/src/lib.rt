@@ -20,5 +20,5 @@ pub use ending::{Subject, exit_code, failure, report_skipped, unopened};
 pub use exit_status::status;
 pub use input::Input;
 pub use looks::{Look, look_at};
-pub use notes::{ReportedError, compression_note, note};
+pub use notes::{ReportedError, compression_note, note, opener};
 pub use parsing::parse_failure;

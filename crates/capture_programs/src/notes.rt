@@ -5,17 +5,17 @@ use std::fmt;
 
 /// An error as it is reported, with the note after it.
 #[derive(Debug, Drop)]
-pub struct ReportedError {
+pub struct ReportedError<N> {
     /// The error.
     pub error: RunError,
     /// Nothing, or a remark, after a colon or a semicolon.
-    pub note: &'static str,
+    pub note: N,
 }
 
 /// It has no contract: tests compare the texts.
-impl fmt::Display for ReportedError {
+impl<N: fmt::Display> fmt::Display for ReportedError<N> {
     fn fmt<W: fmt::Write>(&self, f: &mut fmt::Formatter<W>) -> fmt::Result {
-        let (error, note) = (self.error, self.note);
+        let (error, note) = (self.error, &self.note);
         match error {
             // An input that is no capture has no position in it.
             RunError::Capture(CaptureError::NotCapture, _) => write!(f, "no capture file{note}"),
@@ -51,6 +51,18 @@ pub fn compression_note(look: Look) -> &'static str {
         Look::Xz => ": the input is compressed, `xz -dc` opens it",
         Look::Bzip2 => ": the input is compressed, `bzip2 -dc` opens it",
         _ => "",
+    }
+}
+
+/// The program that writes what a compressed input holds, where this is one. It has no contract, as
+/// `note`.
+pub fn opener(look: Look) -> Option<&'static str> {
+    match look {
+        Look::Gzip => Some("zcat"),
+        Look::Zstd => Some("zstdcat"),
+        Look::Xz => Some("xzcat"),
+        Look::Bzip2 => Some("bzcat"),
+        _ => None,
     }
 }
 

@@ -6,28 +6,93 @@ use std::alloc::{AllocError, Global};
 /// The program's name, as it is installed.
 pub const PROGRAM: &str = "packets";
 
-/// The command line. It has no contract: tests compare what words request.
+const CONDITIONS: &str = "\
+Only packets that meet WHAT, in upper or lower case. Given several times, a packet has to meet all:
+  eth, vlan, macsec, arp, ip4, ip6  with such a header; eth was captured as an Ethernet frame
+  icmp, icmp6, udp, tcp, sctp ..    of this IP protocol, by the keyword in IANA's registry
+  0 to 255                          of this IP protocol, by its number
+  bad                               whose checksum is wrong, or that of the message they complete
+  refused                           that break a format, or fragments that are refused
+  fragments                         that are fragments of an IP datagram
+  cut                               of which fewer bytes were captured than were on the wire
+  host=ADDRESS                      from or to this address, of IPv4 or IPv6
+  port=NUMBER                       from or to this port of TCP or UDP";
+
+const EXAMPLES: &str = "\
+Examples:
+  packets x.pcap                                    a line for each packet
+  packets -n -c 10 --only udp -r x.pcap             those over UDP, of the first ten
+  packets summary x.pcap                            what is in it, counted";
+
+const EXAMPLES_OF_SHOW: &str = "\
+Examples:
+  packets show --time delta x.pcap                  with the time since the packet before
+  packets show --only udp --only port=53 x.pcap     what goes to or from name servers
+  tcpdump -U -w - | packets show                    packets as they come";
+
+const EXAMPLES_OF_JSON: &str = "\
+Examples:
+  packets json x.pcap | jq .net                     the IP header of each packet
+  packets json --only refused x.pcap                why packets are refused
+  packets json --payload -c 1 x.pcap                the first packet, with the bytes of its payload";
+
+const EXAMPLES_OF_SUMMARY: &str = "\
+Examples:
+  packets summary x.pcap                            what is in it, counted
+  packets summary --only host=10.0.0.2 x.pcap       the same of the packets of a host
+  tcpdump -U -w - | packets summary --duration 60   of what comes in a minute";
+
+/// The command line. Without a command it is that of `show`. It has no contract: tests compare what
+/// words request.
 pub fn command<'a>(alloc: Global) -> Result<Command<'a>, AllocError> {
-    let program = program(alloc, PROGRAM, "Shows what is in a capture file")?;
+    let program = program(
+        alloc,
+        PROGRAM,
+        "Shows what is in a capture file: without a command as `show` does",
+    )?
+    .after_help(EXAMPLES)
+    .args_conflicts_with_subcommands(true)
+    .arg_required_else_help(true);
+    let program = with_show(alloc, program)?;
     let program = with_command(program, show(alloc))?;
     let program = with_command(program, json(alloc))?;
     with_command(program, summary(alloc))
 }
 
 fn show<'a>(alloc: Global) -> Result<Command<'a>, AllocError> {
-    let command = Command::new(alloc, "show").about("Writes a line for each packet");
-    with_input(alloc, with_style(alloc, command)?)
+    let command = Command::new(alloc, "show")
+        .about("Writes a line for each packet")
+        .after_help(EXAMPLES_OF_SHOW);
+    with_show(alloc, command)
 }
 
-fn with_style<'a>(alloc: Global, command: Command<'a>) -> Result<Command<'a>, AllocError> {
-    command
-        .arg(flag(
-            alloc,
-            "utc",
-            "Shows the time of day in UTC, not the seconds since the first packet",
-        ))?
+fn with_show<'a>(alloc: Global, command: Command<'a>) -> Result<Command<'a>, AllocError> {
+    let command = command
+        .arg(time(alloc))?
+        .arg(utc(alloc)?)?
         .arg(number(alloc, "width", "COLUMNS", "Cuts each line to COLUMNS"))?
-        .arg(color(alloc))
+        .arg(color(alloc))?;
+    with_input(alloc, command)
+}
+
+fn time<'a>(alloc: Global) -> Arg<'a> {
+    Arg::new(alloc, "time")
+        .long("time")
+        .value_name("FORM")
+        .help(
+            "Shows seconds since the first packet, since the one before, or since 1970, or the date and time in UTC",
+        )
+        .value_parser(["relative", "delta", "epoch", "utc"].as_slice())
+        .default_value("relative")
+}
+
+fn utc<'a>(alloc: Global) -> Result<Arg<'a>, AllocError> {
+    flag(
+        alloc,
+        "utc",
+        "Shows the date and time in UTC, as `--time utc`",
+    )
+    .conflicts_with("time")
 }
 
 fn color<'a>(alloc: Global) -> Arg<'a> {
@@ -42,14 +107,15 @@ fn color<'a>(alloc: Global) -> Arg<'a> {
 fn json<'a>(alloc: Global) -> Result<Command<'a>, AllocError> {
     let command = Command::new(alloc, "json")
         .about("Writes a JSON object for each packet")
+        .after_help(EXAMPLES_OF_JSON)
         .arg(flag(alloc, "payload", "Adds the bytes of payloads, in hex"))?;
     with_input(alloc, command)
 }
 
 fn summary<'a>(alloc: Global) -> Result<Command<'a>, AllocError> {
-    let command = Command::new(alloc, "summary").about(
-        "Counts packets by protocol, refusal, checksum, fragment, addresses, size and time",
-    );
+    let command = Command::new(alloc, "summary")
+        .about("Counts packets by protocol, refusal, checksum, fragment, addresses, size and time")
+        .after_help(EXAMPLES_OF_SUMMARY);
     with_input(alloc, command)
 }
 
@@ -57,7 +123,7 @@ fn summary<'a>(alloc: Global) -> Result<Command<'a>, AllocError> {
 fn with_input<'a>(alloc: Global, command: Command<'a>) -> Result<Command<'a>, AllocError> {
     command
         .arg(only(alloc))?
-        .arg(number(alloc, "count", "N", "Ends after N packets"))?
+        .arg(number(alloc, "count", "N", "Ends after N packets").short('c'))?
         .arg(number(
             alloc,
             "duration",
@@ -77,10 +143,33 @@ fn with_input<'a>(alloc: Global, command: Command<'a>) -> Result<Command<'a>, Al
         ))?
         .arg(reassembly_memory(alloc))?
         .arg(flag(alloc, "no-checksums", "Verifies and shows no checksums"))?
-        .arg(file(
-            alloc,
-            "The capture to read, pcap or pcapng, or - for standard input",
-        ))
+        .arg(names(alloc))?
+        .arg(read(alloc)?)?
+        .arg(
+            file(
+                alloc,
+                "The captures to read in their order, pcap or pcapng, or - for standard input",
+            )
+            .num_args(1..),
+        )
+}
+
+// What tcpdump needs so that no names of hosts and ports are looked up, once or more often.
+fn names<'a>(alloc: Global) -> Arg<'a> {
+    Arg::new(alloc, "no-names")
+        .short('n')
+        .help("Does nothing, as names of hosts and ports are never looked up")
+        .action(ArgAction::Count)
+}
+
+// The file to be read, as tcpdump names it.
+fn read<'a>(alloc: Global) -> Result<Arg<'a>, AllocError> {
+    Arg::new(alloc, "read")
+        .short('r')
+        .long("read")
+        .value_name("FILE")
+        .help("The capture to read, as FILE alone")
+        .conflicts_with("FILE")
 }
 
 fn reassembly_memory<'a>(alloc: Global) -> Arg<'a> {
@@ -100,5 +189,6 @@ fn only<'a>(alloc: Global) -> Arg<'a> {
         .help(
             "Only packets of a protocol, or bad, refused, fragments, cut, host=ADDRESS or port=NUMBER",
         )
+        .long_help(CONDITIONS)
         .action(ArgAction::Append)
 }

@@ -1,4 +1,5 @@
-//! Words of a line, for people. The functions have no contracts: tests compare the texts.
+//! Words of a line, for people. Only the texts of times (`seconds`) have contracts: tests compare the
+//! others.
 
 pub mod addresses;
 pub mod arp;
@@ -6,6 +7,7 @@ pub mod faults;
 pub mod icmp;
 mod line;
 pub mod names;
+pub mod seconds;
 mod style;
 pub mod tags;
 pub mod tcp;

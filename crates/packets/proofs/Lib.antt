@@ -8,6 +8,7 @@ mod KeepLemmas
 mod LimitLemmas
 mod LineLemmas
 mod OrderLemmas
+mod PeriodLemmas
 pub mod FragmentLemmas
 mod RateLemmas
 mod RouteLemmas

@@ -8,6 +8,7 @@ use Rattle.packets.specs.declared.reason.Reason.{Reason}
 use Rattle.packets.specs.Headers.{has_header, net_addresses}
 use Rattle.packets.specs.Lengths.{CountsLengths}
 use Rattle.packets.specs.Numbers.{CountsNumbers}
+use Rattle.packets.specs.Period.{CountsPeriod}
 use Rattle.packets.specs.Rate.{CountsSpans}
 use Rattle.packets.specs.Sizes.{CountsSizes}
 use Rattle.packets.specs.Table.{CountsKeys}
@@ -106,6 +107,7 @@ pub record Counts {S H : Type 0} (same_reason : Reason → Reason → Bool)
   pub parts : CountsFragments summary.parts packets
   pub sizes : CountsSizes summary.sizes packets
   pub rate : CountsSpans summary.rate packets
+  pub period : CountsPeriod summary.period packets
   pub lengths : CountsLengths summary.lengths packets
   pub reasons : CountsKeys same_reason (λ packet. packet.refusal) summary.reasons packets
   pub talkers : CountsKeys same_addresses (λ packet. net_addresses packet.headers.net)

@@ -18,12 +18,13 @@ use Rattle.packets.specs.declared.dissection.Dissection.{Dissection}
 use Rattle.packets.specs.declared.dissector.Dissector.{Dissector}
 use Rattle.packets.specs.declared.filter.Filter.{Filter}
 
--- how far a capture has come: when the first packet came, the fragments of each datagram that is not
+-- how far a capture has come: when the first packet came and the last one, the fragments of each datagram that is not
 -- complete, in which packet it started, and when the span began at whose end reassemblies are dropped;
 -- how many bytes the datagrams that are not complete may take, these in the order in which they
 -- started, and how many were dropped to keep them within that, up to the greatest number of 64 bits
 pub record Course : Type 0 where
   pub first : Option ℕ
+  pub last : Option ℕ
   pub lists : Lists
   pub started : Started
   pub begin : Option ℕ
@@ -35,6 +36,7 @@ pub record Course : Type 0 where
 abbrev pub no_course : (memory : ℕ) → Course
 no_course memory = record {
   first = None;
+  last = None;
   lists = no_lists;
   started = none_started;
   begin = None;
@@ -76,7 +78,7 @@ forgotten seconds time course = record course {
   order = order_at seconds course.begin time course.lists course.order;
 }
 
--- when the first packet came, if this one comes next
+-- when the first packet came, or the last one, if this one comes next: itself where none came
 abbrev pub first_at : Option ℕ → ℕ → ℕ
 first_at None time = time
 first_at (Some first) time = first
@@ -90,6 +92,7 @@ with_packet course packet =
     let lists = lists_with_frame course.lists (class_of packet) packet.time packet.interface in
     record {
       first = Some (first_at course.first packet.time);
+      last = Some packet.time;
       lists = lists;
       started = started_with course.lists course.started (class_of packet) packet.interface packet.number;
       begin = course.begin;
@@ -123,6 +126,7 @@ pub record IsDissected (checksums : Bool) (course : Course) (packet : Packet) (r
     : Type 0 where
   pub number : reported.number ≡ packet.number
   pub first_time : reported.first_time ≡ first_at course.first packet.time
+  pub previous_time : reported.previous_time ≡ first_at course.last packet.time
   pub time : reported.time ≡ packet.time
   pub interface : reported.interface ≡ packet.interface
   pub link : reported.link ≡ packet.link
@@ -156,6 +160,7 @@ shown conditions reported = filter (lets_through conditions) reported
 pub record HasCourse {S H : Type 0} (course : Course) (dissector : Dissector S H) (spans : Spans)
     : Type 0 where
   pub first : dissector.first_time ≡ course.first
+  pub last : dissector.last_time ≡ course.last
   pub lists : ShowsFragments dissector.datagrams course.lists
   pub started : ShowsStarted dissector.datagrams course.started
   pub begin : spans.begin ≡ course.begin

@@ -7,12 +7,14 @@ pub mod Dissected
 pub mod Examples
 pub mod Forgetting
 pub mod Headers
+pub mod Inputs
 pub mod Layers
 pub mod Lengths
 pub mod Limits
 pub mod Numbers
 pub mod Outlines
 pub mod PacketRuns
+pub mod Period
 pub mod Rate
 pub mod ReassemblyMemory
 pub mod Reasons

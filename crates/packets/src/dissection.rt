@@ -15,6 +15,9 @@ pub struct Dissection<'a> {
     pub number: u64,
     /// When the first packet was captured, in nanoseconds since 1970.
     pub first_time: u64,
+    /// When the packet before it was captured, whether that is shown or not; of the first one, when
+    /// it was itself.
+    pub previous_time: u64,
     /// When it was captured itself.
     pub time: u64,
     /// The interface that it was captured on.

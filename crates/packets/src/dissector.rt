@@ -37,6 +37,8 @@ pub struct Dissector<S: BuildHasher = BuildHasherDefault<FoldHasher>> {
     pub(crate) datagrams: Datagrams<S>,
     // When the first packet came.
     pub(crate) first_time: Option<u64>,
+    // When the last packet came.
+    pub(crate) last_time: Option<u64>,
     // How many datagrams `keep_within` dropped.
     pub(crate) dropped: u64,
 }
@@ -45,6 +47,7 @@ impl Dissector<BuildHasherDefault<FoldHasher>> {
     /// [`Dissector::with_hasher`] with std's state of a fixed seed.
     pub fn new(alloc: Global) -> Dissector
         ensures first_time { result.first_time ≡ None }
+        ensures last_time { result.last_time ≡ None }
         ensures datagrams { ShowsFragments result.datagrams no_lists }
         ensures started { ShowsStarted result.datagrams none_started }
         ensures order { ShowsOrder result.datagrams [] }
@@ -61,6 +64,7 @@ impl<S: BuildHasher> Dissector<S> {
     /// no memory.
     pub fn with_hasher(alloc: Global, state: S) -> Dissector<S>
         ensures first_time { result.first_time ≡ None }
+        ensures last_time { result.last_time ≡ None }
         ensures datagrams { ShowsFragments result.datagrams no_lists }
         ensures started { ShowsStarted result.datagrams none_started }
         ensures order { ShowsOrder result.datagrams [] }
@@ -69,6 +73,7 @@ impl<S: BuildHasher> Dissector<S> {
         Dissector {
             datagrams: Datagrams::with_hasher(alloc, state),
             first_time: None,
+            last_time: None,
             dropped: 0,
         }
     }
@@ -87,6 +92,9 @@ impl<S: BuildHasher> Dissector<S> {
         ensures first_time { IfOk result
             (λ d. (d.first_time ≡ first_at self.old.first_time packet.now.time)
             × (self.new.first_time ≡ Some d.first_time)) }
+        ensures last_time { IfOk result
+            (λ d. (d.previous_time ≡ first_at self.old.last_time packet.now.time)
+            × (self.new.last_time ≡ Some packet.now.time)) }
         ensures layers { IfOk result
             (λ d. d.layers ≡ layers_of packet.now.frame.header packet.now.frame.bytes) }
         // What is reported of a fragment, and which fragments wait then.
@@ -123,7 +131,8 @@ impl<S: BuildHasher> Dissector<S> {
             × (d.len ≡ length (frame_bytes packet.now.frame))
             × (d.captured_len ≡ captured_len packet.now.link packet.now.frame)
             × (d.wire_len ≡ packet.now.wire_len)) }
-        ensures memory { OnErr result (self.new.first_time ≡ self.old.first_time) }
+        ensures memory { OnErr result ((self.new.first_time ≡ self.old.first_time)
+            × (self.new.last_time ≡ self.old.last_time)) }
     {
         let layers = layers_in(&packet.frame);
         let verification = Verification::of(checksums, &layers);
@@ -134,14 +143,14 @@ impl<S: BuildHasher> Dissector<S> {
         };
         match self.datagrams.take(&layers, verification, arrival) {
             Ok(Finding { fragment, verdict }) => {
-                let first_time = match self.first_time {
-                    Some(first) => first,
-                    None => packet.time,
-                };
+                let first_time = self.first_time.unwrap_or(packet.time);
+                let previous_time = self.last_time.unwrap_or(packet.time);
                 self.first_time = Some(first_time);
+                self.last_time = Some(packet.time);
                 Ok(Dissection {
                     number: arrival.number,
                     first_time,
+                    previous_time,
                     time: packet.time,
                     interface: packet.interface,
                     link: packet.link,
@@ -169,6 +178,7 @@ impl<S: BuildHasher> Dissector<S> {
     /// Drops the reassemblies whose last fragment came before this time.
     pub fn forget_before(&mut self, time: u64)
         ensures first_time { self.new.first_time ≡ self.old.first_time }
+        ensures last_time { self.new.last_time ≡ self.old.last_time }
         ensures datagrams { (lists : Lists) → ShowsFragments self.old.datagrams lists
             → ShowsFragments self.new.datagrams
             (λ name channel. retained_from time (lists name channel)) }
@@ -187,6 +197,7 @@ impl<S: BuildHasher> Dissector<S> {
     /// of datagrams that have ended are freed.
     pub fn keep_within(&mut self, memory: u64)
         ensures first_time { self.new.first_time ≡ self.old.first_time }
+        ensures last_time { self.new.last_time ≡ self.old.last_time }
         ensures datagrams { (lists : Lists) (order : Order) → ShowsFragments self.old.datagrams lists
             → ShowsOrder self.old.datagrams order
             → ShowsFragments self.new.datagrams (lists_within memory lists order)

@@ -21,7 +21,7 @@ pub mod examples;
 use crate::program::{Coloring, SizeError};
 use crate::{
     ChecksumTallies, Condition, Ending, FragmentState, FragmentTallies, Headers, Lengths, Net,
-    NoProgress, Omitted, Outline, Reason, ShowOptions, Sizes, Tally, Verified, WordError,
+    NoProgress, Omitted, Outline, Period, Reason, ShowOptions, Sizes, Tally, Verified, WordError,
 };
 use ep_base::err::Layer;
 use ep_base::laws::traits::Value;
@@ -39,6 +39,7 @@ pub fn types_are_plain_data()
     ensures no_progress { IsPlainData ⟦<NoProgress as Value>⟧ }
     ensures show_options { IsPlainData ⟦<ShowOptions as Value>⟧ }
     ensures sizes { IsPlainData ⟦<Sizes as Value>⟧ }
+    ensures period { IsPlainData ⟦<Period as Value>⟧ }
     ensures tally { IsPlainData ⟦<Tally as Value>⟧ }
     ensures verified { IsPlainData ⟦<Verified as Value>⟧ }
 {}

@@ -35,6 +35,7 @@ pub use run::summarize::{Ending, summarize};
 pub use show::options::ShowOptions;
 pub use summary::lengths::Lengths;
 pub use summary::numbers::NumberTallies;
+pub use summary::period::Period;
 pub use summary::rate::{Rate, SPAN_COUNT};
 pub use summary::report::Report;
 pub use summary::sizes::{SIZE_COUNT, Sizes};

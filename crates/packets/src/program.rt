@@ -6,6 +6,6 @@ mod outputs;
 mod words;
 
 pub use capture_programs::packets_arguments::command;
-pub use ending::{exit_code, report_dropped};
+pub use ending::{exit_code, goes_on, report_dropped};
 pub use outputs::{write_flushed, write_report};
 pub use words::{Coloring, Output, RequestError, Requested, SizeError, requested_by};

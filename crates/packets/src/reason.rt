@@ -153,7 +153,7 @@ impl fmt::Display for Reason {
             Reason::HopByHopNotFirst => f.write_str("hop-by-hop options behind another header"),
             Reason::TcpDataOffset => f.write_str("TCP data offset below 5"),
             Reason::FragmentUnaligned => f.write_str("fragment of no multiple of 8 bytes"),
-            Reason::FragmentTooLong => f.write_str("fragment behind 65535 bytes"),
+            Reason::FragmentTooLong => f.write_str("fragment beyond 65535 bytes"),
             Reason::FragmentEnd => f.write_str("fragment against the end of its message"),
             Reason::FragmentOverlap => f.write_str("fragment that overlaps another"),
             Reason::FragmentMemory => f.write_str("no memory for a fragment"),

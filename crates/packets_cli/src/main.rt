@@ -1,4 +1,4 @@
-//! Shows what is in a capture file: `packets show|json|summary [FILE|-]`.
+//! Shows what is in a capture file: `packets [show|json|summary] [FILE|-]..`.
 #![tactic(auto)]
 
 mod progress_line;
@@ -7,14 +7,14 @@ use crate::progress_line::ProgressLine;
 use anyhow::Context;
 use capture_programs::packets_arguments::PROGRAM;
 use capture_programs::{
-    ClosableWriter, Input, Subject, failure, parse_failure, report_skipped, unopened,
+    ClosableWriter, Input, Look, Subject, failure, parse_failure, report_skipped, unopened,
 };
 use captures::RunError;
 use packets::program::{
-    Coloring, Output, RequestError, Requested, command, exit_code, report_dropped, requested_by,
-    write_flushed, write_report,
+    Coloring, Output, RequestError, Requested, command, exit_code, goes_on, report_dropped,
+    requested_by, write_flushed, write_report,
 };
-use packets::{JsonLines, Omitted, Report, Rules, ShowOptions, Style, Summary, summarize};
+use packets::{JsonLines, LineWriter, Omitted, Report, ShowOptions, Style, Summary, summarize};
 use std::env::{self, VarError};
 use std::fs::File;
 use std::hash::RandomState;
@@ -38,8 +38,7 @@ fn run(rt: &HostRuntime) -> anyhow::Result<ExitCode> {
         Err(error) => return Ok(parse_failure(rt, PROGRAM, &error)),
     };
     match requested_by(alloc, &matches) {
-        Ok(Some(requested)) => run_on_file(rt, &requested),
-        Ok(None) => Ok(ExitCode::SUCCESS),
+        Ok(requested) => run_on_files(rt, &requested),
         Err(RequestError::Memory(error)) => Err(error.into()),
         Err(error) => {
             let _ = eprintln!(rt; "error: {error}\n\nFor more information, try '--help'.");
@@ -48,113 +47,261 @@ fn run(rt: &HostRuntime) -> anyhow::Result<ExitCode> {
     }
 }
 
-fn run_on_file(rt: &HostRuntime, requested: &Requested<'_>) -> anyhow::Result<ExitCode> {
-    let subject = Subject {
-        program: PROGRAM,
-        input: requested.name,
-    };
-    if subject.input == "-" {
-        let input = Input::new(rt.alloc(), rt.stdin())?;
-        return run_on_input(rt, subject, requested, None, input);
-    }
-    let file = match File::open(rt, subject.input) {
-        Ok(file) => file,
-        Err(error) => return Ok(unopened(rt, subject, error)),
-    };
-    let len = match file.metadata() {
-        Ok(metadata) if metadata.is_file() => Some(metadata.len()),
-        _ => None,
-    };
-    let input = Input::new(rt.alloc(), file)?;
-    run_on_input(rt, subject, requested, len, input)
-}
-
-fn run_on_input<R: Read + Drop>(
-    rt: &HostRuntime,
-    subject: Subject<'_>,
-    requested: &Requested<'_>,
-    len: Option<u64>,
-    mut input: Input<R>,
-) -> anyhow::Result<ExitCode> {
-    let look = input.look();
-    let mut omitted = Omitted::NOTHING;
+fn run_on_files(rt: &HostRuntime, requested: &Requested<'_>) -> anyhow::Result<ExitCode> {
     let mut output = ClosableWriter::new(rt.stdout());
-    let rules = &requested.rules;
-    let alloc = rt.alloc();
-    let state = RandomState::new(rt)?;
-    let outcome = match &requested.output {
+    match &requested.output {
         Output::Show(time, width, coloring) => {
             let lines = ShowOptions {
                 style: style_of(rt, *coloring),
                 time: *time,
                 width: *width,
             };
-            write_flushed(
-                alloc,
-                state,
-                rules,
-                &lines,
-                input,
-                &mut output,
-                &mut omitted,
-            )
+            write_files(rt, requested, &lines, &mut output)
         }
         Output::Json(payload) => {
-            let lines = JsonLines::new(alloc, *payload);
-            write_flushed(
-                alloc,
-                state,
-                rules,
-                &lines,
-                input,
-                &mut output,
-                &mut omitted,
-            )
+            let lines = JsonLines::new(rt.alloc(), *payload);
+            write_files(rt, requested, &lines, &mut output)
         }
-        Output::Summary => write_summary(rt, state, rules, len, input, &mut output, &mut omitted)?,
-    };
-    if !output.is_closed() {
-        report_skipped(rt, subject, omitted.skipped);
-        report_dropped(rt, subject, omitted.dropped, rules.reassembly_memory);
+        Output::Summary => count_files(rt, requested, &mut output),
     }
-    Ok(exit_code(rt, subject, outcome, output.is_closed(), look))
 }
 
-// Of a capture that is refused, what comes before is reported, if anything does.
-fn write_summary<R: Read + Drop, W: Write>(
+// What is done with each file.
+trait Task {
+    fn take<R: Read + Drop>(
+        &mut self,
+        subject: Subject<'_>,
+        len: Option<u64>,
+        input: Input<R>,
+    ) -> anyhow::Result<FileEnd>;
+}
+
+// How a file ended: the status, if it isn't 0, and whether the next one is read.
+#[derive(Drop)]
+struct FileEnd {
+    failed: Option<ExitCode>,
+    goes_on: bool,
+}
+
+// Takes the files one after the other, up to one after which none is read. The status is that of the
+// first one that failed, if any did.
+fn take_files<T: Task>(
     rt: &HostRuntime,
-    state: RandomState,
-    rules: &Rules,
-    len: Option<u64>,
-    input: Input<R>,
-    output: &mut W,
-    omitted: &mut Omitted,
-) -> anyhow::Result<Result<(), RunError>> {
-    let alloc = rt.alloc();
-    let mut progress = ProgressLine::new(rt, len);
-    let mut summary = Summary::with_hashers(
-        alloc,
+    names: &[&str],
+    task: &mut T,
+) -> anyhow::Result<Option<ExitCode>> {
+    let mut failed = None;
+    'files: for name in names {
+        let end = take_file(rt, *name, task)?;
+        if failed.is_none() {
+            failed = end.failed;
+        }
+        if !end.goes_on {
+            break 'files;
+        }
+    }
+    Ok(failed)
+}
+
+fn take_file<T: Task>(rt: &HostRuntime, name: &str, task: &mut T) -> anyhow::Result<FileEnd> {
+    let subject = Subject {
+        program: PROGRAM,
+        input: name,
+    };
+    if name == "-" {
+        return task.take(subject, None, Input::new(rt.alloc(), rt.stdin())?);
+    }
+    let file = match File::open(rt, name) {
+        Ok(file) => file,
+        Err(error) => {
+            return Ok(FileEnd {
+                failed: Some(unopened(rt, subject, error)),
+                goes_on: true,
+            });
+        }
+    };
+    let len = match file.metadata() {
+        Ok(metadata) if metadata.is_file() => Some(metadata.len()),
+        _ => None,
+    };
+    task.take(subject, len, Input::new(rt.alloc(), file)?)
+}
+
+// Reports how a file ended.
+fn end_of<W: Write>(
+    rt: &HostRuntime,
+    requested: &Requested<'_>,
+    subject: Subject<'_>,
+    ended: (Result<(), RunError>, Omitted, Look),
+    output: &ClosableWriter<W>,
+) -> FileEnd {
+    let (result, omitted, look) = ended;
+    let closed = output.is_closed();
+    if !closed {
+        report_skipped(rt, subject, omitted.skipped);
+        report_dropped(
+            rt,
+            subject,
+            omitted.dropped,
+            requested.rules.reassembly_memory,
+        );
+    }
+    let command = requested.output.command();
+    let code = exit_code(rt, subject, command, result, closed, look);
+    FileEnd {
+        failed: if result.is_err() { Some(code) } else { None },
+        goes_on: goes_on(result, closed),
+    }
+}
+
+fn write_files<L: LineWriter, W: Write>(
+    rt: &HostRuntime,
+    requested: &Requested<'_>,
+    lines: &L,
+    output: &mut ClosableWriter<W>,
+) -> anyhow::Result<ExitCode> {
+    let mut writing = Writing {
+        rt,
+        requested,
+        lines,
+        output,
+    };
+    let failed = take_files(rt, requested.names, &mut writing)?;
+    Ok(failed.unwrap_or(ExitCode::SUCCESS))
+}
+
+// Writes the lines of a file.
+#[derive(Drop)]
+struct Writing<'a, L, W> {
+    rt: &'a HostRuntime,
+    requested: &'a Requested<'a>,
+    lines: &'a L,
+    output: &'a mut ClosableWriter<W>,
+}
+
+impl<L: LineWriter, W: Write> Task for Writing<'_, L, W> {
+    fn take<R: Read + Drop>(
+        &mut self,
+        subject: Subject<'_>,
+        _len: Option<u64>,
+        mut input: Input<R>,
+    ) -> anyhow::Result<FileEnd> {
+        let look = input.look();
+        let mut omitted = Omitted::NOTHING;
+        let result = write_flushed(
+            self.rt.alloc(),
+            RandomState::new(self.rt)?,
+            &self.requested.rules,
+            self.lines,
+            input,
+            self.output,
+            &mut omitted,
+        );
+        let ended = (result, omitted, look);
+        Ok(end_of(self.rt, self.requested, subject, ended, self.output))
+    }
+}
+
+fn count_files<W: Write>(
+    rt: &HostRuntime,
+    requested: &Requested<'_>,
+    output: &mut ClosableWriter<W>,
+) -> anyhow::Result<ExitCode> {
+    let summary = Summary::with_hashers(
+        rt.alloc(),
         RandomState::new(rt)?,
         RandomState::new(rt)?,
         RandomState::new(rt)?,
     );
-    let ending = summarize(alloc, state, rules, &mut summary, input, &mut progress);
-    progress.end();
-    *omitted = Omitted {
-        skipped: ending.skipped,
-        dropped: ending.dropped,
+    let mut counting = Counting {
+        rt,
+        requested,
+        output,
+        summary,
+        open: 0,
+        omitted: Omitted::NOTHING,
+        left: requested.names.len(),
+        is_reported: false,
     };
-    if ending.result.is_err() && summary.all.packets == 0 {
-        return Ok(ending.result);
+    let failed = take_files(rt, requested.names, &mut counting)?;
+    // The last file wasn't opened.
+    let written = counting.report(failed.is_some());
+    let subject = Subject {
+        program: PROGRAM,
+        input: "-",
+    };
+    let closed = counting.output.is_closed();
+    let code = exit_code(rt, subject, "summary", written, closed, Look::Other);
+    Ok(failed.unwrap_or(code))
+}
+
+// Counts the packets of all files.
+#[derive(Drop)]
+struct Counting<'a, W> {
+    rt: &'a HostRuntime,
+    requested: &'a Requested<'a>,
+    output: &'a mut ClosableWriter<W>,
+    summary: Summary<RandomState>,
+    open: usize,
+    omitted: Omitted,
+    // How many files weren't taken yet.
+    left: usize,
+    is_reported: bool,
+}
+
+impl<W: Write> Counting<'_, W> {
+    // Writes the report, if it isn't written yet; where no packet was counted, only if nothing failed.
+    fn report(&mut self, failed: bool) -> Result<(), RunError> {
+        if self.is_reported {
+            return Ok(());
+        }
+        self.is_reported = true;
+        if failed && self.summary.all.packets == 0 {
+            return Ok(());
+        }
+        let report = Report {
+            summary: &self.summary,
+            open: self.open,
+            dropped: self.omitted.dropped,
+            skipped: self.omitted.skipped,
+        };
+        write_report(self.rt.alloc(), &report, self.output)
     }
-    let report = Report {
-        summary: &summary,
-        open: ending.open,
-        dropped: ending.dropped,
-        skipped: ending.skipped,
-    };
-    let written = write_report(alloc, &report, output);
-    Ok(ending.result.and(written))
+}
+
+impl<W: Write> Task for Counting<'_, W> {
+    // With the last file the report is written, before anything about that file is.
+    fn take<R: Read + Drop>(
+        &mut self,
+        subject: Subject<'_>,
+        len: Option<u64>,
+        mut input: Input<R>,
+    ) -> anyhow::Result<FileEnd> {
+        let look = input.look();
+        let mut progress = ProgressLine::new(self.rt, len);
+        let ending = summarize(
+            self.rt.alloc(),
+            RandomState::new(self.rt)?,
+            &self.requested.rules,
+            &mut self.summary,
+            input,
+            &mut progress,
+        );
+        progress.end();
+        let omitted = Omitted {
+            skipped: ending.skipped,
+            dropped: ending.dropped,
+        };
+        self.open = self.open.saturating_add(ending.open);
+        self.omitted = self.omitted.with(omitted);
+        self.left = self.left.saturating_sub(1);
+        let mut result = ending.result;
+        if self.left == 0 || !goes_on(result, false) {
+            result = result.and(self.report(result.is_err()));
+        }
+        let ended = (result, omitted, look);
+        Ok(end_of(self.rt, self.requested, subject, ended, self.output))
+    }
 }
 
 // Whether lines have colors on this standard output.

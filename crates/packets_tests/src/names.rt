@@ -165,7 +165,7 @@ const TEXTS_OF_REASONS: &[(Reason, &str)] = &[
     (Reason::HopByHopNotFirst, "hop-by-hop options behind another header"),
     (Reason::TcpDataOffset, "TCP data offset below 5"),
     (Reason::FragmentUnaligned, "fragment of no multiple of 8 bytes"),
-    (Reason::FragmentTooLong, "fragment behind 65535 bytes"),
+    (Reason::FragmentTooLong, "fragment beyond 65535 bytes"),
     (Reason::FragmentEnd, "fragment against the end of its message"),
     (Reason::FragmentOverlap, "fragment that overlaps another"),
     (Reason::FragmentMemory, "no memory for a fragment"),

@@ -6,7 +6,7 @@ use capture_programs::packets_arguments::PROGRAM;
 use capture_programs::{ClosableWriter, Look, Subject};
 use captures::{CaptureError, Position, RunError, Skipped};
 use fault_devices::{Fault, FaultWriter, UnflushableWriter};
-use packets::program::{exit_code, write_flushed, write_report};
+use packets::program::{exit_code, goes_on, write_flushed, write_report};
 use packets::{JsonLines, Omitted, Report, Summary};
 use std::alloc::Global;
 use std::hash::{BuildHasherDefault, FoldHasher};
@@ -100,10 +100,10 @@ const SUBJECT: Subject<'static> = Subject {
 #[test]
 fn errors_have_a_status(rt: HostRuntime) {
     for (error, status) in STATUSES.iter() {
-        let code = exit_code(&rt, SUBJECT, Err(*error), false, Look::Other);
+        let code = exit_code(&rt, SUBJECT, "show", Err(*error), false, Look::Other);
         equal(rt, code, ExitCode::from(*status));
     }
-    let code = exit_code(&rt, SUBJECT, Ok(()), false, Look::Other);
+    let code = exit_code(&rt, SUBJECT, "show", Ok(()), false, Look::Other);
     equal(rt, code, ExitCode::SUCCESS);
 }
 
@@ -121,16 +121,60 @@ fn reports_to_a_closed_pipe(rt: HostRuntime) {
         let closed = output.is_closed();
         equal(
             rt,
-            exit_code(&rt, SUBJECT, written, closed, Look::Other),
+            exit_code(&rt, SUBJECT, "show", written, closed, Look::Other),
             code,
         );
     }
+}
+
+// What a compressed file is read by.
+#[test]
+#[should_panic(expected = "no capture file: the input is compressed, `zstdcat x.pcap | packets json` reads it")]
+fn compressed_inputs_are_named(rt: HostRuntime) {
+    let error = RunError::Capture(CaptureError::NotCapture, FIRST);
+    let _ = exit_code(&rt, SUBJECT, "json", Err(error), false, Look::Zstd);
+    fail(rt, "reported");
+}
+
+#[test]
+fn what_two_runs_leave_out(rt: HostRuntime) {
+    let left = |of_other_links, too_long, without_frame, dropped| Omitted {
+        skipped: Skipped {
+            of_other_links,
+            too_long,
+            without_frame,
+        },
+        dropped,
+    };
+    let both = left(1, 2, u64::MAX, 3).with(left(10, 20, 30, 40));
+    equal(rt, both, left(11, 22, u64::MAX, 43));
+}
+
+// What follows an input that is refused is read.
+#[test]
+fn inputs_that_are_followed(rt: HostRuntime) {
+    for (error, follows) in [
+        (RunError::Capture(CaptureError::CutOff, FIRST), true),
+        (RunError::Read, true),
+        (RunError::TooManyReads, true),
+        (RunError::Write, false),
+        (RunError::WriteZero, false),
+        (RunError::Memory, false),
+    ] {
+        equal(rt, goes_on(Err(error), false), follows);
+        equal(rt, goes_on(Err(error), true), false);
+    }
+    equal(
+        rt,
+        (goes_on(Ok(()), false), goes_on(Ok(()), true)),
+        (true, false),
+    );
 }
 
 #[test]
 #[should_panic(expected = "packets: x.pcap: no capture file: the input is text")]
 fn errors_are_reported(rt: HostRuntime) {
     let error = RunError::Capture(CaptureError::NotCapture, FIRST);
-    let _ = exit_code(&rt, SUBJECT, Err(error), false, Look::Text);
+    let _ = exit_code(&rt, SUBJECT, "show", Err(error), false, Look::Text);
     fail(rt, "reported");
 }

@@ -58,6 +58,7 @@ fn refused(error: SliceError) -> Dissection<'static> {
     Dissection {
         number: 3,
         first_time: 0,
+        previous_time: 0,
         time: 0,
         interface: 0,
         link: Link::Ip,

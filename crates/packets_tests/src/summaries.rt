@@ -9,7 +9,7 @@ use etherparse::err::Layer;
 use etherparse::{Addresses, IpNumber};
 use packets::{
     Condition, Dissection, Dissector, Ending, Fragment, FragmentState, Headers, Lengths, Net,
-    NoProgress, Outline, Protocol, Rate, Reason, Report, Sizes, Summary, Tally, Verified,
+    NoProgress, Outline, Period, Protocol, Rate, Reason, Report, Sizes, Summary, Tally, Verified,
     summarize,
 };
 use std::alloc::Global;
@@ -242,6 +242,16 @@ fn lengths(rt: HostRuntime) {
     }
     is_tally(rt, lengths.cut, (1, 30, 3));
     equal(rt, (lengths.wire, lengths.captured), (120, 130));
+}
+
+// The first packet is neither the earliest nor the latest.
+#[test]
+fn periods(rt: HostRuntime) {
+    let mut period = Period::NONE;
+    for time in [5, 3, 9, 4] {
+        period.add(&outline(1, time, 60));
+    }
+    equal(rt, (period.earliest, period.latest), (Some(3), Some(9)));
 }
 
 // 63 and 64 spans of 1/512 second later. Spans are doubled where a packet comes after the 64th.

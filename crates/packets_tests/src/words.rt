@@ -2,7 +2,7 @@
 
 use crate::checks::{equal, fail, is_shown_as, is_text};
 use captures::Unfit;
-use packets::program::{RequestError, command, requested_by};
+use packets::program::{Output, RequestError, command, requested_by};
 use std::alloc::{AllocError, Global};
 use std::process::Abort;
 
@@ -10,10 +10,25 @@ use std::process::Abort;
 #[rattlefmt::skip]
 const OUTPUTS: &[(&[&str], &str)] = &[
     (&["packets", "show", "x.pcap"], "Show(SinceFirst, None, Auto)"),
+    (&["packets", "x.pcap"], "Show(SinceFirst, None, Auto)"),
+    (&["packets", "--utc", "--width", "80", "-"], "Show(Utc, Some(80), Auto)"),
+    (&["packets", "-nn", "-r", "x.pcap"], "Show(SinceFirst, None, Auto)"),
+    (&["packets", "summary", "-n", "-n", "--read", "-"], "Summary"),
     (&["packets", "show", "--utc", "--width", "80", "--color", "never"], "Show(Utc, Some(80), Never)"),
+    (&["packets", "show", "--time", "relative"], "Show(SinceFirst, None, Auto)"),
+    (&["packets", "show", "--time", "delta"], "Show(SincePrevious, None, Auto)"),
+    (&["packets", "--time", "epoch", "-r", "x.pcap"], "Show(Epoch, None, Auto)"),
+    (&["packets", "show", "--time=utc"], "Show(Utc, None, Auto)"),
     (&["packets", "json"], "Json(false)"),
     (&["packets", "json", "--payload", "-"], "Json(true)"),
     (&["packets", "summary", "--forget", "30"], "Summary"),
+    (&["packets"], ""),
+    (&["packets", "--payload", "x.pcap"], ""),
+    (&["packets", "-r", "x.pcap", "y.pcap"], ""),
+    (&["packets", "json", "-r", "x.pcap", "-r", "y.pcap"], ""),
+    (&["packets", "show", "--time", "local"], ""),
+    (&["packets", "show", "--time", "utc", "--utc"], ""),
+    (&["packets", "json", "--time", "utc"], ""),
     (&["packets", "show", "--width", "0"], ""),
     (&["packets", "show", "--color", "red"], ""),
     (&["packets", "summary", "--forget", "0"], ""),
@@ -39,8 +54,8 @@ fn output_of(alloc: Global, words: &[&str]) -> Option<String> {
         return None;
     };
     match requested_by(alloc, &matches) {
-        Ok(Some(requested)) => format!(in alloc; "{:?}", requested.output).ok(),
-        _ => None,
+        Ok(requested) => format!(in alloc; "{:?}", requested.output).ok(),
+        Err(_) => None,
     }
 }
 
@@ -79,16 +94,84 @@ fn words_of_rules(rt: HostRuntime) {
     let Ok(matches) = command.try_get_matches_from(RULES) else {
         fail(rt, "refused");
     };
-    let Ok(Some(requested)) = requested_by(rt.alloc(), &matches) else {
-        fail(rt, "no command");
+    let Ok(requested) = requested_by(rt.alloc(), &matches) else {
+        fail(rt, "refused");
     };
     let rules = (
-        requested.name,
+        requested.names.first().copied().unwrap_or(""),
         requested.rules.unfit,
         requested.rules.forget,
         requested.rules.checksums,
     );
     equal(rt, rules, ("x", Unfit::Skip, Some(7), false));
+}
+
+// The command that words request, by its name.
+fn is_command(rt: impl Abort + Copy, alloc: Global, words: &[&str], wanted: &str) {
+    let Ok(command) = command(alloc) else {
+        fail(rt, "no memory");
+    };
+    let Ok(matches) = command.try_get_matches_from(words) else {
+        fail(rt, "refused");
+    };
+    match requested_by(alloc, &matches) {
+        Ok(requested) => {
+            let output: &Output = &requested.output;
+            is_text(rt, output.command().as_bytes(), wanted);
+        }
+        Err(_) => fail(rt, "refused"),
+    }
+}
+
+#[test]
+fn words_of_commands(rt: HostRuntime) {
+    for name in ["show", "json", "summary"] {
+        is_command(rt, rt.alloc(), &["packets", name, "x.pcap"], name);
+    }
+    is_command(rt, rt.alloc(), &["packets", "x.pcap"], "show");
+}
+
+// The words that name files, and their names.
+const FILES: &[(&[&str], &str)] = &[
+    (&["packets", "x.pcap"], "[\"x.pcap\"]"),
+    (&["packets", "-r", "x.pcap"], "[\"x.pcap\"]"),
+    (&["packets", "-c", "1"], "[\"-\"]"),
+    (&["packets", "./show"], "[\"./show\"]"),
+    (&["packets", "--utc", "show"], "[\"show\"]"),
+    (&["packets", "show"], "[\"-\"]"),
+    (
+        &["packets", "b.pcap", "a.pcap", "--utc", "-"],
+        "[\"b.pcap\", \"a.pcap\", \"-\"]",
+    ),
+    (&["packets", "json", "--read=x.pcap"], "[\"x.pcap\"]"),
+    (&["packets", "summary", "-r-"], "[\"-\"]"),
+    (
+        &["packets", "summary", "a.pcap", "summary"],
+        "[\"a.pcap\", \"summary\"]",
+    ),
+];
+
+fn is_file(rt: impl Abort + Copy, alloc: Global, words: &[&str], wanted: &str) {
+    let Ok(command) = command(alloc) else {
+        fail(rt, "no memory");
+    };
+    let Ok(matches) = command.try_get_matches_from(words) else {
+        fail(rt, "refused");
+    };
+    match requested_by(alloc, &matches) {
+        Ok(requested) => match format!(in alloc; "{:?}", requested.names) {
+            Ok(names) => is_text(rt, names.as_bytes(), wanted),
+            Err(_) => fail(rt, "no memory"),
+        },
+        Err(_) => fail(rt, "refused"),
+    }
+}
+
+#[test]
+fn words_of_files(rt: HostRuntime) {
+    for (words, wanted) in FILES.iter() {
+        is_file(rt, rt.alloc(), *words, *wanted);
+    }
 }
 
 // The limits that a command has with these words.
@@ -100,8 +183,8 @@ fn limits(alloc: Global, words: &[&str]) -> Option<(Option<u64>, Option<u32>)> {
         return None;
     };
     match requested_by(alloc, &matches) {
-        Ok(Some(requested)) => Some((requested.rules.count, requested.rules.duration)),
-        _ => None,
+        Ok(requested) => Some((requested.rules.count, requested.rules.duration)),
+        Err(_) => None,
     }
 }
 
@@ -121,6 +204,8 @@ fn words_of_limits(rt: HostRuntime) {
         equal(rt, limits(rt.alloc(), &all), wanted);
         equal(rt, limits(rt.alloc(), &all[..2]), Some((None, None)));
     }
+    let short = limits(rt.alloc(), &["packets_cli", "-c", "7"]);
+    equal(rt, short, Some((Some(7), None)));
 }
 
 // The bytes that incomplete messages may take with these words.
@@ -132,8 +217,8 @@ fn memory(alloc: Global, words: &[&str]) -> Option<u64> {
         return None;
     };
     match requested_by(alloc, &matches) {
-        Ok(Some(requested)) => Some(requested.rules.reassembly_memory),
-        _ => None,
+        Ok(requested) => Some(requested.rules.reassembly_memory),
+        Err(_) => None,
     }
 }
 

@@ -31,7 +31,11 @@ impl<'o> Line<'o> {
     /// Writes what fits into the columns that are left. It has no contract: tests compare the
     /// texts.
     pub fn text(&mut self, text: &str) -> Result<(), AllocError> {
-        let bytes = text.as_bytes();
+        self.bytes(text.as_bytes())
+    }
+
+    /// A text in ASCII, as [`Line::text`]. It has no contract: tests compare the texts.
+    pub fn bytes(&mut self, bytes: &[u8]) -> Result<(), AllocError> {
         let shown = match bytes.get(..self.left) {
             Some(leading) => leading,
             None => bytes,

@@ -14,6 +14,10 @@ pub enum Style {
 pub enum TimeForm {
     /// The time since the first packet, in seconds.
     SinceFirst,
+    /// The time since the packet before, in seconds; of the first one 0.
+    SincePrevious,
+    /// The time since 1970 began in UTC, in seconds, to the nanosecond.
+    Epoch,
     /// Date and time, in UTC.
     Utc,
 }

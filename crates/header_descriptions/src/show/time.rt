@@ -1,53 +1,63 @@
 //! Which packet it is, and when it came.
 
 use crate::show::line::Line;
+use crate::show::seconds;
 use crate::show::style::{TimeForm, Tone};
+use arrayvec::ArrayString;
+use itoa::Buffer;
 use jiff::Timestamp;
 use jiff::tz::Offset;
 use std::alloc::AllocError;
 
-/// The number of a packet, and when it came: as date and time, or since the first one. It has no
-/// contract: tests compare the texts.
+// The fewest columns of a time in seconds.
+const COLUMNS: usize = 10;
+
+/// When a packet was captured and two others were, in nanoseconds since 1970 began in UTC.
+#[derive(Drop)]
+pub struct Times {
+    /// The packet.
+    pub own: u64,
+    /// The first one.
+    pub first: u64,
+    /// The one before; of the first one itself.
+    pub previous: u64,
+}
+
+/// The number of a packet, and its time in this form; one in seconds has ten columns at least. The
+/// texts of seconds are those of [`seconds`]. It has no contract: tests compare the texts.
 pub fn number_and_time(
     line: &mut Line<'_>,
     form: TimeForm,
     number: u64,
-    first: u64,
-    time: u64,
+    times: &Times,
 ) -> Result<(), AllocError> {
     line.begin_tone(Tone::Faint)?;
     line.spaces(5usize.saturating_sub(digits(number)))?;
     line.number(number)?;
     line.text(" ")?;
     match form {
-        TimeForm::SinceFirst => since(line, first, time)?,
-        TimeForm::Utc => utc(line, time)?,
+        TimeForm::SinceFirst => aligned(line, &seconds::between(times.first, times.own))?,
+        TimeForm::SincePrevious => aligned(line, &seconds::between(times.previous, times.own))?,
+        TimeForm::Epoch => aligned(line, &seconds::exact(times.own))?,
+        TimeForm::Utc => line.text(utc_text(times.own).as_str())?,
     }
     line.end_tone()?;
     line.text(" ")
 }
 
-// The seconds between two times, to the microsecond, in ten columns at least.
-fn since(line: &mut Line<'_>, first: u64, time: u64) -> Result<(), AllocError> {
-    let microseconds = first.abs_diff(time) / 1000;
-    let seconds = microseconds / 1_000_000;
-    let sign = if time < first && microseconds > 0 {
-        "-"
-    } else {
-        ""
-    };
-    let columns = digits(seconds).saturating_add(sign.len()).saturating_add(7);
-    line.spaces(10usize.saturating_sub(columns))?;
-    line.text(sign)?;
-    line.number(seconds)?;
-    line.text(".")?;
-    padded(line, microseconds % 1_000_000, 6)
+// A time in seconds, after spaces where it has fewer columns than others.
+fn aligned(line: &mut Line<'_>, text: &[u8]) -> Result<(), AllocError> {
+    line.spaces(COLUMNS.saturating_sub(text.len()))?;
+    line.bytes(text)
 }
 
-// The date and time in UTC, to the microsecond (RFC 3339).
-fn utc(line: &mut Line<'_>, time: u64) -> Result<(), AllocError> {
+/// A time in nanoseconds since 1970 as date and time of day in UTC, to the microsecond (RFC 3339). It
+/// has no contract: tests compare the texts.
+pub fn utc_text(time: u64) -> ArrayString<32> {
+    let mut text = ArrayString::new();
     let Ok(timestamp) = Timestamp::from_nanosecond(time.into()) else {
-        return line.number(time);
+        push_padded(&mut text, time, 0);
+        return text;
     };
     let at = Offset::UTC.to_datetime(timestamp);
     for (n, count, suffix) in [
@@ -59,18 +69,23 @@ fn utc(line: &mut Line<'_>, time: u64) -> Result<(), AllocError> {
         (u64::from(at.second().unsigned_abs()), 2, "."),
         (time / 1000 % 1_000_000, 6, "Z"),
     ] {
-        padded(line, n, count)?;
-        line.text(suffix)?;
+        push_padded(&mut text, n, count);
+        push(&mut text, suffix);
     }
-    Ok(())
+    text
 }
 
 // A number with zeros before it, up to so many digits.
-fn padded(line: &mut Line<'_>, n: u64, count: usize) -> Result<(), AllocError> {
+fn push_padded(text: &mut ArrayString<32>, n: u64, count: usize) {
     for _ in 0..count.saturating_sub(digits(n)) {
-        line.text("0")?;
+        push(text, "0");
     }
-    line.number(n)
+    push(text, Buffer::new().format(n));
+}
+
+// What has no space is left out: no time has so many digits.
+fn push(text: &mut ArrayString<32>, more: &str) {
+    let _ = text.try_push_str(more);
 }
 
 // How many decimal digits a number has; 7 of one that has more.

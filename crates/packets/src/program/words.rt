@@ -5,6 +5,8 @@ use clap::ArgMatches;
 use std::alloc::{AllocError, Global};
 use thiserror::Error;
 
+const STANDARD_INPUT: &[&str] = &["-"];
+
 /// What the words request.
 #[derive(Drop)]
 pub struct Requested<'m> {
@@ -12,8 +14,8 @@ pub struct Requested<'m> {
     pub output: Output,
     /// Of which packets, and what becomes of the others and of reassemblies.
     pub rules: Rules,
-    /// The file's name, or `-` for standard input.
-    pub name: &'m str,
+    /// The files' names in their order, `-` for standard input. There is one at least.
+    pub names: &'m [&'m str],
 }
 
 /// Why words request nothing.
@@ -55,6 +57,17 @@ pub enum Output {
     Summary,
 }
 
+impl Output {
+    /// The command that requests it. It has no contract: tests compare the texts.
+    pub fn command(&self) -> &'static str {
+        match self {
+            Output::Show(_, _, _) => "show",
+            Output::Json(_) => "json",
+            Output::Summary => "summary",
+        }
+    }
+}
+
 /// When lines have colours.
 #[derive(Clone, Copy, Debug, PartialEq, Eq)]
 pub enum Coloring {
@@ -66,23 +79,20 @@ pub enum Coloring {
     Never,
 }
 
-/// What the words request, if they name a command. It has no contract: tests compare what words
-/// request.
+/// What the words request: without a command what `show` does. It has no contract: tests compare
+/// what words request.
 pub fn requested_by<'m>(
     alloc: Global,
     matches: &'m ArgMatches,
-) -> Result<Option<Requested<'m>>, RequestError> {
+) -> Result<Requested<'m>, RequestError> {
     let (output, words) = match matches.subcommand() {
-        Some(("show", words)) => (
-            Output::Show(time_form(words), width(words), when_colored(words)),
-            words,
-        ),
         Some(("json", words)) => (Output::Json(words.get_flag("payload")), words),
         Some(("summary", words)) => (Output::Summary, words),
-        _ => return Ok(None),
+        Some((_, words)) => (show(words), words),
+        None => (show(matches), matches),
     };
     let checksums = !words.get_flag("no-checksums");
-    Ok(Some(Requested {
+    Ok(Requested {
         output,
         rules: Rules {
             filter: filter_of(alloc, words.get_strs("only").unwrap_or(&[]), checksums)?,
@@ -97,8 +107,22 @@ pub fn requested_by<'m>(
             reassembly_memory: reassembly_memory(alloc, words)?,
             checksums,
         },
-        name: words.get_str("FILE").unwrap_or("-"),
-    }))
+        names: names(words),
+    })
+}
+
+// The files, by either of the arguments that name them.
+fn names<'m>(words: &'m ArgMatches) -> &'m [&'m str] {
+    let argument = if words.contains_id("read") {
+        "read"
+    } else {
+        "FILE"
+    };
+    words.get_strs(argument).unwrap_or(STANDARD_INPUT)
+}
+
+fn show(words: &ArgMatches) -> Output {
+    Output::Show(time_form(words), width(words), when_colored(words))
 }
 
 fn filter_of(alloc: Global, words: &[&str], checksums: bool) -> Result<Filter, RequestError> {
@@ -154,9 +178,13 @@ fn count(words: &ArgMatches) -> Option<u64> {
 
 fn time_form(words: &ArgMatches) -> TimeForm {
     if words.get_flag("utc") {
-        TimeForm::Utc
-    } else {
-        TimeForm::SinceFirst
+        return TimeForm::Utc;
+    }
+    match words.get_str("time") {
+        Some("delta") => TimeForm::SincePrevious,
+        Some("epoch") => TimeForm::Epoch,
+        Some("utc") => TimeForm::Utc,
+        _ => TimeForm::SinceFirst,
     }
 }
 

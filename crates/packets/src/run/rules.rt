@@ -65,6 +65,7 @@ pub(crate) fn drop_idle<S: BuildHasher>(
         → ShowsOrder dissector.old.datagrams order
         → ShowsOrder dissector.new.datagrams (order_at forget spans.old.begin time lists order) }
     ensures first_time { dissector.new.first_time ≡ dissector.old.first_time }
+    ensures last_time { dissector.new.last_time ≡ dissector.old.last_time }
     ensures dropped { dissector.new.dropped ≡ dissector.old.dropped }
 {
     let Some(seconds) = forget else {

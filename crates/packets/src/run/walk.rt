@@ -69,6 +69,7 @@ pub(crate) fn walk<R: Read + Drop, S: BuildHasher, V: Visitor, P: Progress>(
     requires order { ShowsOrder dissector.old.datagrams [] }
     requires dropped { dissector.old.dropped ≡ 0 }
     requires first_time { dissector.old.first_time ≡ None }
+    requires last_time { dissector.old.last_time ≡ None }
     requires begins { V.goes visitor.old visitor.old [] }
     ensures { (read : List ℕ) × (given : List Packet) × (reported : List Dissection)
         × Consumes (R.remaining (source_of packets.old)) (R.remaining (source_of packets.new)) read

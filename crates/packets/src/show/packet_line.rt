@@ -8,7 +8,7 @@ use ep_packet::{Class, NetSlice, SlicedPacket};
 use header_descriptions::show::Line;
 use header_descriptions::show::arp::arp;
 use header_descriptions::show::tags::tags;
-use header_descriptions::show::time::number_and_time;
+use header_descriptions::show::time::{Times, number_and_time};
 use std::alloc::AllocError;
 
 impl ShowOptions {
@@ -19,13 +19,12 @@ impl ShowOptions {
     /// has no contract: tests compare the texts.
     pub fn write_line(&self, packet: &Dissection<'_>, out: &mut Vec<u8>) -> Result<(), AllocError> {
         let mut line = Line::begin(self.style, self.width, out);
-        number_and_time(
-            &mut line,
-            self.time,
-            packet.number,
-            packet.first_time,
-            packet.time,
-        )?;
+        let times = Times {
+            own: packet.time,
+            first: packet.first_time,
+            previous: packet.previous_time,
+        };
+        number_and_time(&mut line, self.time, packet.number, &times)?;
         match &packet.layers {
             Ok(layers) => body(&mut line, packet, layers)?,
             Err(error) => refusal::packet(&mut line, error)?,

@@ -2,6 +2,7 @@
 
 use crate::summary::bars::{Bar, column, steps_of};
 use crate::summary::lengths::Lengths;
+use crate::summary::period::Period;
 use crate::summary::rate::Rate;
 use crate::summary::sizes::Sizes;
 use crate::summary::summary::{ChecksumTallies, ProtocolTallies, Summary};
@@ -12,9 +13,11 @@ use crate::{Protocol, Reason};
 use captures::Skipped;
 use ep_base::IpNumber;
 use ep_packet::Addresses;
-use std::fmt;
+use header_descriptions::show::seconds::between;
+use header_descriptions::show::time::utc_text;
 use std::hash::BuildHasher;
 use std::net::{Ipv4Addr, Ipv6Addr};
+use std::{fmt, str};
 
 // The titles of the columns before the last.
 const TITLES: &str = "   packets   share           bytes   share     first  ";
@@ -56,6 +59,12 @@ impl<S: BuildHasher> Report<'_, S> {
         self.write_fragments(f)?;
         write_talkers(f, &summary.talkers, &summary.all)?;
         write_sizes(f, &summary.sizes, summary.all.packets)?;
+        write_period(
+            f,
+            &summary.period,
+            summary.all.packets,
+            summary.lengths.wire,
+        )?;
         write_rate(f, &summary.rate)
     }
 
@@ -400,6 +409,42 @@ fn ends_of(digits: u32) -> (u64, u64) {
     (greatest / 2 + 1, greatest)
 }
 
+// When the earliest and the latest packet came, and how many packets and bits of them there were in a
+// second on the wire.
+fn write_period<W: fmt::Write>(
+    f: &mut fmt::Formatter<W>,
+    period: &Period,
+    packets: u64,
+    bytes: u64,
+) -> fmt::Result {
+    let (Some(earliest), Some(latest)) = (period.earliest, period.latest) else {
+        return Ok(());
+    };
+    let (from, to) = (utc_text(earliest), utc_text(latest));
+    let seconds = between(earliest, latest);
+    let seconds = str::from_utf8(&seconds).unwrap_or("");
+    writeln!(f, "\nearliest packet: {from}")?;
+    writeln!(f, "latest packet: {to}, {seconds} s later")?;
+    let nanoseconds = latest.saturating_sub(earliest);
+    if nanoseconds == 0 {
+        return Ok(());
+    }
+    let tenths = a_second(u128::from(packets) * 10, nanoseconds);
+    let bits = a_second(u128::from(bytes) * 8, nanoseconds);
+    let (whole, tenth) = (tenths / 10, tenths % 10);
+    writeln!(
+        f,
+        "on average {whole}.{tenth} packets and {bits} bits a second"
+    )
+}
+
+// How many there are in a second, rounded, if there are so many in this time.
+fn a_second(count: u128, nanoseconds: u64) -> u128 {
+    let nanoseconds = u128::from(nanoseconds.max(1));
+    let billions = count.saturating_mul(1_000_000_000);
+    billions.saturating_add(nanoseconds / 2) / nanoseconds
+}
+
 fn write_rate<W: fmt::Write>(f: &mut fmt::Formatter<W>, rate: &Rate) -> fmt::Result {
     let most = rate.counts.iter().copied().max().unwrap_or(0);
     if most == 0 {
@@ -407,7 +452,7 @@ fn write_rate<W: fmt::Write>(f: &mut fmt::Formatter<W>, rate: &Rate) -> fmt::Res
     }
     // Rounded up, so that no span has more.
     let a_second = (u128::from(most) * 1_000_000_000).div_ceil(u128::from(rate.span));
-    f.write_str("\npackets a second, by spans of ")?;
+    f.write_str("packets a second, by spans of ")?;
     write_seconds(f, rate.span)?;
     writeln!(f, ": {a_second} at most")?;
     write_columns(f, rate, most)

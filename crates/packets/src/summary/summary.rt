@@ -5,6 +5,7 @@ ghost use Rattle.packets.specs.declared.outline.Outline.{Outline};
 use crate::outline::FragmentState;
 use crate::summary::lengths::Lengths;
 use crate::summary::numbers::NumberTallies;
+use crate::summary::period::Period;
 use crate::summary::rate::Rate;
 use crate::summary::sizes::Sizes;
 use crate::summary::table::Table;
@@ -34,6 +35,8 @@ pub struct Summary<S: BuildHasher = BuildHasherDefault<FoldHasher>> {
     pub sizes: Sizes,
     /// By their times.
     pub rate: Rate,
+    /// When they came.
+    pub period: Period,
     /// By their bytes on the wire.
     pub lengths: Lengths,
     /// Those that are refused, by the reason.
@@ -117,6 +120,7 @@ impl<S: BuildHasher> Summary<S> {
             parts: FragmentTallies::NONE,
             sizes: Sizes::NONE,
             rate: Rate::new(),
+            period: Period::NONE,
             lengths: Lengths::NONE,
             reasons: Table::with_hasher(alloc, reasons),
             talkers: Table::with_hasher(alloc, addresses),
@@ -178,6 +182,7 @@ impl<S: BuildHasher> Summary<S> {
         self.parts.add(packet);
         self.sizes.add(packet);
         self.rate.add(packet);
+        self.period.add(packet);
         self.lengths.add(packet);
         self.reasons.add_keyed(packet.refusal, packet);
         self.talkers.add_keyed(packet.headers.addresses(), packet);

@@ -8,6 +8,7 @@ ghost use Rattle.packets.specs.Examples.{back_ends, ipv4_ends, ipv6_address, ipv
 ghost use Rattle.packets.specs.Examples.{sized, tally};
 ghost use Rattle.packets.specs.Lengths.{CountsLengths};
 ghost use Rattle.packets.specs.Numbers.{number_tally};
+ghost use Rattle.packets.specs.Period.{earliest_of, latest_of};
 ghost use Rattle.packets.specs.Rate.{is_past_spans, span_at};
 ghost use Rattle.packets.specs.Table.{no_tally, tally_at};
 ghost use Rattle.packets.specs.declared.outline.FragmentState.TheVariants as state;
@@ -112,6 +113,18 @@ pub fn spans_of_the_page()
         (outline_of_fragment 10 9 state.Waits None) ≡ true)
         × (is_past_spans 31250000 1700000000250000000 (outline_of_fragment 10 9 state.Waits None)
         ≡ false) }
+{}
+
+/// The first packet is the earliest one, and the tenth the latest. Where these are exchanged, it is the
+/// same.
+pub fn period_of_the_page()
+    ensures earliest { earliest_of page ≡ Some 1700000000250000000 }
+    ensures latest { latest_of page ≡ Some 1700000001375000000 }
+    ensures none { (earliest_of [] ≡ None) × (latest_of [] ≡ None) }
+    ensures exchanged { (earliest_of (outline_of_fragment 10 9 state.Waits None
+        ∷ outline_of_fragment 5 4 state.Waits None ∷ []) ≡ Some 1700000000750000000)
+        × (latest_of (outline_of_fragment 10 9 state.Waits None
+        ∷ outline_of_fragment 5 4 state.Waits None ∷ []) ≡ Some 1700000001375000000) }
 {}
 
 /// The verdicts on checksums, and what became of fragments.

@@ -142,6 +142,7 @@ pub fn outlines_of_the_page()
     ensures seventh { outline_of (record {
       number = 7;
       first_time = 1700000000250000000;
+      previous_time = 1700000000875000000;
       time = 1700000001000000000;
       interface = 0;
       link = link.Ethernet;
@@ -163,6 +164,7 @@ pub fn outlines_of_the_page()
         → message.payload.items ≡ datagram_with 0x11 0xef → outline_of (record {
           number = 6;
           first_time = 1700000000250000000;
+          previous_time = 1700000000750000000;
           time = 1700000000875000000;
           interface = 0;
           link = link.Ethernet;
@@ -186,6 +188,7 @@ pub fn outlines_of_the_page()
     ensures second { outline_of (record {
       number = 2;
       first_time = 1700000000250000000;
+      previous_time = 1700000000250000000;
       time = 1700000000375000000;
       interface = 0;
       link = link.Ethernet;

@@ -39,11 +39,14 @@ returns g c course start seen memory has goes =
     × (end.dropped ≡ capped (c.dissect.new.self.dropped + dropped_within n lists' order'))) (sym memory)
     (c.keep_within.ensures.datagrams lists' order' shows' has') in
     let first = c.in-Ok.ensures.first_time.0
-    ∙ ap (λ (f : Option ℕ). first_at f packet.time) (c.drop_idle.ensures.first_time ∙ has.first) in (
+    ∙ ap (λ (f : Option ℕ). first_at f packet.time) (c.drop_idle.ensures.first_time ∙ has.first) in
+    let previous = c.in-Ok.ensures.last_time.0
+    ∙ ap (λ (l : Option ℕ). first_at l packet.time) (c.drop_idle.ensures.last_time ∙ has.last) in (
       reported,
       record {
         number = c.in-Ok.ensures.number;
         first_time = first;
+        previous_time = previous;
         time = c.in-Ok.ensures.arrival.0;
         interface = c.in-Ok.ensures.arrival.1;
         link = c.in-Ok.ensures.arrival.2;
@@ -72,6 +75,7 @@ returns g c course start seen memory has goes =
       record {
         first = c.keep_within.ensures.first_time ∙ c.in-Ok.ensures.first_time.1
             ∙ ap (λ (n : ℕ). Some n) first;
+        last = c.keep_within.ensures.last_time ∙ c.in-Ok.ensures.last_time.1;
         lists = kept.0;
         started = c.keep_within.ensures.started lists' order' _ shows' has'
             (subst (λ (n : ℕ). ShowsStarted c.dissect.new.self.datagrams

@@ -21,6 +21,7 @@ packets-init g c = record {
   dissected = refl;
   course = record {
     first = c.requires.first_time;
+    last = c.requires.last_time;
     lists = c.requires.datagrams;
     started = c.requires.started;
     begin = c.new-spans.ensures;

@@ -14,7 +14,8 @@ returns g c = λ packets old. record {
   parts = c.add-4.ensures packets old.parts;
   sizes = c.add-5.ensures packets old.sizes;
   rate = c.add-6.ensures packets old.rate;
-  lengths = c.add-7.ensures packets old.lengths;
+  period = c.add-7.ensures packets old.period;
+  lengths = c.add-8.ensures packets old.lengths;
   reasons = c.add_keyed.ensures (λ (p : Outline). p.refusal) packets refl old.reasons;
   talkers = c.add_keyed-2.ensures (λ (p : Outline). net_addresses p.headers.net) packets (sym
       c.addresses.ensures) old.talkers;

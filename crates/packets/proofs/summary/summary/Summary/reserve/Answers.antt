@@ -10,6 +10,7 @@ returns-clause-same g c = λ packets old. record {
   parts = old.parts;
   sizes = old.sizes;
   rate = old.rate;
+  period = old.period;
   lengths = old.lengths;
   reasons = keys-moved c.args.self.now.reasons c.reserve.new.self packets
       c.in_ok-reserve.ensures.same old.reasons;

@@ -12,6 +12,7 @@ returns g c = record {
   parts = record { all = refl; completing = refl; refused = refl };
   sizes = λ digits small. zeros-at 65 digits;
   rate = c.new.ensures;
+  period = record { earliest = refl; latest = refl };
   lengths = record { cut = refl; wire = refl; captured = refl };
   reasons = keys-none c.with_hasher.result c.with_hasher.ensures;
   talkers = keys-none c.with_hasher-2.result c.with_hasher-2.ensures;
