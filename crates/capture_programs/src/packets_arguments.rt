@@ -145,13 +145,11 @@ fn with_input<'a>(alloc: Global, command: Command<'a>) -> Result<Command<'a>, Al
         .arg(flag(alloc, "no-checksums", "Verifies and shows no checksums"))?
         .arg(names(alloc))?
         .arg(read(alloc)?)?
-        .arg(
-            file(
-                alloc,
-                "The captures to read in their order, pcap or pcapng, or - for standard input",
-            )
-            .num_args(1..),
+        .arg(file(
+            alloc,
+            "The captures to read in their order, pcap or pcapng, or - for standard input",
         )
+        .num_args(1..))
 }
 
 // What tcpdump needs so that no names of hosts and ports are looked up, once or more often.
