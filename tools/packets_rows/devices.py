@@ -77,8 +77,8 @@ def inputs(program, folder):
         yield f"refused without a command: {name}", result == (status, b"", f"packets: {wanted}\n")
     yield "the version", run(program, folder, "--version").stdout == f"packets {version()}\n".encode()
     done = run(program, folder)
-    yield "no words", (done.returncode, done.stdout) == (2, b"") and b"\nUsage: packets [OPTIONS] [FILE]\n" in done.stderr
-    for words in (["--utc", "show"], ["show", "--width"], ["json", "--utc"], ["summary", "--only", "tcq"]):
+    yield "no words", (done.returncode, done.stdout) == (2, b"") and b"\nUsage: packets [OPTIONS] [FILE]...\n" in done.stderr
+    for words in (["--payload", "show"], ["show", "--width"], ["json", "--utc"], ["summary", "--only", "tcq"]):
         done = run(program, folder, *words)
         yield f"no command: {words}", done.returncode == 2 and done.stderr.startswith(b"error: ")
     for words in (["--help"], ["show", "--help"], ["json", "--help"], ["summary", "--help"]):
