@@ -7,7 +7,8 @@ use etherparse_proved::{
 use std::fs;
 use std::path::Path;
 
-const TABLES: &str = concat!(env!("CARGO_MANIFEST_DIR"), "/tests/tables");
+const TABLES: &str = concat!(env!("CARGO_MANIFEST_DIR"), "/../c/tests");
+const ROWS: &str = concat!(env!("CARGO_MANIFEST_DIR"), "/../crates/netlines_rows/data");
 
 fn bytes(hex: &str) -> Vec<u8> {
     if hex == "-" {
@@ -128,7 +129,7 @@ fn sums() {
 #[test]
 fn rows_are_answered() {
     let mut count = 0;
-    for entry in fs::read_dir(Path::new(TABLES).join("rows")).unwrap() {
+    for entry in fs::read_dir(ROWS).unwrap() {
         let path = entry.unwrap().path();
         let shown_to_differ = path.file_stem().map_or(false, |name| name == "wrong_on_purpose");
         if path.extension().map_or(false, |extension| extension == "in") && !shown_to_differ {

@@ -7,7 +7,7 @@ use std::collections::HashMap;
 use std::fs;
 use std::path::Path;
 
-const TABLE: &str = concat!(env!("CARGO_MANIFEST_DIR"), "/tests/tables/plans.txt");
+const TABLE: &str = concat!(env!("CARGO_MANIFEST_DIR"), "/../c/tests/plans.txt");
 
 fn bytes(hex: &str) -> Vec<u8> {
     if hex == "-" {

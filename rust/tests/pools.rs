@@ -4,7 +4,7 @@ use etherparse_proved::{slice_ethernet, AddError, Message, PartRefusal, Pool};
 use std::fs;
 use std::net::{IpAddr, Ipv4Addr, Ipv6Addr};
 
-const TABLE: &str = concat!(env!("CARGO_MANIFEST_DIR"), "/tests/tables/pools.txt");
+const TABLE: &str = concat!(env!("CARGO_MANIFEST_DIR"), "/../c/tests/pools.txt");
 
 fn bytes(hex: &str) -> Vec<u8> {
     let hex = hex.trim_matches('-');
