@@ -8,13 +8,14 @@ ghost use Rattle.std.specs.Map.{keys_of};
 ghost use Rattle.ep_packet.specs.Class.{IdentificationFits, as_class, packet_parsed};
 ghost use Rattle.ep_packet.specs.declared.class.Class.TheVariants as reported;
 ghost use Rattle.etherparse.specs.Counts.{Bounded, Counts, HasMemoryFor, HasSlot, KeepsMemoryOf, open_in};
-ghost use Rattle.etherparse.specs.IpDefragPool.{Accepts, AcceptsBy, Refuses, same_id};
+ghost use Rattle.etherparse.specs.Fragments.{Fragment};
+ghost use Rattle.etherparse.specs.IpDefragPool.{Accepts, Refuses, same_id};
 ghost use Rattle.etherparse.specs.IpFragId.{fragment_in, id_named};
 ghost use Rattle.etherparse.specs.Memory.{freed};
 ghost use Rattle.etherparse.specs.Repeats.{TakesRepeat};
 ghost use Rattle.etherparse.specs.StartedBytes.{bytes_of};
 ghost use Rattle.etherparse.specs.Starts.{ForgetsOldest, StartsAfter, bytes_in, names_there};
-ghost use Rattle.etherparse.specs.ReassemblyTable.{MayTest, OthersStay, RefusesBy, Retained, Stays, fragment_of};
+ghost use Rattle.etherparse.specs.ReassemblyTable.{MayTest, OthersStay, Retained, Stays, fragment_of};
 ghost use Rattle.etherparse.specs.ReassemblyTable.{reassembly_at};
 
 use super::fragment::named;
@@ -197,42 +198,47 @@ impl<Timestamp: Drop, CustomChannelId: Eq + Hash + Drop, S: BuildHasher> IpDefra
             (id_named named.0 channel_id) result) }
     {
         let (id, received) = named(message, channel_id);
-        let rule = id.ip.overlap_rule();
-        self.add_fragment(id, rule, &received, timestamp)
+        self.add_fragment(id, &received, timestamp)
     }
 
-    // Takes a fragment of the datagram with this name, whose fragments overlap by this rule.
+    // Takes a fragment of the datagram with this name. Each clause speaks of a name and a fragment
+    // that are equal to these, as those that a packet reports are.
     pub(super) fn add_fragment(
         &mut self,
         id: IpFragId<CustomChannelId>,
-        rule: OverlapRule,
         received: &SlicedFragment<'_>,
         timestamp: Timestamp,
     ) -> Result<Option<IpDefragPayloadVec>, IpDefragError>
-        ensures accepted { AcceptsBy rule ⟦<IpFragId<CustomChannelId> as PartialEq>⟧.eq
-            self.old self.new id (fragment_of received.now) timestamp result }
-        ensures refused { RefusesBy rule ⟦<IpFragId<CustomChannelId> as PartialEq>⟧.eq self.old id
-            (fragment_of received.now) result }
-        ensures repeat { TakesRepeat
-            (reassembly_at ⟦<IpFragId<CustomChannelId> as PartialEq>⟧.eq self.old id)
-            (reassembly_at ⟦<IpFragId<CustomChannelId> as PartialEq>⟧.eq self.new id)
-            (fragment_of received.now) result }
-        ensures others { OthersStay ⟦<IpFragId<CustomChannelId> as PartialEq>⟧.eq
-            id self.old self.new }
-        ensures err { IfErr result
-            (Stays ⟦<IpFragId<CustomChannelId> as PartialEq>⟧.eq id self.old self.new) }
+        ensures accepted { (name : IpFragId CustomChannelId) (f : Fragment) → id ≡ name
+            → fragment_of received.now ≡ f →
+            Accepts (same_id CustomChannelId.eq) self.old self.new name f timestamp result }
+        ensures refused { (name : IpFragId CustomChannelId) (f : Fragment) → id ≡ name
+            → fragment_of received.now ≡ f →
+            Refuses (same_id CustomChannelId.eq) self.old name f result }
+        ensures repeat { (name : IpFragId CustomChannelId) (f : Fragment) → id ≡ name
+            → fragment_of received.now ≡ f →
+            TakesRepeat (reassembly_at (same_id CustomChannelId.eq) self.old name)
+            (reassembly_at (same_id CustomChannelId.eq) self.new name) f result }
+        ensures others { (name : IpFragId CustomChannelId) → id ≡ name →
+            OthersStay (same_id CustomChannelId.eq) name self.old self.new }
+        ensures err { (name : IpFragId CustomChannelId) → id ≡ name →
+            IfErr result (Stays (same_id CustomChannelId.eq) name self.old self.new) }
         ensures short { IfOk result
             (λ payload. IfSome payload (λ whole. length whole.payload.items ≤ 65535)) }
-        ensures counts { Counts ⟦<IpFragId<CustomChannelId> as PartialEq>⟧.eq self.old self.new id result }
-        ensures starts { StartsAfter ⟦<IpFragId<CustomChannelId> as PartialEq>⟧.eq
-            self.old self.new id result }
-        ensures succeeds { HasMemoryFor ⟦<IpFragId<CustomChannelId> as PartialEq>⟧.eq self.old id
-            (fragment_of received.now) result }
-        ensures memory { KeepsMemoryOf ⟦<IpFragId<CustomChannelId> as PartialEq>⟧.eq
-            self.old self.new id result }
+        ensures counts { (name : IpFragId CustomChannelId) → id ≡ name →
+            Counts (same_id CustomChannelId.eq) self.old self.new name result }
+        ensures starts { (name : IpFragId CustomChannelId) → id ≡ name →
+            StartsAfter (same_id CustomChannelId.eq) self.old self.new name result }
+        ensures bound { Bounded self.old self.new }
+        ensures succeeds { (name : IpFragId CustomChannelId) (f : Fragment) → id ≡ name
+            → fragment_of received.now ≡ f →
+            HasMemoryFor (same_id CustomChannelId.eq) self.old name f result }
+        ensures memory { (name : IpFragId CustomChannelId) → id ≡ name →
+            KeepsMemoryOf (same_id CustomChannelId.eq) self.old self.new name result }
     {
         let ip_number = id.payload_ip_number;
         let len_source = id.ip.len_source();
+        let rule = id.ip.overlap_rule();
         match self.reassemblies.add(id, rule, received, timestamp) {
             Ok(Some(payload)) => Ok(Some(IpDefragPayloadVec {
                 ip_number,

@@ -129,9 +129,8 @@ impl<Timestamp: Copy + Drop, CustomChannelId: Eq + Hash + Drop, S: BuildHasher> 
         ensures bound { Bounded self.old self.new }
     {
         let (id, received) = named(message, channel_id);
-        let rule = id.ip.overlap_rule();
         let before = self.reassemblies.timestamp_of(&id).copied();
         let timestamp = renew(before);
-        (before, self.add_fragment(id, rule, &received, timestamp))
+        (before, self.add_fragment(id, &received, timestamp))
     }
 }
