@@ -1,6 +1,6 @@
 //! The reassembly of one datagram.
 
-ghost use Rattle.std.specs.Prelude.{◌≡◌, ◌++◌, ◌∷◌, ◌+◌, ◌≤◌, ℕ, [], List, None, false, OnOk, IfErr, IfOk, IfSome};
+ghost use Rattle.std.specs.Prelude.{◌≡◌, ◌++◌, ◌∷◌, ◌+◌, ◌≤◌, ℕ, [], List, None, true, false, OnOk, IfErr, IfOk, IfSome};
 ghost use Rattle.std.specs.Prelude.{IsOk, length, option_map, vec_len, vec_capacity};
 ghost use Rattle.indexmap.specs.IndexMap.{IsUnique, get, index_map_len, insert_index, spare as names_room};
 ghost use Rattle.etherparse.specs.Counts.{held_after, sections_after, spare_after};
@@ -12,7 +12,7 @@ ghost use Rattle.etherparse.specs.declared.defrag.overlap_rule.OverlapRule.{Over
 ghost use Rattle.etherparse.specs.declared.defrag.overlap_rule.OverlapRule.TheVariants.{Refuses};
 ghost use Rattle.etherparse.specs.Room.{NoLessRoom};
 ghost use Rattle.etherparse.specs.Memory.{FindsRoom, KeepsMemory, capacities, memory_of};
-ghost use Rattle.etherparse.specs.SpareBuffers.{HasSlots};
+ghost use Rattle.etherparse.specs.SpareBuffers.{HasSlots, NoFewerSlots, SameBuffers, SameCounts};
 ghost use Rattle.etherparse.specs.Starts.{EntriesAfter, Tracks, change_of, order_after, room_for};
 ghost use Rattle.etherparse.specs.ReassemblyTable.{Becomes, IsErrorOf, IsLeft, IsReassemblyOf, ShowsReassembly};
 ghost use Rattle.etherparse.specs.ReassemblyTable.{fragment_of};
@@ -116,6 +116,20 @@ fn first_fragment_error(received: &SlicedFragment<'_>) -> IpDefragError
     }
 }
 
+// Makes room for one more reassembly than these, slots for its buffers and a place in the order of
+// starts, and returns whether it is there.
+fn make_room(spare: &mut SpareBuffers, starts: &mut StartOrder, held: usize) -> bool
+    ensures slots { result ≡ true → HasSlots spare.new (held + 1) }
+    ensures place { result ≡ true → 1 ≤ starts.new.room }
+    ensures succeeds { HasSlots spare.old (held + 1) → 1 ≤ starts.old.room → result ≡ true }
+    ensures same { SameCounts spare.old spare.new }
+    ensures buffers { SameBuffers spare.old spare.new }
+    ensures no_fewer { NoFewerSlots spare.old spare.new }
+    ensures order { starts.new.order ≡ starts.old.order }
+{
+    spare.make_slots(held) && starts.reserve()
+}
+
 // The bytes of a datagram that is complete. Its sections are spare now.
 fn finish(spare: &mut SpareBuffers, buf: ReassemblyBuf) -> Vec<u8>
     requires { HasSlots spare.old 1 }
@@ -209,11 +223,7 @@ pub(crate) fn add_fragment<K: Eq + Hash + Drop, T: Drop, S: BuildHasher>(
             }
         }
         Ok(Entry::Vacant(entry)) => {
-            if !spare.make_slots(held) {
-                entry.into_key();
-                return Err(first_fragment_error(received));
-            }
-            if !starts.reserve() {
+            if !make_room(spare, starts, held) {
                 entry.into_key();
                 return Err(first_fragment_error(received));
             }

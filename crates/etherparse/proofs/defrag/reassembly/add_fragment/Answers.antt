@@ -25,7 +25,7 @@ sections_room = ap (λ (c : Contents Unit). c.room.for_sections)
 pub finish-requires-in-Ok-add : goal.finish-requires-in-Ok-add
 finish-requires-in-Ok-add g c =
     c.take-bytes.ensures.slots _
-    (fewer_slots _ _ _ (omega arith) (c.make_slots.ensures.made (search rules)))
+    (fewer_slots _ _ _ (omega arith) (c.make_room.ensures.slots (search rules)))
 
 pub returns-in-Ok-clause-slots : goal.returns-in-Ok-clause-slots
 returns-in-Ok-clause-slots g c =
@@ -35,28 +35,28 @@ pub returns-in-Ok-add-clause-slots : goal.returns-in-Ok-add-clause-slots
 returns-in-Ok-add-clause-slots g c =
     c.finish-in-Ok-add.ensures.slots _
     (c.take-bytes.ensures.slots _
-    (same_slots _ _ _ (search rules) (c.make_slots.ensures.made (search rules))))
+    (same_slots _ _ _ (search rules) (c.make_room.ensures.slots (search rules))))
 
 pub returns-in-Ok-2-add-clause-slots : goal.returns-in-Ok-2-add-clause-slots
 returns-in-Ok-2-add-clause-slots g c =
     c.take-bytes.ensures.slots _
-    (same_slots _ _ _ (search rules) (c.make_slots.ensures.made (search rules)))
+    (same_slots _ _ _ (search rules) (c.make_room.ensures.slots (search rules)))
 
 pub returns-in-Err-add-clause-slots : goal.returns-in-Err-add-clause-slots
 returns-in-Err-add-clause-slots g c =
     c.give_back.ensures.slots _
     (c.take-bytes.ensures.slots _
-    (same_slots _ _ _ (search rules) (c.make_slots.ensures.made (search rules))))
+    (same_slots _ _ _ (search rules) (c.make_room.ensures.slots (search rules))))
 
 pub returns-in-Ok-2-add-clause-accepted : goal.returns-in-Ok-2-add-clause-accepted
 returns-in-Ok-2-add-clause-accepted g c kept fs shows begins =
     first_waits kept c.args.rule (fragment_of c.args.received.now) c.args.timestamp _ _ fs
     (search rules) shows begins (search rules) (search rules) (search rules)
 
-pub returns-then-not-make_slots-clause-memory : goal.returns-then-not-make_slots-clause-memory
-returns-then-not-make_slots-clause-memory g c =
-    keeps_gone _ _ _ _ _ _ (each_is _ _ c.make_slots.ensures.buffers.bytes)
-    (each_is _ _ c.make_slots.ensures.buffers.sections) (search rules)
+pub returns-then-not-make_room-clause-memory : goal.returns-then-not-make_room-clause-memory
+returns-then-not-make_room-clause-memory g c =
+    keeps_gone _ _ _ _ _ _ (each_is _ _ c.make_room.ensures.buffers.bytes)
+    (each_is _ _ c.make_room.ensures.buffers.sections) (search rules)
 
 pub returns-in-Err-clause-memory : goal.returns-in-Err-clause-memory
 returns-in-Err-clause-memory g c =
@@ -73,7 +73,7 @@ returns-in-Err-Ends-clause-memory g c =
 
 pub returns-in-Err-add-clause-memory : goal.returns-in-Err-add-clause-memory
 returns-in-Err-add-clause-memory g c =
-    let buffers = c.make_slots.ensures.buffers in
+    let buffers = c.make_room.ensures.buffers in
     let take = c.take-bytes.ensures in
     let back = c.give_back.ensures in
     let was : c.get_mut-in-Ok-Vacant.result.now.buf ≡ c.starting-buf.result = search rules in
@@ -91,7 +91,7 @@ returns-in-Err-add-clause-memory g c =
 
 pub returns-in-Err-add-clause-succeeds : goal.returns-in-Err-add-clause-succeeds
 returns-in-Err-add-clause-succeeds g c finds =
-    let buffers = c.make_slots.ensures.buffers in
+    let buffers = c.make_room.ensures.buffers in
     let take = c.take-bytes.ensures in
     let f = fragment_of c.args.received.now in
     let n = index_map_len c.args.reassemblies.now in
@@ -110,7 +110,7 @@ returns-in-Err-add-clause-succeeds g c finds =
 
 pub returns-in-Ok-2-add-clause-memory : goal.returns-in-Ok-2-add-clause-memory
 returns-in-Ok-2-add-clause-memory g c =
-    let buffers = c.make_slots.ensures.buffers in
+    let buffers = c.make_room.ensures.buffers in
     let take = c.take-bytes.ensures in
     let was : c.get_mut-in-Ok-Vacant.result.now.buf ≡ c.starting-buf.result = search rules in
     let first = was ∙ c.starting-buf.ensures.value in
@@ -125,7 +125,7 @@ returns-in-Ok-2-add-clause-memory g c =
 
 pub returns-in-Ok-add-clause-memory : goal.returns-in-Ok-add-clause-memory
 returns-in-Ok-add-clause-memory g c =
-    let buffers = c.make_slots.ensures.buffers in
+    let buffers = c.make_room.ensures.buffers in
     let take = c.take-bytes.ensures in
     let ended = c.finish-in-Ok-add.ensures in
     let was : c.get_mut-in-Ok-Vacant.result.now.buf ≡ c.starting-buf.result = search rules in
@@ -140,7 +140,7 @@ returns-in-Ok-add-clause-memory g c =
     ended.sections_room
     (omega (arith, more.sections, sections_room first, sections_room is)) (search rules)
     (slot_left c.take-bytes.new.self c.finish-in-Ok-add.new.spare c.len-held.result
-    ended.bytes_stay (take.slots _ (c.make_slots.ensures.made (search rules))))
+    ended.bytes_stay (take.slots _ (c.make_room.ensures.slots (search rules))))
 
 pub overflow_sub-held_bytes : goal.overflow_sub-held_bytes
 overflow_sub-held_bytes g c =
@@ -180,11 +180,6 @@ swap_remove-requires-in-Err-Ends g c =
     let i : c.index-in-Err-Ends.result
     ≡ insert_index g.K.PartialEq.eq c.args.reassemblies.now c.args.name = search rules in
     omega (arith, i, within, c.requires.tracks.count)
-
-pub returns-then-not-reserve-clause-memory : goal.returns-then-not-reserve-clause-memory
-returns-then-not-reserve-clause-memory g c =
-    keeps_gone _ _ _ _ _ _ (each_is _ _ c.make_slots.ensures.buffers.bytes)
-    (each_is _ _ c.make_slots.ensures.buffers.sections) (search rules)
 
 pub returns-in-Ok-clause-tracks : goal.returns-in-Ok-clause-tracks
 returns-in-Ok-clause-tracks g c =
@@ -243,7 +238,7 @@ pub returns-in-Ok-add-clause-tracks : goal.returns-in-Ok-add-clause-tracks
 returns-in-Ok-add-clause-tracks g c =
     let none : get g.K.PartialEq.eq c.args.reassemblies.now c.args.name ≡ None = search rules in
     tracks_unchanged g.K.PartialEq.eq c.args.name _ _ c.args.reassemblies.now.entries
-    c.requires.tracks _ _ c.reserve.ensures.order none (search rules)
+    c.requires.tracks _ _ c.make_room.ensures.order none (search rules)
 
 pub returns-in-Err-add-clause-entries : goal.returns-in-Err-add-clause-entries
 returns-in-Err-add-clause-entries g c =
@@ -254,7 +249,7 @@ pub returns-in-Err-add-clause-tracks : goal.returns-in-Err-add-clause-tracks
 returns-in-Err-add-clause-tracks g c =
     let none : get g.K.PartialEq.eq c.args.reassemblies.now c.args.name ≡ None = search rules in
     tracks_unchanged g.K.PartialEq.eq c.args.name _ _ c.args.reassemblies.now.entries
-    c.requires.tracks _ _ c.reserve.ensures.order none (search rules)
+    c.requires.tracks _ _ c.make_room.ensures.order none (search rules)
 
 pub returns-in-Ok-2-add-clause-entries : goal.returns-in-Ok-2-add-clause-entries
 returns-in-Ok-2-add-clause-entries g c =
@@ -270,7 +265,7 @@ returns-in-Ok-2-add-clause-tracks g c =
     let v : Reassembly g.row.T.Denot =
     record { buf = c.add-in-Ok-Vacant.new.self; timestamp = c.args.timestamp } in
     let is : c.get-in-Ok-2-add.result.now.buf ≡ c.add-in-Ok-Vacant.new.self = search rules in
-    let same = ap (λ (slots : List ℕ). length slots) c.reserve.ensures.order in
+    let same = ap (λ (slots : List ℕ). length slots) c.make_room.ensures.order in
     tracks_started g.K.PartialEq.eq c.args.name _ _ c.args.reassemblies.now.entries
     c.requires.tracks v _ _ _ none (search (rules, c.in-Ok-Vacant.ensures.update.1 v))
     (c.data_len-in-Ok-2-add.ensures.len ∙ ap (λ (b : Contents Unit). length b.bytes) is)
