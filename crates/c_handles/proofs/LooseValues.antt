@@ -3,7 +3,7 @@ use Rattle.std.proofs.Common.{◌≡◌, ℕ, List, [], ◌∷◌, ◌++◌, ref
 use mathlib.Core.Bool.{Bool, true, false, ◌&&◌}
 use lib.Dec.{T}
 use seplogic.Ra.Ura.{Ura}
-use mir.Syntax.{impl, tnil, dnil}
+use mir.Syntax.{Args, Dict, a_type, impl, tnil, dcons, dnil}
 use mir.Raw.{raw as bare}
 use mir.Val.{Val, vptr, vstruct, vcons, vnil, of_list, has_ty, WT}
 use base.Logic.{never, fst∗}
@@ -14,7 +14,7 @@ use denote.Builtin.{RawPtr}
 use denote.Memory.{lone}
 use denote.RawPtr.{Ptr, block_ptr, null_ptr, ptr_val, in_a_block}
 use denote.Steps.{nothing}
-use denote.Param.{layout}
+use denote.Param.{bounded, layout}
 use denote.Param.Laws.{Laws}
 use denote.Struct.Struct.{within}
 use denote.Struct.Owning.{shape}
@@ -22,6 +22,7 @@ use Rattle.core.specs.declared.alloc.Allocator.{Ghosts}
 use Rattle.core.proofs.alloc.Calls.{Al, handle_tells}
 use Rattle.core.proofs.cell.Inside.{Good}
 use Rattle.std_alloc.specs.Box.Ownership.{box_owns}
+use Rattle.std_alloc.proofs.BoxSteps.Form.{Bx}
 use Rattle.std_alloc.proofs.ResultValues.{and_tt}
 use Rattle.c_handles.specs.contracts.loose.Loose as loose
 
@@ -32,6 +33,18 @@ pub both_tt : (x y : Bool) → T x → T y → T (x && (y && true))
 both_tt true true s t = tt
 both_tt true false s t = absurd t
 both_tt false y s t = absurd s
+
+-- the arguments of a function over a box of these types
+abbrev pub args_of : RattleType → RattleType → (d dx dd : Dict) → Args
+args_of T A d dx dd = bounded (a_type ∷ a_type ∷ []) (T, (A, tt)) (dcons d (dcons dx (dcons dd dnil)))
+
+abbrev pub box_of : (T : RattleType) → Laws T → (A : RattleType) → Laws A → Ghosts A.Denot
+    → (d dd : Dict) → Bx
+box_of T L A LA g d dd = record {
+  row = T;
+  laws = L;
+  al = record { row = A; laws = LA; g = g; d = d; drops = dd };
+}
 
 module _ (R Z : RattleType) (L : Laws Z) (g : Ghosts Z.Denot) where
   abbrev pub Loose : RattleType
