@@ -1,10 +1,11 @@
-use Rattle.std.proofs.Common.{◌≡◌, arith, inl, inr, refl, List, [], ◌∷◌, ℕ}
-use Rattle.std.specs.Prelude.{replicate, slice_set, ◌≢◌}
+use Rattle.std.proofs.Common.{◌≡◌, arith, inl, inr, refl, List, [], ◌∷◌, ℕ, ◌+◌, ◌^◌, ◌<◌, ◌≤◌}
+use Rattle.std.specs.Prelude.{drop, length, replicate, slice_set, take, ◌≢◌}
 use Rattle.captures.specs.Examples.{cooked_packet, empty_block, enhanced_block, interface_block, origin_at, other_block}
 use Rattle.captures.specs.Examples.{other_interface, packet_at, section_block}
-use Rattle.captures.specs.Pcapng.{IsTimedPacket}
+use Rattle.captures.specs.Pcapng.{HasOrder, IsBlock, IsTaken, IsTimedPacket, Reads, clock_at, link_at}
 use Rattle.captures.specs.Pcapng.Content.{Opens, Describes, Holds}
-use Rattle.captures.specs.Times.{usual_clock}
+use Rattle.captures.specs.Numbers.{word}
+use Rattle.captures.specs.Times.{clock_time, usual_clock}
 use Rattle.captures.specs.Units.{IsBlockUnit, no_section}
 use Rattle.captures.specs.declared.byte_order.ByteOrder.TheVariants.{Little}
 use Rattle.captures.specs.declared.link.kind.Link.{Link}
@@ -63,125 +64,111 @@ opens = record {
   becomes = refl;
 }
 
-describes : IsBlockUnit (section_of 0 0 (replicate 32 Ethernet) 0 0) interface_block
-    (Pcapng (section_of 1 22 first_link 0 0)) nowhere []
-describes = record {
+other_kind : (kind : ℕ) → kind < 0x0a0d0d0a → kind ≢ 0x0a0d0d0a
+other_kind kind less other = omega arith
+
+-- a block that isn't a section's
+in_section : (section after : Section) (block : List ℕ) (origin : Origin) (frame : List ℕ)
+    → HasOrder section.order block Little → IsBlock Little block → IsTaken Little block (length block)
+    → Reads section Little block after origin frame
+    → IsBlockUnit section block (Pcapng after) origin frame
+in_section section after block origin frame has_order is_block fits reads = record {
   order = Little;
-  has_order = inl (λ e. let same : 0x01000000 ≡ 0x0a0d0d0a = e in absurd (omega arith), refl);
-  block = record { size = omega arith; words = refl; prefix = refl; back = refl };
-  fits = inl (omega arith);
-  next = section_of 1 22 first_link 0 0;
-  reads = record {
-    content = Describes 276 22 usual_clock;
-    says = (refl, omega arith, refl, refl, refl, omega arith);
-    becomes = (first_link, refl, refl, refl);
-  };
+  has_order = has_order;
+  block = is_block;
+  fits = fits;
+  next = after;
+  reads = reads;
   becomes = refl;
 }
+
+-- a packet with a time, after the numbers and the bytes that it is of
+in_block : (interface : ℕ) (section : Section) (block : List ℕ) (origin : Origin) (link : Link)
+    (packet : List ℕ) → 32 + length packet ≤ length block → interface < section.interfaces
+    → section.first + interface ≡ origin.channel → origin.channel < 2 ^ 32
+    → clock_time (clock_at section interface) (word Little block 12) (word Little block 16) ≡ origin.time
+    → link_at section interface ≡ link
+    → (word Little block 20 ≡ length packet) × (packet ≡ take (length packet) (drop 28 block))
+    → IsTimedPacket interface section Little block origin link packet
+in_block interface section block origin link packet size described number fits time over bytes = record {
+  size = size;
+  described = described;
+  number = number;
+  fits = fits;
+  time = time;
+  over = over;
+  captured = bytes.0;
+  bytes = bytes.1;
+}
+
+describes : IsBlockUnit (section_of 0 0 (replicate 32 Ethernet) 0 0) interface_block
+    (Pcapng (section_of 1 22 first_link 0 0)) nowhere []
+describes = in_section (section_of 0 0 (replicate 32 Ethernet) 0 0) (section_of 1 22 first_link 0 0)
+    interface_block nowhere [] (inl (other_kind 0x01000000 (omega arith), refl))
+    (record { size = omega arith; words = refl; prefix = refl; back = refl }) (inl (omega arith))
+    (record {
+      content = Describes 276 22 usual_clock;
+      says = (refl, omega arith, refl, refl, refl, omega arith);
+      becomes = (first_link, refl, refl, refl);
+    })
 
 describes_other : IsBlockUnit (section_of 1 22 first_link 0 0) other_interface
     (Pcapng (section_of 2 22 both_links 0 0)) nowhere []
-describes_other = record {
-  order = Little;
-  has_order = inl (λ e. let same : 0x01000000 ≡ 0x0a0d0d0a = e in absurd (omega arith), refl);
-  block = record { size = omega arith; words = refl; prefix = refl; back = refl };
-  fits = inl (omega arith);
-  next = section_of 2 22 both_links 0 0;
-  reads = record {
-    content = Describes 105 0 usual_clock;
-    says = (refl, omega arith, refl, refl, refl, omega arith);
-    becomes = (both_links, refl, refl, refl);
-  };
-  becomes = refl;
-}
+describes_other = in_section (section_of 1 22 first_link 0 0) (section_of 2 22 both_links 0 0)
+    other_interface nowhere [] (inl (other_kind 0x01000000 (omega arith), refl))
+    (record { size = omega arith; words = refl; prefix = refl; back = refl }) (inl (omega arith))
+    (record {
+      content = Describes 105 0 usual_clock;
+      says = (refl, omega arith, refl, refl, refl, omega arith);
+      becomes = (both_links, refl, refl, refl);
+    })
 
 passes_over : IsBlockUnit (section_of 2 22 both_links 0 0) other_block
     (Pcapng (section_of 2 22 both_links 1 1)) other_moment []
-passes_over = record {
-  order = Little;
-  has_order = inl (λ e. let same : 0x06000000 ≡ 0x0a0d0d0a = e in absurd (omega arith), refl);
-  block = record { size = omega arith; words = refl; prefix = refl; back = refl };
-  fits = inl (omega arith);
-  next = section_of 2 22 both_links 1 1;
-  reads = record {
-    content = Holds other_moment (Other 105) (8 ∷ 0 ∷ 0 ∷ 0 ∷ []);
-    says = inl (
-      refl,
-      record {
-        size = omega arith;
-        described = omega arith;
-        number = refl;
-        fits = omega arith;
-        time = refl;
-        over = refl;
-        captured = refl;
-        bytes = refl;
-      },
-    );
-    becomes = (refl, refl, refl, omega arith, refl);
-  };
-  becomes = refl;
-}
+passes_over = in_section (section_of 2 22 both_links 0 0) (section_of 2 22 both_links 1 1) other_block
+    other_moment [] (inl (other_kind 0x06000000 (omega arith), refl))
+    (record { size = omega arith; words = refl; prefix = refl; back = refl }) (inl (omega arith))
+    (record {
+      content = Holds other_moment (Other 105) (8 ∷ 0 ∷ 0 ∷ 0 ∷ []);
+      says = inl (
+        refl,
+        in_block 1 (section_of 2 22 both_links 0 0) other_block other_moment (Other 105)
+            (8 ∷ 0 ∷ 0 ∷ 0 ∷ []) (omega arith) (omega arith) refl (omega arith) refl refl (refl, refl),
+      );
+      becomes = (refl, refl, refl, omega arith, refl);
+    })
 
 holds_nothing : IsBlockUnit (section_of 2 22 both_links 1 1) empty_block
     (Pcapng (section_of 2 22 both_links 1 2)) moment []
-holds_nothing = record {
-  order = Little;
-  has_order = inl (λ e. let same : 0x06000000 ≡ 0x0a0d0d0a = e in absurd (omega arith), refl);
-  block = record { size = omega arith; words = refl; prefix = refl; back = refl };
-  fits = inl (omega arith);
-  next = section_of 2 22 both_links 1 2;
-  reads = record {
-    content = Holds moment Sll2 [];
-    says = inl (
-      refl,
-      record {
-        size = omega arith;
-        described = omega arith;
-        number = refl;
-        fits = omega arith;
-        time = refl;
-        over = refl;
-        captured = refl;
-        bytes = refl;
-      },
-    );
-    becomes = (refl, refl, refl, omega arith, refl);
-  };
-  becomes = refl;
-}
+holds_nothing = in_section (section_of 2 22 both_links 1 1) (section_of 2 22 both_links 1 2) empty_block
+    moment [] (inl (other_kind 0x06000000 (omega arith), refl))
+    (record { size = omega arith; words = refl; prefix = refl; back = refl }) (inl (omega arith))
+    (record {
+      content = Holds moment Sll2 [];
+      says = inl (
+        refl,
+        in_block 0 (section_of 2 22 both_links 1 1) empty_block moment Sll2 []
+            (omega arith) (omega arith) refl (omega arith) refl refl (refl, refl),
+      );
+      becomes = (refl, refl, refl, omega arith, refl);
+    })
 
 says_packet : IsTimedPacket 0 (section_of 2 22 both_links 1 2) Little enhanced_block moment Sll2
     cooked_packet
-says_packet = record {
-  size = omega arith;
-  described = omega arith;
-  number = refl;
-  fits = omega arith;
-  time = refl;
-  over = refl;
-  captured = refl;
-  bytes = refl;
-}
-
-other_kind : (kind : ℕ) → kind ≡ 0x06000000 → kind ≢ 0x0a0d0d0a
-other_kind kind is other = omega arith
+says_packet = in_block 0 (section_of 2 22 both_links 1 2) enhanced_block moment Sll2 cooked_packet
+    (omega arith) (omega arith) refl (omega arith) refl refl (refl, refl)
 
 holds_packet : IsBlockUnit (section_of 2 22 both_links 1 2) enhanced_block
     (Pcapng (section_of 2 22 both_links 1 3)) moment (packet_at 1700000000250000000).frame
-holds_packet = record {
-  order = Little;
-  has_order = inl (other_kind 0x06000000 refl, refl);
-  block = record { size = omega arith; words = refl; prefix = refl; back = refl };
-  fits = inl (omega arith);
-  next = section_of 2 22 both_links 1 3;
-  reads = record {
-    content = Holds moment Sll2 cooked_packet;
-    says = inl (refl, says_packet);
-    becomes = (refl, refl, refl, omega arith, refl);
-  };
-  becomes = refl;
-}
+holds_packet = in_section (section_of 2 22 both_links 1 2) (section_of 2 22 both_links 1 3)
+    enhanced_block moment (packet_at 1700000000250000000).frame
+    (inl (other_kind 0x06000000 (omega arith), refl))
+    (record { size = omega arith; words = refl; prefix = refl; back = refl }) (inl (omega arith))
+    (record {
+      content = Holds moment Sll2 cooked_packet;
+      says = inl (refl, says_packet);
+      becomes = (refl, refl, refl, omega arith, refl);
+    })
 
 pub returns : goal.returns
 returns c = (
@@ -241,7 +228,7 @@ returns c = (
         has_unit = record { unit = enhanced_block; parts = refl; is_unit = holds_packet };
         is_on = λ some. (
           Little,
-          inl (other_kind 0x06000000 refl, refl),
+          inl (other_kind 0x06000000 (omega arith), refl),
           record {
             origin = moment;
             packet = cooked_packet;
