@@ -490,23 +490,23 @@ typedef struct {
     uint16_t window_size;
     /* Of TCP: the urgent pointer. */
     uint16_t urgent_pointer;
-    /* Of TCP: flag NS (RFC 3540). */
+    /* Of TCP: flag NS: ECN nonce (RFC 3540). */
     bool ns;
-    /* Of TCP: flag FIN. */
+    /* Of TCP: flag FIN: no more data. */
     bool fin;
-    /* Of TCP: flag SYN. */
+    /* Of TCP: flag SYN: sequence numbers are synchronized. */
     bool syn;
-    /* Of TCP: flag RST. */
+    /* Of TCP: flag RST: the connection is reset. */
     bool rst;
-    /* Of TCP: flag PSH. */
+    /* Of TCP: flag PSH: push. */
     bool psh;
-    /* Of TCP: flag ACK. */
+    /* Of TCP: flag ACK: the acknowledgment number counts. */
     bool ack;
-    /* Of TCP: flag URG. */
+    /* Of TCP: flag URG: the urgent pointer counts. */
     bool urg;
-    /* Of TCP: flag ECE. */
+    /* Of TCP: flag ECE: ECN echo. */
     bool ece;
-    /* Of TCP: flag CWR. */
+    /* Of TCP: flag CWR: congestion window reduced. */
     bool cwr;
     /* Of TCP: how many bytes of options there are, at most 40. */
     size_t options_len;

@@ -10,14 +10,16 @@
 
 mod packet;
 mod plan;
+mod planned_tcp;
 mod pool;
 pub mod raw;
 mod refusal;
 
 pub use packet::{Link, Net, Packet, Transport};
 pub use plan::{
-    build, BuildError, Plan, PlanField, PlannedAddresses, PlannedEcho, PlannedLink, PlannedTcp, PlannedTransport,
+    build, BuildError, Plan, PlanField, PlannedAddresses, PlannedEcho, PlannedLink, PlannedTransport,
 };
+pub use planned_tcp::PlannedTcp;
 pub use pool::{AddError, Message, PartRefusal, Pool};
 pub use refusal::{Fault, Layer, LenSource, Refusal};
 

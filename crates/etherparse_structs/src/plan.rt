@@ -59,23 +59,23 @@ pub struct EpPlan {
     pub window_size: u16,
     /// Of TCP: the urgent pointer.
     pub urgent_pointer: u16,
-    /// Of TCP: flag NS (RFC 3540).
+    /// Of TCP: flag NS: ECN nonce (RFC 3540).
     pub ns: bool,
-    /// Of TCP: flag FIN.
+    /// Of TCP: flag FIN: no more data.
     pub fin: bool,
-    /// Of TCP: flag SYN.
+    /// Of TCP: flag SYN: sequence numbers are synchronized.
     pub syn: bool,
-    /// Of TCP: flag RST.
+    /// Of TCP: flag RST: the connection is reset.
     pub rst: bool,
-    /// Of TCP: flag PSH.
+    /// Of TCP: flag PSH: push.
     pub psh: bool,
-    /// Of TCP: flag ACK.
+    /// Of TCP: flag ACK: the acknowledgment number counts.
     pub ack: bool,
-    /// Of TCP: flag URG.
+    /// Of TCP: flag URG: the urgent pointer counts.
     pub urg: bool,
-    /// Of TCP: flag ECE.
+    /// Of TCP: flag ECE: ECN echo.
     pub ece: bool,
-    /// Of TCP: flag CWR.
+    /// Of TCP: flag CWR: congestion window reduced.
     pub cwr: bool,
     /// Of TCP: how many bytes of options there are, at most 40.
     pub options_len: usize,
