@@ -21,4 +21,4 @@ pub use exit_status::status;
 pub use input::Input;
 pub use looks::{Look, look_at};
 pub use notes::{ReportedError, compression_note, note, opener};
-pub use parsing::parse_failure;
+pub use parsing::{parse_failure, words};

@@ -1,14 +1,23 @@
-//! The end of a program whose words request nothing.
+//! The words of the command line, and the end of a program whose words request nothing.
 ghost use Rattle.std.specs.Prelude.{◌≡◌, ◌≢◌, ◌⊎◌};
 ghost use Rattle.std.specs.Process.{exit_status};
 ghost use Rattle.clap.specs.Values.{kind_of};
 ghost use Rattle.clap.specs.declared.error.kind.ErrorKind.TheVariants.{DisplayHelp, DisplayVersion};
 
 use crate::exit_status::status;
+use anyhow::Context;
 use captures::RunError;
 use clap::Error;
+use std::env::{self, Env};
 use std::io::ErrorKind;
 use std::process::ExitCode;
+
+/// The words of the command line, of which the first is the program's name. It has no contract: it
+/// rests with the system which they are.
+pub fn words<R: Env + AllocGlobal>(rt: &R) -> anyhow::Result<Vec<String>> {
+    let words = env::args(rt).context("the arguments are not UTF-8")?;
+    Ok(words.collect(rt.alloc())?)
+}
 
 /// Prints the help or the version that the words request on standard output, or their mistake on
 /// standard error. The status of a mistake is 2; else it is 0, or 4 where standard output can't be
