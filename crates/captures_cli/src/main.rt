@@ -2,31 +2,23 @@
 //! capture file, `captures capture [FILE|-]`.
 #![tactic(auto)]
 
-use anyhow::Context;
 use capture_programs::captures_arguments::{PROGRAM, command};
 use capture_programs::{
-    ClosableWriter, Input, Subject, failure, parse_failure, report_skipped, unopened,
+    ClosableWriter, Input, Subject, failure, parse_failure, report_skipped, unopened, words,
 };
 use captures::Skipped;
 use captures_program::{Mode, Requested, exit_code, make, requested_by};
-use std::env;
 use std::fs::File;
 use std::io::Read;
 use std::process::ExitCode;
 
 fn main(rt: HostRuntime) -> ExitCode {
-    match run(&rt) {
-        Ok(code) => code,
-        Err(error) => failure(&rt, PROGRAM, error),
-    }
+    run(&rt).unwrap_or_else(|error| failure(&rt, PROGRAM, error))
 }
 
 fn run(rt: &HostRuntime) -> anyhow::Result<ExitCode> {
-    let alloc = rt.alloc();
-    let words: Vec<String> = env::args(rt)
-        .context("the arguments are not UTF-8")?
-        .collect(alloc)?;
-    let matches = match command(alloc)?.try_get_matches_from(words.as_slice()) {
+    let words = words(rt)?;
+    let matches = match command(rt.alloc())?.try_get_matches_from(words.as_slice()) {
         Ok(matches) => matches,
         Err(error) => return Ok(parse_failure(rt, PROGRAM, &error)),
     };
