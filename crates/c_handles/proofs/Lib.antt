@@ -1,3 +1,3 @@
 pub mod HandleProofs
 pub mod HandleValues
-pub mod LooseValues
+mod LooseValues

@@ -8,7 +8,7 @@ ghost use Rattle.etherparse.specs.packet.declared.transport.transport_slice.Tran
 ghost use Rattle.etherparse.specs.tag.Ether.{EtherPayload};
 ghost use Rattle.etherparse.specs.tag.MacsecPayload.{Modified};
 ghost use Rattle.etherparse.specs.tag.declared.link.link_ext_slice.LinkExtSlice.TheVariants as tag;
-ghost use Rattle.etherparse_structs.specs.Link.{link_struct, tag_struct, tags_struct};
+ghost use Rattle.etherparse_structs.specs.Link.{link_struct, no_tag, tag_struct, tags_struct};
 ghost use Rattle.etherparse_structs.specs.Net.{arp_struct_in, ipv4_struct_in, ipv6_struct_in, net_number};
 ghost use Rattle.etherparse_structs.specs.Transport.{icmp_struct_in, tcp_struct_in, transport_number, udp_struct_in};
 
@@ -53,22 +53,13 @@ pub fn link_headers()
 
 /// A VLAN tag of priority 5 that may be dropped first (IEEE 802.1Q, section 9.6).
 pub fn vlan_tags()
-    ensures { tag_struct 14 (Some (tag.Vlan (0xb1 ∷ 0x23 ∷ 0x86 ∷ 0xdd ∷ []))) ≡ record {
+    ensures { tag_struct 14 (Some (tag.Vlan (0xb1 ∷ 0x23 ∷ 0x86 ∷ 0xdd ∷ []))) ≡ record no_tag {
       header = record { offset = 14; len = 4 };
       kind = 1;
       ether_type = 0x86dd;
       vlan_id = 0x123;
       priority = 5;
       drop_eligible = true;
-      end_station = false;
-      single_copy_broadcast = false;
-      encrypted = false;
-      changed = false;
-      has_channel = false;
-      association = 0;
-      short_len = 0;
-      packet_number = 0;
-      channel = 0;
     } }
 {}
 
@@ -78,47 +69,32 @@ pub fn macsec_headers()
     ensures channel { tag_struct 18 (Some (tag.Macsec (record {
       header = 0x22 ∷ 0 ∷ 10 ∷ 11 ∷ 12 ∷ 13 ∷ 1 ∷ 2 ∷ 3 ∷ 4 ∷ 5 ∷ 6 ∷ 7 ∷ 8 ∷ 0x81 ∷ 0 ∷ [];
       payload = Modified [];
-    }))) ≡ record {
+    }))) ≡ record no_tag {
       header = record { offset = 18; len = 16 };
       kind = 2;
       ether_type = 0x8100;
-      vlan_id = 0;
-      priority = 0;
-      drop_eligible = false;
-      end_station = false;
-      single_copy_broadcast = false;
-      encrypted = false;
-      changed = false;
       has_channel = true;
       association = 2;
-      short_len = 0;
       packet_number = 0x0a0b0c0d;
       channel = 0x0102030405060708;
     } }
     ensures encrypted { tag_struct 14 (Some (tag.Macsec (record {
       header = 0x5c ∷ 0x28 ∷ 0 ∷ 0 ∷ 0 ∷ 9 ∷ [];
       payload = Modified [];
-    }))) ≡ record {
+    }))) ≡ record no_tag {
       header = record { offset = 14; len = 6 };
       kind = 2;
-      ether_type = 0;
-      vlan_id = 0;
-      priority = 0;
-      drop_eligible = false;
       end_station = true;
       single_copy_broadcast = true;
       encrypted = true;
       changed = true;
-      has_channel = false;
-      association = 0;
       short_len = 40;
       packet_number = 9;
-      channel = 0;
     } }
 {}
 
 /// Where tags are, and of which kinds: a MACsec header of 6 bytes between two VLAN tags after an
-/// Ethernet II header; one tag after a cooked capture's; none.
+/// Ethernet II header; one tag after a cooked capture's; none, whose fields are all 0.
 pub fn offsets_of_tags()
     ensures kinds { map (λ t. t.kind) (tags_struct 14 (tag.Vlan (0 ∷ 1 ∷ 0x88 ∷ 0xe5 ∷ [])
         ∷ tag.Macsec (record { header = 0x0c ∷ 0 ∷ 0 ∷ 0 ∷ 0 ∷ 9 ∷ []; payload = Modified [] })
@@ -130,23 +106,12 @@ pub fn offsets_of_tags()
     ensures one { map (λ t. t.header) (tags_struct 16 (tag.Vlan (0 ∷ 1 ∷ 8 ∷ 0 ∷ []) ∷ []))
         ≡ record { offset = 16; len = 4 } ∷ record { offset = 0; len = 0 }
         ∷ record { offset = 0; len = 0 } ∷ [] }
-    ensures none { tag_struct 14 None ≡ record {
-      header = record { offset = 0; len = 0 };
-      kind = 0;
-      ether_type = 0;
-      vlan_id = 0;
-      priority = 0;
-      drop_eligible = false;
-      end_station = false;
-      single_copy_broadcast = false;
-      encrypted = false;
-      changed = false;
-      has_channel = false;
-      association = 0;
-      short_len = 0;
-      packet_number = 0;
-      channel = 0;
-    } }
+    ensures none { (tag_struct 14 None ≡ no_tag) × (no_tag.header ≡ record { offset = 0; len = 0 }) }
+    ensures no_number { no_tag.kind ∷ no_tag.ether_type ∷ no_tag.vlan_id ∷ no_tag.priority
+        ∷ no_tag.association ∷ no_tag.short_len ∷ no_tag.packet_number ∷ no_tag.channel ∷ []
+        ≡ replicate 8 0 }
+    ensures no_flag { no_tag.drop_eligible ∷ no_tag.end_station ∷ no_tag.single_copy_broadcast
+        ∷ no_tag.encrypted ∷ no_tag.changed ∷ no_tag.has_channel ∷ [] ≡ replicate 6 false }
 {}
 
 /// IPv4 packets (RFC 791): the last but one fragment of a datagram, after an authentication header
