@@ -100,7 +100,7 @@ walk (suc most) order passed number bytes fits =
     walk_then order passed number bytes most (walk most order) fits
     (piece_at_start (order passed number) bytes) refl
 
-none_open : (slot : Option Ipv6ExtSlot) (last : ℕ) (rest : List ℕ) (offset : ℕ)
+pub none_open : (slot : Option Ipv6ExtSlot) (last : ℕ) (rest : List ℕ) (offset : ℕ)
     → piece_at_start slot rest ≡ None → fault_at offset slot last rest ≡ None
     → (slot ≡ None) × ((last == 0) ≡ false)
 none_open slot last rest offset none fault = grind arith

@@ -56,7 +56,7 @@ pub record RowIn (bytes header : List ℕ) (pieces : List Piece) (last : ℕ) (r
   pub number : number_after (next_header_of header) pieces ≡ last
   pub left : rest_after bytes header pieces ≡ rest
 
-row_in : IsFound → HasLeast
+pub row_in : IsFound → HasLeast
     → (bytes header : List ℕ) (pieces : List Piece) (last : ℕ) (rest : List ℕ)
     → Row view_order [] (next_header_of header) pieces last →
     body_of bytes header ≡ bytes_of pieces ++ rest

@@ -1,3 +1,4 @@
+mod CutPackets
 mod Cuts
 mod FaultOffsets
 mod Faults
@@ -13,6 +14,7 @@ mod LaxIpv6
 mod LaxLaws
 mod LaxOffsets
 mod Left
+mod MoreBytes
 mod InSlots
 mod SamePayloads
 mod SameViews

@@ -1,4 +1,5 @@
 pub mod Compared
+pub mod CutPackets
 pub mod Examples
 pub mod FaultOffset
 pub mod IpFault
@@ -12,5 +13,6 @@ pub mod Ipv6Packet
 pub mod Ipv6Walk
 pub mod LaxIp
 pub mod LaxPackets
+pub mod MoreBytes
 pub mod Packet
 pub mod PayloadHash

@@ -1,11 +1,13 @@
 //! Laws of IP packets that no single call's contract states.
 
+mod cut;
 mod examples;
 pub mod hashes;
 mod lax;
 mod packets;
 pub mod traits;
 
+pub use cut::{cut_packets_are_found, more_bytes_keep_headers};
 pub use examples::{ipv4_packet_at_a_literal, ipv6_packet_at_a_literal, payload_hash_at_a_literal};
 pub use lax::{
     cut_ipv4_packet_has_all_bytes, cut_ipv6_packet_has_all_bytes, faults_of_extension_headers_stop,

@@ -2,7 +2,7 @@
 use Rattle.std.proofs.Common.{◌≡◌, ◌∙◌, sym, ap, subst, ℕ, zero, suc, [], ◌∷◌, ◌*◌, ◌≤◌, ◌<◌, ◌==◌, ◌&&◌, ◌||◌, not, Bool, true, false, List, length}
 use Rattle.std.proofs.Common.{get_or, take, Result, Ok, Err, refl, arith}
 use Rattle.std.proofs.lemmas.Bool.Decides.{nat_tests}
-use Rattle.std.proofs.lemmas.List.{get_or-take, length-take-le, take_all}
+use Rattle.std.proofs.lemmas.List.{get_or-take, length-take, take_all}
 use Rattle.std.specs.Prelude.{if◌then◌else◌, nat_lt}
 use Rattle.ep_base.specs.LenError.{too_few_bytes}
 use Rattle.ep_base.specs.declared.err.layer.Layer.TheVariants.{Icmpv4, Icmpv4Timestamp, Icmpv4TimestampReply}
@@ -54,12 +54,12 @@ tcp_taken bytes m is = passed (nat_lt (length bytes) 20) (nat_lt (data_offset_of
 
 -- TCP: the data offset stands in the first 20 bytes
 tcp_cut : (n : ℕ) (bytes m : List ℕ) → segment_at bytes ≡ Ok m → 4 * data_offset_of m ≤ n
-    → n ≤ length bytes → segment_at (take n bytes) ≡ Ok (take n m)
-tcp_cut n bytes m is fits short =
+    → segment_at (take n bytes) ≡ Ok (take n m)
+tcp_cut n bytes m is fits =
     let tests = tcp_taken bytes m is in
     let least : 5 ≤ data_offset_of bytes = grind (arith, nat_tests) in
     let header : 4 * data_offset_of bytes ≤ n = rw tests.3 at fits in
-    let size = length-take-le n bytes short in
+    let size = length-take n bytes in
     let offset : data_offset_of (take n bytes) ≡ data_offset_of bytes =
     grind (arith, byte_at n bytes 12 (omega (arith, least, header))) in
     passes (nat_lt (length (take n bytes)) 20) (nat_lt (data_offset_of (take n bytes)) 5)
@@ -95,18 +95,18 @@ whole_timestamp : (q r long : Bool) → (q || r) ≡ true → (q && not long) �
 whole_timestamp q r long either one two = grind arith
 
 icmpv4_case : (timestamp : Bool) (n : ℕ) (bytes m : List ℕ) → is_timestamp bytes ≡ timestamp
-    → icmpv4_fault.message_at bytes ≡ Ok m → (if timestamp then 20 else 8) ≤ n → n ≤ length bytes
+    → icmpv4_fault.message_at bytes ≡ Ok m → (if timestamp then 20 else 8) ≤ n
     → icmpv4_fault.message_at (take n bytes) ≡ Ok (take n m)
-icmpv4_case true n bytes m kind is fits short =
+icmpv4_case true n bytes m kind is fits =
     let tests = icmpv4_taken bytes m is in
     let long = whole_timestamp (is_timestamp_request bytes) (is_timestamp_reply bytes)
     (length bytes == 20) kind tests.1 tests.2 in
     let size : length bytes ≡ 20 = grind (arith, nat_tests) in
     let whole : take n bytes ≡ bytes = take_all n bytes (omega (arith, size, fits)) in
     rw (tests.3, whole) (is ∙ ap Ok tests.3)
-icmpv4_case false n bytes m kind is fits short =
+icmpv4_case false n bytes m kind is fits =
     let tests = icmpv4_taken bytes m is in
-    let size = length-take-le n bytes short in
+    let size = length-take n bytes in
     let same = alike n bytes fits in
     let request : is_timestamp_request bytes ≡ false = grind arith in
     let reply : is_timestamp_reply bytes ≡ false = grind arith in
@@ -120,17 +120,17 @@ icmpv4_case false n bytes m kind is fits short =
     ∙ ap (λ (xs : List ℕ). Ok (take n xs)) (sym tests.3)
 
 icmpv4_cut : (n : ℕ) (bytes m : List ℕ) → icmpv4_fault.message_at bytes ≡ Ok m
-    → (if is_timestamp m then 20 else 8) ≤ n → n ≤ length bytes
+    → (if is_timestamp m then 20 else 8) ≤ n
     → icmpv4_fault.message_at (take n bytes) ≡ Ok (take n m)
-icmpv4_cut n bytes m is fits short =
+icmpv4_cut n bytes m is fits =
     let tests = icmpv4_taken bytes m is in
-    icmpv4_case (is_timestamp bytes) n bytes m refl is (rw tests.3 at fits) short
+    icmpv4_case (is_timestamp bytes) n bytes m refl is (rw tests.3 at fits)
 
 -- ICMP over IPv6
 icmpv6_cut : (n : ℕ) (bytes m : List ℕ) → icmpv6_fault.message_at bytes ≡ Ok m → 8 ≤ n
-    → n ≤ length bytes → icmpv6_fault.message_at (take n bytes) ≡ Ok (take n m)
-icmpv6_cut n bytes m is fits short =
-    let size = length-take-le n bytes short in grind (arith, nat_tests)
+    → icmpv6_fault.message_at (take n bytes) ≡ Ok (take n m)
+icmpv6_cut n bytes m is fits =
+    let size = length-take n bytes in grind (arith, nat_tests)
 
 -- UDP: a length field that counts a header counts no more than the bytes
 length_same : (n : ℕ) (bytes : List ℕ) → 8 ≤ n → length_of (take n bytes) ≡ length_of bytes
@@ -165,11 +165,11 @@ udp_case true false stated n bytes none least fits = grind (arith, nat_tests)
 udp_case false true stated n bytes none least fits = cc
 udp_case false false stated n bytes none least fits = both_taken n stated bytes
 
-udp_cut : (n : ℕ) (bytes m : List ℕ) → udp_at bytes ≡ Ok m → 8 ≤ n → n ≤ length bytes
+udp_cut : (n : ℕ) (bytes m : List ℕ) → udp_at bytes ≡ Ok m → 8 ≤ n
     → lax_udp_at (take n bytes) ≡ Ok (take n m)
-udp_cut n bytes m is least short =
+udp_cut n bytes m is least =
     let tests = udp_taken bytes m is in
-    let size = length-take-le n bytes short in
+    let size = length-take n bytes in
     let whole : nat_lt (length (take n bytes)) 8 ≡ false = grind (arith, nat_tests) in
     let stated : ℕ = length_of bytes in
     ap (λ (b : Bool). if b then Err (too_few_bytes UdpHeader 8 (length (take n bytes))) else Ok (lax_summed_udp (take n bytes))) whole
@@ -184,57 +184,56 @@ Fits n m = message_header_len m ≤ n
 
 icmpv4_read : (n : ℕ) (bytes : List ℕ) (r : Result (List ℕ) LenError) (m : ReadMessage)
     → icmpv4_fault.message_at bytes ≡ r
-    → read_as (λ x. number.Icmpv4 x) (λ e. fault.Len e) r ≡ Ok m → Fits n m → n ≤ length bytes
+    → read_as (λ x. number.Icmpv4 x) (λ e. fault.Len e) r ≡ Ok m → Fits n m
     → read_as (λ x. number.Icmpv4 x) (λ e. fault.Len e) (icmpv4_fault.message_at (take n bytes))
     ≡ Ok (cut_message n m)
-icmpv4_read n bytes (Err e) m at is fits short = cc
-icmpv4_read n bytes (Ok x) m at is fits short =
+icmpv4_read n bytes (Err e) m at is fits = cc
+icmpv4_read n bytes (Ok x) m at is fits =
     let same : number.Icmpv4 x ≡ m = grind arith in
-    rw (icmpv4_cut n bytes x at (rw (← same) at fits) short) (ap (λ (k : ReadMessage). Ok (cut_message n k)) same)
+    rw (icmpv4_cut n bytes x at (rw (← same) at fits)) (ap (λ (k : ReadMessage). Ok (cut_message n k)) same)
 
 icmpv6_read : (n : ℕ) (bytes : List ℕ) (r : Result (List ℕ) LenError) (m : ReadMessage)
     → icmpv6_fault.message_at bytes ≡ r
-    → read_as (λ x. number.Icmpv6 x) (λ e. fault.Len e) r ≡ Ok m → Fits n m → n ≤ length bytes
+    → read_as (λ x. number.Icmpv6 x) (λ e. fault.Len e) r ≡ Ok m → Fits n m
     → read_as (λ x. number.Icmpv6 x) (λ e. fault.Len e) (icmpv6_fault.message_at (take n bytes))
     ≡ Ok (cut_message n m)
-icmpv6_read n bytes (Err e) m at is fits short = cc
-icmpv6_read n bytes (Ok x) m at is fits short =
+icmpv6_read n bytes (Err e) m at is fits = cc
+icmpv6_read n bytes (Ok x) m at is fits =
     let same : number.Icmpv6 x ≡ m = grind arith in
-    rw (icmpv6_cut n bytes x at (rw (← same) at fits) short) (ap (λ (k : ReadMessage). Ok (cut_message n k)) same)
+    rw (icmpv6_cut n bytes x at (rw (← same) at fits)) (ap (λ (k : ReadMessage). Ok (cut_message n k)) same)
 
 tcp_read : (n : ℕ) (bytes : List ℕ) (r : Result (List ℕ) (HeaderSliceError TcpFault))
     (m : ReadMessage) → segment_at bytes ≡ r → read_as (λ x. number.Tcp x) tcp_fault r ≡ Ok m
-    → Fits n m → n ≤ length bytes
+    → Fits n m
     → read_as (λ x. number.Tcp x) tcp_fault (segment_at (take n bytes)) ≡ Ok (cut_message n m)
-tcp_read n bytes (Err e) m at is fits short = cc
-tcp_read n bytes (Ok x) m at is fits short =
+tcp_read n bytes (Err e) m at is fits = cc
+tcp_read n bytes (Ok x) m at is fits =
     let same : number.Tcp x ≡ m = grind arith in
-    rw (tcp_cut n bytes x at (rw (← same) at fits) short) (ap (λ (k : ReadMessage). Ok (cut_message n k)) same)
+    rw (tcp_cut n bytes x at (rw (← same) at fits)) (ap (λ (k : ReadMessage). Ok (cut_message n k)) same)
 
 udp_read : (n : ℕ) (bytes : List ℕ) (r : Result (List ℕ) LenError) (m : ReadMessage)
     → udp_at bytes ≡ r → read_as (λ x. number.Udp x) (λ e. fault.Len e) r ≡ Ok m → Fits n m
-    → n ≤ length bytes
     → read_as (λ x. number.Udp x) (λ e. fault.Len e) (lax_udp_at (take n bytes)) ≡ Ok (cut_message n m)
-udp_read n bytes (Err e) m at is fits short = cc
-udp_read n bytes (Ok x) m at is fits short =
+udp_read n bytes (Err e) m at is fits = cc
+udp_read n bytes (Ok x) m at is fits =
     let same : number.Udp x ≡ m = grind arith in
-    rw (udp_cut n bytes x at (rw (← same) at fits) short) (ap (λ (k : ReadMessage). Ok (cut_message n k)) same)
+    rw (udp_cut n bytes x at (rw (← same) at fits)) (ap (λ (k : ReadMessage). Ok (cut_message n k)) same)
 
 other_cases : (a b d : Bool) (n : ℕ) (bytes : List ℕ) (m : ReadMessage) →
     (if a then read_as (λ x. number.Icmpv4 x) (λ e. fault.Len e) (icmpv4_fault.message_at bytes)
     else (if b then read_as (λ x. number.Tcp x) tcp_fault (segment_at bytes)
     else (if d then read_as (λ x. number.Icmpv6 x) (λ e. fault.Len e)
-    (icmpv6_fault.message_at bytes) else Ok (number.Raw bytes)))) ≡ Ok m → Fits n m → n ≤ length bytes →
+    (icmpv6_fault.message_at bytes) else Ok (number.Raw bytes)))) ≡ Ok m → Fits n m →
     (if a then read_as (λ x. number.Icmpv4 x) (λ e. fault.Len e) (icmpv4_fault.message_at (take n bytes))
     else (if b then read_as (λ x. number.Tcp x) tcp_fault (segment_at (take n bytes))
     else (if d then read_as (λ x. number.Icmpv6 x) (λ e. fault.Len e)
     (icmpv6_fault.message_at (take n bytes)) else Ok (number.Raw (take n bytes))))) ≡ Ok (cut_message n m)
-other_cases true b d n bytes m is fits short =
-    icmpv4_read n bytes (icmpv4_fault.message_at bytes) m refl is fits short
-other_cases false true d n bytes m is fits short = tcp_read n bytes (segment_at bytes) m refl is fits short
-other_cases false false true n bytes m is fits short =
-    icmpv6_read n bytes (icmpv6_fault.message_at bytes) m refl is fits short
-other_cases false false false n bytes m is fits short = grind arith
+other_cases true b d n bytes m is fits =
+    icmpv4_read n bytes (icmpv4_fault.message_at bytes) m refl is fits
+other_cases false true d n bytes m is fits = tcp_read n bytes (segment_at bytes) m refl is fits
+other_cases false false true n bytes m is fits =
+    icmpv6_read n bytes (icmpv6_fault.message_at bytes) m refl is fits
+other_cases false false false n bytes m is fits = grind arith
 
 -- without UDP
 abbrev rest_at : Bool → ℕ → List ℕ → Result ReadMessage SliceError
@@ -246,20 +245,20 @@ rest_at c k bytes =
     (icmpv6_fault.message_at bytes) else Ok (number.Raw bytes))))
 
 message_case : (c : Bool) (k n : ℕ) (bytes : List ℕ) (m : ReadMessage) → (k == number.udp) ≡ c
-    → message_at k bytes ≡ Ok m → Fits n m → n ≤ length bytes
+    → message_at k bytes ≡ Ok m → Fits n m
     → lax_message_at k (take n bytes) ≡ Ok (cut_message n m)
-message_case true k n bytes m here is fits short =
+message_case true k n bytes m here is fits =
     let named : k ≡ 17 = grind (arith, nat_tests) in
     subst (λ (j : ℕ). message_at j bytes ≡ Ok m → lax_message_at j (take n bytes) ≡ Ok (cut_message n m))
-    (sym named) (λ at. udp_read n bytes (udp_at bytes) m refl at fits short) is
-message_case false k n bytes m not is fits short =
+    (sym named) (λ at. udp_read n bytes (udp_at bytes) m refl at fits) is
+message_case false k n bytes m not is fits =
     ap (λ (c : Bool). if c then read_as (λ x. number.Udp x) (λ e. fault.Len e) (lax_udp_at (take n bytes))
     else message_at k (take n bytes)) not
     ∙ ap (λ (c : Bool). rest_at c k (take n bytes)) not
     ∙ other_cases (k == number.icmpv4) (k == number.tcp) (k == number.icmpv6) n bytes m
-    (sym (ap (λ (c : Bool). rest_at c k bytes) not) ∙ is) fits short
+    (sym (ap (λ (c : Bool). rest_at c k bytes) not) ∙ is) fits
 
 pub message_cut : (k n : ℕ) (bytes : List ℕ) (m : ReadMessage) → message_at k bytes ≡ Ok m
-    → message_header_len m ≤ n → n ≤ length bytes
+    → message_header_len m ≤ n
     → lax_message_at k (take n bytes) ≡ Ok (cut_message n m)
-message_cut k n bytes m is fits short = message_case (k == number.udp) k n bytes m refl is fits short
+message_cut k n bytes m is fits = message_case (k == number.udp) k n bytes m refl is fits

@@ -1,5 +1,6 @@
 mod Agreement
 pub mod ClassLemmas
+mod CutPackets
 mod FaultLemmas
 mod FoundLemmas
 mod FrameFaults

@@ -1,4 +1,5 @@
 pub mod Class
+pub mod CutPacket
 pub mod Examples
 pub mod FrameFault
 pub mod HeaderLayers

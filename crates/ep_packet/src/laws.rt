@@ -1,5 +1,6 @@
 //! Laws of the definitions: the contract of each function is the law.
 
+mod cut;
 mod faults;
 pub mod hashes;
 mod headers;
@@ -10,6 +11,7 @@ pub mod same_headers;
 pub mod sliced;
 pub mod traits;
 
+pub use cut::cut_packets_are_found;
 pub use faults::{offsets_at_literals, refusals_are_first_faults};
 pub use headers::{ipv6_headers_agree_with_view, ipv6_headers_at_a_literal};
 pub use lax::{cut_messages_are_found, payloads_of_whole_packets, whole_packets_are_lax_packets};

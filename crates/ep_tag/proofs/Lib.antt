@@ -1,4 +1,5 @@
 mod Bits
+mod CutTags
 mod Prefix
 mod MacsecPrefix
 mod MacsecRead

@@ -54,7 +54,7 @@ macsec_after_found : (bytes : List ℕ) (r : Result (List ℕ) (SliceError Heade
 macsec_after_found bytes (Ok header) m e f = with_found bytes header m e f
 macsec_after_found bytes (Err x) m e f = cc
 
-macsec_takes : (bytes : List ℕ) (m : Macsec) → macsec_at bytes ≡ Ok m → IsMacsec bytes m
+pub macsec_takes : (bytes : List ℕ) (m : Macsec) → macsec_at bytes ≡ Ok m → IsMacsec bytes m
 macsec_takes bytes m e = macsec_after_found bytes (header_at bytes) m refl e
 
 pub macsec_found : (bytes : List ℕ) (r : Result Macsec (SliceError HeaderError))

@@ -1,3 +1,4 @@
+pub mod CutTags
 pub mod Ether
 pub mod EtherHash
 pub mod EtherOrder

@@ -1,5 +1,6 @@
 //! Laws of tags that no single call's contract states: the contract of each function is the law.
 
+pub mod cut;
 pub mod macsec;
 pub mod macsec_lax;
 pub mod numbers;

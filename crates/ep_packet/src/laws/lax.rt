@@ -1,5 +1,5 @@
 //! Laws that tie packets that may have been cut, and their headers, to whole ones.
-ghost use Rattle.std.specs.Prelude.{◌≡◌, ◌≤◌, ℕ, List, length, take, Ok};
+ghost use Rattle.std.specs.Prelude.{◌≡◌, ◌≤◌, ℕ, List, take, Ok};
 ghost use Rattle.std.specs.Option.{option_map};
 ghost use Rattle.ep_base.specs.declared.link.ether_type.EtherType.{EtherType};
 ghost use Rattle.ep_packet.specs.LaxCut.{cut_message, message_header_len};
@@ -51,6 +51,5 @@ pub fn payloads_of_whole_packets()
 /// A message that was cut off after its header is read with the bytes that are there.
 pub fn cut_messages_are_found()
     ensures { (number n : ℕ) (bytes : List ℕ) (m : ReadMessage) → message_at number bytes ≡ Ok m
-        → message_header_len m ≤ n → n ≤ length bytes
-        → lax_message_at number (take n bytes) ≡ Ok (cut_message n m) }
+        → message_header_len m ≤ n → lax_message_at number (take n bytes) ≡ Ok (cut_message n m) }
 {}
