@@ -1,20 +1,19 @@
 -- Packets of which the first bytes are there.
-use Rattle.std.proofs.Common.{◌≡◌, ◌∙◌, sym, ap, ap₂, refl, ℕ, zero, suc, ◌+◌, ◌-◌, ◌*◌, ◌<◌, ◌≤◌, ◌==◌, ◌&&◌, not, Bool, true, false, List}
-use Rattle.std.proofs.Common.{[], ◌∷◌, ◌++◌, length, take, drop, Option, Some, None, Result, Ok, Err, arith, append_assoc}
+use Rattle.std.proofs.Common.{◌≡◌, ◌∙◌, ap, ap₂, refl, ℕ, zero, suc, ◌+◌, ◌-◌, ◌*◌, ◌<◌, ◌≤◌, ◌==◌, ◌&&◌, not, Bool, true, false, List}
+use Rattle.std.proofs.Common.{[], ◌∷◌, ◌++◌, length, take, drop, Option, None, Result, Ok, Err, arith, append_assoc}
 use Rattle.std.proofs.Common.{append-nil, length-append, take-append-drop}
 use Rattle.std.specs.Prelude.{if◌then◌else◌, nat_lt}
 use Rattle.std.proofs.Math.Seq.{take-append-add}
-use Rattle.std.proofs.lemmas.Bool.{le-ltb}
 use Rattle.std.proofs.lemmas.Bool.Decides.{nat_tests}
-use Rattle.std.proofs.lemmas.List.{drop_at, get_or-take, get_or_append_left, length-drop, length-take, length-take-le, take_all}
+use Rattle.std.proofs.lemmas.List.{drop_at, get_or-take, get_or_append_left, length-take, length-take-le, take_all}
 use Rattle.std.proofs.lemmas.List.{take_at}
 use Rattle.ep_base.specs.Bytes.{num}
 use Rattle.ep_base.specs.declared.err.slice_error.SliceError.{SliceError}
 use Rattle.ep_base.specs.declared.len_source.LenSource.{LenSource}
-use Rattle.ep_base.specs.declared.len_source.LenSource.TheVariants.{Slice, Ipv4HeaderTotalLen, Ipv6HeaderPayloadLen}
+use Rattle.ep_base.specs.declared.len_source.LenSource.TheVariants.{Slice, Ipv6HeaderPayloadLen}
 use Rattle.ep_ip.specs.Ipv4.{IsIpv4Header, ihl_of, protocol_of, total_len_of, version_of}
 use Rattle.ep_ip.specs.Ipv4Fault as v4
-use Rattle.ep_ip.specs.Ipv6.{next_header_of, payload_length_of}
+use Rattle.ep_ip.specs.Ipv6.{payload_length_of}
 use Rattle.ep_ip.specs.Ipv6Fault as v6
 use Rattle.ep_ip.specs.declared.err.ipv4.header_error.HeaderError.{HeaderError as Ipv4HeaderFault}
 use Rattle.ep_ip.proofs.Ipv6Prefix.{prefix_again}
@@ -32,9 +31,9 @@ use Rattle.ep_ipslice.specs.Ipv6Exts.{Ipv6Exts, view_order}
 use Rattle.ep_ipslice.specs.Ipv6Packet as strict6
 use Rattle.ep_ipslice.specs.Ipv6Packet.{ipv6_packet_at}
 use Rattle.ep_ipslice.specs.Ipv6Walk.{piece_at_start}
-use Rattle.ep_ipslice.specs.LaxIp.{StoppedIp, lax_ip_packet_at, with_lax_ipv4, with_lax_ipv6}
+use Rattle.ep_ipslice.specs.LaxIp.{lax_ip_packet_at}
 use Rattle.ep_ipslice.specs.LaxPackets.{is_ipv4_cut, is_ipv6_cut, lax_ipv4_packet_at, lax_ipv6_packet_at}
-use Rattle.ep_ipslice.specs.Packet.{Ipv4Packet, Ipv6Packet, IsIpv4Packet, IsIpv6Packet, body_len, body_source}
+use Rattle.ep_ipslice.specs.Packet.{Ipv4Packet, Ipv6Packet, IsIpv4Packet, IsIpv6Packet, body_source}
 use Rattle.ep_ipslice.specs.declared.err.ip.slice_error.SliceError.{SliceError as IpFault}
 use Rattle.ep_ipslice.specs.declared.err.ipv4.slice_error.SliceError.{SliceError as Ipv4Fault}
 use Rattle.ep_ipslice.specs.declared.err.ipv6.slice_error.SliceError.{SliceError as Ipv6Fault}

@@ -38,11 +38,11 @@ piece_len : (slot : Ipv6ExtSlot) (header : List ℕ) → IsPiece slot header →
 piece_len slot header is = grind arith
 
 -- a header that is found: its slot, and that the bytes start with it
-record IsPrefix (slot : Option Ipv6ExtSlot) (bytes : List ℕ) (piece : Piece) : Type 0 where
-  named : slot ≡ Some piece.0
-  is : IsPiece piece.0 piece.1
-  following : List ℕ
-  cut : bytes ≡ piece.1 ++ following
+pub record IsPrefix (slot : Option Ipv6ExtSlot) (bytes : List ℕ) (piece : Piece) : Type 0 where
+  pub named : slot ≡ Some piece.0
+  pub is : IsPiece piece.0 piece.1
+  pub following : List ℕ
+  pub cut : bytes ≡ piece.1 ++ following
 
 prefix_at : (slot : Ipv6ExtSlot) (bytes : List ℕ)
     (r : Result (List ℕ) (HeaderSliceError HeaderError)) (piece : Piece) → prefix_of slot bytes ≡ r
@@ -52,7 +52,7 @@ prefix_at slot bytes (Ok header) piece at is =
     grind arith
 prefix_at slot bytes (Err e) piece at is = absurd (none-some piece is)
 
-prefix_is : (slot : Option Ipv6ExtSlot) (bytes : List ℕ) (piece : Piece)
+pub prefix_is : (slot : Option Ipv6ExtSlot) (bytes : List ℕ) (piece : Piece)
     → piece_at_start slot bytes ≡ Some piece → IsPrefix slot bytes piece
 prefix_is None bytes piece is = absurd (none-some piece is)
 prefix_is (Some slot) bytes piece is = prefix_at slot bytes (prefix_of slot bytes) piece refl is

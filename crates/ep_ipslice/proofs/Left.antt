@@ -45,7 +45,7 @@ one_more : (most : ℕ) (order : Order) (passed : List Ipv6ExtSlot) (number : �
 unfolding pieces_within
 one_more most order passed number bytes piece prefix = grind arith
 
-prefix_open : IsFound → (order : Order) (passed : List Ipv6ExtSlot) (number : ℕ) (piece : Piece)
+pub prefix_open : IsFound → (order : Order) (passed : List Ipv6ExtSlot) (number : ℕ) (piece : Piece)
     (rest : List ℕ) → order passed number ≡ Some piece.0 → IsPiece piece.0 piece.1 →
     piece_at_start (order passed number) (piece.1 ++ rest) ≡ Some piece
 prefix_open found order passed number piece rest slot whole = grind arith

@@ -1,7 +1,8 @@
 -- Packets as far as they are there, where more bytes are there.
-use Rattle.std.proofs.Common.{◌≡◌, ◌≢◌, ◌∙◌, sym, ap, ap₂, refl, ℕ, ◌+◌, ◌-◌, ◌≤◌, ◌<◌, ◌==◌, ◌&&◌, Bool, true, false, List, [], ◌∷◌}
+use Rattle.std.proofs.Common.{◌≡◌, ◌≢◌, ◌∙◌, sym, ap, ap₂, refl, ℕ, ◌+◌, ◌-◌, ◌≤◌, ◌==◌, ◌&&◌, Bool, true, false, List, [], ◌∷◌}
 use Rattle.std.proofs.Common.{◌++◌, length, take, drop, Option, Some, None, Result, Ok, Err, IsOkAnd, arith, append_assoc}
-use Rattle.std.proofs.Common.{append-nil, length-append, take-append-drop}
+use Rattle.std.proofs.Common.{append-nil, length-append}
+use Rattle.std.proofs.Common.{zero, suc}
 use Rattle.std.specs.Prelude.{if◌then◌else◌, nat_lt}
 use Rattle.std.specs.Option.{option_map}
 use Rattle.std.proofs.Math.Seq.{take-append-add}
@@ -19,42 +20,34 @@ use Rattle.ep_ip.specs.declared.err.ipv6.header_error.HeaderError.{HeaderError a
 use Rattle.ep_ip.proofs.Ipv6Prefix.{prefix_again}
 use Rattle.ep_ext.specs.Chain.{Fault, fault_at, fault_of}
 use Rattle.ep_ext.specs.Ipv4Exts.{auth_after, auth_bytes, auth_number}
+use Rattle.ep_base.specs.Bytes.{num}
+use Rattle.ep_ext.specs.Slot.{Order}
+use Rattle.ep_ext.specs.declared.net.ipv6_ext_slot.Ipv6ExtSlot.{Ipv6ExtSlot}
 use Rattle.ep_ext.specs.Value.{Piece, bytes_of, slots}
 use Rattle.ep_ext.specs.declared.err.ip_auth.header_error.HeaderError.{HeaderError as AuthFault}
 use Rattle.ep_ext.specs.declared.net.ipv6_ext_slot.Ipv6ExtSlot.TheVariants.{Authentication}
 use Rattle.ep_ipslice.specs.Ipv6Exts.{view_order}
 use Rattle.ep_ipslice.specs.Ipv6Packet as strict6
-use Rattle.ep_ipslice.specs.Ipv6Walk.{piece_at_start}
+use Rattle.ep_ipslice.specs.Ipv6Walk.{piece_at_start, piece_then, pieces_within}
 use Rattle.ep_ipslice.specs.LaxPackets.{StoppedIpv4, StoppedIpv6, is_ipv4_cut, is_ipv4_open, is_ipv6_cut, lax_ipv4_after}
 use Rattle.ep_ipslice.specs.LaxPackets.{lax_ipv4_body, lax_ipv4_packet_at, lax_ipv4_source, lax_ipv4_with, lax_ipv6_after}
 use Rattle.ep_ipslice.specs.LaxPackets.{lax_ipv6_of, lax_ipv6_packet_at, lax_ipv6_source, lax_ipv6_with, row_fault_within}
-use Rattle.ep_ipslice.specs.MoreBytes.{IsContinued, IsPayloadContinued, KeepsIpv4, KeepsIpv6}
+use Rattle.ep_ipslice.specs.MoreBytes.{IsContinued, KeepsIpv4, KeepsIpv6}
 use Rattle.ep_ipslice.specs.Packet.{body_len}
 use Rattle.ep_ipslice.proofs.CutPackets.{len_by, named_by, v4_again, v4_begins}
-use Rattle.ep_ipslice.proofs.Found.{header_found, none_open, walk}
+use Rattle.ep_ipslice.proofs.Found.{header_found, none_open, prefix_is, walk}
 use Rattle.ep_ipslice.proofs.Ipv4Parts.{auth_found}
-use Rattle.ep_ipslice.proofs.Ipv6At.{RowIn, fault_is, row_in}
-use Rattle.ep_ipslice.proofs.Ipv6Parts.{no_fault_of}
+use Rattle.ep_ipslice.proofs.Ipv6At.{fault_is, row_in}
 use Rattle.ep_ipslice.proofs.LaxLaws.{auth_cut}
-use Rattle.ep_ipslice.proofs.Left.{HasLeast, IsFound}
+use Rattle.ep_ipslice.proofs.Left.{HasLeast, IsFound, prefix_open}
 
 -- the first n bytes, where more are there
-front_case : (short : Bool) (n : ℕ) (bytes more : List ℕ) → nat_lt (length bytes) n ≡ short
-    → IsContinued (take n bytes) (take n (bytes ++ more))
-front_case true n bytes more short =
-    let all : n ≡ length bytes + (n - length bytes) = grind (arith, nat_tests) in
-    let whole : take n bytes ≡ bytes = take_all n bytes (grind (arith, nat_tests)) in (
-      take (n - length bytes) more,
-      ap (λ (k : ℕ). take k (bytes ++ more)) all ∙ take-append-add bytes more (n - length bytes)
-          ∙ ap (λ (xs : List ℕ). xs ++ take (n - length bytes) more) (sym whole),
-    )
-front_case false n bytes more enough = (
-  [],
-  take-append-le n bytes more (grind (arith, nat_tests)) ∙ sym (append-nil (take n bytes)),
-)
-
 front_more : (n : ℕ) (bytes more : List ℕ) → IsContinued (take n bytes) (take n (bytes ++ more))
-front_more n bytes more = front_case (nat_lt (length bytes) n) n bytes more refl
+front_more zero bytes more = ([], refl)
+front_more (suc n) [] more = (take (suc n) more, refl)
+front_more (suc n) (b ∷ bytes) more =
+    let inner = front_more n bytes more in
+    (inner.0, ap (λ (xs : List ℕ). b ∷ xs) inner.1)
 
 back_more : (n : ℕ) (bytes all : List ℕ) → n ≤ length bytes → IsContinued bytes all
     → IsContinued (drop n bytes) (drop n all)
@@ -135,6 +128,7 @@ v4_keeps found bytes more header (Ok auth) at body =
     rw after (record {
       header = refl;
       auth = λ none. refl;
+      found = λ a is. is;
       going_on = λ none. refl;
       payload = λ none. record { number = refl; fragmented = refl; bytes = (body.0, payload) };
       whole = λ counted. sym after ∙ same_v4 bytes (bytes ++ more) header (v4_whole bytes more header counted)
@@ -145,6 +139,7 @@ v4_keeps found bytes more header (Err e) at body =
     record {
       header = (with_header (bytes ++ more) header r).0;
       auth = λ none. cc;
+      found = λ a is. cc;
       going_on = λ none. cc;
       payload = λ none. cc;
       whole = λ counted. same_v4 bytes (bytes ++ more) header (v4_whole bytes more header counted)
@@ -299,6 +294,74 @@ v6_row found least bytes all header body none =
       rest = (body.0, row.left ∙ ap (λ (xs : List ℕ). xs ++ body.0) left);
     }
 
+-- extension headers in a row, after which more may be there
+abbrev RowGoesOn : List Piece → List Piece → Type 0
+RowGoesOn pieces all = (rest : List Piece) × (all ≡ pieces ++ rest)
+
+found_more : IsFound → (order : Order) (passed : List Ipv6ExtSlot) (number : ℕ) (bytes more : List ℕ)
+    (piece : Piece) → piece_at_start (order passed number) bytes ≡ Some piece →
+    (piece_at_start (order passed number) (bytes ++ more) ≡ Some piece)
+    × (drop (length piece.1) (bytes ++ more) ≡ drop (length piece.1) bytes ++ more)
+found_more found order passed number bytes more piece at =
+    let prefix = prefix_is (order passed number) bytes piece at in
+    let parts : bytes ++ more ≡ piece.1 ++ (prefix.following ++ more) =
+    ap (λ (xs : List ℕ). xs ++ more) prefix.cut ∙ append_assoc piece.1 prefix.following more in
+    (
+      rw parts (prefix_open found order passed number piece (prefix.following ++ more) prefix.named prefix.is),
+      drop-append-le (length piece.1) bytes more
+          (omega (arith, ap length prefix.cut, length-append piece.1 prefix.following)),
+    )
+
+row_then : IsFound → (most later : ℕ) (order : Order) (passed : List Ipv6ExtSlot) (number : ℕ)
+    (bytes more : List ℕ) →
+    ((ps : List Ipv6ExtSlot) (n : ℕ) (xs : List ℕ)
+    → RowGoesOn (pieces_within most order ps n xs) (pieces_within later order ps n (xs ++ more))) →
+    (o : Option Piece) → piece_at_start (order passed number) bytes ≡ o →
+    RowGoesOn (piece_then o (λ (piece : Piece). pieces_within most order (passed ++ piece.0 ∷ [])
+    (num piece.1 0 1) (drop (length piece.1) bytes)))
+    (piece_then (piece_at_start (order passed number) (bytes ++ more))
+    (λ (piece : Piece). pieces_within later order (passed ++ piece.0 ∷ [])
+    (num piece.1 0 1) (drop (length piece.1) (bytes ++ more))))
+row_then found most later order passed number bytes more further None at = (_, refl)
+row_then found most later order passed number bytes more further (Some piece) at =
+    let here = found_more found order passed number bytes more piece at in
+    let inner = further (passed ++ piece.0 ∷ []) (num piece.1 0 1) (drop (length piece.1) bytes) in
+    (
+      inner.0,
+      rw (here.0, here.1) (ap (λ (ps : List Piece). piece ∷ ps) inner.1),
+    )
+
+row_more : IsFound → (most later : ℕ) (order : Order) (passed : List Ipv6ExtSlot) (number : ℕ)
+    (bytes more : List ℕ) → most ≤ later → RowGoesOn (pieces_within most order passed number bytes)
+    (pieces_within later order passed number (bytes ++ more))
+unfolding pieces_within
+row_more found zero later order passed number bytes more fits = (_, refl)
+row_more found (suc most) zero order passed number bytes more fits = absurd (omega (arith, fits))
+row_more found (suc most) (suc later) order passed number bytes more fits =
+    row_then found most later order passed number bytes more
+    (λ ps n xs. row_more found most later order ps n xs more (omega (arith, fits)))
+    (piece_at_start (order passed number) bytes) refl
+
+bytes_append : (pieces rest : List Piece) → bytes_of (pieces ++ rest) ≡ bytes_of pieces ++ bytes_of rest
+bytes_append [] rest = refl
+bytes_append (piece ∷ pieces) rest =
+    ap (λ (xs : List ℕ). piece.1 ++ xs) (bytes_append pieces rest)
+    ∙ sym (append_assoc piece.1 (bytes_of pieces) (bytes_of rest))
+
+v6_exts : IsFound → (bytes more header : List ℕ) → 40 ≤ length bytes
+    → IsContinued (V6 bytes header).0.exts.slice (V6 (bytes ++ more) header).0.exts.slice
+v6_exts found bytes more header fits =
+    let body = v6_body_more bytes more header fits in
+    let first : ℕ = next_header_of header in
+    let old : List ℕ = strict6.body_of bytes header in
+    let row = row_more found (length old) (length (old ++ body.0)) view_order [] first old body.0
+    (omega (arith, length-append old body.0)) in
+    (
+      bytes_of row.0,
+      ap (λ (xs : List ℕ). bytes_of (strict6.extensions_of first xs)) body.1 ∙ ap bytes_of row.1
+          ∙ bytes_append (strict6.extensions_of first old) row.0,
+    )
+
 v6_keeps : IsFound → HasLeast → (bytes more header : List ℕ) → 40 ≤ length bytes
     → KeepsIpv6 (V6 bytes header) (V6 (bytes ++ more) header)
 v6_keeps found least bytes more header fits =
@@ -307,6 +370,7 @@ v6_keeps found least bytes more header fits =
     record {
       header = refl;
       exts = λ none. ap (λ (s : StoppedIpv6). s.0.exts) (row none).packet;
+      found = v6_exts found bytes more header fits;
       going_on = λ none. ap (λ (s : StoppedIpv6). s.1) (row none).packet;
       payload = λ none. record {
         number = ap (λ (s : StoppedIpv6). s.0.payload.ip_number) (row none).packet;

@@ -312,11 +312,11 @@ ipv6_cut law k bytes (Ok packet) layers at is fits =
     rw (law.ipv6 k bytes packet at inside.0) inside.1
 
 -- an ARP packet, whose length stands in its first bytes
-arp_taken : (bytes packet : List ℕ) → packet_at bytes ≡ Ok packet → (8 ≤ length bytes)
+pub arp_taken : (bytes packet : List ℕ) → packet_at bytes ≡ Ok packet → (8 ≤ length bytes)
     × (packet_len_of bytes ≤ length bytes) × (take (packet_len_of bytes) bytes ≡ packet)
 arp_taken bytes packet is = grind (arith, nat_tests)
 
-arp_is : (bytes : List ℕ) → 8 ≤ length bytes → packet_len_of bytes ≤ length bytes
+pub arp_is : (bytes : List ℕ) → 8 ≤ length bytes → packet_len_of bytes ≤ length bytes
     → packet_at bytes ≡ Ok (take (packet_len_of bytes) bytes)
 arp_is bytes least whole = grind (arith, nat_tests)
 
@@ -499,11 +499,11 @@ named_cut law (protocol.GenericRoutingEncapsulationProtocolType t) n bytes follo
 named_cut law (protocol.LinuxNonstandardEtherType t) n bytes following packet is fits =
     no_ether_type n bytes packet is
 
-cooked_taken : (bytes found : List ℕ) → sll_fault.whole_at bytes ≡ Ok found → (sll_len ≤ length bytes)
+pub cooked_taken : (bytes found : List ℕ) → sll_fault.whole_at bytes ≡ Ok found → (sll_len ≤ length bytes)
     × (packet_type_of bytes ≤ greatest_packet_type) × (bytes ≡ found)
 cooked_taken bytes found is = grind (arith, nat_tests)
 
-cooked_is : (bytes : List ℕ) → sll_len ≤ length bytes → packet_type_of bytes ≤ greatest_packet_type
+pub cooked_is : (bytes : List ℕ) → sll_len ≤ length bytes → packet_type_of bytes ≤ greatest_packet_type
     → sll_fault.whole_at bytes ≡ Ok bytes
 cooked_is bytes size kind = grind (arith, nat_tests)
 

@@ -39,12 +39,12 @@ passed false true c e f g v m is = cc
 passed false false true e f g v m is = cc
 passed false false false e f g v m is = (refl, refl, refl, grind arith)
 
-passes : {E : Type 0} (a b c : Bool) (e f g : E) (bytes : List ℕ) → a ≡ false → b ≡ false → c ≡ false →
+pub passes : {E : Type 0} (a b c : Bool) (e f g : E) (bytes : List ℕ) → a ≡ false → b ≡ false → c ≡ false →
     ◌≡◌ {A = Result (List ℕ) E}
     (if a then Err e else (if b then Err f else (if c then Err g else Ok bytes))) (Ok bytes)
 passes a b c e f g bytes x y z = rw (x, y, z) refl
 
-tcp_taken : (bytes m : List ℕ) → segment_at bytes ≡ Ok m → (nat_lt (length bytes) 20 ≡ false)
+pub tcp_taken : (bytes m : List ℕ) → segment_at bytes ≡ Ok m → (nat_lt (length bytes) 20 ≡ false)
     × (nat_lt (data_offset_of bytes) 5 ≡ false)
     × (nat_lt (length bytes) (4 * data_offset_of bytes) ≡ false) × (m ≡ bytes)
 tcp_taken bytes m is = passed (nat_lt (length bytes) 20) (nat_lt (data_offset_of bytes) 5)
@@ -71,7 +71,7 @@ tcp_cut n bytes m is fits =
     (grind (arith, nat_tests)) (grind (arith, nat_tests)) (grind (arith, nat_tests))
     ∙ ap (λ (xs : List ℕ). Ok (take n xs)) (sym tests.3)
 
-icmpv4_taken : (bytes m : List ℕ) → icmpv4_fault.message_at bytes ≡ Ok m
+pub icmpv4_taken : (bytes m : List ℕ) → icmpv4_fault.message_at bytes ≡ Ok m
     → (nat_lt (length bytes) 8 ≡ false)
     × ((is_timestamp_request bytes && not (length bytes == 20)) ≡ false)
     × ((is_timestamp_reply bytes && not (length bytes == 20)) ≡ false) × (m ≡ bytes)

@@ -22,6 +22,7 @@ mod LaxViewLemmas
 mod LaxWholeHeaderLemmas
 mod LaxWholeLemmas
 mod MessageFaults
+mod MoreBytes
 mod PacketViewLemmas
 mod PartsLemmas
 mod ReadHeaders

@@ -7,6 +7,7 @@ pub mod HeadersWriteError
 pub mod IpHeaders
 pub mod IsTagged
 pub mod IpHeadersAt
+pub mod KeptLayers
 pub mod LaxCut
 pub mod LaxFits
 pub mod LaxIpHeadersAt

@@ -4,6 +4,7 @@ mod Prefix
 mod MacsecPrefix
 mod MacsecRead
 mod MacsecEncoding
+mod MoreTags
 mod Numbers
 mod SameHeaders
 mod SameLaxPayloads

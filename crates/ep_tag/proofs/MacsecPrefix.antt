@@ -53,7 +53,7 @@ header_takes bytes header e =
     let same : take (header_len_of bytes) bytes ≡ header = ok_same _ _ whole.1 in
     (subst IsMacsecHeader same (prefix_is bytes six version.0 room.0 fits), sym same, fits)
 
-header_found : (bytes header : List ℕ) → header_at bytes ≡ Ok header
+pub header_found : (bytes header : List ℕ) → header_at bytes ≡ Ok header
     → IsMacsecHeader header × ((rest : List ℕ) × (bytes ≡ header ++ rest))
 header_found bytes header e =
     let found = header_takes bytes header e in

@@ -10,5 +10,6 @@ pub mod MacsecLax
 pub mod MacsecOrder
 pub mod MacsecPayload
 pub mod MacsecView
+pub mod MoreTags
 pub mod Vlan
 pub mod VlanForms

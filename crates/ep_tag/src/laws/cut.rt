@@ -1,11 +1,12 @@
 //! Laws of tags of which, together with what follows them, only the first bytes are there.
-ghost use Rattle.std.specs.Prelude.{◌≡◌, ◌≤◌, ◌-◌, ℕ, List, length, take, Ok};
+ghost use Rattle.std.specs.Prelude.{◌≡◌, ◌≤◌, ◌-◌, ℕ, List, ◌++◌, length, take, Ok, IsOkAnd};
 ghost use Rattle.std.specs.Option.{option_map};
 ghost use Rattle.ep_base.specs.declared.err.layer.Layer.TheVariants.{VlanHeader};
 ghost use Rattle.ep_tag.specs.CutTags.{cut_macsec, cut_named, cut_tag, named_bytes};
 ghost use Rattle.ep_tag.specs.LinkExt.{fields_of, lax_fields_of, lax_payload_after, payload_after, tag_len};
-ghost use Rattle.ep_tag.specs.MacsecLax.{lax_macsec_at};
+ghost use Rattle.ep_tag.specs.MacsecLax.{LaxMacsec, lax_macsec_at};
 ghost use Rattle.ep_tag.specs.MacsecPayload.{Macsec, macsec_at};
+ghost use Rattle.ep_tag.specs.MoreTags.{KeepsMacsec};
 ghost use Rattle.ep_tag.specs.Prefix.{whole_at};
 ghost use Rattle.ep_tag.specs.Vlan.{vlan_len};
 ghost use Rattle.ep_tag.specs.declared.link.link_ext_slice.LinkExtSlice.{LinkExtSlice};
@@ -23,4 +24,10 @@ pub fn cut_tags_are_found()
     ensures named { (n : ℕ) (t : LinkExtSlice) → tag_len t ≤ n
         → option_map named_bytes (lax_payload_after (cut_tag n t))
         ≡ option_map (cut_named (n - tag_len t)) (payload_after t) }
+{}
+
+/// Where more bytes are there, a MACsec header is the same, and of its payload more may be there.
+pub fn more_bytes_keep_tags()
+    ensures { (bytes more : List ℕ) (before : LaxMacsec) → lax_macsec_at bytes ≡ Ok before
+        → IsOkAnd (lax_macsec_at (bytes ++ more)) (λ after. KeepsMacsec before after) }
 {}
