@@ -1,11 +1,10 @@
 -- Packets as far as they are there, where more bytes are there.
-use Rattle.std.proofs.Common.{◌≡◌, ◌≢◌, ◌∙◌, sym, ap, ap₂, refl, ℕ, ◌+◌, ◌-◌, ◌≤◌, ◌==◌, ◌&&◌, Bool, true, false, List, [], ◌∷◌}
+use Rattle.std.proofs.Common.{◌≡◌, ◌≢◌, ◌∙◌, sym, ap, ap₂, refl, ℕ, ◌-◌, ◌≤◌, ◌==◌, ◌&&◌, Bool, true, false, List, [], ◌∷◌}
 use Rattle.std.proofs.Common.{◌++◌, length, take, drop, Option, Some, None, Result, Ok, Err, IsOkAnd, arith, append_assoc}
-use Rattle.std.proofs.Common.{append-nil, length-append}
+use Rattle.std.proofs.Common.{length-append}
 use Rattle.std.proofs.Common.{zero, suc}
 use Rattle.std.specs.Prelude.{if◌then◌else◌, nat_lt}
 use Rattle.std.specs.Option.{option_map}
-use Rattle.std.proofs.Math.Seq.{take-append-add}
 use Rattle.std.proofs.lemmas.Bool.Decides.{nat_tests}
 use Rattle.std.proofs.lemmas.List.{drop-append-le, drop_at, length-drop, length-take, take-append-le, take_all}
 use Rattle.ep_base.specs.declared.err.slice_error.SliceError.{SliceError}
@@ -305,8 +304,7 @@ found_more : IsFound → (order : Order) (passed : List Ipv6ExtSlot) (number : �
 found_more found order passed number bytes more piece at =
     let prefix = prefix_is (order passed number) bytes piece at in
     let parts : bytes ++ more ≡ piece.1 ++ (prefix.following ++ more) =
-    ap (λ (xs : List ℕ). xs ++ more) prefix.cut ∙ append_assoc piece.1 prefix.following more in
-    (
+    ap (λ (xs : List ℕ). xs ++ more) prefix.cut ∙ append_assoc piece.1 prefix.following more in (
       rw parts (prefix_open found order passed number piece (prefix.following ++ more) prefix.named prefix.is),
       drop-append-le (length piece.1) bytes more
           (omega (arith, ap length prefix.cut, length-append piece.1 prefix.following)),
@@ -325,8 +323,7 @@ row_then : IsFound → (most later : ℕ) (order : Order) (passed : List Ipv6Ext
 row_then found most later order passed number bytes more further None at = (_, refl)
 row_then found most later order passed number bytes more further (Some piece) at =
     let here = found_more found order passed number bytes more piece at in
-    let inner = further (passed ++ piece.0 ∷ []) (num piece.1 0 1) (drop (length piece.1) bytes) in
-    (
+    let inner = further (passed ++ piece.0 ∷ []) (num piece.1 0 1) (drop (length piece.1) bytes) in (
       inner.0,
       rw (here.0, here.1) (ap (λ (ps : List Piece). piece ∷ ps) inner.1),
     )
@@ -355,8 +352,7 @@ v6_exts found bytes more header fits =
     let first : ℕ = next_header_of header in
     let old : List ℕ = strict6.body_of bytes header in
     let row = row_more found (length old) (length (old ++ body.0)) view_order [] first old body.0
-    (omega (arith, length-append old body.0)) in
-    (
+    (omega (arith, length-append old body.0)) in (
       bytes_of row.0,
       ap (λ (xs : List ℕ). bytes_of (strict6.extensions_of first xs)) body.1 ∙ ap bytes_of row.1
           ∙ bytes_append (strict6.extensions_of first old) row.0,

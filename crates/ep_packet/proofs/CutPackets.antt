@@ -427,7 +427,7 @@ later_ok : (n : ℕ) (r : Result SlicedPacket SliceError) (packet : SlicedPacket
     → later n r ≡ Ok packet → r ≡ Ok packet
 later_ok n r packet is = grind arith
 
-drop_in : (k n : ℕ) (bytes : List ℕ) → k ≤ n → drop k (take n bytes) ≡ take (n - k) (drop k bytes)
+pub drop_in : (k n : ℕ) (bytes : List ℕ) → k ≤ n → drop k (take n bytes) ≡ take (n - k) (drop k bytes)
 drop_in k n bytes fits =
     let all : n ≡ k + (n - k) = omega (arith, fits) in
     ap (λ (m : ℕ). drop k (take m bytes)) all ∙ drop-take k (n - k) bytes

@@ -20,11 +20,23 @@ use Rattle.ep_packet.specs.LaxTags.{LaxTagged, Stop, lax_tags_in, stop_by}
 use Rattle.ep_packet.specs.SliceFault.{fault_offset}
 use Rattle.ep_packet.specs.Tags.{most_tags}
 use Rattle.ep_packet.specs.declared.lax_payload_slice.LaxPayloadSlice.{LaxPayloadSlice}
+use Rattle.ep_packet.specs.declared.net.net_headers.NetHeaders.{NetHeaders}
+use Rattle.ep_packet.specs.declared.transport.transport_header.TransportHeader.{TransportHeader}
 use Rattle.ep_packet.proofs.LaxLayersLemmas.{Ipv4Moves, exts_moves, ipv4_moves, some_later, transport_moves}
 use Rattle.ep_link.specs.declared.link.link_header.LinkHeader.{LinkHeader}
 use Rattle.ep_tag.specs.Ether.{EtherPayload, LaxEtherPayload, complete_ether}
 use Rattle.ep_tag.specs.LinkExt.{lax_fields_of}
 use Rattle.ep_tag.specs.declared.link.link_ext_header.LinkExtHeader.{LinkExtHeader}
+
+-- headers of these parts
+abbrev pub header_layers_of : Option NetHeaders → Option TransportHeader → Option LaxPayloadSlice → Option Stop
+    → LaxHeaderLayers
+header_layers_of net transport payload stop = record {
+  net = net;
+  transport = transport;
+  payload = option_map lax_payload_parsed payload;
+  stop = stop;
+}
 
 stop_is : (size : ℕ) (l whole : LaxHeaderLayers) → l ≡ whole → IfSome whole.stop (Moves size)
     → IfSome l.stop (Moves size)

@@ -18,6 +18,11 @@ use Rattle.ep_packet.specs.LaxSliced.{of_auth, of_ipv4_header, of_ipv6_exts, of_
 use Rattle.ep_packet.specs.LaxTags.{LaxTagged, Stop}
 use Rattle.ep_packet.specs.SliceFault.{fault_offset}
 use Rattle.ep_tag.specs.Ether.{LaxEtherPayload}
+use Rattle.ep_tag.specs.declared.link.lax_link_ext_slice.LaxLinkExtSlice.{LaxLinkExtSlice}
+
+-- tags of these parts
+abbrev pub tagged_of : List LaxLinkExtSlice → ℕ → Option LaxEtherPayload → Option Stop → LaxTagged
+tagged_of tags len last stop = record { tags = tags; len = len; last = last; stop = stop }
 
 pub message_at_start : (number : ℕ) (bytes : List ℕ)
     → IfErr (lax_message_at number bytes) (λ e. fault_offset e ≡ 0)

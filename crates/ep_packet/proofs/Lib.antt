@@ -1,5 +1,6 @@
 mod Agreement
 pub mod ClassLemmas
+mod CutHeaders
 mod CutPackets
 mod FaultLemmas
 mod FoundLemmas

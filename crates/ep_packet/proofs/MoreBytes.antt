@@ -22,12 +22,19 @@ use Rattle.ep_ext.specs.declared.err.ip_auth.header_error.HeaderError.{HeaderErr
 use Rattle.ep_icmp.specs.Icmpv4.{is_timestamp, is_timestamp_reply, is_timestamp_request}
 use Rattle.ep_icmp.specs.Icmpv4Fault as icmpv4_fault
 use Rattle.ep_icmp.specs.Icmpv6Fault as icmpv6_fault
+use Rattle.ep_ip.specs.Ipv4.{version_of}
 use Rattle.ep_ip.specs.declared.err.ipv4.header_error.HeaderError.{HeaderError as Ipv4HeaderFault}
 use Rattle.ep_ip.specs.declared.err.ipv6.header_error.HeaderError.{HeaderError as Ipv6HeaderFault}
+use Rattle.ep_ipslice.specs.IpSlice.{ip_packet_at, with_ipv4, with_ipv6}
+use Rattle.ep_ipslice.specs.Ipv4Packet.{ipv4_packet_at}
+use Rattle.ep_ipslice.specs.Ipv6Packet.{ipv6_packet_at}
+use Rattle.ep_ipslice.specs.LaxIp as lax_ip
+use Rattle.ep_ipslice.specs.LaxIp.{lax_ip_packet_at, with_lax_ipv4, with_lax_ipv6}
 use Rattle.ep_ipslice.specs.LaxPackets.{LaxIpv4Packet, LaxIpv6Packet, StoppedIpv4, StoppedIpv6}
 use Rattle.ep_ipslice.specs.LaxPackets.{lax_ipv4_packet_at, lax_ipv6_packet_at}
 use Rattle.ep_ipslice.specs.MoreBytes.{IsPayloadContinued, KeepsIpv4, KeepsIpv6}
 use Rattle.ep_ipslice.specs.Packet.{IpPayload}
+use Rattle.ep_ipslice.specs.declared.err.ip.header_error.HeaderError.{HeaderError as IpHeaderFault}
 use Rattle.ep_link.specs.Arp.{packet_at, packet_len_of}
 use Rattle.ep_link.specs.Ethernet as ethernet
 use Rattle.ep_link.specs.Ethernet.{ethernet_len}
@@ -44,7 +51,7 @@ use Rattle.ep_packet.specs.LaxSliced.{LaxLayers, auth_stop, in_lax_ipv4, in_lax_
 use Rattle.ep_packet.specs.LaxSliced.{lax_ipv4_layers, lax_ipv6_layers, lax_layers_in, lax_layers_of, lax_message_at}
 use Rattle.ep_packet.specs.LaxSliced.{in_lax_cooked, in_lax_frame, in_lax_linux_sll, lax_message_in, lax_packet_after, lax_sliced_ether_type}
 use Rattle.ep_packet.specs.LaxSliced.{lax_sliced_ethernet, lax_sliced_linux_sll, lax_transport_in, message_layer}
-use Rattle.ep_packet.specs.LaxSliced.{message_or_stop, no_layers}
+use Rattle.ep_packet.specs.LaxSliced.{exts_stop, in_lax_version, lax_packet_of, lax_sliced_ip, message_or_stop, no_layers}
 use Rattle.ep_packet.specs.LaxTags.{LaxTagged, Stop, ended, joined, lax_from_tag, lax_macsec_tag, lax_read_further, lax_tag_at}
 use Rattle.ep_packet.specs.LaxTags.{lax_tags_in, lax_vlan_tag}
 use Rattle.ep_packet.specs.Readable as number
@@ -86,6 +93,12 @@ pub record MoreParts : Type 0 where
       → IsOkAnd (lax_ipv4_packet_at (bytes ++ more)) (λ after. KeepsIpv4 before after)
   pub ipv6 : (bytes more : List ℕ) (before : StoppedIpv6) → lax_ipv6_packet_at bytes ≡ Ok before
       → IsOkAnd (lax_ipv6_packet_at (bytes ++ more)) (λ after. KeepsIpv6 before after)
+  pub four : (bytes : List ℕ) → version_of bytes ≡ 4
+      → (ip_packet_at bytes ≡ with_ipv4 (ipv4_packet_at bytes))
+      × (lax_ip_packet_at bytes ≡ with_lax_ipv4 (lax_ipv4_packet_at bytes))
+  pub six : (bytes : List ℕ) → version_of bytes ≡ 6
+      → (ip_packet_at bytes ≡ with_ipv6 (ipv6_packet_at bytes))
+      × (lax_ip_packet_at bytes ≡ with_lax_ipv6 (lax_ipv6_packet_at bytes))
 
 -- what is found where more bytes are there
 ok_in : {A E : Type 0} (P : A → Type 0) (r : Result A E) → IsOkAnd r P → (x : A) × (r ≡ Ok x) × P x
@@ -308,18 +321,25 @@ record AreKept (before after : LaxLayers) : Type 0 where
 nothing : (stop : Option Stop) (after : LaxLayers) → AreKept (no_layers stop) after
 nothing stop after = record { net = tt; transport = tt }
 
-v4_transport : (n n' : ℕ) (packet : LaxIpv4Packet) (stop : Option (HeaderSliceError AuthFault))
-    (after : StoppedIpv4) → KeepsIpv4 (packet, stop) after →
-    TransportKept (lax_transport_in n packet.payload (option_map auth_stop stop)).0
-    (lax_transport_in n' after.0.payload (option_map auth_stop after.1)).0
-v4_transport n n' packet (Some e) after kept = tt
-v4_transport n n' packet None after kept =
-    rw (kept.going_on refl) (transport_more n n' packet.payload after.0.payload (kept.payload refl))
+-- how faults of extension headers are those of all layers
+record IsStops {E : Type 0} (stops : Option E → Option Stop) : Type 0 where
+  none : stops None ≡ None
+  some : (e : E) → (stop : Stop) × (stops (Some e) ≡ Some stop)
 
-v4_layers : (before after : StoppedIpv4) → KeepsIpv4 before after →
-    AreKept (in_lax_ipv4 before.0 (option_map auth_stop before.1))
-    (in_lax_ipv4 after.0 (option_map auth_stop after.1))
-v4_layers before after kept = record {
+v4_transport : (stops : Option (HeaderSliceError AuthFault) → Option Stop) → IsStops stops
+    → (n n' : ℕ) (packet : LaxIpv4Packet) (stop : Option (HeaderSliceError AuthFault))
+    (after : StoppedIpv4) → KeepsIpv4 (packet, stop) after →
+    TransportKept (lax_transport_in n packet.payload (stops stop)).0
+    (lax_transport_in n' after.0.payload (stops after.1)).0
+v4_transport stops are n n' packet (Some e) after kept = rw (are.some e).1 tt
+v4_transport stops are n n' packet None after kept =
+    let going_on : stops after.1 ≡ None = ap stops (kept.going_on refl) ∙ are.none in
+    rw (are.none, going_on) (transport_more n n' packet.payload after.0.payload (kept.payload refl))
+
+v4_layers : (stops : Option (HeaderSliceError AuthFault) → Option Stop) → IsStops stops
+    → (before after : StoppedIpv4) → KeepsIpv4 before after
+    → AreKept (in_lax_ipv4 before.0 (stops before.1)) (in_lax_ipv4 after.0 (stops after.1))
+v4_layers stops are before after kept = record {
   net = (
     after.0,
     refl,
@@ -329,7 +349,7 @@ v4_layers before after kept = record {
       whole = λ counted. ap (λ (s : StoppedIpv4). s.0) (kept.whole counted);
     },
   );
-  transport = v4_transport (length before.0.header + length (auth_bytes before.0.auth))
+  transport = v4_transport stops are (length before.0.header + length (auth_bytes before.0.auth))
       (length after.0.header + length (auth_bytes after.0.auth)) before.0 before.1 after kept;
 }
 
@@ -339,21 +359,23 @@ v4_more : MoreParts → (bytes more : List ℕ) (r : Result StoppedIpv4 (HeaderS
 v4_more law bytes more (Ok before) at =
     let found = ok_in (λ (after : StoppedIpv4). KeepsIpv4 before after)
     (lax_ipv4_packet_at (bytes ++ more)) (law.ipv4 bytes more before at) in
-    rw found.1 (v4_layers before found.0 found.2)
+    rw found.1 (v4_layers (option_map auth_stop) (record { none = refl; some = λ e. (auth_stop e, refl) })
+    before found.0 found.2)
 v4_more law bytes more (Err e) at = nothing _ _
 
-v6_transport : (n n' : ℕ) (packet : LaxIpv6Packet) (stop : Option Fault) (after : StoppedIpv6)
-    → KeepsIpv6 (packet, stop) after →
-    TransportKept (lax_transport_in n packet.payload (option_map ipv6_exts_stop stop)).0
-    (lax_transport_in n' after.0.payload (option_map ipv6_exts_stop after.1)).0
-v6_transport n n' packet (Some e) after kept = tt
-v6_transport n n' packet None after kept =
-    rw (kept.going_on refl) (transport_more n n' packet.payload after.0.payload (kept.payload refl))
+v6_transport : (stops : Option Fault → Option Stop) → IsStops stops → (n n' : ℕ) (packet : LaxIpv6Packet)
+    (stop : Option Fault) (after : StoppedIpv6) → KeepsIpv6 (packet, stop) after →
+    TransportKept (lax_transport_in n packet.payload (stops stop)).0
+    (lax_transport_in n' after.0.payload (stops after.1)).0
+v6_transport stops are n n' packet (Some e) after kept = rw (are.some e).1 tt
+v6_transport stops are n n' packet None after kept =
+    let going_on : stops after.1 ≡ None = ap stops (kept.going_on refl) ∙ are.none in
+    rw (are.none, going_on) (transport_more n n' packet.payload after.0.payload (kept.payload refl))
 
-v6_layers : (before after : StoppedIpv6) → KeepsIpv6 before after →
-    AreKept (in_lax_ipv6 before.0 (option_map ipv6_exts_stop before.1))
-    (in_lax_ipv6 after.0 (option_map ipv6_exts_stop after.1))
-v6_layers before after kept = record {
+v6_layers : (stops : Option Fault → Option Stop) → IsStops stops → (before after : StoppedIpv6)
+    → KeepsIpv6 before after
+    → AreKept (in_lax_ipv6 before.0 (stops before.1)) (in_lax_ipv6 after.0 (stops after.1))
+v6_layers stops are before after kept = record {
   net = (
     after.0,
     refl,
@@ -363,7 +385,7 @@ v6_layers before after kept = record {
       whole = λ counted some. ap (λ (s : StoppedIpv6). s.0) (kept.whole counted some);
     },
   );
-  transport = v6_transport (length before.0.header + length before.0.exts.slice)
+  transport = v6_transport stops are (length before.0.header + length before.0.exts.slice)
       (length after.0.header + length after.0.exts.slice) before.0 before.1 after kept;
 }
 
@@ -373,7 +395,8 @@ v6_more : MoreParts → (bytes more : List ℕ) (r : Result StoppedIpv6 (HeaderS
 v6_more law bytes more (Ok before) at =
     let found = ok_in (λ (after : StoppedIpv6). KeepsIpv6 before after)
     (lax_ipv6_packet_at (bytes ++ more)) (law.ipv6 bytes more before at) in
-    rw found.1 (v6_layers before found.0 found.2)
+    rw found.1 (v6_layers (option_map ipv6_exts_stop)
+    (record { none = refl; some = λ e. (ipv6_exts_stop e, refl) }) before found.0 found.2)
 v6_more law bytes more (Err e) at = nothing _ _
 
 arp_found : (bytes more packet : List ℕ) → packet_at bytes ≡ Ok packet → packet_at (bytes ++ more) ≡ Ok packet
@@ -660,3 +683,69 @@ pub linux_sll_more : MoreParts → (bytes more : List ℕ) (before : LaxSlicedPa
     → IsOkAnd (lax_sliced_linux_sll (bytes ++ more)) (λ after. KeepsLayers before after)
 linux_sll_more law bytes more before is =
     cooked_case law bytes more (sll_fault.whole_at bytes) before refl is
+
+-- IP packets without a link header
+bare_more : (before after : LaxLayers) → AreKept before after
+    → KeepsLayers (lax_packet_of None [] before) (lax_packet_of None [] after)
+bare_more before after kept = record {
+  link = λ header is. cc;
+  link_exts = tt;
+  net = net_in before.net after.net kept.net;
+  transport = transport_in before.transport after.transport kept.transport;
+}
+
+version_more : (bytes more : List ℕ) (n : ℕ) → version_of bytes ≡ suc n → version_of (bytes ++ more) ≡ suc n
+version_more [] more n is = cc
+version_more (b ∷ bytes) more n is = is
+
+abbrev v4_stops : Option (HeaderSliceError AuthFault) → Option Stop
+v4_stops o = option_map exts_stop (option_map lax_ip.auth_stop o)
+
+abbrev v6_stops : Option Fault → Option Stop
+v6_stops o = option_map exts_stop (option_map lax_ip.row_stop o)
+
+four_more : MoreParts → (bytes more : List ℕ) (r : Result StoppedIpv4 (HeaderSliceError Ipv4HeaderFault))
+    (before : LaxSlicedPacket) → version_of bytes ≡ 4 → lax_ipv4_packet_at bytes ≡ r
+    → in_lax_version (with_lax_ipv4 r) ≡ Ok before
+    → IsOkAnd (lax_sliced_ip (bytes ++ more)) (λ after. KeepsLayers before after)
+four_more law bytes more (Err e) before version at is = cc
+four_more law bytes more (Ok s) before version at is =
+    let found = ok_in (λ (after : StoppedIpv4). KeepsIpv4 s after) (lax_ipv4_packet_at (bytes ++ more))
+    (law.ipv4 bytes more s at) in
+    let here = (law.four (bytes ++ more) (version_more bytes more 3 version)).1 in
+    let same : lax_packet_of None [] (in_lax_ipv4 s.0 (v4_stops s.1)) ≡ before = cc in
+    let kept = bare_more (in_lax_ipv4 s.0 (v4_stops s.1)) (in_lax_ipv4 found.0.0 (v4_stops found.0.1))
+    (v4_layers v4_stops (record { none = refl; some = λ e. (_, refl) }) s found.0 found.2) in
+    rw (here, found.1) (rw same at kept)
+
+six_more : MoreParts → (bytes more : List ℕ) (r : Result StoppedIpv6 (HeaderSliceError Ipv6HeaderFault))
+    (before : LaxSlicedPacket) → version_of bytes ≡ 6 → lax_ipv6_packet_at bytes ≡ r
+    → in_lax_version (with_lax_ipv6 r) ≡ Ok before
+    → IsOkAnd (lax_sliced_ip (bytes ++ more)) (λ after. KeepsLayers before after)
+six_more law bytes more (Err e) before version at is = cc
+six_more law bytes more (Ok s) before version at is =
+    let found = ok_in (λ (after : StoppedIpv6). KeepsIpv6 s after) (lax_ipv6_packet_at (bytes ++ more))
+    (law.ipv6 bytes more s at) in
+    let here = (law.six (bytes ++ more) (version_more bytes more 5 version)).1 in
+    let same : lax_packet_of None [] (in_lax_ipv6 s.0 (v6_stops s.1)) ≡ before = cc in
+    let kept = bare_more (in_lax_ipv6 s.0 (v6_stops s.1)) (in_lax_ipv6 found.0.0 (v6_stops found.0.1))
+    (v6_layers v6_stops (record { none = refl; some = λ e. (_, refl) }) s found.0 found.2) in
+    rw (here, found.1) (rw same at kept)
+
+ip_case : MoreParts → (none four six : Bool) (bytes more : List ℕ) (before : LaxSlicedPacket)
+    (e f : HeaderSliceError IpHeaderFault) → (version_of bytes == 4) ≡ four → (version_of bytes == 6) ≡ six →
+    in_lax_version (if none then Err e
+    else (if four then with_lax_ipv4 (lax_ipv4_packet_at bytes)
+    else (if six then with_lax_ipv6 (lax_ipv6_packet_at bytes) else Err f))) ≡ Ok before
+    → IsOkAnd (lax_sliced_ip (bytes ++ more)) (λ after. KeepsLayers before after)
+ip_case law true four six bytes more before e f is_four is_six is = cc
+ip_case law false true six bytes more before e f is_four is_six is =
+    four_more law bytes more (lax_ipv4_packet_at bytes) before (grind (arith, nat_tests)) refl is
+ip_case law false false true bytes more before e f is_four is_six is =
+    six_more law bytes more (lax_ipv6_packet_at bytes) before (grind (arith, nat_tests)) refl is
+ip_case law false false false bytes more before e f is_four is_six is = cc
+
+pub ip_more : MoreParts → (bytes more : List ℕ) (before : LaxSlicedPacket) → lax_sliced_ip bytes ≡ Ok before
+    → IsOkAnd (lax_sliced_ip (bytes ++ more)) (λ after. KeepsLayers before after)
+ip_more law bytes more before is = ip_case law (length bytes == 0) (version_of bytes == 4)
+    (version_of bytes == 6) bytes more before _ _ refl refl is

@@ -1,7 +1,7 @@
 -- Tags as far as they are there, where more bytes are there.
 use Rattle.std.proofs.Common.{◌≡◌, ◌∙◌, sym, ap, refl, ℕ, zero, suc, ◌==◌, Bool, true, false, List, [], ◌∷◌, ◌++◌, length, take}
 use Rattle.std.proofs.Common.{drop, Result, Ok, Err, IsOkAnd, arith, append_assoc}
-use Rattle.std.specs.Prelude.{if◌then◌else◌, nat_lt}
+use Rattle.std.specs.Prelude.{nat_lt}
 use Rattle.std.proofs.lemmas.Bool.Decides.{nat_tests}
 use Rattle.std.proofs.lemmas.List.{drop_at, take_all}
 use Rattle.ep_base.specs.declared.err.slice_error.SliceError.{SliceError}

@@ -1,31 +1,21 @@
 use Rattle.std.proofs.Common.{◌≡◌, ◌∙◌, ◌+◌, IfSome, ap, arith, length, refl, subst, sym}
 use Rattle.std.specs.Option.{option_map}
-use Rattle.ep_packet.specs.LaxPayload.{lax_payload_parsed}
 use Rattle.ep_packet.specs.LaxFits.{Moves, TagsFit}
 use Rattle.ep_packet.specs.LaxPacketHeaders.{LaxHeaderLayers, lax_after_tags, lax_last_of, lax_named_after}
 use Rattle.ep_packet.specs.LaxSliced.{first_stop}
-use Rattle.ep_packet.specs.LaxTags.{LaxTagged, stop_by}
-use Rattle.ep_packet.proofs.LaxHeadersLemmas.{headers_later, none_first, some_first, tagged_is}
+use Rattle.ep_packet.specs.LaxTags.{stop_by}
+use Rattle.ep_packet.proofs.LaxHeadersLemmas.{header_layers_of, headers_later, none_first, some_first, tagged_is}
+use Rattle.ep_packet.proofs.LaxLayersLemmas.{tagged_of}
 use Rattle.ep_packet.proofs.lax_packet_headers.LaxPacketHeaders.after_link.Goals as goal
 use Rattle.ep_packet.proofs.lax_packet_headers.LaxPacketHeaders.after_link.Goals.{in-Some, in-None}
 use Rattle.ep_tag.specs.Ether.{LaxEtherPayload, complete_ether}
 
 pub stop_moved-stop_err-requires : goal.stop_moved-stop_err-requires
 stop_moved-stop_err-requires c =
-    let t : LaxTagged =
-    record {
-      tags = c.tagged.inside.tags.items;
-      len = c.tagged.inside.len;
-      last = c.tagged.inside.last;
-      stop = c.tagged.inside.stop;
-    } in
-    let l : LaxHeaderLayers =
-    record {
-      net = c.layers.inside.net;
-      transport = c.layers.inside.transport;
-      payload = option_map lax_payload_parsed c.layers.inside.payload;
-      stop = c.layers.inside.stop;
-    } in
+    let t = tagged_of c.tagged.inside.tags.items c.tagged.inside.len c.tagged.inside.last
+    c.tagged.inside.stop in
+    let l = header_layers_of c.layers.inside.net c.layers.inside.transport c.layers.inside.payload
+    c.layers.inside.stop in
     headers_later (length c.from.result.payload) c.args.link_len t l
     (subst (TagsFit (length c.from.result.payload)) (sym c.tagged.view_is)
     c.from_ether_payload-tagged.ensures.fits)
@@ -36,20 +26,10 @@ stop_moved-stop_err-requires c =
 
 pub returns : goal.returns
 returns c =
-    let t : LaxTagged =
-    record {
-      tags = c.tagged.inside.tags.items;
-      len = c.tagged.inside.len;
-      last = c.tagged.inside.last;
-      stop = c.tagged.inside.stop;
-    } in
-    let l : LaxHeaderLayers =
-    record {
-      net = c.layers.inside.net;
-      transport = c.layers.inside.transport;
-      payload = option_map lax_payload_parsed c.layers.inside.payload;
-      stop = c.layers.inside.stop;
-    } in
+    let t = tagged_of c.tagged.inside.tags.items c.tagged.inside.len c.tagged.inside.last
+    c.tagged.inside.stop in
+    let l = header_layers_of c.layers.inside.net c.layers.inside.transport c.layers.inside.payload
+    c.layers.inside.stop in
     let first = option_map (stop_by c.args.link_len) t.stop in
     let later = option_map (stop_by (c.args.link_len + t.len)) l.stop in
     let stopped : c.match-stop_moved.stop_err ≡ first_stop first later =

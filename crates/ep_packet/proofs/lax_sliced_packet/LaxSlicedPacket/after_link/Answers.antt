@@ -1,20 +1,14 @@
 use Rattle.std.proofs.Common.{◌∙◌, IfSome, ap, arith, length, subst, sym}
 use Rattle.ep_packet.specs.LaxFits.{Moves, TagsFit}
 use Rattle.ep_packet.specs.LaxSliced.{LaxLayers}
-use Rattle.ep_packet.specs.LaxTags.{LaxTagged}
-use Rattle.ep_packet.proofs.LaxLayersLemmas.{layers_later}
+use Rattle.ep_packet.proofs.LaxLayersLemmas.{layers_later, tagged_of}
 use Rattle.ep_packet.proofs.lax_sliced_packet.LaxSlicedPacket.after_link.Goals as goal
 use Rattle.ep_tag.specs.Ether.{LaxEtherPayload}
 
 pub stop_moved-stop_err-requires : goal.stop_moved-stop_err-requires
 stop_moved-stop_err-requires c =
-    let t : LaxTagged =
-    record {
-      tags = c.tagged.inside.tags.items;
-      len = c.tagged.inside.len;
-      last = c.tagged.inside.last;
-      stop = c.tagged.inside.stop;
-    } in
+    let t = tagged_of c.tagged.inside.tags.items c.tagged.inside.len c.tagged.inside.last
+    c.tagged.inside.stop in
     let layers : LaxLayers =
     record {
       net = c.layers.inside.net;
