@@ -37,7 +37,7 @@ use Rattle.ep_link.specs.declared.link.link_slice.LinkSlice.TheVariants as link
 use Rattle.ep_link.specs.declared.link.linux_sll_protocol_type.LinuxSllProtocolType.{LinuxSllProtocolType}
 use Rattle.ep_link.specs.declared.link.linux_sll_protocol_type.LinuxSllProtocolType.TheVariants as protocol
 use Rattle.ep_packet.specs.CutPacket.{all_headers_len, cut_after, cut_link, cut_net, cut_packet, cut_tags, cut_transport}
-use Rattle.ep_packet.specs.CutPacket.{len_after_link, transport_len}
+use Rattle.ep_packet.specs.CutPacket.{len_after_link, link_len, transport_len}
 use Rattle.ep_packet.specs.LaxCut.{cut_message, message_header_len}
 use Rattle.ep_packet.specs.LaxSliced.{LaxLayers, in_lax_cooked, in_lax_frame, in_lax_ip, in_lax_ipv4, in_lax_ipv6}
 use Rattle.ep_packet.specs.LaxSliced.{in_lax_linux_sll, lax_arp_layers, lax_ipv4_layers, lax_ipv6_layers, lax_layers_in}
@@ -161,10 +161,11 @@ no_tag : (n : ℕ) (p : EtherPayload) (q : LaxEtherPayload) (t : Tagged) → IsC
     → AreCutTags n t (ended (Some q) None)
 no_tag n p q t cut is =
     let same : record { tags = []; len = 0; last = Some p } ≡ t = cc in
+    let all : n - 0 ≡ n = omega arith in
     let here : AreCutTags n (record { tags = []; len = 0; last = Some p }) (ended (Some q) None) = record {
       tags = refl;
       len = refl;
-      last = ap (λ (x : Named). Some x) cut;
+      last = rw all (ap (λ (x : Named). Some x) cut);
       stop = refl;
     } in
     rw same at here
@@ -192,8 +193,7 @@ with_tag_cut law count n t (Ok more) all each at is fits =
     let left : ℕ = n - tag_len t in
     let inner = further_cut count left (payload_after t) (lax_payload_after (cut_tag n t)) more each
     (law.named n t (omega (arith, size))) at (omega (arith, size)) in
-    let placed : left - tags_len more.tags ≡ n - (tag_len t + tags_len more.tags) = omega arith in
-    (
+    let placed : left - tags_len more.tags ≡ n - (tag_len t + tags_len more.tags) = omega arith in (
       omega (arith, size),
       rw (← same) (record {
         tags = ap (λ (ts : List LaxLinkExtSlice). cut_tag n t ∷ ts) inner.tags;
@@ -274,11 +274,10 @@ with_cut packet k len incomplete source p (Err e) layers counted at is fits = cc
 with_cut packet k len incomplete source p (Ok message) layers counted at is fits =
     let same : record { net = Some packet; transport = message } ≡ layers = cc in
     let enough : headers_len (Some packet) + transport_len message ≤ k = rw (← same) at fits in
-    let within : transport_len message ≤ k - len = omega (arith, enough, counted) in
-    (
+    let within : transport_len message ≤ k - len = omega (arith, enough, counted) in (
       omega (arith, enough, counted),
       rw (message_in_cut p.fragmented (k - len) incomplete source p message refl at within, ← same, counted)
-      refl,
+          refl,
     )
 
 ipv4_in_cut : CutParts → (k : ℕ) (packet : Ipv4Packet) (layers : Layers) → in_ipv4 packet ≡ Ok layers
@@ -556,7 +555,8 @@ without_link : (n : ℕ) (layers : Layers) (packet : SlicedPacket)
     × (lax_packet_of None [] (cut_layers n layers) ≡ cut_packet n packet)
 without_link n layers packet same fits =
     let size : 0 + (0 + (headers_len layers.net + transport_len layers.transport)) ≤ n = rw (← same) at fits in
-    (omega (arith, size), rw (← same) refl)
+    let all : n - 0 - 0 ≡ n = omega arith in
+    (omega (arith, size), rw (← same, all) refl)
 
 ip_cut : CutParts → (n : ℕ) (found : IpSlice) (r : Result Layers SliceError) (packet : SlicedPacket)
     → ip_layers (Ok found) ≡ r → packet_with None [] r ≡ Ok packet → all_headers_len packet ≤ n
@@ -564,13 +564,15 @@ ip_cut : CutParts → (n : ℕ) (found : IpSlice) (r : Result Layers SliceError)
     × (lax_packet_of None [] (in_lax_ip (cut_ip n found) None) ≡ cut_packet n packet)
 ip_cut law n found (Err e) packet at is fits = cc
 ip_cut law n (ip.Ipv4 found) (Ok layers) packet at is fits =
-    let parts = without_link n layers packet cc fits in
+    let same : strict.packet_of None [] layers ≡ packet = cc in
+    let parts = without_link n layers packet same fits in
     let inside = ipv4_in_cut law n found layers at parts.0 in
-    (inside.0, rw inside.1 parts.1)
+    (inside.0, ap (lax_packet_of None []) inside.1 ∙ parts.1)
 ip_cut law n (ip.Ipv6 found) (Ok layers) packet at is fits =
-    let parts = without_link n layers packet cc fits in
+    let same : strict.packet_of None [] layers ≡ packet = cc in
+    let parts = without_link n layers packet same fits in
     let inside = ipv6_in_cut law n found layers at parts.0 in
-    (inside.0, rw inside.1 parts.1)
+    (inside.0, ap (lax_packet_of None []) inside.1 ∙ parts.1)
 
 version_cut : CutParts → (n : ℕ) (bytes : List ℕ) (r : Result IpSlice IpFault) (packet : SlicedPacket)
     → ip_packet_at bytes ≡ r → packet_with None [] (ip_layers r) ≡ Ok packet → all_headers_len packet ≤ n

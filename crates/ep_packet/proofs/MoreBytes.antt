@@ -1,5 +1,5 @@
 -- Packets as far as they are there, where more bytes are there.
-use Rattle.std.proofs.Common.{◌≡◌, ◌∙◌, sym, ap, ap₂, refl, ℕ, zero, suc, ◌+◌, ◌≤◌, ◌<◌, ◌==◌, ◌&&◌, ◌||◌, not, Bool, true, false}
+use Rattle.std.proofs.Common.{◌≡◌, ◌∙◌, sym, ap, ap₂, refl, subst, ℕ, zero, suc, ◌+◌, ◌*◌, ◌≤◌, ◌<◌, ◌==◌, ◌&&◌, ◌||◌, not, Bool, true, false}
 use Rattle.std.proofs.Common.{List, [], ◌∷◌, ◌++◌, length, take, drop, get_or, Option, Some, None, Result, Ok, Err, IsOkAnd}
 use Rattle.std.proofs.Common.{arith, append_assoc, length-append}
 use Rattle.std.specs.Prelude.{if◌then◌else◌, nat_lt, ⊤}
@@ -103,9 +103,10 @@ pub record MoreParts : Type 0 where
 -- what is found where more bytes are there
 ok_in : {A E : Type 0} (P : A → Type 0) (r : Result A E) → IsOkAnd r P → (x : A) × (r ≡ Ok x) × P x
 ok_in P (Ok x) holds = (x, refl, holds)
+ok_in P (Err e) holds = absurd holds
 
 same_byte : (bytes more : List ℕ) (i : ℕ) → i < length bytes → get_or (bytes ++ more) i 0 ≡ get_or bytes i 0
-same_byte bytes more i lt = get_or_append_left bytes more i 0 lt
+same_byte bytes more i lt = get_or_append_left bytes more 0 i lt
 
 -- messages
 abbrev ReadKept : ReadMessage → Result ReadMessage SliceError → Type 0
@@ -123,8 +124,7 @@ tcp_more bytes more m is =
     let size = length-append bytes more in
     let least : 20 ≤ length bytes = grind (arith, nat_tests) in
     let offset : data_offset_of (bytes ++ more) ≡ data_offset_of bytes =
-    grind (arith, same_byte bytes more 12 (omega (arith, least))) in
-    (
+    grind (arith, same_byte bytes more 12 (omega (arith, least))) in (
       tests.3,
       passes (nat_lt (length (bytes ++ more)) 20) (nat_lt (data_offset_of (bytes ++ more)) 5)
           (nat_lt (length (bytes ++ more)) (4 * data_offset_of (bytes ++ more)))
@@ -148,8 +148,7 @@ icmpv4_more bytes more m is other =
     let none : is_timestamp bytes ≡ false = rw tests.3 at other in
     let neither = no_timestamp (is_timestamp_request bytes) (is_timestamp_reply bytes) none in
     let request : is_timestamp_request (bytes ++ more) ≡ is_timestamp_request bytes = grind (arith, kind, code) in
-    let reply : is_timestamp_reply (bytes ++ more) ≡ is_timestamp_reply bytes = grind (arith, kind, code) in
-    (
+    let reply : is_timestamp_reply (bytes ++ more) ≡ is_timestamp_reply bytes = grind (arith, kind, code) in (
       tests.3,
       passes (nat_lt (length (bytes ++ more)) 8)
           (is_timestamp_request (bytes ++ more) && not (length (bytes ++ more) == 20))
@@ -195,62 +194,65 @@ udp_more bytes more m is =
     rw stated (summed_more (nat_lt (length_of bytes) 8) (length_of bytes) bytes more refl) in
     (lax_summed_udp (bytes ++ more), rw whole refl, rw taken at kept)
 
+-- the bytes as a message of each protocol
+abbrev icmpv4_at : List ℕ → Result ReadMessage SliceError
+icmpv4_at bytes = read_as (λ m. number.Icmpv4 m) (λ e. fault.Len e) (icmpv4_fault.message_at bytes)
+
+abbrev tcp_at : List ℕ → Result ReadMessage SliceError
+tcp_at bytes = read_as (λ m. number.Tcp m) tcp_fault (segment_at bytes)
+
+abbrev lax_datagram_at : List ℕ → Result ReadMessage SliceError
+lax_datagram_at bytes = read_as (λ m. number.Udp m) (λ e. fault.Len e) (lax_udp_at bytes)
+
+abbrev icmpv6_at : List ℕ → Result ReadMessage SliceError
+icmpv6_at bytes = read_as (λ m. number.Icmpv6 m) (λ e. fault.Len e) (icmpv6_fault.message_at bytes)
+
+ok_is : (x y : ReadMessage) → ◌≡◌ {A = Result ReadMessage SliceError} (Ok x) (Ok y) → x ≡ y
+ok_is x y is = cc
+
 icmpv4_read : (bytes more : List ℕ) (r : Result (List ℕ) LenError) (m : ReadMessage)
     → icmpv4_fault.message_at bytes ≡ r → read_as (λ x. number.Icmpv4 x) (λ e. fault.Len e) r ≡ Ok m
-    → ReadKept m (read_as (λ x. number.Icmpv4 x) (λ e. fault.Len e) (icmpv4_fault.message_at (bytes ++ more)))
+    → ReadKept m (icmpv4_at (bytes ++ more))
 icmpv4_read bytes more (Err e) m at is = cc
 icmpv4_read bytes more (Ok x) m at is =
-    let same : number.Icmpv4 x ≡ m = cc in
-    let kept : ReadKept (number.Icmpv4 x)
-    (read_as (λ x. number.Icmpv4 x) (λ e. fault.Len e) (icmpv4_fault.message_at (bytes ++ more))) =
-    λ other. let found = icmpv4_more bytes more x at other in
-    (bytes ++ more, rw found.1 refl, (more, ap (λ (xs : List ℕ). xs ++ more) (sym found.0))) in
-    rw same at kept
+    subst (λ (k : ReadMessage). ReadKept k (icmpv4_at (bytes ++ more))) (ok_is (number.Icmpv4 x) m is)
+    (λ other. let found = icmpv4_more bytes more x at other in
+    (bytes ++ more, rw found.1 refl, (more, ap (λ (xs : List ℕ). xs ++ more) (sym found.0))))
 
 tcp_read : (bytes more : List ℕ) (r : Result (List ℕ) (HeaderSliceError TcpFault)) (m : ReadMessage)
     → segment_at bytes ≡ r → read_as (λ x. number.Tcp x) tcp_fault r ≡ Ok m
-    → ReadKept m (read_as (λ x. number.Tcp x) tcp_fault (segment_at (bytes ++ more)))
+    → ReadKept m (tcp_at (bytes ++ more))
 tcp_read bytes more (Err e) m at is = cc
 tcp_read bytes more (Ok x) m at is =
-    let same : number.Tcp x ≡ m = cc in
-    let found = tcp_more bytes more x at in
-    let kept : ReadKept (number.Tcp x) (read_as (λ x. number.Tcp x) tcp_fault (segment_at (bytes ++ more))) =
-    (bytes ++ more, rw found.1 refl, (more, ap (λ (xs : List ℕ). xs ++ more) (sym found.0))) in
-    rw same at kept
+    subst (λ (k : ReadMessage). ReadKept k (tcp_at (bytes ++ more))) (ok_is (number.Tcp x) m is)
+    (let found = tcp_more bytes more x at in
+    (bytes ++ more, rw found.1 refl, (more, ap (λ (xs : List ℕ). xs ++ more) (sym found.0))))
 
 udp_read : (bytes more : List ℕ) (r : Result (List ℕ) LenError) (m : ReadMessage)
     → lax_udp_at bytes ≡ r → read_as (λ x. number.Udp x) (λ e. fault.Len e) r ≡ Ok m
-    → ReadKept m (read_as (λ x. number.Udp x) (λ e. fault.Len e) (lax_udp_at (bytes ++ more)))
+    → ReadKept m (lax_datagram_at (bytes ++ more))
 udp_read bytes more (Err e) m at is = cc
 udp_read bytes more (Ok x) m at is =
-    let same : number.Udp x ≡ m = cc in
-    let found = udp_more bytes more x at in
-    let kept : ReadKept (number.Udp x)
-    (read_as (λ x. number.Udp x) (λ e. fault.Len e) (lax_udp_at (bytes ++ more))) =
-    (found.0, rw found.1 refl, found.2) in
-    rw same at kept
+    subst (λ (k : ReadMessage). ReadKept k (lax_datagram_at (bytes ++ more))) (ok_is (number.Udp x) m is)
+    (let found = udp_more bytes more x at in (found.0, rw found.1 refl, found.2))
 
 icmpv6_read : (bytes more : List ℕ) (r : Result (List ℕ) LenError) (m : ReadMessage)
     → icmpv6_fault.message_at bytes ≡ r → read_as (λ x. number.Icmpv6 x) (λ e. fault.Len e) r ≡ Ok m
-    → ReadKept m (read_as (λ x. number.Icmpv6 x) (λ e. fault.Len e) (icmpv6_fault.message_at (bytes ++ more)))
+    → ReadKept m (icmpv6_at (bytes ++ more))
 icmpv6_read bytes more (Err e) m at is = cc
 icmpv6_read bytes more (Ok x) m at is =
-    let same : number.Icmpv6 x ≡ m = cc in
-    let found = icmpv6_more bytes more x at in
-    let kept : ReadKept (number.Icmpv6 x)
-    (read_as (λ x. number.Icmpv6 x) (λ e. fault.Len e) (icmpv6_fault.message_at (bytes ++ more))) =
-    (bytes ++ more, rw found.1 refl, (more, ap (λ (xs : List ℕ). xs ++ more) (sym found.0))) in
-    rw same at kept
+    subst (λ (k : ReadMessage). ReadKept k (icmpv6_at (bytes ++ more))) (ok_is (number.Icmpv6 x) m is)
+    (let found = icmpv6_more bytes more x at in
+    (bytes ++ more, rw found.1 refl, (more, ap (λ (xs : List ℕ). xs ++ more) (sym found.0))))
 
 -- by which protocol the bytes are read
 abbrev read_by : (u a b d : Bool) → List ℕ → Result ReadMessage SliceError
 read_by u a b d bytes =
-    if u then read_as (λ x. number.Udp x) (λ e. fault.Len e) (lax_udp_at bytes)
-    else (if a then read_as (λ x. number.Icmpv4 x) (λ e. fault.Len e) (icmpv4_fault.message_at bytes)
-    else (if b then read_as (λ x. number.Tcp x) tcp_fault (segment_at bytes)
-    else (if u then read_as (λ x. number.Udp x) (λ e. fault.Len e) (udp_at bytes)
-    else (if d then read_as (λ x. number.Icmpv6 x) (λ e. fault.Len e) (icmpv6_fault.message_at bytes)
-    else Ok (number.Raw bytes)))))
+    if u then lax_datagram_at bytes
+    else (if a then icmpv4_at bytes
+    else (if b then tcp_at bytes
+    else (if u then read_as (λ m. number.Udp m) (λ e. fault.Len e) (udp_at bytes)
+    else (if d then icmpv6_at bytes else Ok (number.Raw bytes)))))
 
 read_case : (u a b d : Bool) (bytes more : List ℕ) (m : ReadMessage) → read_by u a b d bytes ≡ Ok m
     → ReadKept m (read_by u a b d (bytes ++ more))
@@ -260,9 +262,7 @@ read_case false false true d bytes more m is = tcp_read bytes more (segment_at b
 read_case false false false true bytes more m is =
     icmpv6_read bytes more (icmpv6_fault.message_at bytes) m refl is
 read_case false false false false bytes more m is =
-    let same : number.Raw bytes ≡ m = cc in
-    let kept : ReadKept (number.Raw bytes) (Ok (number.Raw (bytes ++ more))) = tt in
-    rw same at kept
+    subst (λ (k : ReadMessage). ReadKept k (Ok (number.Raw (bytes ++ more)))) (ok_is (number.Raw bytes) m is) tt
 
 message_more : (k : ℕ) (bytes more : List ℕ) (m : ReadMessage) → lax_message_at k bytes ≡ Ok m
     → ReadKept m (lax_message_at k (bytes ++ more))
@@ -463,8 +463,11 @@ vlan_next : (bytes more : List ℕ) → 4 ≤ length bytes
 vlan_next bytes more fits =
     let high = same_byte bytes more 2 (omega (arith, fits)) in
     let low = same_byte bytes more 3 (omega (arith, fits)) in
-    let named : vlan.next_type_of (bytes ++ more) ≡ vlan.next_type_of bytes = rw (high, low) refl in
-    (complete_ether (vlan.payload_of (bytes ++ more)), refl, named, (more, drop-append-le 4 bytes more fits))
+    let named : vlan.next_type_of (bytes ++ more) ≡ vlan.next_type_of bytes = rw (high, low) refl in (
+      complete_ether (vlan.payload_of (bytes ++ more)),
+      refl,
+      (named, (more, drop-append-le 4 bytes more fits)),
+    )
 
 vlan_case : (short : Bool) (bytes more : List ℕ) (o : Option LaxLinkExtSlice)
     → nat_lt (length bytes) vlan_len ≡ short
@@ -476,9 +479,8 @@ vlan_case false bytes more o size is =
     let fits : 4 ≤ length bytes = grind (arith, nat_tests) in
     let whole : nat_lt (length (bytes ++ more)) vlan_len ≡ false =
     grind (arith, nat_tests, length-append bytes more) in
-    let kept : TagKept (Some (tag.Vlan bytes)) (lax_vlan_tag (whole_at VlanHeader vlan_len (bytes ++ more))) =
-    (tag.Vlan (bytes ++ more), rw whole refl, (more, refl), vlan_next bytes more fits) in
-    rw same at kept
+    subst (λ (k : Option LaxLinkExtSlice). TagKept k (lax_vlan_tag (whole_at VlanHeader vlan_len (bytes ++ more))))
+    same (tag.Vlan (bytes ++ more), rw whole refl, (more, refl), vlan_next bytes more fits)
 
 vlan_more : (bytes more : List ℕ) (o : Option LaxLinkExtSlice)
     → lax_vlan_tag (whole_at VlanHeader vlan_len bytes) ≡ Ok o
@@ -503,9 +505,8 @@ macsec_more law bytes more (Ok m) o at is =
     let same : Some (tag.Macsec m) ≡ o = cc in
     let found = ok_in (λ (after : LaxMacsec). KeepsMacsec m after) (lax_macsec_at (bytes ++ more))
     (law.macsec bytes more m at) in
-    let kept : TagKept (Some (tag.Macsec m)) (lax_macsec_tag (lax_macsec_at (bytes ++ more))) =
-    (tag.Macsec found.0, rw found.1 refl, found.2, macsec_next m found.0 found.2) in
-    rw same at kept
+    subst (λ (k : Option LaxLinkExtSlice). TagKept k (lax_macsec_tag (lax_macsec_at (bytes ++ more)))) same
+    (tag.Macsec found.0, ap lax_macsec_tag found.1, found.2, macsec_next m found.0 found.2)
 
 tag_case : MoreParts → (vlan macsec : Bool) (bytes more : List ℕ) (o : Option LaxLinkExtSlice)
     → (if vlan then lax_vlan_tag (whole_at VlanHeader vlan_len bytes)
@@ -516,8 +517,7 @@ tag_case law true macsec bytes more o is = vlan_more bytes more o is
 tag_case law false true bytes more o is = macsec_more law bytes more (lax_macsec_at bytes) o refl is
 tag_case law false false bytes more o is =
     let same : None ≡ o = cc in
-    let kept : TagKept None (Ok None) = refl in
-    rw same at kept
+    subst (λ (k : Option LaxLinkExtSlice). TagKept k (Ok None)) same refl
 
 abbrev tag_by : EtherType → List ℕ → Result (Option LaxLinkExtSlice) Stop
 tag_by t bytes =
@@ -586,7 +586,8 @@ after_more law len old new p q header named more =
     let after : LaxTagged = lax_tags_in most_tags (complete_ether q) in
     let layers = layers_more law before.last after.last tags.last in
     record {
-      link = λ found is. let same : old ≡ found = cc in rw same at header;
+      link = λ found is. let same : old ≡ found = cc in
+          subst (λ (k : LinkSlice). KeepsLink k (Some new)) same header;
       link_exts = tags.tags;
       net = net_in (lax_layers_in before.last).net (lax_layers_in after.last).net layers.net;
       transport = transport_in (lax_layers_in before.last).transport (lax_layers_in after.last).transport
@@ -629,9 +630,8 @@ without_layers : (bytes more : List ℕ) → KeepsLayers (in_lax_linux_sll bytes
 without_layers bytes more = record {
   link = λ found is.
       let same : link.LinuxSll bytes ≡ found = cc in
-      let kept : KeepsLink (link.LinuxSll bytes) (Some (link.LinuxSll (bytes ++ more))) =
-      (bytes ++ more, refl, (more, refl)) in
-      rw same at kept;
+      subst (λ (k : LinkSlice). KeepsLink k (Some (link.LinuxSll (bytes ++ more)))) same
+      (bytes ++ more, refl, (more, refl));
   link_exts = tt;
   net = λ packet is. cc;
   transport = λ message is. cc;

@@ -9,7 +9,7 @@ use Rattle.ep_link.specs.declared.link.link_slice.LinkSlice.TheVariants as link
 use Rattle.ep_packet.specs.LaxCut.{message_header_len}
 use Rattle.ep_packet.specs.Parts.{headers_len, tags_len}
 use Rattle.ep_packet.specs.Readable.{ReadMessage}
-use Rattle.ep_packet.specs.Readable.ReadMessage as read
+use Rattle.ep_packet.specs.Readable as read
 use Rattle.ep_packet.specs.declared.lax_sliced_packet.LaxSlicedPacket.{LaxSlicedPacket}
 use Rattle.ep_packet.specs.declared.net.lax_net_slice.LaxNetSlice.{LaxNetSlice}
 use Rattle.ep_packet.specs.declared.net.lax_net_slice.LaxNetSlice.TheVariants as lax_net

@@ -1,16 +1,19 @@
 -- Literal frames, at which laws state the definitions' values (IEEE 802.3, 802.1Q and 802.1AE;
 -- RFC 768, 791, 826 and 8200).
-use Rattle.std.specs.Prelude.{ℕ, false, List, [], ◌∷◌, ◌++◌, Option, None}
+use Rattle.std.specs.Prelude.{ℕ, false, List, [], ◌∷◌, ◌++◌, Option, Some, None}
 use Rattle.ep_base.specs.declared.err.layer.Layer.{Layer}
 use Rattle.ep_base.specs.declared.len_source.LenSource.{LenSource}
 use Rattle.ep_base.specs.declared.len_source.LenSource.TheVariants.{Slice}
 use Rattle.ep_ipslice.specs.Packet.{Ipv4Packet}
+use Rattle.ep_link.specs.declared.link.link_slice.LinkSlice.TheVariants as link
 use Rattle.ep_packet.specs.declared.addresses.Addresses.{Addresses}
 use Rattle.ep_packet.specs.declared.addresses.Addresses.TheVariants.{V4}
 use Rattle.ep_packet.specs.declared.err.packet.slice_error.SliceError.{SliceError}
 use Rattle.ep_packet.specs.declared.err.packet.slice_error.SliceError.TheVariants.{Len}
 use Rattle.ep_packet.specs.declared.net.net_slice.NetSlice.{NetSlice}
+use Rattle.ep_packet.specs.declared.net.net_slice.NetSlice.TheVariants as net
 use Rattle.ep_packet.specs.declared.sliced_packet.SlicedPacket.{SlicedPacket}
+use Rattle.ep_packet.specs.declared.transport.transport_slice.TransportSlice.TheVariants as message
 use Rattle.ep_tag.specs.Ether.{EtherPayload}
 use Rattle.ep_tag.specs.MacsecPayload.{Unmodified}
 use Rattle.ep_tag.specs.declared.link.link_ext_slice.LinkExtSlice.TheVariants as tag
@@ -50,6 +53,15 @@ eight_bytes = 1 ∷ 2 ∷ 3 ∷ 4 ∷ 5 ∷ 6 ∷ 7 ∷ 8 ∷ []
 -- a VLAN tag with identifier 5 before the whole message
 abbrev pub whole_frame : List ℕ
 whole_frame = frame_addresses ++ 0x81 ∷ 0 ∷ 0 ∷ 5 ∷ 8 ∷ 0 ∷ [] ++ ipv4_header ++ udp_message
+
+-- the layers of that frame
+abbrev pub whole_layers : SlicedPacket
+whole_layers = record {
+  link = Some (link.Ethernet2 whole_frame);
+  link_exts = record { items = tag.Vlan (0 ∷ 5 ∷ 8 ∷ 0 ∷ ipv4_header ++ udp_message) ∷ [] };
+  net = Some (net.Ipv4 ipv4_packet);
+  transport = Some (message.Udp udp_message);
+}
 
 -- tags with identifiers 5, of priority 1, and 9 before the fragment
 abbrev pub fragment_frame : List ℕ

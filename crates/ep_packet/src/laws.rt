@@ -11,7 +11,10 @@ pub mod same_headers;
 pub mod sliced;
 pub mod traits;
 
-pub use cut::{cut_packets_are_found, cut_packets_keep_headers, more_bytes_keep_layers};
+pub use cut::{
+    cut_packets_are_found, cut_packets_at_literals, cut_packets_keep_headers,
+    more_bytes_keep_layers,
+};
 pub use faults::{offsets_at_literals, refusals_are_first_faults};
 pub use headers::{ipv6_headers_agree_with_view, ipv6_headers_at_a_literal};
 pub use lax::{cut_messages_are_found, payloads_of_whole_packets, whole_packets_are_lax_packets};

@@ -1,10 +1,15 @@
 //! Laws of packets of which only the first bytes are there.
-ghost use Rattle.std.specs.Prelude.{◌≡◌, ◌≤◌, ℕ, List, ◌++◌, map, take, Some, Ok, IsOkAnd};
+ghost use Rattle.std.specs.Prelude.{◌≡◌, ◌≤◌, ℕ, List, [], ◌∷◌, ◌++◌, map, take, true, false, None, Some, Ok};
+ghost use Rattle.std.specs.Prelude.{IsOkAnd};
+ghost use Rattle.ep_base.specs.declared.len_source.LenSource.TheVariants as source;
 ghost use Rattle.ep_base.specs.declared.link.ether_type.EtherType.{EtherType};
+ghost use Rattle.ep_ipslice.specs.CutPackets.{cut_ipv4};
+ghost use Rattle.ep_ipslice.specs.LaxPackets.{whole_ipv4};
 ghost use Rattle.ep_link.specs.Link.{fields_of};
 ghost use Rattle.ep_link.specs.declared.link.link_slice.LinkSlice.{LinkSlice};
 ghost use Rattle.ep_packet.specs.CutPacket.{all_headers_len, cut_link, cut_packet, cut_tags, cut_transport};
 ghost use Rattle.ep_packet.specs.CutPacket.{link_len, transport_len};
+ghost use Rattle.ep_packet.specs.Examples.{ipv4_header, ipv4_packet, whole_frame, whole_layers};
 ghost use Rattle.ep_packet.specs.KeptLayers.{KeepsLayers};
 ghost use Rattle.ep_packet.specs.LaxSliced.{lax_sliced_ether_type, lax_sliced_ethernet, lax_sliced_ip};
 ghost use Rattle.ep_packet.specs.LaxSliced.{lax_sliced_linux_sll};
@@ -71,3 +76,22 @@ pub fn more_bytes_keep_layers()
     ep_ipslice::laws::lax_packet_is_of_its_version();
     ep_tag::laws::cut::more_bytes_keep_tags();
 }
+
+/// A frame with a tag, an IPv4 header and a UDP header, which are its first 46 bytes; and its IPv4 packet,
+/// of which the first 24 and all 28 bytes are there.
+pub fn cut_packets_at_literals()
+    ensures found { sliced_ethernet whole_frame ≡ Ok whole_layers }
+    ensures headers { all_headers_len whole_layers ≡ 46 }
+    ensures short { cut_ipv4 24 ipv4_packet ≡ record {
+      header = ipv4_header;
+      auth = None;
+      incomplete = true;
+      payload = record {
+        ip_number = record { 0 = 17 };
+        fragmented = false;
+        len_source = source.Slice;
+        payload = 0 ∷ 1 ∷ 0 ∷ 2 ∷ [];
+      };
+    } }
+    ensures whole { cut_ipv4 28 ipv4_packet ≡ whole_ipv4 ipv4_packet }
+{}
