@@ -54,12 +54,12 @@ take_after n xs ys fits =
     ap (λ (k : ℕ). take k (xs ++ ys)) all ∙ take-append-add xs ys (n - length xs)
 
 -- of a payload that padding follows, as far as both are there
-front_of : (n : ℕ) (payload padding : List ℕ)
+payload_prefix : (n : ℕ) (payload padding : List ℕ)
     → take (length payload) (take n (payload ++ padding)) ≡ take n payload
-front_of zero [] padding = refl
-front_of zero (b ∷ payload) padding = refl
-front_of (suc n) [] padding = refl
-front_of (suc n) (b ∷ payload) padding = ap (λ (xs : List ℕ). b ∷ xs) (front_of n payload padding)
+payload_prefix zero [] padding = refl
+payload_prefix zero (b ∷ payload) padding = refl
+payload_prefix (suc n) [] padding = refl
+payload_prefix (suc n) (b ∷ payload) padding = ap (λ (xs : List ℕ). b ∷ xs) (payload_prefix n payload padding)
 
 short_of : (n : ℕ) (payload padding : List ℕ)
     → nat_lt (length (take n (payload ++ padding))) (length payload) ≡ nat_lt n (length payload)
@@ -151,7 +151,7 @@ v4_body : (header auth payload padding : List ℕ) (n : ℕ) →
     ((header ++ auth) ++ take n (payload ++ padding))) ≡ auth ++ take n payload
 v4_body header auth payload padding n =
     ap (drop (length header)) (take-append-add (header ++ auth) (take n (payload ++ padding)) (length payload)
-    ∙ ap (λ (xs : List ℕ). (header ++ auth) ++ xs) (front_of n payload padding)
+    ∙ ap (λ (xs : List ℕ). (header ++ auth) ++ xs) (payload_prefix n payload padding)
     ∙ append_assoc header auth (take n payload))
     ∙ drop_at header (auth ++ take n payload) (length header) refl
 
@@ -233,7 +233,7 @@ v6_body false stated n exts payload padding given size =
     let same : len_by stated (length (exts ++ take n (payload ++ padding))) ≡ length exts + length payload =
     grind arith in
     rw same (take-append-add exts (take n (payload ++ padding)) (length payload)
-    ∙ ap (λ (xs : List ℕ). exts ++ xs) (front_of n payload padding))
+    ∙ ap (λ (xs : List ℕ). exts ++ xs) (payload_prefix n payload padding))
 
 v6_short : (none : Bool) (stated n : ℕ) (exts payload padding : List ℕ) → (stated == 0) ≡ none
     → IsSized stated exts payload padding →

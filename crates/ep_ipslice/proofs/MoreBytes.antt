@@ -41,11 +41,11 @@ use Rattle.ep_ipslice.proofs.LaxLaws.{auth_cut}
 use Rattle.ep_ipslice.proofs.Left.{HasLeast, IsFound, prefix_open}
 
 -- the first n bytes, where more are there
-front_more : (n : ℕ) (bytes more : List ℕ) → IsContinued (take n bytes) (take n (bytes ++ more))
-front_more zero bytes more = ([], refl)
-front_more (suc n) [] more = (take (suc n) more, refl)
-front_more (suc n) (b ∷ bytes) more =
-    let inner = front_more n bytes more in
+prefix_more : (n : ℕ) (bytes more : List ℕ) → IsContinued (take n bytes) (take n (bytes ++ more))
+prefix_more zero bytes more = ([], refl)
+prefix_more (suc n) [] more = (take (suc n) more, refl)
+prefix_more (suc n) (b ∷ bytes) more =
+    let inner = prefix_more n bytes more in
     (inner.0, ap (λ (xs : List ℕ). b ∷ xs) inner.1)
 
 back_more : (n : ℕ) (bytes all : List ℕ) → n ≤ length bytes → IsContinued bytes all
@@ -63,7 +63,7 @@ v4_body_case false bytes more header is fits =
     let size : length header ≤ length (take (total_len_of header) bytes) =
     grind (arith, nat_tests, length-take) in
     rw is (back_more (length header) (take (total_len_of header) bytes)
-    (take (total_len_of header) (bytes ++ more)) size (front_more (total_len_of header) bytes more))
+    (take (total_len_of header) (bytes ++ more)) size (prefix_more (total_len_of header) bytes more))
 
 -- where the total length counts no more than the bytes that are there, more change nothing
 record IsSameV4 (bytes all header : List ℕ) : Type 0 where
@@ -189,7 +189,7 @@ v6_body_case true stated following more none = (
 v6_body_case false stated following more given =
     let here : len_by stated (length following) ≡ stated = rw given refl in
     let there : len_by stated (length (following ++ more)) ≡ stated = rw given refl in
-    rw (here, there) (front_more stated following more)
+    rw (here, there) (prefix_more stated following more)
 
 -- the bytes after the header
 following_more : (bytes more : List ℕ) → 40 ≤ length bytes → drop 40 (bytes ++ more) ≡ drop 40 bytes ++ more

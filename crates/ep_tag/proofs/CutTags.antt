@@ -34,12 +34,12 @@ drop_in k n bytes fits =
     ap (λ (m : ℕ). drop k (take m bytes)) all ∙ drop-take k (n - k) bytes
 
 -- of a payload that other bytes follow, as far as both are there
-front_of : (n : ℕ) (payload beyond : List ℕ)
+payload_prefix : (n : ℕ) (payload beyond : List ℕ)
     → take (length payload) (take n (payload ++ beyond)) ≡ take n payload
-front_of zero [] beyond = refl
-front_of zero (b ∷ payload) beyond = refl
-front_of (suc n) [] beyond = refl
-front_of (suc n) (b ∷ payload) beyond = ap (λ (xs : List ℕ). b ∷ xs) (front_of n payload beyond)
+payload_prefix zero [] beyond = refl
+payload_prefix zero (b ∷ payload) beyond = refl
+payload_prefix (suc n) [] beyond = refl
+payload_prefix (suc n) (b ∷ payload) beyond = ap (λ (xs : List ℕ). b ∷ xs) (payload_prefix n payload beyond)
 
 short_of : (n : ℕ) (payload beyond : List ℕ)
     → nat_lt (length (take n (payload ++ beyond))) (length payload) ≡ nat_lt n (length payload)
@@ -77,7 +77,7 @@ by_short true n header payload beyond given sized short =
     rw (there, test, short) (under_cut (is_unmodified header) true n header payload refl)
 by_short false n header payload beyond given sized short =
     let there : take (payload_len_of header) (take n (payload ++ beyond)) ≡ take n payload =
-    rw (← sized) (front_of n payload beyond) in
+    rw (← sized) (payload_prefix n payload beyond) in
     let same : nat_lt n (length payload) ≡ false = rw sized short in
     let test : nat_lt (length (take n (payload ++ beyond))) (payload_len_of header) ≡ false =
     rw (← sized) (short_of n payload beyond ∙ same) in
