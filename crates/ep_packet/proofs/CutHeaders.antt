@@ -1,10 +1,8 @@
 -- The headers of packets of which the first bytes are there.
-use Rattle.std.proofs.Common.{◌≡◌, ◌∙◌, sym, ap, refl, ℕ, ◌+◌, ◌-◌, ◌≤◌, List, [], ◌∷◌, map, take, drop, Some, arith}
+use Rattle.std.proofs.Common.{◌≡◌, ◌∙◌, ap, refl, ℕ, ◌-◌, ◌≤◌, List, [], ◌∷◌, map, take, drop, Some, arith}
 use Rattle.std.specs.Prelude.{slice_range}
 use Rattle.std.proofs.lemmas.List.{get_or-take, take-take}
-use Rattle.ep_link.specs.Ethernet.{ethernet_header_of}
 use Rattle.ep_link.specs.Link.{fields_of as link_fields_of}
-use Rattle.ep_link.specs.Sll.{sll_header_of}
 use Rattle.ep_link.specs.declared.link.link_slice.LinkSlice.{LinkSlice}
 use Rattle.ep_link.specs.declared.link.link_slice.LinkSlice.TheVariants as link
 use Rattle.ep_packet.specs.CutPacket.{cut_link, cut_tags, cut_transport, link_len, transport_len}
@@ -14,8 +12,6 @@ use Rattle.ep_packet.specs.declared.transport.transport_slice.TransportSlice.The
 use Rattle.ep_packet.proofs.CutPackets.{drop_in}
 use Rattle.ep_tag.specs.CutTags.{cut_tag}
 use Rattle.ep_tag.specs.LinkExt.{fields_of, lax_fields_of, tag_len}
-use Rattle.ep_tag.specs.declared.link.lax_link_ext_slice.LaxLinkExtSlice.{LaxLinkExtSlice}
-use Rattle.ep_tag.specs.declared.link.link_ext_header.LinkExtHeader.{LinkExtHeader}
 use Rattle.ep_tag.specs.declared.link.link_ext_slice.LinkExtSlice.{LinkExtSlice}
 
 -- bytes of the first n

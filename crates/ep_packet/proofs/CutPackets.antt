@@ -11,7 +11,6 @@ use Rattle.ep_base.specs.declared.err.len_error.LenError.{LenError}
 use Rattle.ep_base.specs.declared.err.slice_error.SliceError.{SliceError as HeaderSliceError}
 use Rattle.ep_base.specs.declared.len_source.LenSource.{LenSource}
 use Rattle.ep_base.specs.declared.link.ether_type.EtherType.{EtherType}
-use Rattle.ep_ext.specs.Ipv4Exts.{auth_bytes}
 use Rattle.ep_ipslice.specs.CutPackets.{cut_ip, cut_ipv4, cut_ipv6, cut_payload, ip_headers_len, ipv4_headers_len}
 use Rattle.ep_ipslice.specs.CutPackets.{cut_ipv6_source, ipv6_headers_len, is_ipv4_short, is_ipv6_short}
 use Rattle.ep_ipslice.specs.IpSlice.{ip_packet_at}
@@ -39,7 +38,7 @@ use Rattle.ep_link.specs.declared.link.linux_sll_protocol_type.LinuxSllProtocolT
 use Rattle.ep_packet.specs.CutPacket.{all_headers_len, cut_after, cut_link, cut_net, cut_packet, cut_tags, cut_transport}
 use Rattle.ep_packet.specs.CutPacket.{len_after_link, link_len, transport_len}
 use Rattle.ep_packet.specs.LaxCut.{cut_message, message_header_len}
-use Rattle.ep_packet.specs.LaxSliced.{LaxLayers, in_lax_cooked, in_lax_frame, in_lax_ip, in_lax_ipv4, in_lax_ipv6}
+use Rattle.ep_packet.specs.LaxSliced.{LaxLayers, in_lax_ip, in_lax_ipv4, in_lax_ipv6}
 use Rattle.ep_packet.specs.LaxSliced.{in_lax_linux_sll, lax_arp_layers, lax_ipv4_layers, lax_ipv6_layers, lax_layers_in}
 use Rattle.ep_packet.specs.LaxSliced.{lax_message_at, lax_message_in, lax_packet_after, lax_packet_of, lax_packet_tagged}
 use Rattle.ep_packet.specs.LaxSliced.{lax_sliced_ether_type, lax_sliced_ethernet, lax_sliced_ip, lax_sliced_linux_sll}

@@ -1,7 +1,7 @@
 -- Packets as far as they are there, where more bytes are there.
 use Rattle.std.proofs.Common.{◌≡◌, ◌∙◌, sym, ap, ap₂, refl, subst, ℕ, zero, suc, ◌+◌, ◌*◌, ◌≤◌, ◌<◌, ◌==◌, ◌&&◌, ◌||◌, not, Bool, true, false}
 use Rattle.std.proofs.Common.{List, [], ◌∷◌, ◌++◌, length, take, drop, get_or, Option, Some, None, Result, Ok, Err, IsOkAnd}
-use Rattle.std.proofs.Common.{arith, append_assoc, length-append}
+use Rattle.std.proofs.Common.{arith, length-append}
 use Rattle.std.specs.Prelude.{if◌then◌else◌, nat_lt, ⊤}
 use Rattle.std.specs.Option.{option_map}
 use Rattle.std.proofs.lemmas.Bool.Decides.{nat_tests}
@@ -48,26 +48,25 @@ use Rattle.ep_link.specs.declared.link.linux_sll_protocol_type.LinuxSllProtocolT
 use Rattle.ep_link.specs.declared.link.linux_sll_protocol_type.LinuxSllProtocolType.TheVariants as protocol
 use Rattle.ep_packet.specs.KeptLayers.{KeepsLayers, KeepsLink, KeepsNet, KeepsTags, KeepsTransport}
 use Rattle.ep_packet.specs.LaxSliced.{LaxLayers, auth_stop, in_lax_ipv4, in_lax_ipv6, ipv6_exts_stop, lax_arp_layers}
-use Rattle.ep_packet.specs.LaxSliced.{lax_ipv4_layers, lax_ipv6_layers, lax_layers_in, lax_layers_of, lax_message_at}
-use Rattle.ep_packet.specs.LaxSliced.{in_lax_cooked, in_lax_frame, in_lax_linux_sll, lax_message_in, lax_packet_after, lax_sliced_ether_type}
+use Rattle.ep_packet.specs.LaxSliced.{lax_ipv4_layers, lax_ipv6_layers, lax_layers_in, lax_message_at}
+use Rattle.ep_packet.specs.LaxSliced.{in_lax_cooked, in_lax_frame, in_lax_linux_sll, lax_packet_after, lax_sliced_ether_type}
 use Rattle.ep_packet.specs.LaxSliced.{lax_sliced_ethernet, lax_sliced_linux_sll, lax_transport_in, message_layer}
 use Rattle.ep_packet.specs.LaxSliced.{exts_stop, in_lax_version, lax_packet_of, lax_sliced_ip, message_or_stop, no_layers}
-use Rattle.ep_packet.specs.LaxTags.{LaxTagged, Stop, ended, joined, lax_from_tag, lax_macsec_tag, lax_read_further, lax_tag_at}
+use Rattle.ep_packet.specs.LaxTags.{LaxTagged, Stop, lax_from_tag, lax_macsec_tag, lax_read_further, lax_tag_at}
 use Rattle.ep_packet.specs.LaxTags.{lax_tags_in, lax_vlan_tag}
 use Rattle.ep_packet.specs.Readable as number
-use Rattle.ep_packet.specs.Readable.{ReadMessage, message_at, read_as, tcp_fault}
+use Rattle.ep_packet.specs.Readable.{ReadMessage, read_as, tcp_fault}
 use Rattle.ep_packet.specs.Sliced.{arp_type, ether_payload, ipv4_type, ipv6_type, read_transport, result_within, transport_of}
 use Rattle.ep_packet.specs.Tags.{is_macsec_type, is_vlan_type, most_tags}
 use Rattle.ep_packet.specs.declared.err.packet.slice_error.SliceError.{SliceError}
 use Rattle.ep_packet.specs.declared.err.packet.slice_error.SliceError.TheVariants as fault
 use Rattle.ep_packet.specs.declared.lax_sliced_packet.LaxSlicedPacket.{LaxSlicedPacket}
 use Rattle.ep_packet.specs.declared.net.lax_net_slice.LaxNetSlice.{LaxNetSlice}
-use Rattle.ep_packet.specs.declared.net.lax_net_slice.LaxNetSlice.TheVariants as net
 use Rattle.ep_packet.specs.declared.transport.transport_slice.TransportSlice.{TransportSlice}
 use Rattle.ep_packet.proofs.CutPackets.{arp_is, arp_taken, cooked_is, cooked_taken}
 use Rattle.ep_packet.proofs.LaxCutLemmas.{icmpv4_taken, passes, tcp_taken}
 use Rattle.ep_tag.specs.Ether.{EtherPayload, LaxEtherPayload, complete_ether}
-use Rattle.ep_tag.specs.LinkExt.{lax_payload_after, lax_tag_len}
+use Rattle.ep_tag.specs.LinkExt.{lax_payload_after}
 use Rattle.ep_tag.specs.MacsecLax.{LaxMacsec, LaxMacsecPayload, LaxModified, LaxUnmodified, lax_macsec_at}
 use Rattle.ep_tag.specs.MacsecLax.{lax_named_payload}
 use Rattle.ep_tag.specs.MoreTags as tag_payload
