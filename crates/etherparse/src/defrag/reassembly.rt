@@ -228,20 +228,21 @@ pub(crate) fn add_fragment<K: Eq + Hash + Drop, T: Drop, S: BuildHasher>(
                 return Err(first_fragment_error(received));
             }
             let (bytes, sections, taken) = spare.take(alloc);
-            let buf = ReassemblyBuf::starting(rule, alloc, bytes, sections);
-            let mut started = entry.insert_entry(Reassembly { buf, timestamp });
-            let buf = &mut started.get_mut().buf;
+            let mut buf = ReassemblyBuf::starting(rule, alloc, bytes, sections);
             match buf.add(received.offset, received.more_fragments, received.bytes) {
-                Ok(()) if started.get().buf.is_complete() => {
-                    Ok(Some(finish(spare, started.swap_remove().buf)))
+                Ok(()) if buf.is_complete() => {
+                    entry.into_key();
+                    Ok(Some(finish(spare, buf)))
                 }
                 Ok(()) => {
                     starts.push_newest();
-                    *held_bytes += started.get().buf.data_len();
+                    *held_bytes += buf.data_len();
+                    entry.insert(Reassembly { buf, timestamp });
                     Ok(None)
                 }
                 Err(error) => {
-                    spare.give_back(started.swap_remove().buf, taken);
+                    entry.into_key();
+                    spare.give_back(buf, taken);
                     Err(error)
                 }
             }

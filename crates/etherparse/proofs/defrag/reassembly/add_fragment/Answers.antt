@@ -1,12 +1,12 @@
 use Rattle.std.proofs.Common.{rules, arith, refl, ap, subst, sym, ◌∙◌, ◌≡◌, ℕ, List, [], length, Some, None, vec_capacity}
 use Rattle.std.proofs.lemmas.Option.{slice_get_within}
 use Rattle.indexmap.specs.IndexMap.{get, index_map_len, insert_index, spare as names_room}
-use Rattle.etherparse.specs.IpDefragBuf.{Contents, HasRoom, Shows, rule_of}
+use Rattle.etherparse.specs.IpDefragBuf.{Contents, HasRoom}
 use Rattle.etherparse.specs.declared.defrag.reassembly.Reassembly.{Reassembly}
 use Rattle.etherparse.proofs.TableTotals.{found_at}
-use Rattle.etherparse.proofs.Tracked.{entries_at_once, entries_refused, entries_refused_first, entries_started}
+use Rattle.etherparse.proofs.Tracked.{entries_refused, entries_started}
 use Rattle.etherparse.proofs.Tracked.{entries_waiting, first_refused, held_fits, part_fits, tracks_ended, tracks_replaced}
-use Rattle.etherparse.proofs.Tracked.{tracks_same, tracks_started, tracks_unchanged}
+use Rattle.etherparse.proofs.Tracked.{tracks_same, tracks_started}
 use Rattle.etherparse.specs.ReassemblyTable.{fragment_of}
 use Rattle.etherparse.proofs.Waiting.{first_waits}
 use Rattle.etherparse.proofs.BufferSlots.{ended_slots, fewer_slots, same_slots}
@@ -76,16 +76,14 @@ returns-in-Err-add-clause-memory g c =
     let buffers = c.make_room.ensures.buffers in
     let take = c.take-bytes.ensures in
     let back = c.give_back.ensures in
-    let was : c.get_mut-in-Ok-Vacant.result.now.buf ≡ c.starting-buf.result = search rules in
-    let is : c.swap_remove-in-Err-add.result.buf ≡ c.add-in-Ok-Vacant.new.self = search rules in
-    let first = was ∙ c.starting-buf.ensures.value in
+    let first = c.starting-buf.ensures.value in
     let more = c.add-in-Ok-Vacant.ensures.room in
     keeps_gone _ _ _ _ _ _
     (given_back _ _ _ _ _ _ _
-    (omega (arith, more.bytes, bytes_room first, bytes_room is)) buffers.bytes take.bytes_room
+    (omega (arith, more.bytes, bytes_room first)) buffers.bytes take.bytes_room
     back.bytes_room)
     (given_back _ _ _ _ _ _ _
-    (omega (arith, more.sections, sections_room first, sections_room is)) buffers.sections
+    (omega (arith, more.sections, sections_room first)) buffers.sections
     take.sections_room back.sections_room)
     (search rules)
 
@@ -97,14 +95,13 @@ returns-in-Err-add-clause-succeeds g c finds =
     let n = index_map_len c.args.reassemblies.now in
     let m = memory_of c.args.spare.now
     (room_for (names_room c.args.reassemblies.now) c.args.starts.now.room) in
-    let was : c.get_mut-in-Ok-Vacant.result.now.buf ≡ c.starting-buf.result = search rules in
     let none : get g.K.PartialEq.eq c.args.reassemblies.now c.args.name ≡ None = search rules in
     let bytes = taken_next _ _ _ _ _ buffers.bytes take.bytes_room take.no_bytes in
     let sections = taken_next _ _ _ _ _ buffers.sections take.sections_room take.no_sections in
     let can : CanBegin n m f =
     begins (get g.K.PartialEq.eq c.args.reassemblies.now c.args.name) n m f none finds in
     c.in-Err-add.ensures.succeeds
-    (subst (λ (b : Contents Unit). HasRoom b f) (sym (was ∙ c.starting-buf.ensures.value))
+    (subst (λ (b : Contents Unit). HasRoom b f) (sym c.starting-buf.ensures.value)
     (first_has_room c.args.rule f n m c.take-bytes.result.0 c.take-bytes.result.1 can bytes.fits
     sections.fits))
 
@@ -112,8 +109,7 @@ pub returns-in-Ok-2-add-clause-memory : goal.returns-in-Ok-2-add-clause-memory
 returns-in-Ok-2-add-clause-memory g c =
     let buffers = c.make_room.ensures.buffers in
     let take = c.take-bytes.ensures in
-    let was : c.get_mut-in-Ok-Vacant.result.now.buf ≡ c.starting-buf.result = search rules in
-    let first = was ∙ c.starting-buf.ensures.value in
+    let first = c.starting-buf.ensures.value in
     let more = c.add-in-Ok-Vacant.ensures.room in
     keeps_started _ _ _ _ _
     (record { buf = c.add-in-Ok-Vacant.new.self; timestamp = c.args.timestamp }) _ _
@@ -128,9 +124,7 @@ returns-in-Ok-add-clause-memory g c =
     let buffers = c.make_room.ensures.buffers in
     let take = c.take-bytes.ensures in
     let ended = c.finish-in-Ok-add.ensures in
-    let was : c.get_mut-in-Ok-Vacant.result.now.buf ≡ c.starting-buf.result = search rules in
-    let is : c.swap_remove-in-Ok-add.result.buf ≡ c.add-in-Ok-Vacant.new.self = search rules in
-    let first = was ∙ c.starting-buf.ensures.value in
+    let first = c.starting-buf.ensures.value in
     let more = c.add-in-Ok-Vacant.ensures.room in
     let bytes : TakenNext (capacities c.args.spare.now.bytes.items)
     (capacities c.finish-in-Ok-add.new.spare.bytes.items) (vec_capacity c.take-bytes.result.0) =
@@ -138,7 +132,7 @@ returns-in-Ok-add-clause-memory g c =
     keeps_whole _ _ _ _ _ _ _ _ _ _ c.len-held.result (search rules) (search rules) bytes
     (taken_next _ _ _ _ _ buffers.sections take.sections_room take.no_sections)
     ended.sections_room
-    (omega (arith, more.sections, sections_room first, sections_room is)) (search rules)
+    (omega (arith, more.sections, sections_room first)) (search rules)
     (slot_left c.take-bytes.new.self c.finish-in-Ok-add.new.spare c.len-held.result
     ended.bytes_stay (take.slots _ (c.make_room.ensures.slots (search rules))))
 
@@ -229,28 +223,6 @@ returns-in-Err-Stays-clause-tracks g c =
     (search (rules, c.in-Ok-Occupied.ensures.update.1 c.add.new.self))
     (first_of (search rules, grind arith))
 
-pub returns-in-Ok-add-clause-entries : goal.returns-in-Ok-add-clause-entries
-returns-in-Ok-add-clause-entries g c =
-    let none : get g.K.PartialEq.eq c.args.reassemblies.now c.args.name ≡ None = search rules in
-    entries_at_once (Unit {0}) g.K.PartialEq.eq c.args.name _ _ (tt {0}) _ none refl (search rules)
-
-pub returns-in-Ok-add-clause-tracks : goal.returns-in-Ok-add-clause-tracks
-returns-in-Ok-add-clause-tracks g c =
-    let none : get g.K.PartialEq.eq c.args.reassemblies.now c.args.name ≡ None = search rules in
-    tracks_unchanged g.K.PartialEq.eq c.args.name _ _ c.args.reassemblies.now.entries
-    c.requires.tracks _ _ c.make_room.ensures.order none (search rules)
-
-pub returns-in-Err-add-clause-entries : goal.returns-in-Err-add-clause-entries
-returns-in-Err-add-clause-entries g c =
-    let none : get g.K.PartialEq.eq c.args.reassemblies.now c.args.name ≡ None = search rules in
-    entries_refused_first (Unit {0}) g.K.PartialEq.eq c.args.name _ _ c.in-Err-add.error _ none refl (search rules)
-
-pub returns-in-Err-add-clause-tracks : goal.returns-in-Err-add-clause-tracks
-returns-in-Err-add-clause-tracks g c =
-    let none : get g.K.PartialEq.eq c.args.reassemblies.now c.args.name ≡ None = search rules in
-    tracks_unchanged g.K.PartialEq.eq c.args.name _ _ c.args.reassemblies.now.entries
-    c.requires.tracks _ _ c.make_room.ensures.order none (search rules)
-
 pub returns-in-Ok-2-add-clause-entries : goal.returns-in-Ok-2-add-clause-entries
 returns-in-Ok-2-add-clause-entries g c =
     let none : get g.K.PartialEq.eq c.args.reassemblies.now c.args.name ≡ None = search rules in
@@ -264,19 +236,16 @@ returns-in-Ok-2-add-clause-tracks g c =
     let none : get g.K.PartialEq.eq c.args.reassemblies.now c.args.name ≡ None = search rules in
     let v : Reassembly g.row.T.Denot =
     record { buf = c.add-in-Ok-Vacant.new.self; timestamp = c.args.timestamp } in
-    let is : c.get-in-Ok-2-add.result.now.buf ≡ c.add-in-Ok-Vacant.new.self = search rules in
     let same = ap (λ (slots : List ℕ). length slots) c.make_room.ensures.order in
     tracks_started g.K.PartialEq.eq c.args.name _ _ c.args.reassemblies.now.entries
     c.requires.tracks v _ _ _ none (search (rules, c.in-Ok-Vacant.ensures.update.1 v))
-    (c.data_len-in-Ok-2-add.ensures.len ∙ ap (λ (b : Contents Unit). length b.bytes) is)
+    c.data_len-in-Ok-2-add.ensures.len
     c.data_len-in-Ok-2-add.ensures.short c.push_newest.ensures.is_order
     (omega (arith, c.push_newest.ensures.len, same)) c.push_newest.ensures.fits
 
 pub returns-in-Err-add-clause-refused : goal.returns-in-Err-add-clause-refused
 returns-in-Err-add-clause-refused g c kept fs shows begins =
     let none : get g.K.PartialEq.eq c.args.reassemblies.now c.args.name ≡ None = search rules in
-    let was : c.get_mut-in-Ok-Vacant.result.now.buf ≡ c.starting-buf.result = search rules in
     first_refused kept c.args.rule _ (fragment_of c.args.received.now) c.in-Err-add.error _ fs
-    (ap (λ (b : Contents Unit). rule_of b) was ∙ c.starting-buf.ensures.rule) none shows begins
-    (c.in-Err-add.ensures.refused []
-    (subst (λ (b : Contents Unit). Shows b []) (sym was) c.starting-buf.ensures.empty))
+    c.starting-buf.ensures.rule none shows begins
+    (c.in-Err-add.ensures.refused [] c.starting-buf.ensures.empty)
