@@ -1,7 +1,7 @@
 -- The keys and the sum of the entries of a table, after one is added, replaced or removed.
 use Rattle.std.proofs.Common.{◌≡◌, ℕ, suc, ◌+◌, ◌-◌, ◌*◌, ◌<◌, ◌≤◌, Bool, true, false, cond, List, [], ◌∷◌, ◌++◌}
 use Rattle.std.proofs.Common.{length, arith, refl, sym, ap, ◌∙◌, nat_lt, get_or, take, set, Option, Some, None}
-use Rattle.std.proofs.lemmas.Bool.{cond-false, cond-true}
+use Rattle.std.proofs.lemmas.Bool.{cond-true}
 use Rattle.std.proofs.lemmas.Bool.Decides.{nat_tests}
 use Rattle.std.proofs.lemmas.List.{map-set, take-map, get_or-map, length-map, length-set, length-take}
 use Rattle.std.proofs.lemmas.List.Sums.{sum_by-cons, sum_by-swap_remove}
@@ -70,21 +70,6 @@ module _ {K X : Type 0} (test : K → Bool) where
       let x = get_or es (length es - 1) r.0 in
       rw r.1
       (omega (arith, within, length-take (length es - 1) (set es i x), length-set es i x))
-
-  position_past : (es : List (K × X)) → lookup test es ≡ None → position_or_len test (keys_of es) ≡ length es
-  position_past [] h = refl
-  position_past (e ∷ es) h = grind (arith, position_past es)
-
-  -- where the key isn't there, nothing is removed
-  pub removal_none : (es : List (K × X)) → lookup test es ≡ None → swap_remove_entry test es ≡ es
-  removal_none [] h = refl
-  removal_none (e ∷ es) h =
-      let past = position_past (e ∷ es) h in
-      let count = length-map (e ∷ es) (λ (e : K × X). e.0) in
-      let ks = keys_of (e ∷ es) in
-      let p : position test ks ≡ None =
-      cond-false (nat_lt (position_or_len test ks) (length ks)) _ _ (grind (arith, nat_tests)) in
-      ap (λ (r : Option ℕ). option_map_or (λ (i : ℕ). swap_remove (e ∷ es) i e) r (e ∷ es)) p
 
 module _ {K X : Type 0} (f : X → ℕ) where
   abbrev pub total : List (K × X) → ℕ

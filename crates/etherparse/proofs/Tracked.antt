@@ -1,5 +1,5 @@
 -- The order of starts and the bytes that are held, after an entry is added, replaced or removed.
-use Rattle.std.proofs.Common.{◌≡◌, ℕ, ◌+◌, ◌-◌, ◌<◌, ◌≤◌, Bool, false, List, [], ◌∷◌, ◌++◌, length, map, Option, Some, None}
+use Rattle.std.proofs.Common.{◌≡◌, ℕ, ◌+◌, ◌-◌, ◌<◌, ◌≤◌, Bool, false, List, [], ◌∷◌, ◌++◌, length, Option, Some, None}
 use Rattle.std.proofs.Common.{arith, refl, sym, subst, ap, ◌∙◌}
 use Rattle.std.proofs.Common.{Ok, Err}
 use Rattle.std.proofs.lemmas.Bool.Decides.{nat_tests}
@@ -14,7 +14,7 @@ use Rattle.etherparse.specs.IpDefragError.{is_overlap}
 use Rattle.etherparse.specs.Outcome.{outcome}
 use Rattle.etherparse.specs.ReassemblyTable.{IsErrorOf, ShowsReassembly}
 use Rattle.std.proofs.lemmas.Option.{get_or_from_slice_get, slice_get_cases, slice_get_within}
-use Rattle.std.specs.Prelude.{◌^◌, ◌*◌, IfNone, IsSome, set, slice_get, take}
+use Rattle.std.specs.Prelude.{◌^◌, ◌*◌, IfNone, IsSome, set, slice_get}
 use Rattle.std.proofs.Common.{get_or}
 use Rattle.std.specs.List.{swap_remove}
 use Rattle.std.specs.Map.{keys_of, lookup}
@@ -22,7 +22,7 @@ use Rattle.indexmap.specs.IndexMap.{insert_entry, swap_remove_entry}
 use Rattle.etherparse.specs.declared.defrag.reassembly.Reassembly.{Reassembly}
 use Rattle.etherparse.specs.StartOrder.{IsOrder}
 use Rattle.etherparse.specs.Starts.{EntriesAfter, Tracks, bytes_held, bytes_in, change_of, names_in}
-use Rattle.etherparse.proofs.TableTotals.{keys-new, keys-there, length-swap_removed, removal_none, swap_removed}
+use Rattle.etherparse.proofs.TableTotals.{keys-new, keys-there, length-swap_removed}
 use Rattle.etherparse.proofs.TableTotals.{total-le, total-lookup, total-new, total-swap_remove, total-there}
 
 held_short : {T : Type 0} (s : Reassembly T) → bytes_held s ≤ 65535
@@ -102,10 +102,6 @@ module _ {K T : Type 0} (eq : K → K → Bool) (k : K) (order : List ℕ) (held
       length-one [] x = refl
       length-one (y ∷ xs) x = omega (arith, length-one xs x)
 
-  pub tracks_unchanged : (order' : List ℕ) (new : List (K × Reassembly T)) → order' ≡ order
-      → lookup (eq k) es ≡ None → new ≡ swap_remove_entry (eq k) es → Tracks order' held new
-  tracks_unchanged order' new same none is = rw (same, is, removal_none (eq k) es none) t
-
 -- ---- an entry that is removed by its index
 
 module _ {K T : Type 0} (order : List ℕ) (held : ℕ) (es : List (K × Reassembly T))
@@ -176,18 +172,6 @@ module _ {K T : Type 0} (X : Type 0) (eq : K → K → Bool) (k : K) (es new : L
       → EntriesAfter (eq k) k (change_of {X = X} (Ok None) old) es new
   entries_started v None none at is = rw is (keys-new bytes_held eq k v es at)
   entries_started v (Some r) none at is = cc
-
-  pub entries_at_once : (whole : X) (old : Option (Reassembly T)) → old ≡ None
-      → lookup (eq k) es ≡ old → new ≡ swap_remove_entry (eq k) es
-      → EntriesAfter (eq k) k (change_of (Ok (Some whole)) old) es new
-  entries_at_once whole None none at is = rw (is, removal_none (eq k) es at) refl
-  entries_at_once whole (Some r) none at is = cc
-
-  pub entries_refused_first : (error : IpDefragError) (old : Option (Reassembly T)) → old ≡ None
-      → lookup (eq k) es ≡ old → new ≡ swap_remove_entry (eq k) es
-      → EntriesAfter (eq k) k (change_of {X = X} (Err error) old) es new
-  entries_refused_first error None none at is = rw (is, removal_none (eq k) es at) refl
-  entries_refused_first error (Some r) none at is = cc
 
   pub entries_refused : (error : IpDefragError) (s v : Reassembly T) (old : Option (Reassembly T)) → old ≡ Some s
       → is_overlap error ≡ false → lookup (eq k) es ≡ old → new ≡ insert_entry eq es k v
