@@ -1,5 +1,6 @@
 """Packets of scapy, with the facts that hold of all of a kind."""
 
+import dataclasses
 import socket
 import struct
 
@@ -83,6 +84,35 @@ def ip_packet(
     return Packet(data, line, members, kinds, check=check, talk=talk, **known)
 
 
-def refused(data, line, error, reason):
-    """A frame that is refused."""
-    return Packet(data, f"refused: {line}", error, ("Ethernet",), refused=reason)
+@dataclasses.dataclass
+class There:
+    """The headers that are there of a frame that is refused."""
+
+    line: str = ""
+    members: dict = dataclasses.field(default_factory=dict)
+    kinds: tuple = ("Ethernet",)
+    talk: str = None
+
+
+def link_there(outer, name, exts=(), tags="", kinds=()):
+    """The Ethernet header of this ether type, and tags, before what has this name."""
+    members = {"link": link(outer), "link_exts": list(exts)}
+    return There(f"{tags}{A_MAC} > {B_MAC} {name}", members, ("Ethernet", *kinds))
+
+
+def ip_there(ip, words, kind, ports=("", ""), transport=None, net=None):
+    """An IP header after an Ethernet header, and words of its message."""
+    is_v4 = ip.version == 4
+    members = {"link": link(IPV4 if is_v4 else IPV6), "link_exts": []}
+    members |= {"net": net or (fields.ipv4(ip) if is_v4 else fields.ipv6(ip))}
+    members |= {"transport": transport} if transport else {}
+    kinds = ("Ethernet", "IPv4" if is_v4 else "IPv6", kind)
+    line = f"{ip.src}{ports[0]} > {ip.dst}{ports[1]} {words}"
+    return There(line, members, kinds, f"{ip.src} > {ip.dst}")
+
+
+def refused(data, line, error, reason, there=There()):
+    """A frame that is refused, and the headers that are there."""
+    gap = "  " if there.line else ""
+    members = there.members | error
+    return Packet(data, f"{there.line}{gap}refused: {line}", members, there.kinds, refused=reason, talk=there.talk)

@@ -1,5 +1,6 @@
 """Which packets meet a condition, and which words are none, written by hand."""
 
+import cut
 import frames
 from worked import Worked
 
@@ -10,17 +11,17 @@ OF_MIXED = (
     (("vlan",), (4,)),
     (("macsec",), ()),
     (("arp",), (3,)),
-    (("ip4",), (1, 2, 5, 6, 9, 10)),
+    (("ip4",), (1, 2, 5, 6, 8, 9, 10)),
     (("ip6",), (4,)),
     (("icmp",), ()),
     (("icmp6",), (4,)),
     (("58",), (4,)),
-    (("tcp",), (1,)),
+    (("tcp",), (1, 8)),
     (("UDP",), (2, 5, 6, 9, 10)),
     (("bad",), (2,)),
     (("refused",), (7, 8)),
     (("fragments",), (5, 6, 10)),
-    (("host=10.0.0.2",), (1, 2, 3, 5, 6, 9, 10)),
+    (("host=10.0.0.2",), (1, 2, 3, 5, 6, 8, 9, 10)),
     (("host 2001:db8::2",), (4,)),
     (("port=5353",), (2, 6)),
     (("port 443",), (1,)),
@@ -29,7 +30,7 @@ OF_MIXED = (
     (("port=7",), (9,)),
     (("udp", "fragments", "port=53"), (6,)),
     (("Ethernet",), (1, 2, 3, 4, 5, 6, 7, 8, 9, 10)),
-    (("ipv4",), (1, 2, 5, 6, 9, 10)),
+    (("ipv4",), (1, 2, 5, 6, 8, 9, 10)),
     (("IPv6",), (4,)),
     (("ipv6-icmp",), (4,)),
     (("ipencap",), ()),
@@ -38,9 +39,10 @@ OF_MIXED = (
     (("FRAGMENTS",), (5, 6, 10)),
     (("Host=2001:DB8::1",), (4,)),
     (("PORT 443",), (1,)),
-    # A segment that breaks its format, from port 1 to 2: it has no ports, and no addresses.
+    # A segment whose header breaks its format, from port 1 to 2: only the IP header is there.
     (("port=1",), ()),
-    (("host=10.0.0.1", "refused"), ()),
+    (("host=10.0.0.1", "refused"), (8,)),
+    (("tcp", "refused"), (8,)),
 )
 OF_REFUSED_MESSAGES = (
     (("refused",), (2, 4)),
@@ -97,6 +99,29 @@ OF_OTHERS = (
     (("port=443",), (5,)),
     (("port=51234",), (5,)),
 )
+# Packets that were cut meet conditions by the headers that are there. The ninth is a fragment over IPv6, in
+# the twelfth the TCP header breaks its format, and in the last not even the Ethernet header is there.
+OF_CUT = (
+    (("eth",), tuple(range(1, 14))),
+    (("refused", "cut"), tuple(range(1, 14))),
+    (("fragments",), ()),
+    (("bad",), ()),
+    (("vlan",), (10,)),
+    (("ip4",), (1, 2, 3, 4, 7, 8, 10, 11, 12)),
+    (("ip6",), (5, 6, 9)),
+    (("tcp",), (1, 2, 3, 4, 12)),
+    (("udp",), (5, 8, 9, 10, 11)),
+    (("gre",), (7,)),
+    (("icmp6",), (6,)),
+    (("ipv6-frag",), ()),
+    (("host=10.0.0.1",), (1, 2, 3, 4, 7, 8, 10, 11, 12)),
+    (("host=2001:db8::2",), (5, 6, 9)),
+    (("host=10.0.0.3",), ()),
+    (("port=443",), (1, 2)),
+    (("port=51234",), (1, 2)),
+    (("port=53",), (5, 10, 11)),
+    (("port=53", "host=10.0.0.2"), (10, 11)),
+)
 UNKNOWN = (
     "no protocol, and not `bad`, `refused`, `fragments`, `cut`, `host=ADDRESS` or `port=NUMBER`"
 )
@@ -135,10 +160,12 @@ def no_conditions():
         )
 
 
+CUT = list(cut.after_headers())
 CAPTURES = (
     Worked("mixed", 1, frames.MIXED, [*met(OF_MIXED), *no_conditions()]),
     Worked("refused_messages", 1, frames.REFUSED_MESSAGES, met(OF_REFUSED_MESSAGES)),
     Worked("arp_hosts", 1, frames.ARP, met(OF_ARP)),
     Worked("ip_protocols", 1, frames.IP_PROTOCOLS, met(OF_IP_PROTOCOLS)),
     Worked("others", 1, frames.OTHERS, met(OF_OTHERS)),
+    Worked("cut", 1, [it.data.hex() for it in CUT], met(OF_CUT), wire=[it.wire_len for it in CUT]),
 )

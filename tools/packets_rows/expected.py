@@ -11,6 +11,8 @@ TITLES = "   packets   share           bytes   share     first  "
 LINKS = ("Ethernet", "VLAN", "MACsec", "ARP", "IPv4", "IPv6")
 OVER_IP = {"ICMP": 1, "TCP": 6, "UDP": 17, "GRE": 47, "ICMPv6": 58, "IPv6-NoNxt": 59, "SCTP": 132}
 OVER_IP |= {"IP protocol 253": 253}
+# Extension headers that aren't there: what they are is the protocol of the packet.
+OVER_IP |= {"HOPOPT": 0, "IPv6-Frag": 44, "AH": 51, "IPv6-Opts": 60}
 VERDICTS = {"good": "Good", "bad": "Bad", "none": "None"}
 # The words of `--only` by which fragments differ, beside those of headers.
 CONDITIONS = {
@@ -48,6 +50,8 @@ class Packet:
     replaced: int = 14
     # The bytes on the wire, if others than those that were captured.
     wire: int = None
+    # What stands before how much of it was captured.
+    gap: str = ", "
 
     @property
     def len(self):
@@ -90,7 +94,7 @@ def shown(packets, form="relative"):
             "utc": utc(it.time),
         }
         before = it
-        cut = f", cut at {len(it.data)} of {it.wire_len} bytes" if it.cut else ""
+        cut = f"{it.gap}cut at {len(it.data)} of {it.wire_len} bytes" if it.cut else ""
         yield f"{it.number:5} {times[form]:>10} {it.line}{cut}"
 
 

@@ -132,18 +132,19 @@ ETHER_TYPES = (
 REFUSALS = (
     (
         "02000000000202000000000108004500001c000100",
-        "refused: IPv4 header cut off: 20 bytes needed at byte 14, 7 there",
+        "02:00:00:00:00:01 > 02:00:00:00:00:02 IPv4  refused: IPv4 header cut off: 20 bytes "
+        "needed at byte 14, 7 there",
     ),
     (
         "02000000000202000000000108004500002800010000400666cd0a0000010a00000200140050000000"
         "0000000000400220008b7c0000",
-        "refused: TCP data offset 4 below 5",
+        "10.0.0.1 > 10.0.0.2 TCP  refused: TCP data offset 4 below 5",
     ),
     (
         "02000000000202000000000108004500002000010000401166ca0a0000010a00000200010002006426"
         "b261626364",
-        "refused: UDP datagram cut off: 100 bytes needed at byte 34, 12 there by the IPv4 "
-        "total length",
+        "10.0.0.1.1 > 10.0.0.2.2 UDP len 92  refused: UDP datagram cut off: 100 bytes needed "
+        "at byte 34, 12 there by the IPv4 total length",
     ),
     (
         "02000000000202000000000108004500001700052001401146ce0a0000010a000002616263",
@@ -152,7 +153,7 @@ REFUSALS = (
     ),
 )
 RAW_REFUSALS = (
-    ("4500001c000100", "refused: IPv4 header cut off: 20 bytes needed at byte 14, 7 there"),
+    ("4500001c000100", "IPv4  refused: IPv4 header cut off: 20 bytes needed at byte 14, 7 there"),
 )
 FRAGMENTS = (
     "    1   0.000000 10.0.0.1 > 10.0.0.2 UDP fragment at 0 len 16, more follow (id 0x1234)",

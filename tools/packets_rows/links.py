@@ -197,9 +197,10 @@ def cooked():
         replaced=16,
     )
     error = fields.cut_off("Ipv4Header", 14, 20, 4)
-    line = "refused: IPv4 header cut off: 20 bytes needed at byte 14, 4 there"
+    line = f"{A_MAC} IPv4  refused: IPv4 header cut off: 20 bytes needed at byte 14, 4 there"
+    members = {"link": made(IPV4), "link_exts": []} | error
     yield Packet(
-        header(IPV4) + b"\x45\0\0\x20", line, error, (), refused="IPv4 header cut off", replaced=16
+        header(IPV4) + b"\x45\0\0\x20", line, members, (), refused="IPv4 header cut off", replaced=16
     )
 
 
@@ -215,8 +216,10 @@ def raw_ip():
     talk = f"{A4} > {B4}"
     yield Packet(bytes(ip), line, members, ("IPv4", "ICMP"), check="good", talk=talk, replaced=0)
     error = fields.cut_off("Ipv6Header", 14, 40, 8)
-    line = "refused: IPv6 header cut off: 40 bytes needed at byte 14, 8 there"
-    yield Packet(bytes(v6(17, b""))[:8], line, error, (), refused="IPv6 header cut off", replaced=0)
+    # Without an address in the header that is made, none is shown.
+    line = "IPv6  refused: IPv6 header cut off: 40 bytes needed at byte 14, 8 there"
+    members = {"link": {"Made": {"source": ZERO, "ether_type": IPV6}}, "link_exts": []} | error
+    yield Packet(bytes(v6(17, b""))[:8], line, members, (), refused="IPv6 header cut off", replaced=0)
 
 
 def null():

@@ -52,19 +52,27 @@ HEADERS = (
 ERRORS = (
     (
         "02000000000202000000000108004500001c000100",
-        '"Ethernet","len":21,"wire_len":21,"error":{"Len":{"required_len":20,"len":7,'
+        '"Ethernet","len":21,"wire_len":21,"link":{"Ethernet2":{"source":"02:00:00:00:00:01",'
+        '"destination":"02:00:00:00:00:02","ether_type":2048}},"link_exts":[],'
+        '"error":{"Len":{"required_len":20,"len":7,'
         '"len_source":"Slice","layer":"Ipv4Header","layer_start_offset":14}}',
     ),
     (
         "02000000000202000000000108004500002800010000400666cd0a0000010a00000200140050000000"
         "0000000000400220008b7c0000",
-        '"Ethernet","len":54,"wire_len":54,"error":{"Tcp":{"DataOffsetTooSmall":{"data_offset":4}}}',
+        '"Ethernet","len":54,"wire_len":54,"link":{"Ethernet2":{"source":"02:00:00:00:00:01",'
+        '"destination":"02:00:00:00:00:02","ether_type":2048}},"link_exts":[],'
+        '"net":{"Ipv4":{"dscp":0,"ecn":0,"total_len":40,"identification":1,"dont_fragment":'
+        'false,"more_fragments":false,"fragment_offset":0,"time_to_live":64,"protocol":6,"h'
+        'eader_checksum":26317,"source":"10.0.0.1","destination":"10.0.0.2","options":""}},'
+        '"error":{"Tcp":{"DataOffsetTooSmall":{"data_offset":4}}}',
     ),
 )
 RAW_ERRORS = (
     (
         "4500001c000100",
-        '"Ip","len":21,"wire_len":7,"error":{"Len":{"required_len":20,"len":7,"len_source":"Slice",'
+        '"Ip","len":21,"wire_len":7,"link":{"Made":{"source":"00:00:00:00:00:00","ether_type":2048}},'
+        '"link_exts":[],"error":{"Len":{"required_len":20,"len":7,"len_source":"Slice",'
         '"layer":"Ipv4Header","layer_start_offset":14}}',
     ),
 )

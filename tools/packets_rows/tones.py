@@ -47,8 +47,9 @@ TONED = (
     "10.0.0.1 > 10.0.0.2 {c}UDP{e} {y}fragment at 0{e} len 16, more follow (id 0x1234)",
     "10.0.0.1 > 10.0.0.2 {c}UDP{e} {y}fragment at 16{e} len 16, last (id 0x1234), "
     "completes a message of 32 bytes begun in packet 5: 53 > 5353 {c}UDP{e} len 24  {g}good{e}",
-    "{r}refused:{e} IPv4 header cut off: 20 bytes needed at byte 14, 7 there",
-    "{r}refused:{e} TCP data offset 4 below 5",
+    "02:00:00:00:00:01 > 02:00:00:00:00:02 {c}IPv4{e}  {r}refused:{e} IPv4 header cut off: "
+    "20 bytes needed at byte 14, 7 there",
+    "10.0.0.1 > 10.0.0.2 {c}TCP{e}  {r}refused:{e} TCP data offset 4 below 5",
     "10.0.0.2.7 > 10.0.0.1.9 {c}UDP{e} len 2  no checksum",
     "10.0.0.1 > 10.0.0.2 {c}UDP{e} {y}fragment at 0{e} len 16, more follow (id 0x1235)",
 )

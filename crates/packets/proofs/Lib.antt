@@ -14,6 +14,7 @@ mod RateLemmas
 mod RouteLemmas
 mod TableLemmas
 mod TallyLemmas
+mod ThereLemmas
 mod TrackLemmas
 mod WalkLemmas
 mod WithinLemmas

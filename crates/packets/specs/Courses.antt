@@ -131,6 +131,7 @@ pub record IsDissected (checksums : Bool) (course : Course) (packet : Packet) (r
   pub interface : reported.interface ≡ packet.interface
   pub link : reported.link ≡ packet.link
   pub header : reported.header ≡ packet.frame.header
+  pub bytes : reported.bytes ≡ packet.frame.bytes
   pub len : reported.len ≡ length (frame_bytes packet.frame)
   pub captured_len : reported.captured_len ≡ captured_len packet.link packet.frame
   pub wire_len : reported.wire_len ≡ packet.wire_len

@@ -1,12 +1,19 @@
 -- Packets of literal bytes, which the examples dissect and count.
 use Rattle.std.specs.Prelude.{ℕ, ◌+◌, ◌*◌, ◌++◌, true, false, List, [], ◌∷◌, Option, Some, None, replicate}
-use Rattle.ep_base.specs.declared.err.layer.Layer.TheVariants.{Ipv4Header}
+use Rattle.ep_base.specs.declared.err.layer.Layer.TheVariants.{Ipv4Header, Ipv4Packet}
+use Rattle.ep_base.specs.declared.len_source.LenSource.{LenSource}
 use Rattle.ep_base.specs.declared.len_source.LenSource.TheVariants as source
 use Rattle.ep_ipslice.specs.Packet.{Ipv6Packet}
 use Rattle.ep_packet.specs.declared.addresses.Addresses.{Addresses}
 use Rattle.ep_packet.specs.declared.addresses.Addresses.TheVariants.{V4, V6}
+use Rattle.ep_packet.specs.declared.err.packet.slice_error.SliceError.{SliceError}
+use Rattle.ep_packet.specs.declared.err.packet.slice_error.SliceError.TheVariants.{Len}
+use Rattle.ep_packet.specs.declared.lax_sliced_packet.LaxSlicedPacket.{LaxSlicedPacket}
+use Rattle.ep_packet.specs.declared.net.lax_net_slice.LaxNetSlice.{LaxNetSlice}
+use Rattle.ep_packet.specs.declared.net.lax_net_slice.LaxNetSlice.TheVariants as lax
 use Rattle.ep_packet.specs.declared.net.net_slice.NetSlice.{NetSlice}
 use Rattle.ep_packet.specs.declared.sliced_packet.SlicedPacket.{SlicedPacket}
+use Rattle.ep_packet.specs.declared.transport.transport_slice.TransportSlice.{TransportSlice}
 use Rattle.ep_packet.specs.declared.transport.transport_slice.TransportSlice.TheVariants as transport
 use Rattle.ep_packet.specs.Class.{FragmentName}
 use Rattle.etherparse.specs.Fragments.{fragment as first_of}
@@ -85,6 +92,40 @@ packet_over layer datagram = record {
   transport = Some (transport.Udp datagram);
 }
 
+-- an IPv4 packet with 12 bytes of a protocol, of which these are there
+abbrev pub ipv4_in_part : (protocol : ℕ) → List ℕ → LaxNetSlice
+ipv4_in_part protocol bytes = lax.Ipv4 (record {
+  header = ipv4_header protocol;
+  auth = None;
+  incomplete = true;
+  payload = record {
+    ip_number = record { 0 = protocol };
+    fragmented = false;
+    len_source = source.Slice;
+    payload = bytes;
+  };
+})
+
+-- the layers of a packet that is there in part
+abbrev pub in_part : Option LaxNetSlice → Option TransportSlice → LaxSlicedPacket
+in_part layer message = record {
+  link = None;
+  link_exts = record { items = [] };
+  net = layer;
+  transport = message;
+  stop_err = None;
+}
+
+-- so many bytes are needed after an Ethernet II header, and so many are there by this source
+abbrev pub missing : LenSource → (needed there : ℕ) → SliceError
+missing by needed there = Len (record {
+  required_len = needed;
+  len = there;
+  len_source = by;
+  layer = Ipv4Packet;
+  layer_start_offset = 14;
+})
+
 -- ARP packets (RFC 826) in which 10.0.0.1 requests the hardware address of 10.0.0.2: of Ethernet
 -- for IPv4; of IEEE 802, hardware type 6; for the addresses of protocol 0x1234; and of ARCNET,
 -- hardware type 7, whose addresses have one byte
@@ -158,7 +199,7 @@ page = message 1 0 54 (headers_over ipv4_ends 6) (Some verdict.Good)
     ∷ outline_of_fragment 5 4 fragment.Waits None
     ∷ outline_of_fragment 6 5 fragment.Completes (Some verdict.Good)
     ∷ refused 7 6 21 (reason.CutOff Ipv4Header)
-    ∷ refused 8 7 54 reason.TcpDataOffset
+    ∷ record (refused 8 7 54 reason.TcpDataOffset) { headers = headers_over ipv4_ends 6 }
     ∷ message 9 8 44 (headers_over back_ends 17) (Some verdict.None)
     ∷ outline_of_fragment 10 9 fragment.Waits None ∷ []
 

@@ -21,4 +21,5 @@ pub mod Reasons
 pub mod Sizes
 pub mod Table
 pub mod Tally
+pub mod There
 pub mod Written

@@ -3,16 +3,25 @@ use Rattle.std.specs.Prelude.{Bool, true, false, Option, Some, None, Result, Ok,
 use Rattle.std.specs.List.{list_any}
 use Rattle.captures.specs.declared.link.kind.Link.{Link}
 use Rattle.captures.specs.declared.link.kind.Link.TheVariants.{Ethernet, Ip, Null, Loop, Sll, Sll2, Other}
+use Rattle.ep_ip.specs.Ipv4 as ipv4
+use Rattle.ep_ip.specs.Ipv6 as ipv6
 use Rattle.ep_ipslice.specs.Packet.{ipv4_payload}
 use Rattle.ep_packet.specs.Class.{ipv4_addresses, ipv6_addresses}
 use Rattle.ep_packet.specs.Readable.{ReadMessage, message_at}
+use Rattle.ep_packet.specs.declared.addresses.Addresses.TheVariants.{V4, V6}
 use Rattle.ep_packet.specs.declared.err.packet.slice_error.SliceError.{SliceError}
+use Rattle.ep_packet.specs.declared.lax_sliced_packet.LaxSlicedPacket.{LaxSlicedPacket}
+use Rattle.ep_packet.specs.declared.net.lax_net_slice.LaxNetSlice.{LaxNetSlice}
+use Rattle.ep_packet.specs.declared.net.lax_net_slice.LaxNetSlice.TheVariants as lax
 use Rattle.ep_packet.specs.declared.net.net_slice.NetSlice.{NetSlice}
 use Rattle.ep_packet.specs.declared.net.net_slice.NetSlice.TheVariants as slice
 use Rattle.ep_packet.specs.declared.sliced_packet.SlicedPacket.{SlicedPacket}
+use Rattle.ep_tag.specs.declared.link.lax_link_ext_slice.LaxLinkExtSlice.{LaxLinkExtSlice}
+use Rattle.ep_tag.specs.declared.link.lax_link_ext_slice.LaxLinkExtSlice.TheVariants as lax_tag
 use Rattle.ep_tag.specs.declared.link.link_ext_slice.LinkExtSlice.{LinkExtSlice}
 use Rattle.ep_tag.specs.declared.link.link_ext_slice.LinkExtSlice.TheVariants.{Vlan, Macsec}
 use Rattle.packets.specs.Reasons.{fragment_reason, reason_of}
+use Rattle.packets.specs.There.{there_of}
 use Rattle.packets.specs.declared.reason.Reason.{Reason}
 use Rattle.packets.specs.declared.dissection.Dissection.{Dissection}
 use Rattle.packets.specs.declared.dissection.Fragment.{Fragment}
@@ -49,20 +58,50 @@ net_of (Some (slice.Ipv6 packet)) =
     Some (net.Ip (ipv6_addresses packet) packet.payload.ip_number)
 net_of (Some (slice.Arp packet)) = Some net.Arp
 
--- the headers of a packet of a link, of which none are known where it is refused
-abbrev pub headers_of : Link → Result SlicedPacket SliceError → Headers
-headers_of link (Ok packet) = record {
+abbrev pub is_lax_vlan : LaxLinkExtSlice → Bool
+is_lax_vlan (lax_tag.Vlan bytes) = true
+is_lax_vlan (lax_tag.Macsec header) = false
+
+abbrev pub is_lax_macsec : LaxLinkExtSlice → Bool
+is_lax_macsec (lax_tag.Vlan bytes) = false
+is_lax_macsec (lax_tag.Macsec header) = true
+
+-- the same of a packet that is there in part. Where extension headers are not there, its protocol is
+-- the first of these
+abbrev pub lax_net_of : Option LaxNetSlice → Option Net
+lax_net_of None = None
+lax_net_of (Some (lax.Ipv4 packet)) =
+    Some (net.Ip (V4 (ipv4.source_of packet.header) (ipv4.destination_of packet.header))
+    packet.payload.ip_number)
+lax_net_of (Some (lax.Ipv6 packet)) =
+    Some (net.Ip (V6 (ipv6.source_of packet.header) (ipv6.destination_of packet.header))
+    packet.payload.ip_number)
+lax_net_of (Some (lax.Arp packet)) = Some net.Arp
+
+-- the headers that are there of a packet of a link
+abbrev pub headers_there : Link → Option LaxSlicedPacket → Headers
+headers_there link (Some packet) = record {
   ethernet = is_ethernet link;
-  vlan = list_any is_vlan packet.link_exts.items;
-  macsec = list_any is_macsec packet.link_exts.items;
-  net = net_of packet.net;
+  vlan = list_any is_lax_vlan packet.link_exts.items;
+  macsec = list_any is_lax_macsec packet.link_exts.items;
+  net = lax_net_of packet.net;
 }
-headers_of link (Err e) = record {
+headers_there link None = record {
   ethernet = is_ethernet link;
   vlan = false;
   macsec = false;
   net = None;
 }
+
+-- the headers of a packet of a link; of one that is refused those that are there
+abbrev pub headers_of : Link → Result SlicedPacket SliceError → Option LaxSlicedPacket → Headers
+headers_of link (Ok packet) there = record {
+  ethernet = is_ethernet link;
+  vlan = list_any is_vlan packet.link_exts.items;
+  macsec = list_any is_macsec packet.link_exts.items;
+  net = net_of packet.net;
+}
+headers_of link (Err e) there = headers_there link there
 
 -- why a reassembled message can't be read
 abbrev pub message_refusal : Result ReadMessage SliceError → Option Reason
@@ -95,7 +134,7 @@ outline_of packet = record {
   len = packet.len;
   captured_len = packet.captured_len;
   wire_len = packet.wire_len;
-  headers = headers_of packet.link packet.layers;
+  headers = headers_of packet.link packet.layers (there_of packet.header packet.bytes);
   refusal = refusal_of packet.layers packet.fragment;
   fragment = fragment_state_of packet.fragment;
   verdict = packet.verdict;

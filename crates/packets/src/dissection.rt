@@ -2,6 +2,7 @@
 ghost use Rattle.std.specs.Prelude.{◌≡◌};
 ghost use Rattle.packets.specs.Lengths.{is_cut};
 
+use crate::there::FrameBytes;
 use captures::{Header, Link};
 use checksum_verdicts::Verdict;
 use ep_packet::SlicedPacket;
@@ -26,7 +27,9 @@ pub struct Dissection<'a> {
     pub link: Link,
     /// The Ethernet II header that was made in place of the link's own, if one was.
     pub header: Option<Header>,
-    /// The bytes of its frame, with the header that was made for it.
+    /// The bytes of its frame, after the header that was made for it.
+    pub bytes: FrameBytes<'a>,
+    /// How many bytes its frame has, with those of the header that was made for it.
     pub len: usize,
     /// How many of its bytes were captured, those of its link's own header among them.
     pub captured_len: usize,

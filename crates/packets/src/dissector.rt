@@ -18,6 +18,7 @@ ghost use Rattle.packets.specs.Layers.{after_header, layers_of};
 
 use crate::Dissection;
 use crate::datagrams::{Arrival, Datagrams, Finding};
+use crate::there::FrameBytes;
 use crate::verification::Verification;
 use captures::{Frame, Packet};
 use ep_base::EtherType;
@@ -128,6 +129,7 @@ impl<S: BuildHasher> Dissector<S> {
         ensures arrival { IfOk result (λ d. (d.time ≡ packet.now.time)
             × (d.interface ≡ packet.now.interface) × (d.link ≡ packet.now.link)
             × (d.header ≡ packet.now.frame.header)
+            × (d.bytes ≡ packet.now.frame.bytes)
             × (d.len ≡ length (frame_bytes packet.now.frame))
             × (d.captured_len ≡ captured_len packet.now.link packet.now.frame)
             × (d.wire_len ≡ packet.now.wire_len)) }
@@ -155,6 +157,7 @@ impl<S: BuildHasher> Dissector<S> {
                     interface: packet.interface,
                     link: packet.link,
                     header: packet.frame.header().copied(),
+                    bytes: FrameBytes::of(packet.frame.bytes()),
                     len: packet.frame.len(),
                     captured_len: packet.captured_len(),
                     wire_len: packet.wire_len,
@@ -236,8 +239,8 @@ fn layers_in<'a>(frame: &Frame<'a>) -> Result<SlicedPacket<'a>, SliceError>
     }
 }
 
-// The same fault, with its offset counted from the start of the Ethernet II header before.
-fn fault_after_header(error: SliceError) -> SliceError
+/// The same fault, with its offset counted from the start of the Ethernet II header before.
+pub(crate) fn fault_after_header(error: SliceError) -> SliceError
     ensures { result ≡ after_header error }
 {
     match error {

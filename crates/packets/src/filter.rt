@@ -2,17 +2,18 @@
 ghost use Rattle.std.specs.Prelude.{◌≡◌, ◌++◌, ◌∷◌, [], OnOk, OnErr};
 ghost use Rattle.ep_packet.specs.Readable.{message_at};
 ghost use Rattle.packets.specs.Conditions.{arp_has_host, datagram_has_port, has_host, has_ipv4_host, has_ipv6_host};
-ghost use Rattle.packets.specs.Conditions.{has_port, message_has_port, packet_has_port, segment_has_port};
+ghost use Rattle.packets.specs.Conditions.{has_lax_ipv4_host, has_lax_ipv6_host, has_port, message_has_port};
+ghost use Rattle.packets.specs.Conditions.{packet_has_port, segment_has_port, there_has_host, there_has_port};
 ghost use Rattle.packets.specs.Conditions.{transport_has_port};
 ghost use Rattle.packets.specs.Counts.{is_bad};
+ghost use Rattle.packets.specs.There.{there_of};
 
 use crate::outline::refusal_of;
 use crate::{Dissection, Fragment, Headers, Protocol};
 use checksum_verdicts::Verdict;
 use ep_base::EtherType;
 use ep_link::ArpPacketSlice;
-use ep_packet::err::packet::SliceError;
-use ep_packet::{Message, NetSlice, SlicedPacket, TransportSlice, read_message};
+use ep_packet::{LaxNetSlice, LaxSlicedPacket, Message, NetSlice, TransportSlice, read_message};
 use ep_tcpudp::{TcpSlice, UdpSlice};
 use etherparse::defrag::IpDefragPayloadVec;
 use std::alloc::{AllocError, Global};
@@ -34,7 +35,8 @@ pub enum Condition {
     Fragment,
     /// Fewer of its bytes were captured than were on the wire.
     Cut,
-    /// It comes from this address or goes to it, by its IP header or as an ARP packet for IPv4.
+    /// It comes from this address or goes to it, by its IP header or as an ARP packet for IPv4, if
+    /// that header is there.
     Host(IpAddr),
     /// Its TCP or UDP message, or the one that it completes, comes from this port or goes to it.
     Port(u16),
@@ -110,7 +112,7 @@ impl Condition {
             Condition::Refused => refusal_of(dissection).is_some(),
             Condition::Fragment => dissection.fragment.is_some(),
             Condition::Cut => dissection.is_cut(),
-            Condition::Host(address) => has_host(&dissection.layers, *address),
+            Condition::Host(address) => has_host(dissection, *address),
             Condition::Port(port) => has_port(dissection, *port),
         }
     }
@@ -122,13 +124,49 @@ fn is_bad(verdict: Option<Verdict>) -> bool
     matches!(verdict, Some(Verdict::Bad))
 }
 
-fn has_host(layers: &Result<SlicedPacket<'_>, SliceError>, address: IpAddr) -> bool
-    ensures { result ≡ has_host layers.now address }
+fn has_host(dissection: &Dissection<'_>, address: IpAddr) -> bool
+    ensures { result ≡ has_host dissection.now.layers
+        (there_of dissection.now.header dissection.now.bytes) address }
 {
-    match (layers, address) {
+    match (&dissection.layers, address) {
         (Ok(packet), IpAddr::V4(address)) => has_ipv4_host(&packet.net, address.octets()),
         (Ok(packet), IpAddr::V6(address)) => has_ipv6_host(&packet.net, address.octets()),
-        (Err(_), _) => false,
+        (Err(_), address) => there_has_host(&dissection.there(), address),
+    }
+}
+
+fn there_has_host(there: &Option<LaxSlicedPacket<'_>>, address: IpAddr) -> bool
+    ensures { result ≡ there_has_host there.now address }
+{
+    match (there, address) {
+        (Some(packet), IpAddr::V4(address)) => has_lax_ipv4_host(&packet.net, address.octets()),
+        (Some(packet), IpAddr::V6(address)) => has_lax_ipv6_host(&packet.net, address.octets()),
+        (None, _) => false,
+    }
+}
+
+fn has_lax_ipv4_host(net: &Option<LaxNetSlice<'_>>, address: [u8; 4]) -> bool
+    ensures { result ≡ has_lax_ipv4_host net.now address }
+{
+    match net {
+        Some(LaxNetSlice::Ipv4(packet)) => {
+            let header = packet.header();
+            header.source() == address || header.destination() == address
+        }
+        Some(LaxNetSlice::Arp(packet)) => arp_has_host(packet, address),
+        _ => false,
+    }
+}
+
+fn has_lax_ipv6_host(net: &Option<LaxNetSlice<'_>>, address: [u8; 16]) -> bool
+    ensures { result ≡ has_lax_ipv6_host net.now address }
+{
+    match net {
+        Some(LaxNetSlice::Ipv6(packet)) => {
+            let header = packet.header();
+            header.source() == address || header.destination() == address
+        }
+        _ => false,
     }
 }
 
@@ -166,11 +204,12 @@ fn has_ipv6_host(net: &Option<NetSlice<'_>>, address: [u8; 16]) -> bool
 }
 
 fn has_port(dissection: &Dissection<'_>, port: u16) -> bool
-    ensures { result ≡ has_port dissection.now.layers dissection.now.fragment port }
+    ensures { result ≡ has_port dissection.now.layers
+        (there_of dissection.now.header dissection.now.bytes) dissection.now.fragment port }
 {
     match &dissection.fragment {
         Some(Fragment::Completes { message, .. }) => message_has_port(message, port),
-        _ => packet_has_port(&dissection.layers, port),
+        _ => packet_has_port(dissection, port),
     }
 }
 
@@ -185,12 +224,22 @@ fn message_has_port(message: &IpDefragPayloadVec, port: u16) -> bool
     }
 }
 
-fn packet_has_port(layers: &Result<SlicedPacket<'_>, SliceError>, port: u16) -> bool
-    ensures { result ≡ packet_has_port layers.now port }
+fn packet_has_port(dissection: &Dissection<'_>, port: u16) -> bool
+    ensures { result ≡ packet_has_port dissection.now.layers
+        (there_of dissection.now.header dissection.now.bytes) port }
 {
-    match layers {
+    match &dissection.layers {
         Ok(packet) => transport_has_port(&packet.transport, port),
-        Err(_) => false,
+        Err(_) => there_has_port(&dissection.there(), port),
+    }
+}
+
+fn there_has_port(there: &Option<LaxSlicedPacket<'_>>, port: u16) -> bool
+    ensures { result ≡ there_has_port there.now port }
+{
+    match there {
+        Some(packet) => transport_has_port(&packet.transport, port),
+        None => false,
     }
 }
 

@@ -2,19 +2,26 @@
 ghost use Rattle.std.specs.Prelude.{◌≡◌, ◌≤◌, ◌<◌, ◌+◌, ◌-◌, ◌*◌, ◌^◌, ℕ, true, false, not, is_some, pos, List, [], ◌∷◌};
 ghost use Rattle.std.specs.Prelude.{◌++◌, Bool, Option, Some, None};
 ghost use Rattle.std.specs.Hash as fed;
+ghost use Rattle.captures.specs.declared.link.header.Header.{Header};
+ghost use Rattle.captures.specs.declared.link.kind.Link.{Link};
 ghost use Rattle.captures.specs.declared.packet.Packet.{Packet};
 ghost use Rattle.ep_base.specs.Traits.{IsPlainData, VariantFeeds};
 ghost use Rattle.etherparse.specs.PoolCalls.{Lists};
 ghost use Rattle.etherparse.specs.Fragments.{Fragment};
 ghost use Rattle.ep_packet.specs.Class.{FragmentName};
+ghost use Rattle.packets.specs.Conditions.{has_host, packet_has_port, there_has_host, there_has_port};
 ghost use Rattle.packets.specs.Courses.{Course, course_after, lists_at, next_course, no_course};
 ghost use Rattle.packets.specs.ReassemblyMemory.{Tracks, taken};
 ghost use Rattle.packets.specs.Forgetting.{ComeWithin, Fit, ForgetDrops};
+ghost use Rattle.packets.specs.Layers.{layers_of};
 ghost use Rattle.packets.specs.Limits.{AreFewer, AreInTime, is_late};
+ghost use Rattle.packets.specs.Outlines.{headers_of, headers_there};
 ghost use Rattle.packets.specs.Tally.{tally_of};
+ghost use Rattle.packets.specs.There.{there_of};
 ghost use Rattle.packets.specs.declared.outline.Outline.{Outline};
 ghost use Rattle.packets.specs.declared.reason.Reason.TheVariants as reason;
 ghost use Rattle.packets.specs.declared.summary.verified.Verified.TheVariants as verified;
+ghost use Rattle.std.specs.declared.net.ip_addr.IpAddr.{IpAddr};
 
 pub mod examples;
 
@@ -170,6 +177,22 @@ pub fn held_within()
         → ((course_after forget (no_course 0) packets).lists name channel).fragments ≡ [] }
 {
     etherparse::laws::defrag::names::equal_names::<u32>();
+}
+
+/// A packet has the headers, the hosts and the ports of the headers that are there: of one that isn't
+/// refused all headers are.
+pub fn headers_are_those_there()
+    ensures headers { (link : Link) (header : Option Header) (bytes : List ℕ)
+        → headers_of link (layers_of header bytes) (there_of header bytes)
+        ≡ headers_there link (there_of header bytes) }
+    ensures host { (header : Option Header) (bytes : List ℕ) (address : IpAddr)
+        → has_host (layers_of header bytes) (there_of header bytes) address
+        ≡ there_has_host (there_of header bytes) address }
+    ensures port { (header : Option Header) (bytes : List ℕ) (port : ℕ)
+        → packet_has_port (layers_of header bytes) (there_of header bytes) port
+        ≡ there_has_port (there_of header bytes) port }
+{
+    ep_packet::laws::whole_packets_are_lax_packets();
 }
 
 /// Packets that are refused and the others are all packets, in number and bytes, where neither

@@ -16,6 +16,7 @@ mod run;
 mod show;
 mod source_route;
 mod summary;
+mod there;
 mod verification;
 
 pub use captures::{Frame, Header, Link, Packet};
@@ -43,3 +44,4 @@ pub use summary::summary::{ChecksumTallies, FragmentTallies, ProtocolTallies, Su
 pub use summary::table::Table;
 pub use summary::tally::Tally;
 pub use summary::verified::Verified;
+pub use there::FrameBytes;

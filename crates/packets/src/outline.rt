@@ -4,15 +4,17 @@ ghost use Rattle.std.specs.List.{list_any};
 ghost use Rattle.ep_packet.specs.Readable.{message_at};
 ghost use Rattle.packets.specs.Headers.{has_header, net_addresses, net_number};
 ghost use Rattle.packets.specs.Lengths.{is_cut};
-ghost use Rattle.packets.specs.Outlines.{headers_of, is_ethernet, is_macsec, is_vlan, message_refusal, net_of};
+ghost use Rattle.packets.specs.Outlines.{headers_of, headers_there, is_ethernet, is_lax_macsec, is_lax_vlan};
+ghost use Rattle.packets.specs.Outlines.{is_macsec, is_vlan, lax_net_of, message_refusal, net_of};
 ghost use Rattle.packets.specs.Outlines.{outline_of, fragment_state_of, fragment_refusal, refusal_of};
+ghost use Rattle.packets.specs.There.{there_of};
 
 use crate::{Dissection, Fragment, Protocol, Reason};
 use captures::Link;
 use checksum_verdicts::Verdict;
 use ep_base::IpNumber;
-use ep_packet::{Addresses, NetSlice, SlicedPacket, read_message};
-use ep_tag::LinkExtSlice;
+use ep_packet::{Addresses, LaxNetSlice, LaxSlicedPacket, NetSlice, SlicedPacket, read_message};
+use ep_tag::{LaxLinkExtSlice, LinkExtSlice};
 use etherparse::defrag::IpDefragPayloadVec;
 
 /// What a summary needs of a packet.
@@ -28,7 +30,7 @@ pub struct Outline {
     pub captured_len: usize,
     /// How many bytes it had on the wire.
     pub wire_len: u32,
-    /// Its headers, none where it is refused.
+    /// Its headers; where it is refused those that are there.
     pub headers: Headers,
     /// Why it, or the message that it completes, is refused.
     pub refusal: Option<Reason>,
@@ -140,19 +142,35 @@ fn fragment_state_of(fragment: &Option<Fragment>) -> Option<FragmentState>
 }
 
 impl Headers {
-    /// The headers of a packet.
+    /// The headers of a packet; of one that is refused those that are there.
     pub fn of(dissection: &Dissection<'_>) -> Headers
-        ensures { result ≡ headers_of dissection.now.link dissection.now.layers }
+        ensures { result ≡ headers_of dissection.now.link dissection.now.layers
+            (there_of dissection.now.header dissection.now.bytes) }
     {
-        let ethernet = is_ethernet(dissection.link);
         match &dissection.layers {
             Ok(packet) => Headers {
-                ethernet,
+                ethernet: is_ethernet(dissection.link),
                 vlan: has_vlan(packet),
                 macsec: has_macsec(packet),
                 net: net_of(packet),
             },
-            Err(_) => Headers {
+            Err(_) => Headers::there(dissection.link, &dissection.there()),
+        }
+    }
+
+    // Those that are there of a packet that is refused.
+    fn there(link: Link, there: &Option<LaxSlicedPacket<'_>>) -> Headers
+        ensures { result ≡ headers_there link there.now }
+    {
+        let ethernet = is_ethernet(link);
+        match there {
+            Some(packet) => Headers {
+                ethernet,
+                vlan: has_lax_vlan(packet),
+                macsec: has_lax_macsec(packet),
+                net: lax_net_of(&packet.net),
+            },
+            None => Headers {
                 ethernet,
                 vlan: false,
                 macsec: false,
@@ -245,6 +263,51 @@ fn net_of(packet: &SlicedPacket<'_>) -> Option<Net>
             Some(Net::Ip(addresses, packet.payload_ip_number()))
         }
         Some(NetSlice::Arp(_)) => Some(Net::Arp),
+        None => None,
+    }
+}
+
+fn has_lax_vlan(packet: &LaxSlicedPacket<'_>) -> bool
+    ensures { result ≡ list_any is_lax_vlan packet.now.link_exts.items }
+{
+    packet
+        .link_exts
+        .as_slice()
+        .iter()
+        .any(|tag| matches!(tag, LaxLinkExtSlice::Vlan(_)))
+}
+
+fn has_lax_macsec(packet: &LaxSlicedPacket<'_>) -> bool
+    ensures { result ≡ list_any is_lax_macsec packet.now.link_exts.items }
+{
+    packet
+        .link_exts
+        .as_slice()
+        .iter()
+        .any(|tag| matches!(tag, LaxLinkExtSlice::Macsec(_)))
+}
+
+fn lax_net_of(net: &Option<LaxNetSlice<'_>>) -> Option<Net>
+    ensures { result ≡ lax_net_of net.now }
+{
+    match net {
+        Some(LaxNetSlice::Ipv4(packet)) => {
+            let header = packet.header();
+            let addresses = Addresses::V4 {
+                source: header.source(),
+                destination: header.destination(),
+            };
+            Some(Net::Ip(addresses, packet.payload_ip_number()))
+        }
+        Some(LaxNetSlice::Ipv6(packet)) => {
+            let header = packet.header();
+            let addresses = Addresses::V6 {
+                source: header.source(),
+                destination: header.destination(),
+            };
+            Some(Net::Ip(addresses, packet.payload_ip_number()))
+        }
+        Some(LaxNetSlice::Arp(_)) => Some(Net::Arp),
         None => None,
     }
 }

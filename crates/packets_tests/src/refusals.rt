@@ -3,14 +3,17 @@
 //! without memory.
 
 use crate::captured::{captured, dissected, first};
-use crate::checks::{holds, is_shown_as, is_text};
+use crate::checks::{equal, fail, holds, is_shown_as, is_text};
+use crate::frames::FRAMES;
 use crate::outcomes::packets_of;
 use captures::Link;
 use etherparse::ArpHardwareId;
 use etherparse::defrag::IpDefragError;
 use etherparse::err::packet::SliceError;
 use etherparse::err::{ip, linux_sll};
-use packets::{Dissection, Dissector, Fragment, JsonLines, Reason, ShowOptions, Style, TimeForm};
+use packets::{
+    Dissection, Dissector, Fragment, FrameBytes, JsonLines, Reason, ShowOptions, Style, TimeForm,
+};
 use std::alloc::Global;
 use std::process::Abort;
 
@@ -63,6 +66,7 @@ fn refused(error: SliceError) -> Dissection<'static> {
         interface: 0,
         link: Link::Ip,
         header: None,
+        bytes: FrameBytes::of(&[]),
         len: 20,
         captured_len: 6,
         wire_len: 6,
@@ -115,6 +119,19 @@ fn of_packets_that_were_cut(rt: HostRuntime) {
     holds(rt, rules.filter.matches(&packet));
     let line = "    3   0.000000 refused: IP header of version 7, cut at 6 of 1514 bytes";
     is_line(rt, rt.alloc(), &packet, line);
+}
+
+// A TCP header of 4 words: the IP header before it is there.
+#[test]
+fn of_a_header_that_breaks_its_format(rt: HostRuntime) {
+    let capture = captured(rt, rt.alloc(), 1, &[FRAMES[7]]);
+    let packet = first(rt, capture.as_slice());
+    let dissection = dissected(rt, &mut Dissector::new(rt.alloc()), &packet);
+    equal(rt, dissection.bytes.bytes().len(), 54);
+    let Some(layers) = dissection.there() else {
+        fail(rt, "no header");
+    };
+    holds(rt, layers.net.is_some() && layers.transport.is_none());
 }
 
 const FRAGMENT: &str =

@@ -1,20 +1,24 @@
 //! IP headers.
 
-use crate::json::extensions;
+use crate::json::extensions::{auth, list};
 use crate::json::fields::{Hex, begin, flag, numbers, printed};
 use ep_ip::{Ipv4HeaderSlice, Ipv6HeaderSlice};
-use ep_ipslice::{Ipv4Slice, Ipv6Slice};
+use ep_ipslice::{Ipv4ExtensionsSlice, Ipv6ExtensionsSlice};
 use serde::Serializer;
 use std::net::{Ipv4Addr, Ipv6Addr};
 
 /// An IPv4 header (RFC 791), and an authentication header after it. It has no contract: tests
 /// compare the texts.
-pub fn ipv4<S: Serializer>(out: &mut S, packet: &Ipv4Slice<'_>) -> Result<(), S::Error> {
+pub fn ipv4<S: Serializer>(
+    out: &mut S,
+    header: &Ipv4HeaderSlice<'_>,
+    extensions: &Ipv4ExtensionsSlice<'_>,
+) -> Result<(), S::Error> {
     begin(out, "Ipv4")?;
-    ipv4_header(out, packet.header())?;
-    if let Some(header) = &packet.extensions().auth {
+    ipv4_header(out, header)?;
+    if let Some(header) = &extensions.auth {
         begin(out, "auth")?;
-        extensions::auth(out, header)?;
+        auth(out, header)?;
         out.end_map()?;
     }
     out.end_map()
@@ -44,10 +48,14 @@ fn ipv4_header<S: Serializer>(out: &mut S, header: &Ipv4HeaderSlice<'_>) -> Resu
 
 /// An IPv6 header (RFC 8200), and the extension headers after it. It has no contract: tests compare
 /// the texts.
-pub fn ipv6<S: Serializer>(out: &mut S, packet: &Ipv6Slice<'_>) -> Result<(), S::Error> {
+pub fn ipv6<S: Serializer>(
+    out: &mut S,
+    header: &Ipv6HeaderSlice<'_>,
+    extensions: &Ipv6ExtensionsSlice<'_>,
+) -> Result<(), S::Error> {
     begin(out, "Ipv6")?;
-    ipv6_header(out, packet.header())?;
-    extensions::list(out, packet.extensions())?;
+    ipv6_header(out, header)?;
+    list(out, extensions)?;
     out.end_map()
 }
 

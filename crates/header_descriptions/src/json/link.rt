@@ -2,7 +2,7 @@
 
 use crate::json::fields::{begin, flag, flags, hardware, number, numbers, text};
 use ep_link::Ethernet2Slice;
-use ep_tag::{LinkExtSlice, MacsecPType, MacsecSlice, SingleVlanSlice};
+use ep_tag::{LaxLinkExtSlice, LinkExtSlice, MacsecHeaderSlice, MacsecPType, SingleVlanSlice};
 use serde::Serializer;
 
 /// An Ethernet II header. It has no contract: tests compare the texts.
@@ -19,17 +19,29 @@ pub fn tags<S: Serializer>(out: &mut S, tags: &[LinkExtSlice<'_>]) -> Result<(),
     out.key("link_exts")?;
     out.begin_seq(None)?;
     for tag in tags {
-        out.begin_map(None)?;
         match tag {
             LinkExtSlice::Vlan(tag) => vlan(out, tag)?,
-            LinkExtSlice::Macsec(tag) => macsec(out, tag)?,
+            LinkExtSlice::Macsec(tag) => macsec(out, &tag.header)?,
         }
-        out.end_map()?;
+    }
+    out.end_seq()
+}
+
+/// The same of a packet that is there in part. It has no contract: tests compare the texts.
+pub fn lax_tags<S: Serializer>(out: &mut S, tags: &[LaxLinkExtSlice<'_>]) -> Result<(), S::Error> {
+    out.key("link_exts")?;
+    out.begin_seq(None)?;
+    for tag in tags {
+        match tag {
+            LaxLinkExtSlice::Vlan(tag) => vlan(out, tag)?,
+            LaxLinkExtSlice::Macsec(tag) => macsec(out, &tag.header)?,
+        }
     }
     out.end_seq()
 }
 
 fn vlan<S: Serializer>(out: &mut S, tag: &SingleVlanSlice<'_>) -> Result<(), S::Error> {
+    out.begin_map(None)?;
     begin(out, "Vlan")?;
     number(out, "pcp", tag.priority_code_point().value().into())?;
     flag(
@@ -39,12 +51,13 @@ fn vlan<S: Serializer>(out: &mut S, tag: &SingleVlanSlice<'_>) -> Result<(), S::
     )?;
     number(out, "vlan_id", tag.vlan_identifier().value().into())?;
     number(out, "ether_type", tag.ether_type().0.into())?;
+    out.end_map()?;
     out.end_map()
 }
 
-fn macsec<S: Serializer>(out: &mut S, tag: &MacsecSlice<'_>) -> Result<(), S::Error> {
+fn macsec<S: Serializer>(out: &mut S, header: &MacsecHeaderSlice<'_>) -> Result<(), S::Error> {
+    out.begin_map(None)?;
     begin(out, "Macsec")?;
-    let header = &tag.header;
     packet_type(out, header.ptype())?;
     let bits = [
         ("endstation_id", header.endstation_id()),
@@ -60,6 +73,7 @@ fn macsec<S: Serializer>(out: &mut S, tag: &MacsecSlice<'_>) -> Result<(), S::Er
     if let Some(sci) = header.sci() {
         number(out, "sci", sci)?;
     }
+    out.end_map()?;
     out.end_map()
 }
 

@@ -4,8 +4,13 @@ use crate::show::line::Line;
 use ep_tcpudp::{TcpOptionElement, TcpOptionReadError, TcpSlice};
 use std::alloc::AllocError;
 
-/// Flags, numbers, window and length of a segment. It has no contract: tests compare the texts.
-pub fn segment(line: &mut Line<'_>, segment: &TcpSlice<'_>) -> Result<(), AllocError> {
+/// Flags, numbers, window and options of a segment whose payload has so many bytes. It has no
+/// contract: tests compare the texts.
+pub fn segment(
+    line: &mut Line<'_>,
+    segment: &TcpSlice<'_>,
+    payload_len: usize,
+) -> Result<(), AllocError> {
     line.text(" ")?;
     flags(line, segment)?;
     line.counted(" seq ", segment.sequence_number().into())?;
@@ -16,7 +21,7 @@ pub fn segment(line: &mut Line<'_>, segment: &TcpSlice<'_>) -> Result<(), AllocE
     if segment.urg() {
         line.counted(" urg ", segment.urgent_pointer().into())?;
     }
-    line.counted(" len ", segment.payload().len() as u64)?;
+    line.counted(" len ", payload_len as u64)?;
     options(line, segment)
 }
 

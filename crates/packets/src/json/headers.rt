@@ -2,8 +2,8 @@
 
 use crate::json::{link, net, transport};
 use captures::Header;
-use ep_packet::SlicedPacket;
-use header_descriptions::json::link::tags;
+use ep_packet::{LaxSlicedPacket, SlicedPacket};
+use header_descriptions::json::link::{lax_tags, tags};
 use serde::Serializer;
 
 /// The headers of a packet, the outer one first. One may have been made in place of the link's own.
@@ -13,9 +13,22 @@ pub(crate) fn members<S: Serializer>(
     layers: &SlicedPacket<'_>,
     made: Option<&Header>,
 ) -> Result<(), S::Error> {
-    link::header(out, layers, made)?;
+    link::header(out, layers.link.as_ref(), made)?;
     tags(out, layers.link_exts.as_slice())?;
     net::member(out, layers)?;
     net::final_destination(out, layers)?;
-    transport::member(out, layers)
+    transport::member(out, layers.transport.as_ref())
+}
+
+/// The headers that are there of a packet that is refused. It has no contract: tests compare the
+/// texts.
+pub(crate) fn there<S: Serializer>(
+    out: &mut S,
+    layers: &LaxSlicedPacket<'_>,
+    made: Option<&Header>,
+) -> Result<(), S::Error> {
+    link::header(out, layers.link.as_ref(), made)?;
+    lax_tags(out, layers.link_exts.as_slice())?;
+    net::there(out, layers)?;
+    transport::member(out, layers.transport.as_ref())
 }

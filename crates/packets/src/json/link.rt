@@ -2,7 +2,6 @@
 
 use captures::Header;
 use ep_link::LinkSlice;
-use ep_packet::SlicedPacket;
 use header_descriptions::json::fields::{begin, hardware, number};
 use header_descriptions::json::link::ethernet2;
 use serde::Serializer;
@@ -11,11 +10,11 @@ use serde::Serializer;
 /// compare the texts.
 pub(crate) fn header<S: Serializer>(
     out: &mut S,
-    layers: &SlicedPacket<'_>,
+    link: Option<&LinkSlice<'_>>,
     made: Option<&Header>,
 ) -> Result<(), S::Error> {
     begin(out, "link")?;
-    if let Some(LinkSlice::Ethernet2(frame)) = &layers.link {
+    if let Some(LinkSlice::Ethernet2(frame)) = link {
         ethernet2(out, frame)?;
     }
     if let Some(header) = made {

@@ -1,7 +1,7 @@
 //! Packets of the network layer.
 
 use crate::source_route::summed_addresses;
-use ep_packet::{Addresses, NetSlice, SlicedPacket};
+use ep_packet::{Addresses, LaxNetSlice, LaxSlicedPacket, NetSlice, SlicedPacket};
 use header_descriptions::json::arp::arp;
 use header_descriptions::json::fields::{begin, printed, text};
 use header_descriptions::json::ip::{ipv4, ipv6};
@@ -18,9 +18,26 @@ pub(crate) fn member<S: Serializer>(
     };
     begin(out, "net")?;
     match net {
-        NetSlice::Ipv4(packet) => ipv4(out, packet)?,
-        NetSlice::Ipv6(packet) => ipv6(out, packet)?,
+        NetSlice::Ipv4(packet) => ipv4(out, packet.header(), packet.extensions())?,
+        NetSlice::Ipv6(packet) => ipv6(out, packet.header(), packet.extensions())?,
         NetSlice::Arp(packet) => arp(out, packet)?,
+    }
+    out.end_map()
+}
+
+/// What is there of it in a packet that is refused. It has no contract: tests compare the texts.
+pub(crate) fn there<S: Serializer>(
+    out: &mut S,
+    layers: &LaxSlicedPacket<'_>,
+) -> Result<(), S::Error> {
+    let Some(net) = &layers.net else {
+        return Ok(());
+    };
+    begin(out, "net")?;
+    match net {
+        LaxNetSlice::Ipv4(packet) => ipv4(out, packet.header(), packet.extensions())?,
+        LaxNetSlice::Ipv6(packet) => ipv6(out, packet.header(), packet.extensions())?,
+        LaxNetSlice::Arp(packet) => arp(out, packet)?,
     }
     out.end_map()
 }

@@ -67,11 +67,22 @@ impl PacketObject<'_, '_> {
         number(out, "wire_len", packet.wire_len.into())
     }
 
-    // Its layers, or why it is refused.
+    // Its layers; or those that are there, and why it is refused.
     fn content<S: Serializer>(&self, out: &mut S) -> Result<(), S::Error> {
         match &self.packet.layers {
             Ok(layers) => self.layers(layers, out),
-            Err(error) => errors::member(out, "error", error),
+            Err(error) => {
+                self.there(out)?;
+                errors::member(out, "error", error)
+            }
+        }
+    }
+
+    #[inline(never)]
+    fn there<S: Serializer>(&self, out: &mut S) -> Result<(), S::Error> {
+        match &self.packet.there() {
+            Some(layers) => headers::there(out, layers, self.packet.header.as_ref()),
+            None => Ok(()),
         }
     }
 

@@ -2,7 +2,7 @@
 
 use crate::json::errors;
 use ep_base::IpNumber;
-use ep_packet::{Message, SlicedPacket, TransportSlice, read_message};
+use ep_packet::{Message, TransportSlice, read_message};
 use header_descriptions::json::fields::{begin, number};
 use header_descriptions::json::icmp;
 use header_descriptions::json::tcp::tcp;
@@ -13,9 +13,9 @@ use serde::Serializer;
 /// texts.
 pub(crate) fn member<S: Serializer>(
     out: &mut S,
-    layers: &SlicedPacket<'_>,
+    transport: Option<&TransportSlice<'_>>,
 ) -> Result<(), S::Error> {
-    let Some(transport) = &layers.transport else {
+    let Some(transport) = transport else {
         return Ok(());
     };
     begin(out, "transport")?;

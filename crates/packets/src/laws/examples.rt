@@ -9,3 +9,4 @@ pub mod memory;
 pub mod outlines;
 pub mod reasons;
 pub mod source_routes;
+pub mod there;

@@ -1,7 +1,8 @@
 //! Fragments.
 
 use crate::Fragment;
-use crate::show::{fragment_headers, message, refusal};
+use crate::show::fragment_headers::FragmentHeaders;
+use crate::show::{message, refusal};
 use checksum_verdicts::Verdict;
 use ep_packet::{Addresses, IpFragment};
 use etherparse::defrag::IpDefragPayloadVec;
@@ -16,7 +17,7 @@ pub(crate) fn fragment(
     fragment: Option<&Fragment>,
     checked: Option<Verdict>,
 ) -> Result<(), AllocError> {
-    fragment_headers::fragment(line, cut)?;
+    FragmentHeaders::of(cut).show(line)?;
     match fragment {
         Some(Fragment::Waits { started }) => {
             started_before(line, number, *started)?;

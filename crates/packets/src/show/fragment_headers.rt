@@ -2,44 +2,112 @@
 
 use crate::show::endpoints::endpoints;
 use ep_base::IpNumber;
-use ep_packet::{Addresses, IpFragment, SlicedFragment};
+use ep_ipslice::{Ipv6ExtensionSlice, LaxIpv4Slice, LaxIpv6Slice};
+use ep_packet::{Addresses, IpFragment};
 use header_descriptions::show::{Line, Tone, names};
 use std::alloc::AllocError;
 
-/// A fragment: where it came from and went to, its protocol, its offset in its datagram, and its
-/// identification in a parenthesis that stays open. It has no contract: tests compare the texts.
-pub(crate) fn fragment(line: &mut Line<'_>, cut: &IpFragment<'_>) -> Result<(), AllocError> {
-    endpoints(line, &cut.addresses, None)?;
-    line.text(" ")?;
-    names::protocol(line, cut.ip_number)?;
-    line.text(" ")?;
-    position(line, &cut.fragment)?;
-    line.text(" (id 0x")?;
-    identification(line, cut)
+/// What the headers of a fragment say of it.
+#[derive(Clone, Copy)]
+pub(crate) struct FragmentHeaders {
+    pub addresses: Addresses,
+    pub ip_number: IpNumber,
+    pub identification: u32,
+    pub offset: u16,
+    pub more_fragments: bool,
+    pub len: usize,
 }
 
-// The offset and length of a fragment.
-fn position(line: &mut Line<'_>, fragment: &SlicedFragment<'_>) -> Result<(), AllocError> {
-    line.begin_tone(Tone::Fragment)?;
-    line.counted("fragment at ", fragment.offset.byte_offset().into())?;
-    line.end_tone()?;
-    line.counted(" len ", fragment.bytes.len() as u64)?;
-    line.text(if fragment.more_fragments {
-        ", more follow"
-    } else {
-        ", last"
-    })
-}
-
-// Four hex digits over IPv4, and eight over IPv6.
-fn identification(line: &mut Line<'_>, cut: &IpFragment<'_>) -> Result<(), AllocError> {
-    let [a, b, c, d] = cut.identification.to_be_bytes();
-    if let Addresses::V6 { .. } = cut.addresses {
-        line.hex(a)?;
-        line.hex(b)?;
+impl FragmentHeaders {
+    /// Those of a fragment that is there as a whole. It has no contract: tests compare the texts.
+    pub(crate) fn of(cut: &IpFragment<'_>) -> FragmentHeaders {
+        FragmentHeaders {
+            addresses: cut.addresses,
+            ip_number: cut.ip_number,
+            identification: cut.identification,
+            offset: cut.fragment.offset.byte_offset(),
+            more_fragments: cut.fragment.more_fragments,
+            len: cut.fragment.bytes.len(),
+        }
     }
-    line.hex(c)?;
-    line.hex(d)
+
+    /// Those of an IPv4 packet that is there in part, whose payload has so many bytes. It has no
+    /// contract: tests compare the texts.
+    pub(crate) fn over_ipv4(packet: &LaxIpv4Slice<'_>, len: usize) -> FragmentHeaders {
+        let header = packet.header();
+        FragmentHeaders {
+            addresses: Addresses::V4 {
+                source: header.source(),
+                destination: header.destination(),
+            },
+            ip_number: packet.payload_ip_number(),
+            identification: header.identification().into(),
+            offset: header.fragments_offset().byte_offset(),
+            more_fragments: header.more_fragments(),
+            len,
+        }
+    }
+
+    /// Those of an IPv6 packet, by its first fragment header, if that describes a fragment. It has no
+    /// contract: tests compare the texts.
+    pub(crate) fn over_ipv6(packet: &LaxIpv6Slice<'_>, len: usize) -> Option<FragmentHeaders> {
+        for extension in packet.extensions().iter() {
+            if let Ipv6ExtensionSlice::Fragment(fragment) = extension {
+                if !fragment.is_fragmenting_payload() {
+                    return None;
+                }
+                let header = packet.header();
+                return Some(FragmentHeaders {
+                    addresses: Addresses::V6 {
+                        source: header.source(),
+                        destination: header.destination(),
+                    },
+                    ip_number: packet.payload_ip_number(),
+                    identification: fragment.identification(),
+                    offset: fragment.fragment_offset().byte_offset(),
+                    more_fragments: fragment.more_fragments(),
+                    len,
+                });
+            }
+        }
+        None
+    }
+
+    /// Where it came from and went to, its protocol, its offset in its datagram, and its
+    /// identification in a parenthesis that stays open. It has no contract: tests compare the texts.
+    pub(crate) fn show(&self, line: &mut Line<'_>) -> Result<(), AllocError> {
+        endpoints(line, &self.addresses, None)?;
+        line.text(" ")?;
+        names::protocol(line, self.ip_number)?;
+        line.text(" ")?;
+        self.position(line)?;
+        line.text(" (id 0x")?;
+        self.identification(line)
+    }
+
+    // Its offset and length.
+    fn position(&self, line: &mut Line<'_>) -> Result<(), AllocError> {
+        line.begin_tone(Tone::Fragment)?;
+        line.counted("fragment at ", self.offset.into())?;
+        line.end_tone()?;
+        line.counted(" len ", self.len as u64)?;
+        line.text(if self.more_fragments {
+            ", more follow"
+        } else {
+            ", last"
+        })
+    }
+
+    // Four hex digits over IPv4, and eight over IPv6.
+    fn identification(&self, line: &mut Line<'_>) -> Result<(), AllocError> {
+        let [a, b, c, d] = self.identification.to_be_bytes();
+        if let Addresses::V6 { .. } = self.addresses {
+            line.hex(a)?;
+            line.hex(b)?;
+        }
+        line.hex(c)?;
+        line.hex(d)
+    }
 }
 
 /// A packet whose first fragment header describes no fragment, where a later one does. It has no

@@ -2,9 +2,12 @@
 
 use crate::payload::payload_of;
 use captures::Header;
+use ep_base::EtherType;
 use ep_link::LinkSlice;
-use ep_packet::SlicedPacket;
-use ep_tag::{LinkExtSlice, MacsecPayloadSlice};
+use ep_packet::{LaxSlicedPacket, SlicedPacket};
+use ep_tag::{
+    LaxLinkExtSlice, LaxMacsecPayloadSlice, LinkExtSlice, MacsecHeaderSlice, MacsecPayloadSlice,
+};
 use header_descriptions::show::{Line, addresses, names};
 use std::alloc::AllocError;
 
@@ -17,8 +20,25 @@ pub(crate) fn other(
 ) -> Result<(), AllocError> {
     ethernet(line, layers.link.as_ref())?;
     source_of(line, made)?;
-    content(line, layers)?;
+    content(line, layers.payload_ether_type(), hidden(layers))?;
     line.counted(" len ", payload_of(layers).len() as u64)
+}
+
+/// The same of one that is refused, by the headers that are there, without its length. A header that
+/// was made has an address only where the link's own had one. It has no contract: tests compare the
+/// texts.
+pub(crate) fn there(
+    line: &mut Line<'_>,
+    layers: &LaxSlicedPacket<'_>,
+    made: Option<&Header>,
+) -> Result<(), AllocError> {
+    ethernet(line, layers.link.as_ref())?;
+    if let Some(header) = made {
+        if header.source != [0; 6] {
+            source_of(line, made)?;
+        }
+    }
+    content(line, layers.payload_ether_type(), hidden_there(layers))
 }
 
 // The addresses of an Ethernet frame, if it is one.
@@ -40,21 +60,42 @@ fn source_of(line: &mut Line<'_>, made: Option<&Header>) -> Result<(), AllocErro
     line.text(" ")
 }
 
-fn content(line: &mut Line<'_>, layers: &SlicedPacket<'_>) -> Result<(), AllocError> {
-    match layers.payload_ether_type() {
+// What an ether type names, or what follows tags that hide it.
+fn content(
+    line: &mut Line<'_>,
+    ether_type: Option<EtherType>,
+    hidden: &str,
+) -> Result<(), AllocError> {
+    match ether_type {
         Some(ether_type) => names::ether_type(line, ether_type),
-        None => line.text(hidden(layers)),
+        None => line.text(hidden),
     }
 }
 
-// What follows tags that hide it.
 fn hidden(layers: &SlicedPacket<'_>) -> &'static str {
     match layers.link_exts.as_slice().last() {
         Some(LinkExtSlice::Macsec(tag)) => match &tag.payload {
-            MacsecPayloadSlice::Modified(_) if tag.header.encrypted() => "encrypted",
-            MacsecPayloadSlice::Modified(_) => "changed",
+            MacsecPayloadSlice::Modified(_) => modified(&tag.header),
             MacsecPayloadSlice::Unmodified(_) => "unknown",
         },
         _ => "unknown",
+    }
+}
+
+fn hidden_there(layers: &LaxSlicedPacket<'_>) -> &'static str {
+    match layers.link_exts.as_slice().last() {
+        Some(LaxLinkExtSlice::Macsec(tag)) => match &tag.payload {
+            LaxMacsecPayloadSlice::Modified { .. } => modified(&tag.header),
+            LaxMacsecPayloadSlice::Unmodified(_) => "unknown",
+        },
+        _ => "unknown",
+    }
+}
+
+fn modified(header: &MacsecHeaderSlice<'_>) -> &'static str {
+    if header.encrypted() {
+        "encrypted"
+    } else {
+        "changed"
     }
 }

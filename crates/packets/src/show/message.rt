@@ -5,6 +5,7 @@ use crate::show::refusal;
 use checksum_verdicts::{Verdict, judge};
 use ep_base::IpNumber;
 use ep_packet::{Addresses, Message, WholeMessage, read_message};
+use ep_tcpudp::{UdpHeader, UdpSlice};
 use header_descriptions::show::{Line, Tone, icmp, names, tcp};
 use std::alloc::AllocError;
 
@@ -17,8 +18,31 @@ pub(crate) fn whole(
 ) -> Result<(), AllocError> {
     endpoints(line, &whole.addresses, ports_of(&whole.message))?;
     line.text(" ")?;
-    message(line, whole.ip_number, &whole.message)?;
+    message(line, whole.ip_number, &whole.message, whole.bytes.len())?;
     verdict(line, checked, &whole.addresses, &whole.message)
+}
+
+/// What is there of a message in so many bytes: the same without a verdict, and of a header that
+/// isn't there as a whole only the protocol. It has no contract: tests compare the texts.
+pub(crate) fn there(
+    line: &mut Line<'_>,
+    addresses: &Addresses,
+    ip_number: IpNumber,
+    read: Option<&Message<'_>>,
+    len: usize,
+) -> Result<(), AllocError> {
+    match read {
+        Some(read) => {
+            endpoints(line, addresses, ports_of(read))?;
+            line.text(" ")?;
+            message(line, ip_number, read, len)
+        }
+        None => {
+            endpoints(line, addresses, None)?;
+            line.text(" ")?;
+            names::protocol(line, ip_number)
+        }
+    }
 }
 
 /// A reassembled message between these addresses: its ports, its protocol, what its header says and
@@ -37,7 +61,7 @@ pub(crate) fn completed(
                 line.counted(" > ", ports.destination.into())?;
                 line.text(" ")?;
             }
-            message(line, ip_number, &read)?;
+            message(line, ip_number, &read, bytes.len())?;
             verdict(line, checked, addresses, &read)
         }
         Err(error) => refusal::message(line, &error),
@@ -59,15 +83,40 @@ fn ports_of(message: &Message<'_>) -> Option<Ports> {
     }
 }
 
-// The protocol of a message, what its header says, and the length of its payload.
-fn message(line: &mut Line<'_>, number: IpNumber, message: &Message<'_>) -> Result<(), AllocError> {
+// The protocol of a message in so many bytes, what its header says, and the length of its payload.
+fn message(
+    line: &mut Line<'_>,
+    number: IpNumber,
+    message: &Message<'_>,
+    len: usize,
+) -> Result<(), AllocError> {
     names::protocol(line, number)?;
     match message {
-        Message::Tcp(segment) => tcp::segment(line, segment),
-        Message::Udp(datagram) => line.counted(" len ", datagram.payload().len() as u64),
-        Message::Icmpv4(message) => icmp::over_ipv4(line, message),
-        Message::Icmpv6(message) => icmp::over_ipv6(line, message),
-        Message::Raw(bytes) => line.counted(" len ", bytes.len() as u64),
+        Message::Tcp(segment) => {
+            tcp::segment(line, segment, len.saturating_sub(segment.header_len()))
+        }
+        Message::Udp(datagram) => match payload_len(datagram, len) {
+            Some(len) => line.counted(" len ", len as u64),
+            None => Ok(()),
+        },
+        Message::Icmpv4(message) => {
+            icmp::over_ipv4(line, message, len.saturating_sub(message.header_len()))
+        }
+        Message::Icmpv6(message) => {
+            icmp::over_ipv6(line, message, len.saturating_sub(message.header_len()))
+        }
+        Message::Raw(_) => line.counted(" len ", len as u64),
+    }
+}
+
+// The length of the payload of a datagram by its length field, or where that is 0 (RFC 2675) by how
+// many bytes it is in. One from 1 to 7 says nothing of it.
+fn payload_len(datagram: &UdpSlice<'_>, len: usize) -> Option<usize> {
+    let stated = usize::from(datagram.length());
+    if stated == 0 {
+        Some(len.saturating_sub(UdpHeader::LEN))
+    } else {
+        stated.checked_sub(UdpHeader::LEN)
     }
 }
 

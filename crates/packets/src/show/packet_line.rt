@@ -2,7 +2,7 @@
 
 use crate::show::fragment_headers::two_fragment_headers;
 use crate::show::options::ShowOptions;
-use crate::show::{fragment, link, message, refusal};
+use crate::show::{fragment, link, message, there};
 use crate::{Dissection, Headers};
 use ep_packet::{Class, NetSlice, SlicedPacket};
 use header_descriptions::show::Line;
@@ -15,8 +15,8 @@ impl ShowOptions {
     /// Appends the line of a packet to `out`, without the newline that ends it: the number and time
     /// of the packet, its VLANs, addresses and ports, its protocol with what its header says, and
     /// the verdict on the checksum. Of a fragment it gives the offset and what became of it, of a
-    /// packet that is refused, why, and of one that was cut, how many of its bytes were captured. It
-    /// has no contract: tests compare the texts.
+    /// packet that is refused, the headers that are there and why, and of one that was cut, how many
+    /// of its bytes were captured. It has no contract: tests compare the texts.
     pub fn write_line(&self, packet: &Dissection<'_>, out: &mut Vec<u8>) -> Result<(), AllocError> {
         let mut line = Line::begin(self.style, self.width, out);
         let times = Times {
@@ -25,11 +25,15 @@ impl ShowOptions {
             previous: packet.previous_time,
         };
         number_and_time(&mut line, self.time, packet.number, &times)?;
-        match &packet.layers {
-            Ok(layers) => body(&mut line, packet, layers)?,
-            Err(error) => refusal::packet(&mut line, error)?,
-        }
+        let separator = match &packet.layers {
+            Ok(layers) => {
+                body(&mut line, packet, layers)?;
+                ", "
+            }
+            Err(error) => there::refused(&mut line, packet, *error)?,
+        };
         if packet.is_cut() {
+            line.text(separator)?;
             cut(&mut line, packet)
         } else {
             Ok(())
@@ -39,7 +43,7 @@ impl ShowOptions {
 
 // How much there is of a packet that was cut as it was captured.
 fn cut(line: &mut Line<'_>, packet: &Dissection<'_>) -> Result<(), AllocError> {
-    line.counted(", cut at ", packet.captured_len as u64)?;
+    line.counted("cut at ", packet.captured_len as u64)?;
     line.counted(" of ", packet.wire_len.into())?;
     line.text(" bytes")
 }

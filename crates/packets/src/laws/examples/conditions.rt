@@ -1,11 +1,13 @@
 //! Which packets meet a condition, by the table of docs/PACKETS.md.
 
-ghost use Rattle.std.specs.Prelude.{◌≡◌, ℕ, List, [], ◌∷◌, true, false, None, Some, Ok, Err};
+ghost use Rattle.std.specs.Prelude.{◌≡◌, ℕ, List, [], ◌∷◌, true, false, None, Some, Ok, Err, take};
 ghost use Rattle.captures.specs.declared.link.kind.Link.TheVariants as link;
 ghost use Rattle.etherparse.specs.declared.defrag.ip_defrag_payload_vec.IpDefragPayloadVec.{IpDefragPayloadVec};
+ghost use Rattle.ep_ipslice.specs.LaxPackets.{LaxIpv6Packet};
 ghost use Rattle.ep_ipslice.specs.Packet.{Ipv6Packet};
 ghost use Rattle.ep_packet.specs.Readable.{message_at};
 ghost use Rattle.ep_packet.specs.declared.err.packet.slice_error.SliceError.TheVariants as fault;
+ghost use Rattle.ep_packet.specs.declared.net.lax_net_slice.LaxNetSlice.TheVariants as lax;
 ghost use Rattle.ep_packet.specs.declared.net.net_slice.NetSlice.TheVariants as slice;
 ghost use Rattle.ep_packet.specs.declared.sliced_packet.SlicedPacket.{SlicedPacket};
 ghost use Rattle.ep_packet.specs.declared.transport.transport_slice.TransportSlice.TheVariants as transport;
@@ -13,11 +15,14 @@ ghost use Rattle.etherparse.specs.declared.defrag.ip_defrag_error.IpDefragError.
 ghost use Rattle.ep_tcpudp.specs.declared.err.tcp.header_error.HeaderError.TheVariants as tcp;
 ghost use Rattle.header_descriptions.specs.declared.protocol.Protocol.TheVariants as protocol;
 ghost use Rattle.packets.specs.Conditions.{arp_has_host, conditions_of, has_host, has_ipv4_host, has_ipv6_host};
-ghost use Rattle.packets.specs.Conditions.{has_port, holds, lets_through, message_has_port, net_has_host};
+ghost use Rattle.packets.specs.Conditions.{has_lax_ipv4_host, has_lax_ipv6_host, has_port, holds};
+ghost use Rattle.packets.specs.Conditions.{lets_through, message_has_port, net_has_host};
 ghost use Rattle.packets.specs.Conditions.{packet_has_port, transport_has_port};
 ghost use Rattle.packets.specs.Dissected.{verdict_on};
 ghost use Rattle.packets.specs.Examples.{arp_for_another_protocol, arp_of_arcnet, arp_of_ieee_802, arp_request};
-ghost use Rattle.packets.specs.Examples.{datagram_with, ipv4_ends, ipv4_header, ipv6_header, segment_with};
+ghost use Rattle.packets.specs.Examples.{datagram_with, in_part, ipv4_ends, ipv4_header, ipv4_in_part};
+ghost use Rattle.packets.specs.Examples.{ipv6_address, ipv6_header, segment_with};
+ghost use Rattle.packets.specs.There.{there_of};
 ghost use Rattle.etherparse.specs.PoolCalls.CallResult.{Delivered, Nothing};
 ghost use Rattle.ep_base.specs.declared.len_source.LenSource.TheVariants as source;
 ghost use Rattle.ep_packet.specs.Class.Class.{Cut};
@@ -29,8 +34,8 @@ ghost use Rattle.packets.specs.declared.verification.Verification.TheVariants.{O
 ghost use Rattle.std.specs.declared.net.ip_addr.IpAddr.TheVariants as ip_addr;
 ghost use Rattle.checksum_verdicts.specs.declared.verdict.Verdict.TheVariants as verdict;
 
-/// The protocol conditions: of an ARP packet in an Ethernet frame, and of a TCP segment that breaks
-/// its format, which has no header but `eth`.
+/// The protocol conditions: of an ARP packet in an Ethernet frame, of a TCP segment that breaks its
+/// format, by the headers that are there, and of a frame of which none is.
 pub fn headers_of_packets()
     ensures arp { (packet : Dissection) → packet.link ≡ link.Ethernet
         → packet.layers ≡ Ok (record {
@@ -43,9 +48,18 @@ pub fn headers_of_packets()
         × (holds (condition.Protocol protocol.Vlan) packet ≡ false) }
     ensures refused { (packet : Dissection) → packet.link ≡ link.Ethernet
         → packet.layers ≡ Err (fault.Tcp (tcp.DataOffsetTooSmall 4))
+        → there_of packet.header packet.bytes
+        ≡ Some (in_part (Some (ipv4_in_part 6 (segment_with 4))) None)
         → (holds (condition.Protocol protocol.Ethernet) packet ≡ true)
-        × (holds (condition.Protocol protocol.Ipv4) packet ≡ false)
-        × (holds (condition.Protocol (protocol.OverIp (record { 0 = 6 }))) packet ≡ false) }
+        × (holds (condition.Protocol protocol.Ipv4) packet ≡ true)
+        × (holds (condition.Protocol (protocol.OverIp (record { 0 = 6 }))) packet ≡ true)
+        × (holds (condition.Protocol (protocol.OverIp (record { 0 = 17 }))) packet ≡ false)
+        × (holds (condition.Protocol protocol.Arp) packet ≡ false) }
+    ensures short { (packet : Dissection) → packet.link ≡ link.Ethernet
+        → packet.layers ≡ Err (fault.Tcp (tcp.DataOffsetTooSmall 4))
+        → there_of packet.header packet.bytes ≡ None
+        → (holds (condition.Protocol protocol.Ethernet) packet ≡ true)
+        × (holds (condition.Protocol protocol.Ipv4) packet ≡ false) }
 {}
 
 /// `host` of ARP packets (RFC 826): those for the addresses of IPv4, whatever the hardware type and
@@ -94,8 +108,24 @@ pub fn hosts_of_ip_packets()
         (ip_addr.V4 (record { octets = 10 ∷ 0 ∷ 0 ∷ 1 ∷ [] })) ≡ true }
     ensures none { (net_has_host None (ip_addr.V4 (record { octets = 0 ∷ 0 ∷ 0 ∷ 0 ∷ [] })) ≡ false)
         × (has_ipv6_host (Some (slice.Arp arp_request)) (10 ∷ 0 ∷ 0 ∷ 1 ∷ []) ≡ false) }
-    ensures refused { has_host (Err (fault.Tcp (tcp.DataOffsetTooSmall 4)))
-        (ip_addr.V4 (record { octets = 10 ∷ 0 ∷ 0 ∷ 1 ∷ [] })) ≡ false }
+    ensures refused { (has_host (Err (fault.Tcp (tcp.DataOffsetTooSmall 4)))
+        (Some (in_part (Some (ipv4_in_part 6 [])) None))
+        (ip_addr.V4 (record { octets = 10 ∷ 0 ∷ 0 ∷ 1 ∷ [] })) ≡ true)
+        × (has_host (Err (fault.Tcp (tcp.DataOffsetTooSmall 4)))
+        (Some (in_part (Some (ipv4_in_part 6 [])) None))
+        (ip_addr.V4 (record { octets = 10 ∷ 0 ∷ 0 ∷ 2 ∷ [] })) ≡ true)
+        × (has_host (Err (fault.Tcp (tcp.DataOffsetTooSmall 4)))
+        (Some (in_part (Some (ipv4_in_part 6 [])) None))
+        (ip_addr.V4 (record { octets = 10 ∷ 0 ∷ 0 ∷ 3 ∷ [] })) ≡ false)
+        × (has_host (Err (fault.Tcp (tcp.DataOffsetTooSmall 4))) None
+        (ip_addr.V4 (record { octets = 10 ∷ 0 ∷ 0 ∷ 1 ∷ [] })) ≡ false) }
+    ensures in_part { (packet : LaxIpv6Packet) → packet.header ≡ ipv6_header
+        → (has_lax_ipv6_host (Some (lax.Ipv6 packet)) (ipv6_address 2) ≡ true)
+        × (has_lax_ipv6_host (Some (lax.Ipv6 packet)) (ipv6_address 3) ≡ false)
+        × (has_lax_ipv4_host (Some (lax.Ipv6 packet)) (0x20 ∷ 1 ∷ 0x0d ∷ 0xb8 ∷ []) ≡ false) }
+    ensures arp_in_part { (has_lax_ipv4_host (Some (lax.Arp arp_request)) (10 ∷ 0 ∷ 0 ∷ 2 ∷ []) ≡ true)
+        × (has_lax_ipv6_host (Some (lax.Arp arp_request)) (10 ∷ 0 ∷ 0 ∷ 2 ∷ []) ≡ false)
+        × (has_lax_ipv4_host None (0 ∷ 0 ∷ 0 ∷ 0 ∷ []) ≡ false) }
 {}
 
 /// `port` of a message that is whole in a packet: of TCP from 443 to 51234, and of UDP from 53 to
@@ -112,7 +142,12 @@ pub fn ports_of_messages()
         ≡ false)
         × (transport_has_port (Some (transport.Icmpv6 (0 ∷ 53 ∷ 0x14 ∷ 0xe9 ∷ []))) 53 ≡ false) }
     ensures none { transport_has_port None 0 ≡ false }
-    ensures refused { packet_has_port (Err (fault.Tcp (tcp.DataOffsetTooSmall 4))) 443 ≡ false }
+    ensures refused { (packet_has_port (Err (fault.Tcp (tcp.DataOffsetTooSmall 4)))
+        (Some (in_part (Some (ipv4_in_part 6 (segment_with 4))) None)) 443 ≡ false)
+        × (packet_has_port (Err (fault.Tcp (tcp.DataOffsetTooSmall 4))) None 443 ≡ false)
+        × (packet_has_port (Err (fault.Tcp (tcp.DataOffsetTooSmall 4))) (Some (in_part
+        (Some (ipv4_in_part 17 (take 8 (datagram_with 0x11 0xef))))
+        (Some (transport.Udp (take 8 (datagram_with 0x11 0xef)))))) 5353 ≡ true) }
 {}
 
 /// Also of the message that a fragment completes, where that can be read, and of no other fragment.
@@ -129,11 +164,11 @@ pub fn ports_of_completed_messages()
           link_exts = record { items = [] };
           net = None;
           transport = None;
-        })) (Some (fragment.Completes 5 message)) 5353 ≡ true }
+        })) None (Some (fragment.Completes 5 message)) 5353 ≡ true }
     ensures others { (packet : SlicedPacket) → packet.transport ≡ None
-        → (has_port (Ok packet) (Some (fragment.Waits 5)) 53 ≡ false)
-        × (has_port (Ok packet) (Some (fragment.Refused None (fragment_error.ConflictingEnd 24 32))) 53
-        ≡ false) }
+        → (has_port (Ok packet) None (Some (fragment.Waits 5)) 53 ≡ false)
+        × (has_port (Ok packet) None
+        (Some (fragment.Refused None (fragment_error.ConflictingEnd 24 32))) 53 ≡ false) }
 {}
 
 /// `bad` by the checksum of a packet's message, and by that of the message which it completes.

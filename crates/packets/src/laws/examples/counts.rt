@@ -32,11 +32,11 @@ pub fn rows_of_the_page<S, H>()
         ⟦<Verified as PartialEq>⟧.eq summary page
         → (summary.protocols.ethernet ≡ tally 10 485 1) × (summary.protocols.vlan ≡ tally 1 74 4)
         × (summary.protocols.macsec ≡ no_tally) × (summary.protocols.arp ≡ tally 1 42 3)
-        × (summary.protocols.ipv4 ≡ tally 6 294 1) × (summary.protocols.ipv6 ≡ tally 1 74 4) }
+        × (summary.protocols.ipv4 ≡ tally 7 348 1) × (summary.protocols.ipv6 ≡ tally 1 74 4) }
     ensures over_ip { (summary : Summary S H)
         → Counts ⟦<Reason as PartialEq>⟧.eq ⟦<Addresses as PartialEq>⟧.eq
         ⟦<Verified as PartialEq>⟧.eq summary page
-        → (number_tally summary.protocols.over_ip 6 ≡ tally 1 54 1)
+        → (number_tally summary.protocols.over_ip 6 ≡ tally 2 108 1)
         × (number_tally summary.protocols.over_ip 17 ≡ tally 5 240 2)
         × (number_tally summary.protocols.over_ip 58 ≡ tally 1 74 4)
         × (number_tally summary.protocols.over_ip 0 ≡ no_tally) }
@@ -79,7 +79,7 @@ pub fn keys_of_the_page<S, H>()
     ensures of_talkers { (summary : Summary S H)
         → Counts ⟦<Reason as PartialEq>⟧.eq ⟦<Addresses as PartialEq>⟧.eq
         ⟦<Verified as PartialEq>⟧.eq summary page
-        → (tally_at ⟦<Addresses as PartialEq>⟧.eq summary.talkers ipv4_ends ≡ tally 5 250 1)
+        → (tally_at ⟦<Addresses as PartialEq>⟧.eq summary.talkers ipv4_ends ≡ tally 6 304 1)
         × (tally_at ⟦<Addresses as PartialEq>⟧.eq summary.talkers ipv6_ends ≡ tally 1 74 4)
         × (tally_at ⟦<Addresses as PartialEq>⟧.eq summary.talkers back_ends ≡ tally 1 44 9) }
     ensures senders { (summary : Summary S H)

@@ -1,22 +1,28 @@
 //! What filters and summaries need of packets, by the table of docs/PACKETS.md.
 
-ghost use Rattle.std.specs.Prelude.{◌≡◌, ℕ, List, [], ◌∷◌, true, false, None, Some, Ok, Err, replicate};
+ghost use Rattle.std.specs.Prelude.{◌≡◌, ℕ, List, [], ◌∷◌, ◌++◌, true, false, None, Some, Ok, Err, replicate};
 ghost use Rattle.captures.specs.declared.link.kind.Link.TheVariants as link;
 ghost use Rattle.ep_base.specs.declared.err.layer.Layer.TheVariants as layer;
 ghost use Rattle.ep_base.specs.declared.len_source.LenSource.TheVariants as source;
 ghost use Rattle.etherparse.specs.declared.defrag.ip_defrag_payload_vec.IpDefragPayloadVec.{IpDefragPayloadVec};
 ghost use Rattle.etherparse.specs.declared.defrag.ip_defrag_error.IpDefragError.TheVariants as fragment_error;
+ghost use Rattle.ep_ipslice.specs.LaxPackets.{LaxIpv6Packet};
 ghost use Rattle.ep_ipslice.specs.Packet.{Ipv6Packet};
 ghost use Rattle.ep_packet.specs.Readable.{message_at};
 ghost use Rattle.ep_packet.specs.declared.err.packet.slice_error.SliceError.TheVariants as fault;
+ghost use Rattle.ep_packet.specs.declared.net.lax_net_slice.LaxNetSlice.TheVariants as lax;
 ghost use Rattle.ep_packet.specs.declared.net.net_slice.NetSlice.TheVariants as slice;
 ghost use Rattle.ep_packet.specs.declared.sliced_packet.SlicedPacket.{SlicedPacket};
+ghost use Rattle.ep_tag.specs.declared.link.lax_link_ext_slice.LaxLinkExtSlice.TheVariants as lax_tag;
+ghost use Rattle.ep_tag.specs.declared.link.lax_macsec_slice.LaxMacsecSlice.{LaxMacsecSlice};
 ghost use Rattle.ep_tag.specs.declared.link.link_ext_slice.LinkExtSlice.TheVariants as tag;
 ghost use Rattle.ep_tag.specs.declared.link.macsec_slice.MacsecSlice.{MacsecSlice};
 ghost use Rattle.ep_tcpudp.specs.declared.err.tcp.header_error.HeaderError.TheVariants as tcp;
-ghost use Rattle.packets.specs.Examples.{arp_request, datagram_with, headers_over, ipv4_ends, ipv4_header, ipv6_ends};
+ghost use Rattle.packets.specs.Examples.{arp_request, datagram_with, headers_over, in_part, ipv4_ends, ipv4_header};
+ghost use Rattle.packets.specs.Examples.{ipv4_in_part, ipv6_ends};
 ghost use Rattle.packets.specs.Examples.{ipv6_header, message, no_headers, outline_of_fragment, refused, segment_with};
-ghost use Rattle.packets.specs.Outlines.{headers_of, is_ethernet, is_macsec, is_vlan, message_refusal, net_of};
+ghost use Rattle.packets.specs.Outlines.{headers_of, headers_there, is_ethernet, is_macsec, is_vlan};
+ghost use Rattle.packets.specs.Outlines.{message_refusal, net_of};
 ghost use Rattle.packets.specs.Outlines.{outline_of, fragment_state_of, fragment_refusal, refusal_of};
 ghost use Rattle.packets.specs.declared.dissection.Dissection.{Dissection};
 ghost use Rattle.packets.specs.declared.dissection.Fragment.TheVariants as fragment;
@@ -61,15 +67,15 @@ pub fn headers_of_the_network_layer()
     ensures none { net_of None ≡ None }
 {}
 
-/// The headers of an ARP packet in a VLAN; of a packet that breaks a format nothing is known but
-/// that it was captured as an Ethernet frame.
+/// The headers of an ARP packet in a VLAN; those that are there of a packet that breaks a format, of
+/// which nothing may be known but that it was captured as an Ethernet frame.
 pub fn headers_of_packets()
     ensures tagged { headers_of link.Sll2 (Ok (record {
       link = None;
       link_exts = record { items = tag.Vlan (0 ∷ 5 ∷ 8 ∷ 6 ∷ arp_request) ∷ [] };
       net = Some (slice.Arp arp_request);
       transport = None;
-    })) ≡ record { ethernet = false; vlan = true; macsec = false; net = Some net.Arp } }
+    })) None ≡ record { ethernet = false; vlan = true; macsec = false; net = Some net.Arp } }
     ensures inner { (header : MacsecSlice) → headers_of link.Ethernet (Ok (record {
       link = None;
       link_exts = record {
@@ -77,17 +83,32 @@ pub fn headers_of_packets()
       };
       net = None;
       transport = None;
-    })) ≡ record { ethernet = true; vlan = true; macsec = true; net = None } }
+    })) None ≡ record { ethernet = true; vlan = true; macsec = true; net = None } }
     ensures plain { headers_of link.Ethernet (Ok (record {
       link = None;
       link_exts = record { items = [] };
       net = None;
       transport = None;
-    })) ≡ no_headers }
-    ensures refused { (headers_of link.Ethernet (Err (fault.Tcp (tcp.DataOffsetTooSmall 4)))
+    })) None ≡ no_headers }
+    ensures refused { (headers_of link.Ethernet (Err (fault.Tcp (tcp.DataOffsetTooSmall 4))) None
         ≡ no_headers)
-        × (headers_of link.Ip (Err (fault.Tcp (tcp.DataOffsetTooSmall 4)))
-        ≡ record { ethernet = false; vlan = false; macsec = false; net = None }) }
+        × (headers_of link.Ip (Err (fault.Tcp (tcp.DataOffsetTooSmall 4))) None
+        ≡ record { ethernet = false; vlan = false; macsec = false; net = None })
+        × (headers_of link.Ethernet (Err (fault.Tcp (tcp.DataOffsetTooSmall 4)))
+        (Some (in_part (Some (ipv4_in_part 6 (segment_with 4))) None)) ≡ headers_over ipv4_ends 6) }
+    ensures tagged_in_part { (header : LaxMacsecSlice) → headers_there link.Ethernet (Some (record {
+      link = None;
+      link_exts = record {
+        items = lax_tag.Macsec header ∷ lax_tag.Vlan (0 ∷ 5 ∷ 8 ∷ 6 ∷ []) ∷ [];
+      };
+      net = Some (lax.Arp arp_request);
+      transport = None;
+      stop_err = None;
+    })) ≡ record { ethernet = true; vlan = true; macsec = true; net = Some net.Arp } }
+    ensures ipv6_in_part { (packet : LaxIpv6Packet) → packet.header ≡ ipv6_header
+        → packet.payload.ip_number ≡ record { 0 = 17 }
+        → headers_there link.Ethernet (Some (in_part (Some (lax.Ipv6 packet)) None))
+        ≡ headers_over ipv6_ends 17 }
 {}
 
 /// Reassembled messages: a TCP header of 4 words is refused and one of 5 isn't; a UDP datagram of
@@ -136,9 +157,26 @@ pub fn packets_are_refused()
     ensures other { (packet : SlicedPacket) → refusal_of (Ok packet) None ≡ None }
 {}
 
-/// The seventh packet of the capture of docs/PACKETS.md, an IPv4 header that is cut off; the sixth,
-/// which completes a message that started in the fifth; and the second, whose checksum is wrong.
+/// The eighth packet of the capture of docs/PACKETS.md, a TCP segment that breaks its format; the
+/// seventh, an IPv4 header that is cut off; the sixth, which completes a message that started in the
+/// fifth; and the second, whose checksum is wrong.
 pub fn outlines_of_the_page()
+    ensures eighth { outline_of (record {
+      number = 8;
+      first_time = 1700000000250000000;
+      previous_time = 1700000001000000000;
+      time = 1700000001125000000;
+      interface = 0;
+      link = link.Ethernet;
+      header = None;
+      bytes = replicate 12 2 ++ 8 ∷ 0 ∷ (ipv4_header 6 ++ segment_with 4);
+      len = 54;
+      captured_len = 54;
+      wire_len = 54;
+      layers = Err (fault.Tcp (tcp.DataOffsetTooSmall 4));
+      fragment = None;
+      verdict = None;
+    }) ≡ record (refused 8 7 54 reason.TcpDataOffset) { headers = headers_over ipv4_ends 6 } }
     ensures seventh { outline_of (record {
       number = 7;
       first_time = 1700000000250000000;
@@ -147,6 +185,7 @@ pub fn outlines_of_the_page()
       interface = 0;
       link = link.Ethernet;
       header = None;
+      bytes = replicate 12 2 ++ 8 ∷ 0 ∷ 0x45 ∷ 0 ∷ 0 ∷ 28 ∷ 0 ∷ 1 ∷ 0 ∷ [];
       len = 21;
       captured_len = 21;
       wire_len = 21;
@@ -169,6 +208,7 @@ pub fn outlines_of_the_page()
           interface = 0;
           link = link.Ethernet;
           header = None;
+          bytes = [];
           len = 50;
           captured_len = 50;
           wire_len = 50;
@@ -193,6 +233,7 @@ pub fn outlines_of_the_page()
       interface = 0;
       link = link.Ethernet;
       header = None;
+      bytes = [];
       len = 46;
       captured_len = 46;
       wire_len = 46;

@@ -1,0 +1,132 @@
+//! Packets that are refused.
+
+use crate::Dissection;
+use crate::show::fragment_headers::{FragmentHeaders, two_fragment_headers};
+use crate::show::{link, message, refusal};
+use crate::there::promised_len;
+use ep_base::IpNumber;
+use ep_packet::err::packet::SliceError;
+use ep_packet::{Addresses, LaxNetSlice, LaxSlicedPacket, Message, TransportSlice};
+use header_descriptions::show::Line;
+use header_descriptions::show::arp::arp;
+use header_descriptions::show::tags::lax_tags;
+use std::alloc::AllocError;
+
+/// The headers that are there of a packet that is refused, and the fault that is shown of it, if one
+/// is. It returns what separates them from what follows. It has no contract: tests compare the
+/// texts.
+#[inline(never)]
+pub(crate) fn refused(
+    line: &mut Line<'_>,
+    packet: &Dissection<'_>,
+    error: SliceError,
+) -> Result<&'static str, AllocError> {
+    let there = packet.there();
+    let fault = packet.shown_fault(error, &there);
+    let gap = match there {
+        Some(layers) => {
+            headers(line, packet, layers)?;
+            "  "
+        }
+        None => "",
+    };
+    match fault {
+        Some(fault) => {
+            line.text(gap)?;
+            refusal::packet(line, &fault)?;
+            Ok(", ")
+        }
+        None => Ok(gap),
+    }
+}
+
+fn headers(
+    line: &mut Line<'_>,
+    packet: &Dissection<'_>,
+    layers: LaxSlicedPacket<'_>,
+) -> Result<(), AllocError> {
+    lax_tags(line, layers.link_exts.as_slice())?;
+    if layers.net.is_none() {
+        return link::there(line, &layers, packet.header.as_ref());
+    }
+    let len = promised_len(&layers.net);
+    let LaxSlicedPacket {
+        net,
+        transport,
+        stop_err,
+        ..
+    } = layers;
+    match &net {
+        Some(LaxNetSlice::Arp(packet)) => arp(line, packet),
+        Some(LaxNetSlice::Ipv4(packet)) if packet.is_payload_fragmented() => {
+            FragmentHeaders::over_ipv4(packet, len).show(line)?;
+            line.text(")")
+        }
+        Some(LaxNetSlice::Ipv4(packet)) => {
+            let header = packet.header();
+            let addresses = Addresses::V4 {
+                source: header.source(),
+                destination: header.destination(),
+            };
+            let read = read_in(transport, stop_err.is_some(), packet.payload().payload);
+            message::there(
+                line,
+                &addresses,
+                packet.payload_ip_number(),
+                read.as_ref(),
+                len,
+            )
+        }
+        Some(LaxNetSlice::Ipv6(packet)) => {
+            let header = packet.header();
+            let addresses = Addresses::V6 {
+                source: header.source(),
+                destination: header.destination(),
+            };
+            let number = packet.payload_ip_number();
+            if packet.is_payload_fragmented() {
+                return fragment_over_ipv6(
+                    line,
+                    FragmentHeaders::over_ipv6(packet, len),
+                    addresses,
+                    number,
+                );
+            }
+            let read = read_in(transport, stop_err.is_some(), packet.payload().payload);
+            message::there(line, &addresses, number, read.as_ref(), len)
+        }
+        None => Ok(()),
+    }
+}
+
+fn fragment_over_ipv6(
+    line: &mut Line<'_>,
+    fragment: Option<FragmentHeaders>,
+    addresses: Addresses,
+    number: IpNumber,
+) -> Result<(), AllocError> {
+    match fragment {
+        Some(fragment) => {
+            fragment.show(line)?;
+            line.text(")")
+        }
+        None => two_fragment_headers(line, Some(addresses), Some(number)),
+    }
+}
+
+// The message whose header is there, of a packet whose reading stopped at a fault or didn't, and
+// whose payload has these bytes.
+fn read_in<'a>(
+    transport: Option<TransportSlice<'a>>,
+    is_stopped: bool,
+    payload: &'a [u8],
+) -> Option<Message<'a>> {
+    match transport {
+        Some(TransportSlice::Icmpv4(message)) => Some(Message::Icmpv4(message)),
+        Some(TransportSlice::Icmpv6(message)) => Some(Message::Icmpv6(message)),
+        Some(TransportSlice::Udp(datagram)) => Some(Message::Udp(datagram)),
+        Some(TransportSlice::Tcp(segment)) => Some(Message::Tcp(segment)),
+        None if is_stopped => None,
+        None => Some(Message::Raw(payload)),
+    }
+}
