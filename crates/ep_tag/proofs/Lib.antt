@@ -1,6 +1,7 @@
 mod Bits
 mod CutTags
 mod Prefix
+mod DoubleVlanPrefix
 mod MacsecPrefix
 mod MacsecRead
 mod MacsecEncoding

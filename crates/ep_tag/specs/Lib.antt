@@ -1,4 +1,5 @@
 pub mod CutTags
+pub mod DoubleVlan
 pub mod Ether
 pub mod EtherHash
 pub mod EtherOrder
@@ -7,6 +8,7 @@ pub mod LinkExt
 pub mod Macsec
 pub mod MacsecFault
 pub mod MacsecLax
+pub mod MacsecLen
 pub mod MacsecOrder
 pub mod MacsecPayload
 pub mod MacsecView

@@ -8,6 +8,7 @@ use Rattle.ep_tag.specs.declared.link.macsec_header.MacsecHeader.{MacsecHeader}
 use Rattle.ep_tag.specs.declared.link.macsec_p_type.MacsecPType.{MacsecPType}
 use Rattle.ep_tag.specs.declared.link.macsec_p_type.MacsecPType.TheVariants as ptype
 use Rattle.ep_tag.specs.Ether.{ether_type_at}
+use Rattle.ep_tag.specs.MacsecLen.{short_len_for}
 use Rattle.ep_base.specs.Prefixes.{IsReadAs}
 
 -- bit k of the first byte, the lowest being bit 0
@@ -181,3 +182,15 @@ payload_len_in (ptype.Unmodified t) n = if n == 1 then None else Some (n - 2)
 payload_len_in ptype.Modified n = Some n
 payload_len_in ptype.Encrypted n = Some n
 payload_len_in ptype.EncryptedUnmodified n = Some n
+
+-- how many bytes a header protects before a payload of so many
+abbrev pub protected_len : MacsecPType → ℕ → ℕ
+protected_len (ptype.Unmodified t) payload_len = payload_len + 2
+protected_len ptype.Modified payload_len = payload_len
+protected_len ptype.Encrypted payload_len = payload_len
+protected_len ptype.EncryptedUnmodified payload_len = payload_len
+
+-- the header with the short length of a payload of so many bytes
+abbrev pub with_payload_len : MacsecHeader → ℕ → MacsecHeader
+with_payload_len h payload_len =
+    record h { short_len = short_len_for (protected_len h.ptype payload_len) }

@@ -1,6 +1,6 @@
 -- The VLAN tag after the ether type that names it (IEEE 802.1Q, section 9.6): its bytes, and each
 -- field by its offset in them.
-use Rattle.std.specs.Prelude.{ℕ, ◌+◌, ◌*◌, ◌/◌, ◌%◌, ◌^◌, ◌<◌, ◌≤◌, ◌==◌, Bool, false, if◌then◌else◌, List, ◌++◌, drop}
+use Rattle.std.specs.Prelude.{ℕ, ◌+◌, ◌*◌, ◌/◌, ◌%◌, ◌^◌, ◌<◌, ◌≤◌, ◌==◌, ◌||◌, Bool, false, if◌then◌else◌, List, ◌++◌, drop}
 use Rattle.std.specs.Int.{w16, bit_at, to_be_bytes}
 use Rattle.ep_base.specs.Bytes.{num}
 use Rattle.ep_base.specs.declared.len_source.LenSource.TheVariants.{Slice}
@@ -12,6 +12,10 @@ use Rattle.ep_tag.specs.declared.link.double_vlan_header.DoubleVlanHeader.{Doubl
 
 abbrev pub vlan_len : ℕ
 vlan_len = 4
+
+-- the ether type names a VLAN tag: one of IEEE 802.1Q, of 802.1ad, or the older one of two tags
+abbrev pub is_vlan_type : EtherType → Bool
+is_vlan_type t = (t.0 == 0x8100) || (t.0 == 0x88a8) || (t.0 == 0x9100)
 
 -- the priority code point, the upper 3 bits of the first byte
 abbrev pub pcp_of : List ℕ → ℕ

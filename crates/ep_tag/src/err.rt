@@ -1,3 +1,4 @@
 //! Why bytes are no tag.
 
+pub mod double_vlan;
 pub mod macsec;

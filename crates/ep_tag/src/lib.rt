@@ -7,9 +7,9 @@ pub mod laws;
 mod link;
 
 pub use link::{
-    DoubleVlanHeader, DoubleVlanSlice, EtherPayloadSlice, LaxEtherPayloadSlice, LaxLinkExtSlice,
-    LaxMacsecPayloadSlice, LaxMacsecSlice, LinkExtHeader, LinkExtSlice, MacsecAn, MacsecHeader,
-    MacsecHeaderSlice, MacsecPType, MacsecPayloadSlice, MacsecShortLen, MacsecSlice,
-    SingleVlanHeader, SingleVlanHeaderSlice, SingleVlanSlice, VlanHeader, VlanId, VlanPcp,
-    VlanSlice,
+    DoubleVlanHeader, DoubleVlanHeaderSlice, DoubleVlanSlice, EtherPayloadSlice,
+    LaxEtherPayloadSlice, LaxLinkExtSlice, LaxMacsecPayloadSlice, LaxMacsecSlice, LinkExtHeader,
+    LinkExtSlice, MacsecAn, MacsecHeader, MacsecHeaderSlice, MacsecPType, MacsecPayloadSlice,
+    MacsecShortLen, MacsecSlice, SingleVlanHeader, SingleVlanHeaderSlice, SingleVlanSlice,
+    VlanHeader, VlanId, VlanPcp, VlanSlice,
 };

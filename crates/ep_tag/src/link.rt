@@ -1,6 +1,7 @@
 //! Tags, and what follows them.
 
 mod double_vlan_header;
+mod double_vlan_header_slice;
 mod double_vlan_slice;
 mod ether_payload_slice;
 mod lax_ether_payload_slice;
@@ -26,6 +27,7 @@ mod vlan_pcp;
 mod vlan_slice;
 
 pub use double_vlan_header::DoubleVlanHeader;
+pub use double_vlan_header_slice::DoubleVlanHeaderSlice;
 pub use double_vlan_slice::DoubleVlanSlice;
 pub use ether_payload_slice::EtherPayloadSlice;
 pub use lax_ether_payload_slice::LaxEtherPayloadSlice;

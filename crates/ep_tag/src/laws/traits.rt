@@ -4,24 +4,26 @@ ghost use Rattle.std.specs.Prelude.{◌≡◌, ◌↔◌, ℕ, IsTrue, pos};
 ghost use Rattle.std.specs.Cmp.Lexicographic.{slice_cmp};
 ghost use Rattle.std.specs.Hash as fed;
 ghost use Rattle.std.specs.Ordering.{nat_cmp};
+ghost use Rattle.ep_base.specs.declared.link.ether_type.EtherType.{EtherType};
 ghost use Rattle.ep_base.specs.Traits.{CopyIsValue, CopyNeverFails, HashIsOf, IsPlainData, OrderIsOf, VariantFeeds};
 ghost use Rattle.ep_tag.specs.Ether.{EtherPayload, LaxEtherPayload};
 ghost use Rattle.ep_tag.specs.EtherOrder.{hashed_as, lax_hashed_as, lax_ordered_as, ordered_as};
 ghost use Rattle.ep_tag.specs.MacsecOrder.{ptype_ordered_as};
 ghost use Rattle.ep_tag.specs.MacsecView.{lax_payload_parsed, payload_parsed};
+ghost use Rattle.ep_tag.specs.declared.err.double_vlan.header_error.HeaderError.TheVariants as double;
 ghost use Rattle.ep_tag.specs.declared.err.macsec.header_error.HeaderError.TheVariants as fault;
 ghost use Rattle.ep_tag.specs.declared.link.lax_macsec_payload_slice.LaxMacsecPayloadSlice.{LaxMacsecPayloadSlice};
 ghost use Rattle.ep_tag.specs.declared.link.macsec_p_type.MacsecPType.{MacsecPType};
 ghost use Rattle.ep_tag.specs.declared.link.macsec_p_type.MacsecPType.TheVariants as ptype;
 ghost use Rattle.ep_tag.specs.declared.link.macsec_payload_slice.MacsecPayloadSlice.{MacsecPayloadSlice};
 
-use crate::err::macsec;
+use crate::err::{double_vlan, macsec};
 use crate::{
-    DoubleVlanHeader, DoubleVlanSlice, EtherPayloadSlice, LaxEtherPayloadSlice, LaxLinkExtSlice,
-    LaxMacsecPayloadSlice, LaxMacsecSlice, LinkExtHeader, LinkExtSlice, MacsecAn, MacsecHeader,
-    MacsecHeaderSlice, MacsecPType, MacsecPayloadSlice, MacsecShortLen, MacsecSlice,
-    SingleVlanHeader, SingleVlanHeaderSlice, SingleVlanSlice, VlanHeader, VlanId, VlanPcp,
-    VlanSlice,
+    DoubleVlanHeader, DoubleVlanHeaderSlice, DoubleVlanSlice, EtherPayloadSlice,
+    LaxEtherPayloadSlice, LaxLinkExtSlice, LaxMacsecPayloadSlice, LaxMacsecSlice, LinkExtHeader,
+    LinkExtSlice, MacsecAn, MacsecHeader, MacsecHeaderSlice, MacsecPType, MacsecPayloadSlice,
+    MacsecShortLen, MacsecSlice, SingleVlanHeader, SingleVlanHeaderSlice, SingleVlanSlice,
+    VlanHeader, VlanId, VlanPcp, VlanSlice,
 };
 use ep_base::EtherType;
 use ep_base::laws::traits::Value;
@@ -43,6 +45,7 @@ pub fn types_are_plain_data<'a>()
     ensures single_vlan_header_slice { IsPlainData ⟦<SingleVlanHeaderSlice<'a> as Value>⟧ }
     ensures single_vlan_slice { IsPlainData ⟦<SingleVlanSlice<'a> as Value>⟧ }
     ensures double_vlan_slice { IsPlainData ⟦<DoubleVlanSlice<'a> as Value>⟧ }
+    ensures double_vlan_header_slice { IsPlainData ⟦<DoubleVlanHeaderSlice<'a> as Value>⟧ }
     ensures vlan_slice { IsPlainData ⟦<VlanSlice<'a> as Value>⟧ }
     ensures macsec_header_slice { IsPlainData ⟦<MacsecHeaderSlice<'a> as Value>⟧ }
     ensures macsec_slice { IsPlainData ⟦<MacsecSlice<'a> as Value>⟧ }
@@ -51,6 +54,7 @@ pub fn types_are_plain_data<'a>()
     ensures lax_macsec_slice { IsPlainData ⟦<LaxMacsecSlice<'a> as Value>⟧ }
     ensures lax_ether_payload_slice { IsPlainData ⟦<LaxEtherPayloadSlice<'a> as Value>⟧ }
     ensures lax_link_ext_slice { IsPlainData ⟦<LaxLinkExtSlice<'a> as Value>⟧ }
+    ensures double_vlan_header_error { IsPlainData ⟦<double_vlan::HeaderError as Value>⟧ }
     ensures macsec_header_error { IsPlainData ⟦<macsec::HeaderError as Value>⟧ }
 {
     ep_base::laws::traits::types_are_plain_data();
@@ -103,6 +107,12 @@ pub fn macsec_p_types_by_kind()
     ensures encrypted { ⟦<MacsecPType as Hash>⟧.hash_input ptype.Encrypted ≡ fed.isize (pos 2) }
     ensures encrypted_unmodified { ⟦<MacsecPType as Hash>⟧.hash_input ptype.EncryptedUnmodified
         ≡ fed.isize (pos 3) }
+{}
+
+/// A hasher is fed the ether type that the one fault of two VLAN tags names.
+pub fn double_vlan_errors_hash_all_fields()
+    ensures { (t : EtherType) → ⟦<double_vlan::HeaderError as Hash>⟧.hash_input
+        (double.NonVlanEtherType t) ≡ ⟦<EtherType as Hash>⟧.hash_input t }
 {}
 
 /// A hasher is fed which fault a MACsec header has, by its index among them.

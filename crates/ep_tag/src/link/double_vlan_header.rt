@@ -1,7 +1,11 @@
-ghost use Rattle.std.specs.Prelude.{◌≡◌, ◌+◌, ◌≤◌, ◌++◌, OnOk, OnErr, IsOk, vec_len, vec_capacity};
+ghost use Rattle.std.specs.Prelude.{◌≡◌, ◌+◌, ◌≤◌, ◌++◌, ℕ, List, Err, OnOk, OnErr, IsOk, IfOk, IfErr, IsOkAnd};
+ghost use Rattle.std.specs.Prelude.{vec_len, vec_capacity};
+ghost use Rattle.ep_base.specs.SliceError.{content_offset};
+ghost use Rattle.ep_tag.specs.DoubleVlan.{IsDoubleVlanHeader, IsRead, double_vlan_at, double_vlan_header_of};
 ghost use Rattle.ep_tag.specs.Vlan.{double_encoding};
 
-use super::SingleVlanHeader;
+use super::{DoubleVlanHeaderSlice, SingleVlanHeader};
+use crate::err::double_vlan::HeaderSliceError;
 use std::alloc::AllocError;
 
 /// Two VLAN tags, one after the other (IEEE 802.1Q, section 9.6; the outer one is the provider's).
@@ -16,6 +20,23 @@ pub struct DoubleVlanHeader {
 impl DoubleVlanHeader {
     /// The length of two VLAN tags in bytes.
     pub const LEN: usize = 8;
+
+    /// The tags at the start of the slice, and the bytes after them. Refused are, in this order, a slice
+    /// of fewer than 8 bytes, and an outer tag whose ether type names no VLAN tag (8100, 88a8, 9100).
+    pub fn from_slice(slice: &[u8]) -> Result<(DoubleVlanHeader, &[u8]), HeaderSliceError>
+        // The start of the slice are two tags, and they are read so.
+        ensures found { IfOk result (λ r. IsRead slice.now r.0 r.1.now) }
+        // A prefix of two tags is read.
+        ensures only { (prefix rest : List ℕ) → IsDoubleVlanHeader prefix → slice.now ≡ prefix ++ rest
+            → IsOkAnd result (λ r. (r.0 ≡ double_vlan_header_of prefix) × (r.1.now ≡ rest)) }
+        // Else it is the first fault.
+        ensures err { IfErr result (λ e. double_vlan_at slice.now ≡ Err e) }
+        ensures offset { IfErr result (λ e. content_offset e ≡ 0) }
+    {
+        let header = DoubleVlanHeaderSlice::from_slice(slice)?;
+        let rest = &slice[DoubleVlanHeader::LEN..];
+        Ok((header.to_header(), rest))
+    }
 
     /// The length of two VLAN tags in bytes.
     pub fn header_len(&self) -> usize

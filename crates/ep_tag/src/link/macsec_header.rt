@@ -6,7 +6,7 @@ ghost use Rattle.arrayvec.specs.ArrayVec.{array_vec_len};
 ghost use Rattle.ep_base.specs.SliceError.{content_offset};
 ghost use Rattle.ep_tag.specs.Macsec.{IsMacsecHeader, IsRead, HasRoom, Fits, SciFits, TypeFits, macsec_header_of};
 ghost use Rattle.ep_tag.specs.Macsec.{encoding, first_byte, ptype_bits, ptype_encoding, sci_encoding, worth};
-ghost use Rattle.ep_tag.specs.Macsec.{next_type_in, payload_len_in};
+ghost use Rattle.ep_tag.specs.Macsec.{next_type_in, payload_len_in, with_payload_len};
 ghost use Rattle.ep_tag.specs.MacsecFault.{header_at};
 
 use super::{MacsecAn, MacsecHeaderSlice, MacsecPType, MacsecShortLen};
@@ -143,6 +143,19 @@ impl MacsecHeader {
             MacsecPType::EncryptedUnmodified => 0x8,
         };
         stations + channel + payload
+    }
+
+    /// Sets the short length for a payload of so many bytes: before an unmodified payload it counts the
+    /// two bytes of the ether type, too; from 48 on it is 0, which doesn't say the length (IEEE 802.1AE,
+    /// section 9.7).
+    pub fn set_payload_len(&mut self, payload_len: usize)
+        ensures { self.new ≡ with_payload_len self.old payload_len }
+    {
+        let protected_len = match self.ptype {
+            MacsecPType::Unmodified(_) => payload_len.saturating_add(2),
+            _ => payload_len,
+        };
+        self.short_len = MacsecShortLen::from_len(protected_len);
     }
 
     /// Appends the bytes of the header.

@@ -1,6 +1,7 @@
 ghost use Rattle.std.specs.Prelude.{◌≡◌, ℕ, ◌≤◌, Some};
 ghost use Rattle.std.specs.Fmt.{decimal};
 ghost use Rattle.ep_base.specs.Bounded.{IsBounded};
+ghost use Rattle.ep_tag.specs.MacsecLen.{short_len_for};
 ghost use Rattle.ep_base.specs.declared.err.value_type.ValueType.TheVariants as kind;
 
 use ep_base::err::{ValueTooBigError, ValueType};
@@ -41,6 +42,18 @@ impl MacsecShortLen {
                 max_allowed: MacsecShortLen::MAX_U8,
                 value_type: ValueType::MacsecShortLen,
             })
+        }
+    }
+
+    /// The short length of a number of protected bytes: that number where it is below 48, else 0, which
+    /// doesn't say it (IEEE 802.1AE, section 9.7).
+    pub fn from_len(len: usize) -> MacsecShortLen
+        ensures { result ≡ short_len_for len }
+    {
+        if len < 48 {
+            MacsecShortLen(len as u8)
+        } else {
+            MacsecShortLen::ZERO
         }
     }
 
