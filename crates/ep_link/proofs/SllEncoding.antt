@@ -6,7 +6,6 @@ use Rattle.ep_base.proofs.Cells.{as_cells, take-drop-cells}
 use Rattle.ep_link.specs.Sll.{IsSllHeader, NamesProtocol, Fits, sll_header_of, number_of, protocol_of, encoding}
 use Rattle.ep_link.specs.declared.link.arp_hardware_id.ArpHardwareId.{ArpHardwareId}
 use Rattle.ep_link.specs.declared.link.linux_sll_header.LinuxSllHeader.{LinuxSllHeader}
-use Rattle.ep_link.specs.declared.link.linux_sll_protocol_type.LinuxSllProtocolType.TheVariants as protocol
 use Rattle.ep_link.proofs.EthernetEncoding.{at_after_prefix}
 use Rattle.ep_base.proofs.Numbers.{high_of, low_of, two_again}
 

@@ -1,6 +1,9 @@
 pub mod Arp
+pub mod ArpEthIpv4
 pub mod ArpNew
+pub mod Crc32
 pub mod Ethernet
+pub mod Frame
 pub mod Link
 pub mod LinkLends
 pub mod Sll

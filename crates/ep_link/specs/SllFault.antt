@@ -1,5 +1,5 @@
 -- Why bytes do not begin with the header of a Linux cooked capture.
-use Rattle.std.specs.Prelude.{ℕ, ◌+◌, ◌^◌, ◌<◌, ◌≤◌, ◌≡◌, List, length, take, nat_lt, Result, Ok, Err, ◌∷◌, []}
+use Rattle.std.specs.Prelude.{ℕ, ◌<◌, ◌≤◌, ◌≡◌, List, length, take, nat_lt, Result, Ok, Err, ◌∷◌, []}
 use Rattle.ep_base.specs.LenError.{too_few_bytes}
 use Rattle.ep_base.specs.Refusals.{unless_refused}
 use Rattle.ep_base.specs.declared.err.layer.Layer.TheVariants as layer

@@ -2,6 +2,8 @@
 //! function is the law.
 
 pub mod arp;
+pub mod arp_eth_ipv4;
 pub mod ethernet;
+pub mod frame_check;
 pub mod linux_sll;
 pub mod traits;

@@ -7,7 +7,8 @@ pub mod laws;
 mod link;
 
 pub use link::{
-    ArpHardwareId, ArpOperation, ArpPacket, ArpPacketSlice, Ethernet2Header, Ethernet2HeaderSlice,
-    Ethernet2Slice, LinkHeader, LinkSlice, LinuxSllHeader, LinuxSllHeaderSlice, LinuxSllPacketType,
-    LinuxSllPayloadSlice, LinuxSllProtocolType, LinuxSllSlice,
+    ArpEthIpv4Packet, ArpHardwareId, ArpOperation, ArpPacket, ArpPacketSlice, Ethernet2Header,
+    Ethernet2HeaderSlice, Ethernet2Slice, LinkHeader, LinkSlice, LinuxSllHeader,
+    LinuxSllHeaderSlice, LinuxSllPacketType, LinuxSllPayloadSlice, LinuxSllProtocolType,
+    LinuxSllSlice,
 };

@@ -1,10 +1,11 @@
 //! Link headers and ARP packets.
 
+mod arp_eth_ipv4_packet;
 mod arp_hardware_id;
 mod arp_operation;
 mod arp_packet;
 mod arp_packet_slice;
-mod ethernet2_bytes;
+mod crc32;
 mod ethernet2_header;
 mod ethernet2_header_slice;
 mod ethernet2_slice;
@@ -18,6 +19,7 @@ mod linux_sll_payload_slice;
 mod linux_sll_protocol_type;
 mod linux_sll_slice;
 
+pub use arp_eth_ipv4_packet::ArpEthIpv4Packet;
 pub use arp_hardware_id::ArpHardwareId;
 pub use arp_operation::ArpOperation;
 pub use arp_packet::ArpPacket;

@@ -37,6 +37,7 @@ use Rattle.ep_ipslice.specs.declared.net.ip_slice.IpSlice.{IpSlice}
 use Rattle.ep_ipslice.specs.declared.net.ip_slice.IpSlice.TheVariants as ip
 use Rattle.ep_link.specs.Arp as arp
 use Rattle.ep_link.specs.Ethernet.{ethernet_header_of, ethernet_len, payload_of as payload_of_frame}
+use Rattle.ep_link.specs.Frame.{without_fcs}
 use Rattle.ep_link.specs.Sll.{sll_len}
 use Rattle.ep_link.specs.SllFault as sll_fault
 use Rattle.ep_link.specs.SllPayload as sll
@@ -382,7 +383,7 @@ ethernet_by : FaultsAreFirst → (frame : List ℕ) (short : Bool) (e : SliceErr
 ethernet_by law frame true e size is = grind arith
 ethernet_by law frame false e size is =
     let p : EtherPayload = payload_of_frame frame in
-    let header : LinkSlice = link.Ethernet2 frame in
+    let header : LinkSlice = link.Ethernet2 (without_fcs frame) in
     let f = later_err ethernet_len (packet_after header p) e is in
     fault.Following f.0 (ltb-false (length frame) ethernet_len size)
     (packet_faulty law (Some header) p (tags_in most_tags p) f.0 refl f.1) f.2

@@ -6,6 +6,7 @@ use Rattle.ep_base.specs.declared.link.ether_type.EtherType.{EtherType}
 use Rattle.ep_base.proofs.Prefixes.{err_ok, ok_same}
 use Rattle.ep_ipslice.specs.IpSlice.{ip_packet_at}
 use Rattle.ep_link.specs.Ethernet.{ethernet_len, payload_of}
+use Rattle.ep_link.specs.Frame.{without_fcs}
 use Rattle.ep_link.specs.declared.link.link_slice.LinkSlice.{LinkSlice}
 use Rattle.ep_link.specs.declared.link.link_slice.LinkSlice.TheVariants as link
 use Rattle.ep_packet.specs.PacketHeaders as values
@@ -91,8 +92,8 @@ frame_same : PacketLaws → (r : Result (List ℕ) LenError) (packet : SlicedPac
     → slices.in_frame r ≡ Ok packet → AreHeadersOf packet h → values.in_frame r ≡ Ok h
 frame_same laws (Ok frame) packet h is are =
     ap (later ethernet_len)
-    (after_link laws (link.Ethernet2 frame) (payload_of frame) packet h refl
-    (earlier ethernet_len (slices.packet_after (link.Ethernet2 frame) (payload_of frame))
+    (after_link laws (link.Ethernet2 (without_fcs frame)) (payload_of frame) packet h refl
+    (earlier ethernet_len (slices.packet_after (link.Ethernet2 (without_fcs frame)) (payload_of frame))
     packet is) are)
 frame_same laws (Err e) packet h is are = absurd (err_ok (Len e) packet is)
 

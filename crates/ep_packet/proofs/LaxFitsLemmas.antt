@@ -10,7 +10,7 @@ use Rattle.ep_base.specs.declared.err.slice_error.SliceError.{SliceError as Head
 use Rattle.ep_packet.specs.LaxFits.{StopFits, TagFits, TagsFit}
 use Rattle.ep_packet.specs.LaxTags.{LaxTagged, Stop, joined, lax_from_tag, lax_read_further, lax_tag_at}
 use Rattle.ep_packet.specs.LaxTags.{lax_macsec_tag, lax_tags_in, lax_vlan_tag, stop_by}
-use Rattle.ep_packet.specs.Tags.{is_macsec_type, is_vlan_type}
+use Rattle.ep_packet.specs.Tags.{is_macsec_type}
 use Rattle.std.specs.Prelude.{if◌then◌else◌}
 use Rattle.ep_base.specs.declared.err.layer.Layer.TheVariants.{VlanHeader}
 use Rattle.ep_base.specs.declared.err.len_error.LenError.{LenError}
@@ -24,7 +24,7 @@ use Rattle.ep_tag.specs.MacsecLax.{LaxMacsec, lax_macsec_after, lax_macsec_at, l
 use Rattle.ep_tag.specs.declared.err.macsec.header_error.HeaderError.{HeaderError}
 use Rattle.ep_tag.specs.MacsecPayload.{bytes_under}
 use Rattle.ep_tag.specs.Prefix.{whole_at}
-use Rattle.ep_tag.specs.Vlan.{vlan_len}
+use Rattle.ep_tag.specs.Vlan.{is_vlan_type, vlan_len}
 use Rattle.ep_tag.specs.declared.link.lax_link_ext_slice.LaxLinkExtSlice.{LaxLinkExtSlice}
 use Rattle.ep_tag.specs.declared.link.lax_link_ext_slice.LaxLinkExtSlice.TheVariants as tag
 

@@ -21,6 +21,7 @@ use Rattle.ep_ipslice.specs.LaxPackets.{lax_ipv6_with}
 use Rattle.ep_ipslice.specs.declared.err.ip.header_error.HeaderError.{HeaderError as IpHeaderFault}
 use Rattle.ep_link.specs.Arp.{packet_at}
 use Rattle.ep_link.specs.Ethernet.{ethernet_len, payload_of}
+use Rattle.ep_link.specs.Frame.{without_fcs}
 use Rattle.ep_link.specs.Sll.{sll_len}
 use Rattle.ep_link.specs.SllFault as sll_fault
 use Rattle.ep_link.specs.SllPayload as sll
@@ -190,7 +191,7 @@ frame_same : (r : Result (List ℕ) LenError) → AreSame (in_lax_frame r) (slic
 frame_same (Ok frame) = (
   _,
   refl,
-  tagged_same ethernet_len (link.Ethernet2 frame) (payload_of frame)
+  tagged_same ethernet_len (link.Ethernet2 (without_fcs frame)) (payload_of frame)
       (lax_tags_in most_tags (complete_ether (payload_of frame))) refl,
 )
 frame_same (Err e) = refl

@@ -22,6 +22,7 @@ use Rattle.ep_ipslice.specs.declared.net.ip_slice.IpSlice.{IpSlice}
 use Rattle.ep_ipslice.specs.declared.net.ip_slice.IpSlice.TheVariants as ip
 use Rattle.ep_link.specs.Arp.{packet_at}
 use Rattle.ep_link.specs.Ethernet.{ethernet_len, payload_of}
+use Rattle.ep_link.specs.Frame.{without_fcs}
 use Rattle.ep_link.specs.Sll.{sll_len}
 use Rattle.ep_link.specs.SllFault as sll_fault
 use Rattle.ep_link.specs.SllPayload as sll
@@ -235,7 +236,7 @@ later_ok n r packet is = grind arith
 
 frame_whole : WholeParts → (r : Result (List ℕ) LenError) (packet : SlicedPacket)
     → in_frame r ≡ Ok packet → in_lax_frame r ≡ Ok (whole_packet packet)
-frame_whole law (Ok frame) packet is = ap Ok (after_whole law ethernet_len (link.Ethernet2 frame)
+frame_whole law (Ok frame) packet is = ap Ok (after_whole law ethernet_len (link.Ethernet2 (without_fcs frame))
     (payload_of frame) packet (later_ok ethernet_len _ packet is))
 frame_whole law (Err e) packet is = cc
 

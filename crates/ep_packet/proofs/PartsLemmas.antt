@@ -5,6 +5,7 @@ use Rattle.std.proofs.Common.{subst, ◌∙◌, append_assoc, length-append}
 use Rattle.std.specs.Prelude.{MatchResult, nat_lt}
 use Rattle.std.proofs.lemmas.List.{take-append-drop, append-nil, length-take-le}
 use Rattle.ep_base.specs.declared.err.layer.Layer.{Layer}
+use Rattle.ep_base.specs.declared.err.layer.Layer.TheVariants.{Ethernet2Header}
 use Rattle.ep_base.specs.declared.err.len_error.LenError.{LenError}
 use Rattle.ep_base.specs.declared.len_source.LenSource.{LenSource}
 use Rattle.ep_ext.specs.Ipv4Exts.{auth_bytes}
@@ -13,6 +14,8 @@ use Rattle.ep_icmp.specs.Icmpv4.{is_timestamp_reply, is_timestamp_request}
 use Rattle.ep_icmp.specs.Icmpv4Fault as icmpv4_fault
 use Rattle.ep_icmp.specs.Icmpv6Fault as icmpv6_fault
 use Rattle.ep_ipslice.specs.Packet.{Ipv4Packet, Ipv6Packet, IsIpv4Packet, IsIpv6Packet}
+use Rattle.ep_link.specs.Ethernet.{ethernet_len}
+use Rattle.ep_link.specs.Frame.{EthernetFrame, frame_at, without_fcs}
 use Rattle.ep_packet.specs.Parts.{AreTagsAt, IsAt, IsTagAt, LayersIn, StandAt, TagIn, TagsIn, macsec_bytes, tags_len}
 use Rattle.ep_packet.specs.Parts.{transport_bytes}
 use Rattle.ep_packet.specs.Readable.{ReadMessage, icmpv4, icmpv6, message_at, read_as, tcp, tcp_fault, udp}
@@ -91,6 +94,12 @@ chosen P false x y left right = right
 pub whole_is : (layer : Layer) (n : ℕ) (bytes taken : List ℕ) → Ok taken ≡ whole_at layer n bytes
     → (taken ≡ bytes) × (n ≤ length bytes)
 whole_is layer n bytes taken same = grind arith
+
+-- all bytes are taken as a frame without frame check sequence
+pub frame_is : (bytes : List ℕ) (frame : EthernetFrame) → Ok frame ≡ frame_at bytes
+    → (frame ≡ without_fcs bytes) × (ethernet_len ≤ length bytes)
+    × (whole_at Ethernet2Header ethernet_len bytes ≡ Ok bytes)
+frame_is bytes frame same = grind arith
 
 -- a VLAN tag
 pub vlan_in : (layer : Layer) (bytes vlan : List ℕ) → Ok vlan ≡ whole_at layer vlan_len bytes

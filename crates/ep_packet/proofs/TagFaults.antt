@@ -10,7 +10,7 @@ use Rattle.ep_packet.specs.FrameFault.{IsTagFault, OfMacsec}
 use Rattle.ep_packet.specs.IsTagged.{AreTags}
 use Rattle.ep_packet.specs.Parts.{tags_len}
 use Rattle.ep_packet.specs.SliceFault.{offset_by}
-use Rattle.ep_packet.specs.Tags.{Tagged, from_tag, is_macsec_type, is_vlan_type, macsec_tag, read_further, tag_at}
+use Rattle.ep_packet.specs.Tags.{Tagged, from_tag, is_macsec_type, macsec_tag, read_further, tag_at}
 use Rattle.ep_packet.specs.Tags.{tags_in, vlan_tag, with_tag}
 use Rattle.ep_packet.specs.declared.err.packet.slice_error.SliceError.{SliceError}
 use Rattle.ep_packet.proofs.TaggedLaws.{MacsecIsRead, tag_read}
@@ -18,7 +18,7 @@ use Rattle.ep_tag.specs.Ether.{EtherPayload}
 use Rattle.ep_tag.specs.Prefix.{whole_at}
 use Rattle.ep_tag.specs.LinkExt.{payload_after, tag_len}
 use Rattle.ep_tag.specs.MacsecPayload.{Macsec, macsec_at}
-use Rattle.ep_tag.specs.Vlan.{vlan_len}
+use Rattle.ep_tag.specs.Vlan.{is_vlan_type, vlan_len}
 use Rattle.ep_tag.specs.declared.err.macsec.header_error.HeaderError.{HeaderError}
 use Rattle.ep_tag.specs.declared.link.link_ext_slice.LinkExtSlice.{LinkExtSlice}
 

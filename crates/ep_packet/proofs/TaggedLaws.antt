@@ -5,14 +5,14 @@ use Rattle.std.proofs.Common.{Some, None, Result, Ok, Err, IfSome, MatchOption, 
 use Rattle.ep_base.specs.declared.err.layer.Layer.TheVariants.{VlanHeader}
 use Rattle.ep_packet.specs.IsTagged.{AreTags, IsTag, IsTagged}
 use Rattle.ep_packet.specs.Parts.{tags_len}
-use Rattle.ep_packet.specs.Tags.{Tagged, with_tag, from_tag, is_macsec_type, is_vlan_type, macsec_tag, names_tag}
+use Rattle.ep_packet.specs.Tags.{Tagged, with_tag, from_tag, is_macsec_type, macsec_tag, names_tag}
 use Rattle.ep_packet.specs.Tags.{read_further, tag_at, tags_in, without_tags, vlan_tag}
 use Rattle.ep_packet.specs.declared.err.packet.slice_error.SliceError.{SliceError}
 use Rattle.ep_tag.specs.Ether.{EtherPayload}
 use Rattle.ep_tag.specs.Prefix.{whole_at}
 use Rattle.ep_tag.specs.LinkExt.{payload_after, tag_len}
 use Rattle.ep_tag.specs.MacsecPayload.{IsMacsec, Macsec, macsec_at}
-use Rattle.ep_tag.specs.Vlan.{vlan_len}
+use Rattle.ep_tag.specs.Vlan.{is_vlan_type, vlan_len}
 use Rattle.ep_tag.specs.declared.link.link_ext_slice.LinkExtSlice.{LinkExtSlice}
 use Rattle.ep_tag.specs.declared.link.link_ext_slice.LinkExtSlice.TheVariants as tag
 

@@ -1,11 +1,11 @@
 -- A payload is tags, one after the other, and what follows them.
 use Rattle.std.specs.Prelude.{◌≡◌, ◌<◌, ◌≤◌, ℕ, true, false, List, [], ◌∷◌, length, Option, Some, None, MatchOption}
 use Rattle.std.specs.Prelude.{IfSome}
-use Rattle.ep_packet.specs.Tags.{is_macsec_type, is_vlan_type, names_tag}
+use Rattle.ep_packet.specs.Tags.{is_macsec_type, names_tag}
 use Rattle.ep_tag.specs.Ether.{EtherPayload}
 use Rattle.ep_tag.specs.LinkExt.{payload_after}
 use Rattle.ep_tag.specs.MacsecPayload.{IsMacsec}
-use Rattle.ep_tag.specs.Vlan.{vlan_len}
+use Rattle.ep_tag.specs.Vlan.{is_vlan_type, vlan_len}
 use Rattle.ep_tag.specs.declared.link.link_ext_slice.LinkExtSlice.{LinkExtSlice}
 use Rattle.ep_tag.specs.declared.link.link_ext_slice.LinkExtSlice.TheVariants as tag
 

@@ -25,6 +25,7 @@ use Rattle.ep_ipslice.specs.declared.net.lax_ip_slice.LaxIpSlice.{LaxIpSlice}
 use Rattle.ep_ipslice.specs.declared.net.lax_ip_slice.LaxIpSlice.TheVariants as ip
 use Rattle.ep_link.specs.Arp as arp
 use Rattle.ep_link.specs.Ethernet.{ethernet_len, payload_of}
+use Rattle.ep_link.specs.Frame.{without_fcs}
 use Rattle.ep_link.specs.Sll.{sll_len}
 use Rattle.ep_link.specs.SllFault as sll_fault
 use Rattle.ep_link.specs.SllPayload as sll
@@ -191,7 +192,8 @@ lax_packet_after link_len link p =
     lax_packet_tagged link_len (Some link) (lax_tags_in most_tags (complete_ether p))
 
 abbrev pub in_lax_frame : Result (List ℕ) LenError → Result LaxSlicedPacket LenError
-in_lax_frame (Ok frame) = Ok (lax_packet_after ethernet_len (link.Ethernet2 frame) (payload_of frame))
+in_lax_frame (Ok frame) =
+    Ok (lax_packet_after ethernet_len (link.Ethernet2 (without_fcs frame)) (payload_of frame))
 in_lax_frame (Err e) = Err e
 
 -- the layers of an Ethernet II frame, or why it has no link header

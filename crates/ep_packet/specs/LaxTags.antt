@@ -8,14 +8,14 @@ use Rattle.ep_base.specs.declared.err.layer.Layer.TheVariants.{VlanHeader, Macse
 use Rattle.ep_base.specs.declared.err.len_error.LenError.{LenError}
 use Rattle.ep_base.specs.declared.err.slice_error.SliceError.{SliceError as HeaderSliceError}
 use Rattle.ep_packet.specs.SliceFault.{offset_by, of_macsec}
-use Rattle.ep_packet.specs.Tags.{is_macsec_type, is_vlan_type}
+use Rattle.ep_packet.specs.Tags.{is_macsec_type}
 use Rattle.ep_packet.specs.declared.err.packet.slice_error.SliceError.{SliceError}
 use Rattle.ep_packet.specs.declared.err.packet.slice_error.SliceError.TheVariants.{Len}
 use Rattle.ep_tag.specs.Ether.{LaxEtherPayload}
 use Rattle.ep_tag.specs.LinkExt.{lax_payload_after, lax_tag_len}
 use Rattle.ep_tag.specs.MacsecLax.{LaxMacsec, lax_macsec_at}
 use Rattle.ep_tag.specs.Prefix.{whole_at}
-use Rattle.ep_tag.specs.Vlan.{vlan_len}
+use Rattle.ep_tag.specs.Vlan.{is_vlan_type, vlan_len}
 use Rattle.ep_tag.specs.declared.err.macsec.header_error.HeaderError.{HeaderError}
 use Rattle.ep_tag.specs.declared.link.lax_link_ext_slice.LaxLinkExtSlice.{LaxLinkExtSlice}
 use Rattle.ep_tag.specs.declared.link.lax_link_ext_slice.LaxLinkExtSlice.TheVariants as tag

@@ -17,6 +17,7 @@ use Rattle.ep_ipslice.specs.declared.net.ip_slice.IpSlice.{IpSlice}
 use Rattle.ep_ipslice.specs.declared.net.ip_slice.IpSlice.TheVariants as ip
 use Rattle.ep_link.specs.Arp as arp
 use Rattle.ep_link.specs.Ethernet.{ethernet_len, payload_of}
+use Rattle.ep_link.specs.Frame.{without_fcs}
 use Rattle.ep_link.specs.SllFault as sll_fault
 use Rattle.ep_link.specs.Sll.{sll_len}
 use Rattle.ep_link.specs.SllPayload as sll
@@ -152,7 +153,8 @@ abbrev pub packet_after : LinkSlice → EtherPayload → Result SlicedPacket Sli
 packet_after link p = packet_tagged (Some link) (tags_in most_tags p)
 
 abbrev pub in_frame : Result (List ℕ) LenError → Result SlicedPacket SliceError
-in_frame (Ok frame) = later ethernet_len (packet_after (link.Ethernet2 frame) (payload_of frame))
+in_frame (Ok frame) = later ethernet_len
+    (packet_after (link.Ethernet2 (without_fcs frame)) (payload_of frame))
 in_frame (Err e) = Err (Len e)
 
 -- the layers of an Ethernet II frame, or the first fault with its offset in the frame

@@ -12,14 +12,11 @@ use Rattle.ep_tag.specs.Ether.{EtherPayload}
 use Rattle.ep_tag.specs.Prefix.{whole_at}
 use Rattle.ep_tag.specs.LinkExt.{payload_after, tag_len}
 use Rattle.ep_tag.specs.MacsecPayload.{Macsec, macsec_at}
-use Rattle.ep_tag.specs.Vlan.{vlan_id_of, vlan_len}
+use Rattle.ep_tag.specs.Vlan.{is_vlan_type, vlan_id_of, vlan_len}
 use Rattle.ep_base.specs.declared.err.slice_error.SliceError.{SliceError as HeaderSliceError}
 use Rattle.ep_tag.specs.declared.err.macsec.header_error.HeaderError.{HeaderError}
 use Rattle.ep_tag.specs.declared.link.link_ext_slice.LinkExtSlice.{LinkExtSlice}
 use Rattle.ep_tag.specs.declared.link.link_ext_slice.LinkExtSlice.TheVariants as tag
-
-abbrev pub is_vlan_type : EtherType → Bool
-is_vlan_type t = (t.0 == 0x8100) || (t.0 == 0x88a8) || (t.0 == 0x9100)
 
 abbrev pub is_macsec_type : EtherType → Bool
 is_macsec_type t = t.0 == 0x88e5

@@ -1,6 +1,7 @@
 ghost use Rattle.std.specs.Prelude.{◌≡◌, ◌≤◌, ◌<◌, ◌+◌, ◌^◌, ◌↔◌, IfErr, IfOk, IfSome, IsErr, length, Ok, Some};
 ghost use Rattle.std.specs.Option.{option_map};
 ghost use Rattle.ep_link.specs.Ethernet.{ethernet_len, payload_of};
+ghost use Rattle.ep_link.specs.Frame.{without_fcs};
 ghost use Rattle.ep_link.specs.Sll.{sll_len};
 ghost use Rattle.ep_link.specs.SllPayload.{named_payload, payload_of as sll_payload_of};
 ghost use Rattle.ep_link.specs.declared.link.link_slice.LinkSlice.TheVariants as link_slice;
@@ -60,7 +61,7 @@ impl<'a> SlicedPacket<'a> {
         ensures found { IfOk result (λ packet. IsSliced (payload_of slice.now) packet) }
         // The packet with the tags and layers there is the result.
         ensures only { (packet : SlicedPacket) → ethernet_len ≤ length slice.now
-            → packet.link ≡ Some (link_slice.Ethernet2 slice.now)
+            → packet.link ≡ Some (link_slice.Ethernet2 (without_fcs slice.now))
             → IsSliced (payload_of slice.now) packet → result ≡ Ok packet }
         // Each part of the packet is at its offset in the frame.
         ensures parts { IfOk result (λ packet. ArePartsOf slice.now ethernet_len packet) }

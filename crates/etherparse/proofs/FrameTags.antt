@@ -12,7 +12,8 @@ use Rattle.ep_link.specs.Ethernet.{Fits}
 use Rattle.ep_link.specs.declared.link.ethernet2_header.Ethernet2Header.{Ethernet2Header}
 use Rattle.ep_link.specs.declared.link.link_header.LinkHeader.TheVariants.{Ethernet2}
 use Rattle.ep_packet.specs.Class.{class_of, payload_class, tagged_class}
-use Rattle.ep_packet.specs.Tags.{with_tag, is_macsec_type, is_vlan_type, tags_in, without_tags}
+use Rattle.ep_packet.specs.Tags.{with_tag, is_macsec_type, tags_in, without_tags}
+use Rattle.ep_tag.specs.Vlan.{is_vlan_type}
 use Rattle.ep_tag.specs.Ether.{EtherPayload}
 use Rattle.ep_tag.specs.Vlan as vlan
 use Rattle.ep_tag.specs.declared.link.link_ext_slice.LinkExtSlice.TheVariants as tag

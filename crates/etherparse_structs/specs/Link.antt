@@ -4,6 +4,7 @@ use Rattle.std.specs.List.{slice_get}
 use Rattle.std.specs.Option.{option_map}
 use Rattle.etherparse.specs.base.Bytes.{num}
 use Rattle.etherparse.specs.link.Ethernet as ethernet
+use Rattle.etherparse.specs.link.Frame.{EthernetFrame}
 use Rattle.etherparse.specs.link.Sll as sll
 use Rattle.etherparse.specs.link.declared.link.link_slice.LinkSlice.{LinkSlice}
 use Rattle.etherparse.specs.link.declared.link.link_slice.LinkSlice.TheVariants as link
@@ -28,12 +29,12 @@ no_link = record {
   address = replicate 8 0;
 }
 
-abbrev pub ethernet_struct : List ℕ → EpLink
+abbrev pub ethernet_struct : EthernetFrame → EpLink
 ethernet_struct frame = record no_link {
   kind = 1;
-  protocol = (ethernet.next_type_of frame).0;
-  destination = ethernet.destination_of frame;
-  source = ethernet.source_of frame;
+  protocol = (ethernet.next_type_of frame.bytes).0;
+  destination = ethernet.destination_of frame.bytes;
+  source = ethernet.source_of frame.bytes;
 }
 
 abbrev pub sll_struct : List ℕ → EpLink

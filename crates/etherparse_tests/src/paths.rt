@@ -19,6 +19,7 @@ type Numbers = (
 );
 
 type LinkHeaders<'a> = (
+    etherparse::ArpEthIpv4Packet,
     etherparse::ArpHardwareId,
     etherparse::ArpOperation,
     etherparse::ArpPacket,
@@ -38,6 +39,7 @@ type LinkHeaders<'a> = (
 
 type Tags<'a> = (
     etherparse::DoubleVlanHeader,
+    etherparse::DoubleVlanHeaderSlice<'a>,
     etherparse::DoubleVlanSlice<'a>,
     etherparse::EtherPayloadSlice<'a>,
     etherparse::LaxEtherPayloadSlice<'a>,
@@ -173,9 +175,12 @@ type Errors = (
     err::SliceWriteSpaceError,
     err::ValueTooBigError<u8>,
     err::ValueType,
+    err::arp::ArpEthIpv4FromError,
     err::arp::ArpHwAddrError,
     err::arp::ArpNewError,
     err::arp::ArpProtoAddrError,
+    err::double_vlan::HeaderError,
+    err::double_vlan::HeaderSliceError,
     err::linux_sll::HeaderError,
     err::linux_sll::HeaderSliceError,
     err::macsec::HeaderError,

@@ -7,6 +7,7 @@ ghost use Rattle.std.specs.Ordering.{nat_cmp};
 ghost use Rattle.ep_base.specs.Traits.{DefaultIs, HashIsOf, IsPlainData, OrderIsOf, VariantFeeds};
 ghost use Rattle.ep_link.specs.Sll.{number_of};
 ghost use Rattle.ep_link.specs.SllPayload.{kind_index, protocol_ordered_as};
+ghost use Rattle.ep_link.specs.declared.err.arp.arp_eth_ipv4_from_error.ArpEthIpv4FromError.TheVariants as from;
 ghost use Rattle.ep_link.specs.declared.err.arp.arp_hw_addr_error.ArpHwAddrError.TheVariants as hardware;
 ghost use Rattle.ep_link.specs.declared.err.arp.arp_new_error.ArpNewError.TheVariants as new;
 ghost use Rattle.ep_link.specs.declared.err.arp.arp_proto_addr_error.ArpProtoAddrError.TheVariants as protocol;
@@ -17,10 +18,12 @@ ghost use Rattle.ep_link.specs.declared.link.linux_sll_protocol_type.LinuxSllPro
 
 use crate::err::{arp, linux_sll};
 use crate::{
-    ArpHardwareId, ArpOperation, ArpPacket, ArpPacketSlice, Ethernet2Header, Ethernet2HeaderSlice,
-    Ethernet2Slice, LinkHeader, LinkSlice, LinuxSllHeader, LinuxSllHeaderSlice, LinuxSllPacketType,
-    LinuxSllPayloadSlice, LinuxSllProtocolType, LinuxSllSlice,
+    ArpEthIpv4Packet, ArpHardwareId, ArpOperation, ArpPacket, ArpPacketSlice, Ethernet2Header,
+    Ethernet2HeaderSlice, Ethernet2Slice, LinkHeader, LinkSlice, LinuxSllHeader,
+    LinuxSllHeaderSlice, LinuxSllPacketType, LinuxSllPayloadSlice, LinuxSllProtocolType,
+    LinuxSllSlice,
 };
+use ep_base::EtherType;
 use ep_base::laws::traits::Value;
 use std::hash::Hash;
 
@@ -31,6 +34,7 @@ pub fn types_are_plain_data<'a>()
     ensures arp_operation { IsPlainData ⟦<ArpOperation as Value>⟧ }
     ensures linux_sll_packet_type { IsPlainData ⟦<LinuxSllPacketType as Value>⟧ }
     ensures arp_packet { IsPlainData ⟦<ArpPacket as Value>⟧ }
+    ensures arp_eth_ipv4_packet { IsPlainData ⟦<ArpEthIpv4Packet as Value>⟧ }
     ensures ethernet2_header { IsPlainData ⟦<Ethernet2Header as Value>⟧ }
     ensures linux_sll_header { IsPlainData ⟦<LinuxSllHeader as Value>⟧ }
     ensures linux_sll_protocol_type { IsPlainData ⟦<LinuxSllProtocolType as Value>⟧ }
@@ -45,6 +49,7 @@ pub fn types_are_plain_data<'a>()
     ensures arp_hw_addr_error { IsPlainData ⟦<arp::ArpHwAddrError as Value>⟧ }
     ensures arp_proto_addr_error { IsPlainData ⟦<arp::ArpProtoAddrError as Value>⟧ }
     ensures arp_new_error { IsPlainData ⟦<arp::ArpNewError as Value>⟧ }
+    ensures arp_eth_ipv4_from_error { IsPlainData ⟦<arp::ArpEthIpv4FromError as Value>⟧ }
     ensures linux_sll_header_error { IsPlainData ⟦<linux_sll::HeaderError as Value>⟧ }
 {
     ep_base::laws::traits::types_are_plain_data();
@@ -96,6 +101,14 @@ pub fn errors_hash_all_fields()
         0 new.HwAddr ⟦<arp::ArpHwAddrError as Hash>⟧.hash_input }
     ensures protocol { VariantFeeds ⟦<arp::ArpNewError as Hash>⟧.hash_input
         1 new.ProtoAddr ⟦<arp::ArpProtoAddrError as Hash>⟧.hash_input }
+    ensures hardware_type { VariantFeeds ⟦<arp::ArpEthIpv4FromError as Hash>⟧.hash_input
+        0 from.NonMatchingHwType ⟦<ArpHardwareId as Hash>⟧.hash_input }
+    ensures protocol_type { VariantFeeds ⟦<arp::ArpEthIpv4FromError as Hash>⟧.hash_input
+        1 from.NonMatchingProtocolType ⟦<EtherType as Hash>⟧.hash_input }
+    ensures hardware_size { VariantFeeds ⟦<arp::ArpEthIpv4FromError as Hash>⟧.hash_input
+        2 from.NonMatchingHwAddrSize fed.u8 }
+    ensures protocol_size { VariantFeeds ⟦<arp::ArpEthIpv4FromError as Hash>⟧.hash_input
+        3 from.NonMatchingProtoAddrSize fed.u8 }
     ensures packet_type { VariantFeeds ⟦<linux_sll::HeaderError as Hash>⟧.hash_input
         0 cooked.UnsupportedPacketTypeField fed.u16 }
     ensures hardware_id { VariantFeeds ⟦<linux_sll::HeaderError as Hash>⟧.hash_input

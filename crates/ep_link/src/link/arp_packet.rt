@@ -3,10 +3,11 @@ ghost use Rattle.std.specs.Prelude.{IsOkAnd, vec_len, vec_capacity};
 ghost use Rattle.arrayvec.specs.ArrayVec.{array_vec_len};
 ghost use Rattle.ep_link.specs.Arp.{ArpFields, IsArp, IsArpPacket, Fits, fields_of, fixed_encoding, packet_at};
 ghost use Rattle.ep_link.specs.Arp.{packet_len_in, encoding, IsRead};
+ghost use Rattle.ep_link.specs.ArpEthIpv4.{eth_ipv4_at};
 ghost use Rattle.ep_link.specs.ArpNew.{new_at};
 
-use super::{ArpHardwareId, ArpOperation, ArpPacketSlice};
-use crate::err::arp::{ArpHwAddrError, ArpNewError, ArpProtoAddrError};
+use super::{ArpEthIpv4Packet, ArpHardwareId, ArpOperation, ArpPacketSlice};
+use crate::err::arp::{ArpEthIpv4FromError, ArpHwAddrError, ArpNewError, ArpProtoAddrError};
 use arrayvec::ArrayVec;
 use ep_base::EtherType;
 use ep_base::err::LenError;
@@ -160,6 +161,33 @@ impl ArpPacket {
     {
         let packet = ArpPacketSlice::from_slice(slice)?;
         Ok(packet.to_packet())
+    }
+
+    /// The packet as one between Ethernet and IPv4 addresses. Refused are, in this order, hardware
+    /// addresses of another type than Ethernet's, protocol addresses of another type than IPv4's,
+    /// hardware addresses that haven't 6 bytes, and protocol addresses that haven't 4.
+    pub fn try_eth_ipv4(&self) -> Result<ArpEthIpv4Packet, ArpEthIpv4FromError>
+        ensures { result ≡ eth_ipv4_at self.now }
+    {
+        if self.hw_addr_type != ArpHardwareId::ETHERNET {
+            return Err(ArpEthIpv4FromError::NonMatchingHwType(self.hw_addr_type));
+        }
+        if self.proto_addr_type != EtherType::IPV4 {
+            return Err(ArpEthIpv4FromError::NonMatchingProtocolType(self.proto_addr_type));
+        }
+        if self.hw_addr_size() != 6 {
+            return Err(ArpEthIpv4FromError::NonMatchingHwAddrSize(self.hw_addr_size()));
+        }
+        if self.protocol_addr_size() != 4 {
+            return Err(ArpEthIpv4FromError::NonMatchingProtoAddrSize(self.protocol_addr_size()));
+        }
+        Ok(ArpEthIpv4Packet {
+            operation: self.operation,
+            sender_mac: self.sender_hw_addr().try_into().unwrap(),
+            sender_ipv4: self.sender_protocol_addr().try_into().unwrap(),
+            target_mac: self.target_hw_addr().try_into().unwrap(),
+            target_ipv4: self.target_protocol_addr().try_into().unwrap(),
+        })
     }
 
     /// The length of a hardware address in bytes.

@@ -1,19 +1,34 @@
-ghost use Rattle.std.specs.Prelude.{◌≡◌, length, IfErr};
+ghost use Rattle.std.specs.Prelude.{◌≡◌, ℕ, List, length, IfErr, nat_eq};
+ghost use Rattle.std.specs.Cmp.Lexicographic.{pointwise};
+ghost use Rattle.std.specs.Cmp.Rules.{comparing};
+ghost use Rattle.std.proofs.Common.{rules};
 ghost use Rattle.ep_base.specs.declared.err.layer.Layer.TheVariants as layer;
-ghost use Rattle.ep_link.specs.Ethernet.{ethernet_len};
+ghost use Rattle.ep_link.specs.Ethernet.{ethernet_len, destination_of, source_of, next_type_of, ethernet_header_of};
 ghost use Rattle.ep_base.specs.Prefixes.{IsOfLength, TakesPrefix};
 ghost use Rattle.ep_tag.specs.Prefix.{prefix_at};
 
 use super::Ethernet2Header;
-use super::ethernet2_bytes::Ethernet2Bytes;
+use ep_base::EtherType;
 use ep_base::err::{Layer, LenError};
 use ep_tag::laws::prefix::prefix_is_taken;
+use std::marker::Model;
 
 /// The 14 bytes of an Ethernet II header (RFC 894), borrowed. A contract sees the value as those
 /// bytes.
-pub type Ethernet2HeaderSlice<'a> = Ethernet2Bytes<'a, 14>;
+#[derive(Clone, Debug, Drop)]
+pub struct Ethernet2HeaderSlice<'a> {
+    slice: &'a [u8],
+}
 
-impl<'a> Ethernet2Bytes<'a, 14> {
+impl<'a> Model for Ethernet2HeaderSlice<'a> {
+    ghost Value = { List ℕ };
+
+    ghost view = { λ header. header.slice.now };
+
+    ghost invariant = { λ header. length header.slice.now ≡ ethernet_len };
+}
+
+impl<'a> Ethernet2HeaderSlice<'a> {
     /// The header at the start of the slice. A slice of fewer than 14 bytes is refused.
     pub fn from_slice(slice: &'a [u8]) -> Result<Ethernet2HeaderSlice<'a>, LenError>
         // What is taken are the first 14 bytes.
@@ -36,7 +51,7 @@ impl<'a> Ethernet2Bytes<'a, 14> {
                 slice.len(),
             ));
         }
-        Ok(Ethernet2Bytes {
+        Ok(Ethernet2HeaderSlice {
             slice: &slice[..Ethernet2Header::LEN],
         })
     }
@@ -45,7 +60,7 @@ impl<'a> Ethernet2Bytes<'a, 14> {
     pub(super) fn of_bytes(bytes: &'a [u8; 14]) -> Ethernet2HeaderSlice<'a>
         ensures { result ≡ bytes.now }
     {
-        Ethernet2Bytes { slice: bytes }
+        Ethernet2HeaderSlice { slice: bytes }
     }
 
     /// The header's 14 bytes.
@@ -55,4 +70,50 @@ impl<'a> Ethernet2Bytes<'a, 14> {
     {
         self.slice
     }
+
+    /// The destination address.
+    pub fn destination(&self) -> [u8; 6]
+        ensures { result ≡ destination_of self.now }
+    {
+        self.slice[..6].try_into().unwrap()
+    }
+
+    /// The source address.
+    pub fn source(&self) -> [u8; 6]
+        ensures { result ≡ source_of self.now }
+    {
+        self.slice[6..12].try_into().unwrap()
+    }
+
+    /// The ether type of what follows the header.
+    pub fn ether_type(&self) -> EtherType
+        ensures { result ≡ next_type_of self.now }
+    {
+        EtherType(u16::from_be_bytes([self.slice[12], self.slice[13]]))
+    }
+
+    /// The fields of the header.
+    pub fn to_header(&self) -> Ethernet2Header
+        ensures { result ≡ ethernet_header_of self.now }
+    {
+        Ethernet2Header {
+            source: self.source(),
+            destination: self.destination(),
+            ether_type: self.ether_type(),
+        }
+    }
+}
+
+impl<'a> PartialEq for Ethernet2HeaderSlice<'a> {
+    ghost eq = { pointwise nat_eq };
+
+    ghost laws = { Prim.search (comparing, rules) };
+
+    fn eq(&self, other: &Self) -> bool {
+        self.slice == other.slice
+    }
+}
+
+impl<'a> Eq for Ethernet2HeaderSlice<'a> {
+    ghost laws = { Prim.search (comparing, rules) };
 }

@@ -1,7 +1,9 @@
 ghost use Rattle.std.specs.Prelude.{◌≡◌};
-ghost use Rattle.ep_link.specs.Link.{fields_of, payload_after};
+ghost use Rattle.ep_link.specs.Link.{fields_of, payload_after, sll_payload_after};
 
-use super::{Ethernet2Slice, LinkHeader, LinuxSllPayloadSlice, LinuxSllSlice};
+use super::{
+    Ethernet2Slice, LinkHeader, LinuxSllPayloadSlice, LinuxSllProtocolType, LinuxSllSlice,
+};
 use ep_tag::EtherPayloadSlice;
 
 /// A link header with what follows it, or a payload that was given without a link header, borrowed.
@@ -44,6 +46,25 @@ impl<'a> LinkSlice<'a> {
                 payload: payload.payload,
             }),
             LinkSlice::LinuxSllPayload(payload) => payload.ether_payload(),
+        }
+    }
+
+    /// What follows the link header, or was given without one, as the payload of a Linux cooked
+    /// capture: where an ether type names it, that is its protocol.
+    pub fn sll_payload(&self) -> LinuxSllPayloadSlice<'a>
+        ensures { result ≡ sll_payload_after self.now }
+    {
+        match self {
+            LinkSlice::Ethernet2(frame) => LinuxSllPayloadSlice::from(frame.payload()),
+            LinkSlice::LinuxSll(packet) => packet.payload(),
+            LinkSlice::EtherPayload(payload) => LinuxSllPayloadSlice {
+                protocol_type: LinuxSllProtocolType::EtherType(payload.ether_type),
+                payload: payload.payload,
+            },
+            LinkSlice::LinuxSllPayload(payload) => LinuxSllPayloadSlice {
+                protocol_type: payload.protocol_type,
+                payload: payload.payload,
+            },
         }
     }
 }

@@ -2,6 +2,7 @@
 //! IEEE 802.3 and 802.1AE, and RFC 768, 791, 792, 826, 4443 and 9293.
 ghost use Rattle.std.specs.Prelude.{◌≡◌, [], ◌∷◌, ◌++◌, true, false, Some, None};
 ghost use Rattle.ep_base.specs.declared.len_source.LenSource.TheVariants as source;
+ghost use Rattle.ep_link.specs.Frame.{without_fcs};
 ghost use Rattle.ep_link.specs.declared.link.link_header.LinkHeader.TheVariants as link_header;
 ghost use Rattle.ep_link.specs.declared.link.link_slice.LinkSlice.TheVariants as link;
 ghost use Rattle.ep_packet.specs.Examples.{eight_bytes, ipv4_packet, tag_1, udp_message, vlan_named, whole_frame};
@@ -17,7 +18,7 @@ ghost use Rattle.ep_tag.specs.declared.link.link_ext_slice.LinkExtSlice.TheVaria
 /// The fields of a frame's link header, and none of an ether payload without one; the fields of a
 /// UDP header.
 pub fn fields_at_literals()
-    ensures frame { link_fields (Some (link.Ethernet2 whole_frame))
+    ensures frame { link_fields (Some (link.Ethernet2 (without_fcs whole_frame)))
         ≡ Some (link_header.Ethernet2 (record {
           source = 2 ∷ 0 ∷ 0 ∷ 0 ∷ 0 ∷ 1 ∷ [];
           destination = 2 ∷ 0 ∷ 0 ∷ 0 ∷ 0 ∷ 2 ∷ [];

@@ -2,6 +2,7 @@
 ghost use Rattle.std.specs.Prelude.{◌≡◌, ℕ, List, [], ◌∷◌, ◌++◌, map, replicate, true, false, Some, None};
 ghost use Rattle.etherparse.specs.base.declared.len_source.LenSource.TheVariants as source;
 ghost use Rattle.etherparse.specs.ipslice.Packet.{Ipv4Packet, Ipv6Packet};
+ghost use Rattle.etherparse.specs.link.Frame.{without_fcs};
 ghost use Rattle.etherparse.specs.link.declared.link.link_slice.LinkSlice.TheVariants as link;
 ghost use Rattle.etherparse.specs.packet.declared.net.net_slice.NetSlice.TheVariants as net;
 ghost use Rattle.etherparse.specs.packet.declared.transport.transport_slice.TransportSlice.TheVariants as transport;
@@ -16,8 +17,8 @@ ghost use Rattle.etherparse_structs.specs.Transport.{icmp_struct_in, tcp_struct_
 /// of generic routing encapsulation, with seven bytes of an address. Without one all fields are 0,
 /// and so they are of bytes that a caller read up to an ether type.
 pub fn link_headers()
-    ensures ethernet { link_struct (Some (link.Ethernet2 (1 ∷ 2 ∷ 3 ∷ 4 ∷ 5 ∷ 6 ∷ 7 ∷ 8 ∷ 9 ∷ 10 ∷ 11 ∷
-        12 ∷ 0x88 ∷ 0xcc ∷ []))) ≡ record {
+    ensures ethernet { link_struct (Some (link.Ethernet2 (without_fcs (1 ∷ 2 ∷ 3 ∷ 4 ∷ 5 ∷ 6 ∷ 7 ∷ 8 ∷ 9 ∷
+        10 ∷ 11 ∷ 12 ∷ 0x88 ∷ 0xcc ∷ [])))) ≡ record {
           kind = 1;
           protocol = 0x88cc;
           destination = 1 ∷ 2 ∷ 3 ∷ 4 ∷ 5 ∷ 6 ∷ [];

@@ -1,6 +1,6 @@
 use Rattle.ep_base.specs.declared.err.layer.Layer.TheVariants.{Ethernet2Header}
 use Rattle.ep_link.specs.Ethernet.{ethernet_len}
-use Rattle.ep_link.proofs.link.ethernet2_header_slice.Ethernet2Bytes+14.from_slice.Goals as goal
+use Rattle.ep_link.proofs.link.ethernet2_header_slice.Ethernet2HeaderSlice.from_slice.Goals as goal
 
 pub returns-clause-takes : goal.returns-clause-takes
 returns-clause-takes c = c.prefix_is_taken.ensures Ethernet2Header ethernet_len c.args.slice.now
