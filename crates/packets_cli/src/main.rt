@@ -4,10 +4,9 @@
 mod progress_line;
 
 use crate::progress_line::ProgressLine;
-use anyhow::Context;
 use capture_programs::packets_arguments::PROGRAM;
 use capture_programs::{
-    ClosableWriter, Input, Look, Subject, failure, parse_failure, report_skipped, unopened,
+    ClosableWriter, Input, Look, Subject, failure, parse_failure, report_skipped, unopened, words,
 };
 use captures::RunError;
 use packets::program::{
@@ -22,22 +21,16 @@ use std::io::{IsTerminal, Read, Write};
 use std::process::ExitCode;
 
 fn main(rt: HostRuntime) -> ExitCode {
-    match run(&rt) {
-        Ok(code) => code,
-        Err(error) => failure(&rt, PROGRAM, error),
-    }
+    run(&rt).unwrap_or_else(|error| failure(&rt, PROGRAM, error))
 }
 
 fn run(rt: &HostRuntime) -> anyhow::Result<ExitCode> {
-    let alloc = rt.alloc();
-    let words: Vec<String> = env::args(rt)
-        .context("the arguments are not UTF-8")?
-        .collect(alloc)?;
-    let matches = match command(alloc)?.try_get_matches_from(words.as_slice()) {
+    let words = words(rt)?;
+    let matches = match command(rt.alloc())?.try_get_matches_from(words.as_slice()) {
         Ok(matches) => matches,
         Err(error) => return Ok(parse_failure(rt, PROGRAM, &error)),
     };
-    match requested_by(alloc, &matches) {
+    match requested_by(rt.alloc(), &matches) {
         Ok(requested) => run_on_files(rt, &requested),
         Err(RequestError::Memory(error)) => Err(error.into()),
         Err(error) => {
