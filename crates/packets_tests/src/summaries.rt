@@ -26,7 +26,7 @@ const TAKEN: &[Taken] = &[
     (Some(IpNumber::UDP), None, Some(FragmentState::Waits)),
     (Some(IpNumber::UDP), None, Some(FragmentState::Completes)),
     (None, Some(Reason::CutOff(Layer::Ipv4Header)), None),
-    (None, Some(Reason::TcpDataOffset), None),
+    (Some(IpNumber::TCP), Some(Reason::TcpDataOffset), None),
     (Some(IpNumber::UDP), None, None),
     (Some(IpNumber::UDP), None, Some(FragmentState::Waits)),
 ];
