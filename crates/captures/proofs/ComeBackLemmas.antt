@@ -7,7 +7,7 @@ use Rattle.captures.specs.ComeBack.{without_time, TimedLinesComeBack}
 use Rattle.captures.specs.Lines.{Packet, packets_of, line_of, lines_of, timed_line_of}
 use Rattle.captures.specs.CaptureRuns.{IsCapture}
 use Rattle.captures.specs.Skipping.{none_skipped}
-use Rattle.captures.specs.Encoding.{IsWritable, capture_of, packet_of, packets_in}
+use Rattle.captures.specs.Encoding.{IsWritable, capture_of, timed_packets, packets_in}
 use Rattle.captures.specs.Texts.{with_line_ends, GiveFrames, IsText, with_last_line_end}
 use Rattle.captures.specs.declared.extra.Extra.TheVariants.{Nothing, Times}
 use Rattle.captures.specs.declared.origin.Origin.{Origin}
@@ -100,7 +100,7 @@ module _ (line text : Packet → List ℕ) (timed : Packet → TimedFrame)
 module _ (time_unit : TimeUnit) (timed : Packet → TimedFrame) (reported : Packet → Packet)
     (fits : (packet : Packet) → HasLine packet → IsWritable (timed packet))
     (same : (packet : Packet) → HasLine packet
-    → packet_of time_unit (timed packet) ≡ reported packet ∷ []) where
+    → timed_packets time_unit (timed packet) ≡ reported packet ∷ []) where
   all_writable : (packets : List Packet) → AllByRecursion HasLine packets
       → AllByRecursion IsWritable (map timed packets)
   all_writable [] all = tt
@@ -133,7 +133,7 @@ without_writable packet fits =
     record { short = fits.short; seconds = omega arith; nanoseconds = omega arith }
 
 without_same : (time_unit : TimeUnit) (packet : Packet) → HasLine packet
-    → packet_of time_unit (at_no_time packet) ≡ without_time packet ∷ []
+    → timed_packets time_unit (at_no_time packet) ≡ without_time packet ∷ []
 without_same time_unit packet fits = grind arith
 
 timed_writable : (packet : Packet) → HasLine packet → IsWritable (at_its_time packet)
@@ -141,7 +141,7 @@ timed_writable packet fits = let few = fits.time in
     record { short = fits.short; seconds = omega arith; nanoseconds = omega arith }
 
 timed_same : (time_unit : TimeUnit) (packet : Packet) → HasLine packet
-    → packet_of time_unit (at_its_time packet) ≡ with_time time_unit packet ∷ []
+    → timed_packets time_unit (at_its_time packet) ≡ with_time time_unit packet ∷ []
 timed_same time_unit packet fits = grind arith
 
 plain_lines : (packets : List Packet) → lines_of Nothing packets ≡ flat_map line_of packets

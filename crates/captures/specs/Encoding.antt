@@ -43,12 +43,12 @@ origin_of time_unit timed = record {
   time = record_time time_unit timed.seconds (parts_in time_unit timed.nanoseconds);
 }
 
-abbrev pub packet_of : TimeUnit → TimedFrame → List Packet
-packet_of time_unit timed = packets_of (origin_of time_unit timed) timed.frame
+abbrev pub timed_packets : TimeUnit → TimedFrame → List Packet
+timed_packets time_unit timed = packets_of (origin_of time_unit timed) timed.frame
 
 -- the packets that some frames are, on the one interface that a classic capture has
 abbrev pub packets_in : TimeUnit → List TimedFrame → List Packet
-packets_in time_unit frames = flat_map (packet_of time_unit) frames
+packets_in time_unit frames = flat_map (timed_packets time_unit) frames
 
 -- a frame that a line can hold, at a time of 32 bits of seconds
 pub record IsWritable (timed : TimedFrame) : Type 0 where

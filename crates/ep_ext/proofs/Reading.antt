@@ -7,7 +7,7 @@ use Rattle.std.proofs.lemmas.Slice.{take-put_mid}
 use Rattle.std.specs.Io.KnownBytes.{Consumes}
 use borrow.Rule.Slice.PartMut.{put_mid}
 use Rattle.ep_ext.specs.Raw.{IsRawExt, raw_of, raw_len}
-use Rattle.ep_ext.specs.Fragment.{IsFragment, fragment_of}
+use Rattle.ep_ext.specs.Fragment.{IsFragment, fragment_header_of}
 use Rattle.ep_ext.specs.Auth.{IsAuth, auth_of, auth_len, auth_at}
 use Rattle.ep_ext.specs.Limited.{Limited, Takes}
 use Rattle.ep_ext.specs.Reads.{RefusesHeader, RefusesAuth, RefusesAuthWithin, HasContentFault, IsIo, IsAuthIo}
@@ -101,7 +101,7 @@ raw_next known new header rest read is_header is is_read consumed =
 
 pub fragment_next : (known new : Option (List ℕ)) (header rest read : List ℕ) → IsFragment header
     → known ≡ Some (header ++ rest) → IsFragment read → Consumes known new read →
-    (fragment_of read ≡ fragment_of header) × (new ≡ Some rest)
+    (fragment_header_of read ≡ fragment_header_of header) × (new ≡ Some rest)
 fragment_next known new header rest read is_header is is_read consumed =
     let given = consumed_some known new (header ++ rest) read is consumed in
     let same = fragment_read (header ++ rest) read given.0 header rest is_read

@@ -7,7 +7,7 @@ use Rattle.std.proofs.lemmas.List.{length-drop}
 use Rattle.std.specs.Option.{option_map, option_and_then}
 use Rattle.ep_base.specs.declared.net.ip_number.IpNumber.{IpNumber}
 use Rattle.ep_ext.specs.Raw.{IsRawExt, raw_of, raw_encoding}
-use Rattle.ep_ext.specs.Fragment.{fragment_of, fragment_encoding}
+use Rattle.ep_ext.specs.Fragment.{fragment_header_of, fragment_encoding}
 use Rattle.ep_ext.specs.Auth.{auth_of, auth_encoding}
 use Rattle.ep_ext.specs.Slot.{rank, is_passed, slot_of, is_same}
 use Rattle.ep_ext.specs.Value.{Piece, slots, piece_at, value_of}
@@ -28,7 +28,7 @@ abbrev pub reencoded : Ipv6ExtSlot → List ℕ → List ℕ
 reencoded HopByHop h = raw_encoding (raw_of h)
 reencoded Destination h = raw_encoding (raw_of h)
 reencoded Routing h = raw_encoding (raw_of h)
-reencoded Fragment h = fragment_encoding (fragment_of h)
+reencoded Fragment h = fragment_encoding (fragment_header_of h)
 reencoded Authentication h = auth_encoding (auth_of h)
 reencoded FinalDestination h = raw_encoding (raw_of h)
 
@@ -119,8 +119,8 @@ raw_read : (o : Option (List ℕ)) → option_map raw_encoding (option_map raw_o
 raw_read o = grind arith
 
 fragment_read : (o : Option (List ℕ))
-    → option_map fragment_encoding (option_map fragment_of o)
-    ≡ option_map (λ h. fragment_encoding (fragment_of h)) o
+    → option_map fragment_encoding (option_map fragment_header_of o)
+    ≡ option_map (λ h. fragment_encoding (fragment_header_of h)) o
 fragment_read o = grind arith
 
 auth_read : (o : Option (List ℕ)) → option_map auth_encoding (option_map auth_of o)

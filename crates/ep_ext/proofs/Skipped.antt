@@ -7,7 +7,7 @@ use Rattle.std.proofs.lemmas.Bool.{eqb-true}
 use Rattle.ep_base.specs.declared.err.len_error.LenError.{LenError}
 use Rattle.ep_base.specs.declared.net.ip_number.IpNumber.{IpNumber}
 use Rattle.ep_ip.specs.Skip.{IsWhole, Skips, Walk, Gives, is_skipped, outcome, skip}
-use Rattle.ep_ext.specs.Slot.{Order, KeepsNumbers, number_of, is_passed, once, at_start, slot_of}
+use Rattle.ep_ext.specs.Slot.{Order, KeepsNumbers, slot_number, is_passed, once, at_start, slot_of}
 use Rattle.ep_ext.specs.Value.{Piece, bytes_of}
 use Rattle.ep_ext.specs.Chain.{IsPiece, Row, Chain}
 use Rattle.ep_ext.specs.declared.net.ipv6_ext_slot.Ipv6ExtSlot.{Ipv6ExtSlot}
@@ -24,11 +24,11 @@ concat_headers : (pieces : List Piece) → concat (headers_of pieces) ≡ bytes_
 concat_headers [] = refl
 concat_headers (piece ∷ pieces) = ap (λ (xs : List ℕ). piece.1 ++ xs) (concat_headers pieces)
 
-skipped : (slot : Ipv6ExtSlot) → IsTrue (is_skipped (number_of slot))
+skipped : (slot : Ipv6ExtSlot) → IsTrue (is_skipped (slot_number slot))
 skipped slot = grind arith
 
 whole : (slot : Ipv6ExtSlot) (header : List ℕ) → IsPiece slot header
-    → IsWhole (number_of slot) header
+    → IsWhole (slot_number slot) header
 whole HopByHop header piece = record { started = omega (arith, piece.least); whole = piece.whole }
 whole Destination header piece = record { started = omega (arith, piece.least); whole = piece.whole }
 whole Routing header piece = record { started = omega (arith, piece.least); whole = piece.whole }
@@ -43,7 +43,7 @@ row_skips : (order : Order) (passed : List Ipv6ExtSlot) (number : ℕ) (pieces :
     Row order passed number pieces last → Skips number (headers_of pieces) last
 row_skips order passed number [] last keeps row = row
 row_skips order passed number (piece ∷ pieces) last keeps row =
-    let is : number_of piece.0 ≡ number = keeps passed number piece.0 row.0 in
+    let is : slot_number piece.0 ≡ number = keeps passed number piece.0 row.0 in
     grind (arith, row_skips order (passed ++ piece.0 ∷ []) _ pieces last keeps row.2)
 
 -- the walk gives the number and the rest of a chain
@@ -71,11 +71,11 @@ pub skip_answer : (wanted : Result (ℕ × List ℕ) LenError) (last : ℕ) (res
 skip_answer wanted last rest answer gives is = grind arith
 
 number_from : (passed : List Ipv6ExtSlot) (number : ℕ) (p slot : Ipv6ExtSlot)
-    → eqb number (number_of p) ≡ true → once passed p ≡ Some slot → number_of slot ≡ number
+    → eqb number (slot_number p) ≡ true → once passed p ≡ Some slot → slot_number slot ≡ number
 number_from passed number p slot is e = grind arith
 
 at_start_number : (passed : List Ipv6ExtSlot) (slot : Ipv6ExtSlot)
-    → at_start passed ≡ Some slot → number_of slot ≡ 0
+    → at_start passed ≡ Some slot → slot_number slot ≡ 0
 at_start_number passed slot e = grind arith
 
 pub slot_numbers : KeepsNumbers slot_of

@@ -7,13 +7,13 @@ use Rattle.ep_ext.specs.declared.net.ipv6_ext_slot.Ipv6ExtSlot.TheVariants.{HopB
 use Rattle.ep_ext.specs.declared.net.ipv6_ext_slot.Ipv6ExtSlot.TheVariants.{Authentication, FinalDestination}
 
 -- the number of the header in a slot
-abbrev pub number_of : Ipv6ExtSlot → ℕ
-number_of HopByHop = 0
-number_of Destination = 60
-number_of Routing = 43
-number_of Fragment = 44
-number_of Authentication = 51
-number_of FinalDestination = 60
+abbrev pub slot_number : Ipv6ExtSlot → ℕ
+slot_number HopByHop = 0
+slot_number Destination = 60
+slot_number Routing = 43
+slot_number Fragment = 44
+slot_number Authentication = 51
+slot_number FinalDestination = 60
 
 -- the index of a slot in the order in which they are declared
 abbrev pub rank : Ipv6ExtSlot → ℕ
@@ -38,7 +38,7 @@ Order = List Ipv6ExtSlot → ℕ → Option Ipv6ExtSlot
 abbrev pub KeepsNumbers : Order → Type 0
 KeepsNumbers order =
     (passed : List Ipv6ExtSlot) (number : ℕ) (slot : Ipv6ExtSlot)
-    → order passed number ≡ Some slot → number_of slot ≡ number
+    → order passed number ≡ Some slot → slot_number slot ≡ number
 
 -- a slot that is taken once
 abbrev pub once : List Ipv6ExtSlot → Ipv6ExtSlot → Option Ipv6ExtSlot

@@ -20,7 +20,7 @@ use Rattle.ep_ip.specs.declared.err.ipv6.header_error.HeaderError.{HeaderError a
 use Rattle.ep_ipslice.specs.Ipv6Exts.{view_order}
 use Rattle.ep_ipslice.specs.Ipv6Fault.{not_whole}
 use Rattle.ep_ipslice.specs.Ipv6Packet.{body_of, extensions_of, fault_after, ipv6_packet_at, number_after, packet_after}
-use Rattle.ep_ipslice.specs.Ipv6Packet.{packet_of, packet_unless, rest_after}
+use Rattle.ep_ipslice.specs.Ipv6Packet.{ipv6_packet_of, packet_unless, rest_after}
 use Rattle.ep_ipslice.specs.Ipv6Walk.{piece_at_start, piece_then, pieces_within, whole_piece}
 use Rattle.ep_ipslice.specs.Packet.{Ipv6Packet, IsIpv6Packet, body_len}
 use Rattle.ep_ipslice.specs.declared.err.ipv6.slice_error.SliceError.TheVariants.{Len}
@@ -139,7 +139,7 @@ short_cases short bytes header pieces packet is = grind arith
 
 unless_cases : (bytes header : List ℕ) (pieces : List Piece) (o : Option Fault)
     (packet : Ipv6Packet) → packet_unless bytes header pieces o ≡ Ok packet
-    → (o ≡ None) × (packet_of bytes header pieces ≡ packet)
+    → (o ≡ None) × (ipv6_packet_of bytes header pieces ≡ packet)
 unless_cases bytes header pieces o packet is = grind arith
 
 -- the packet of a header and of what is found after it
@@ -147,7 +147,7 @@ packet_stands : (bytes header : List ℕ) → IsIpv6Header header → bytes ≡ 
     → nat_lt (length bytes - 40) (body_len header (length bytes - 40)) ≡ false →
     fault_after bytes header (extensions_of (next_header_of header) (body_of bytes header)) ≡ None
     → IsIpv6Packet bytes
-    (packet_of bytes header (extensions_of (next_header_of header) (body_of bytes header)))
+    (ipv6_packet_of bytes header (extensions_of (next_header_of header) (body_of bytes header)))
 packet_stands bytes header whole begins fits none =
     let first : ℕ = next_header_of header in
     let following : List ℕ = drop 40 bytes in

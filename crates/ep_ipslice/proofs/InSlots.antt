@@ -5,7 +5,7 @@ use Rattle.std.specs.Option.{option_map, option_map_or}
 use Rattle.std.proofs.lemmas.List.Folds.{list_any-append}
 use Rattle.ep_base.specs.Bytes.{num}
 use Rattle.ep_ext.specs.Chain.{IsPiece, Row}
-use Rattle.ep_ext.specs.Fragment.{fragment_of, fragments}
+use Rattle.ep_ext.specs.Fragment.{fragment_header_of, fragments}
 use Rattle.ep_ext.specs.Slot.{at_start, is_passed, slot_of}
 use Rattle.ep_ext.specs.Value.{Piece, bytes_of, piece_at}
 use Rattle.ep_ext.specs.declared.net.ipv6_ext_slot.Ipv6ExtSlot.{Ipv6ExtSlot}
@@ -132,7 +132,7 @@ none_after passed number ((FinalDestination, header) ∷ pieces) last taken row 
 
 abbrev IsSaid : List Piece → Type 0
 IsSaid pieces = is_any_fragmenting (seen pieces)
-    ≡ option_map_or fragments (option_map fragment_of (piece_at pieces Fragment)) false
+    ≡ option_map_or fragments (option_map fragment_header_of (piece_at pieces Fragment)) false
 
 fragments_seen : (passed : List Ipv6ExtSlot) (number : ℕ) (pieces : List Piece) (last : ℕ)
     → Row slot_of passed number pieces last → IsSaid pieces
@@ -145,9 +145,9 @@ fragments_seen passed number ((Destination, header) ∷ pieces) last row =
 fragments_seen passed number ((Routing, header) ∷ pieces) last row =
     fragments_seen (passed ++ Routing ∷ []) (num header 0 1) pieces last row.2
 fragments_seen passed number ((Fragment, header) ∷ pieces) last row =
-    ap (λ (b : Bool). fragments (fragment_of header) || b)
+    ap (λ (b : Bool). fragments (fragment_header_of header) || b)
     (none_after (passed ++ Fragment ∷ []) (num header 0 1) pieces last
-    (passed_last passed) row.2) ∙ or_none (fragments (fragment_of header))
+    (passed_last passed) row.2) ∙ or_none (fragments (fragment_header_of header))
 fragments_seen passed number ((Authentication, header) ∷ pieces) last row =
     fragments_seen (passed ++ Authentication ∷ []) (num header 0 1) pieces last row.2
 fragments_seen passed number ((FinalDestination, header) ∷ pieces) last row =
@@ -157,6 +157,6 @@ fragments_seen passed number ((FinalDestination, header) ∷ pieces) last row =
 pub row_in_slots : (first : ℕ) (pieces : List Piece) (last : ℕ) → Row slot_of [] first pieces last →
     (q : List Piece) × Row view_order [] first q last × (bytes_of q ≡ bytes_of pieces)
     × (is_any_fragmenting q ≡ option_map_or fragments
-    (option_map fragment_of (piece_at pieces Fragment)) false)
+    (option_map fragment_header_of (piece_at pieces Fragment)) false)
 unfolding seen_slots
 row_in_slots first pieces last row = grind (arith, seen, row_seen, bytes_seen, fragments_seen)

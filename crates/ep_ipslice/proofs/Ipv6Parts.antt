@@ -15,7 +15,7 @@ use Rattle.ep_ipslice.specs.Ipv6Fault.{IsCutOff, IsPrefixFault, IsIpv6Fault, IsR
 use Rattle.ep_ipslice.specs.Ipv6Fault.{OfLength, of_exts_fault}
 use Rattle.ep_ext.specs.Chain.{Chain, Fault, IsEnd, IsPiece, fault_at, fault_in, fault_of, prefix_of, layer_of}
 use Rattle.ep_ext.specs.Follow.{has_slot}
-use Rattle.ep_ext.specs.Slot.{KeepsNumbers, Order, at_start, number_of}
+use Rattle.ep_ext.specs.Slot.{KeepsNumbers, Order, at_start, slot_number}
 use Rattle.ep_ext.specs.Value.{Piece, bytes_of, slots}
 use Rattle.ep_base.specs.declared.err.len_error.LenError.{LenError}
 use Rattle.std.proofs.lemmas.Bool.{eqb-true}
@@ -270,7 +270,7 @@ numbered : (hop routing fragment auth destination : Bool) (number : ℕ) (passed
     (cond fragment (Some Fragment)
     (cond auth (Some Authentication) (cond destination (Some Destination) None))))
     ≡ Some slot →
-    number_of slot ≡ number
+    slot_number slot ≡ number
 numbered hop routing fragment auth destination number passed slot a b c d e is = grind arith
 
 pub keeps_numbers : KeepsNumbers view_order

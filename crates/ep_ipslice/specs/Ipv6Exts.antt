@@ -6,7 +6,7 @@ use Rattle.std.specs.List.{list_any}
 use Rattle.ep_base.specs.declared.err.layer.Layer.{Layer}
 use Rattle.ep_base.specs.declared.net.ip_number.IpNumber.{IpNumber}
 use Rattle.ep_ext.specs.Chain.{Row, Fault, fault_of}
-use Rattle.ep_ext.specs.Fragment.{fragment_of, fragments}
+use Rattle.ep_ext.specs.Fragment.{fragment_header_of, fragments}
 use Rattle.ep_ext.specs.Slot.{Order, at_start}
 use Rattle.ep_ext.specs.Value.{Piece, bytes_of}
 use Rattle.ep_base.specs.declared.err.slice_error.SliceError.{SliceError}
@@ -40,7 +40,7 @@ is_started (piece ∷ pieces) = true
 
 -- the fragment header of a fragment
 abbrev pub is_fragmenting_header : List ℕ → Bool
-is_fragmenting_header header = fragments (fragment_of header)
+is_fragmenting_header header = fragments (fragment_header_of header)
 
 abbrev pub is_fragmenting_piece : Piece → Bool
 is_fragmenting_piece (HopByHop, header) = false

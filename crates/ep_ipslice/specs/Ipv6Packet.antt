@@ -33,8 +33,8 @@ number_after first (piece ∷ pieces) = number_after (num piece.1 0 1) pieces
 abbrev pub rest_after : (bytes header : List ℕ) → List Piece → List ℕ
 rest_after bytes header pieces = drop (length (bytes_of pieces)) (body_of bytes header)
 
-abbrev pub packet_of : (bytes header : List ℕ) → List Piece → Ipv6Packet
-packet_of bytes header pieces = record {
+abbrev pub ipv6_packet_of : (bytes header : List ℕ) → List Piece → Ipv6Packet
+ipv6_packet_of bytes header pieces = record {
   header = header;
   exts = exts_of (next_header_of header) pieces;
   payload = record {
@@ -48,7 +48,7 @@ packet_of bytes header pieces = record {
 -- the packet of these extension headers, if they don't end at a fault
 abbrev pub packet_unless : (bytes header : List ℕ) → List Piece → Option Fault
     → Result Ipv6Packet SliceError
-packet_unless bytes header pieces None = Ok (packet_of bytes header pieces)
+packet_unless bytes header pieces None = Ok (ipv6_packet_of bytes header pieces)
 packet_unless bytes header pieces (Some fault) =
     Err (of_exts_fault (body_source header (length bytes - 40)) fault.0)
 

@@ -11,7 +11,7 @@ use Rattle.ep_ip.specs.Ipv4 as v4
 use Rattle.ep_ip.specs.Ipv6 as v6
 use Rattle.ep_ext.specs.Chain.{Row}
 use Rattle.ep_ext.specs.Follow.{has_slot}
-use Rattle.ep_ext.specs.Fragment.{fragment_of}
+use Rattle.ep_ext.specs.Fragment.{fragment_header_of}
 use Rattle.ep_ext.specs.Value.{Piece, bytes_of, piece_at}
 use Rattle.ep_ext.specs.Ipv4Exts.{IsAuthAfter, auth_bytes, number_after}
 use Rattle.ep_ext.specs.declared.net.ipv6_ext_slot.Ipv6ExtSlot.TheVariants.{Fragment}
@@ -47,9 +47,9 @@ ipv4_fragment_fields header = record {
 -- by a fragment header (RFC 8200, section 4.5)
 abbrev pub header_fragment_fields : List ℕ → FragmentFields
 header_fragment_fields header = record {
-  identification = (fragment_of header).identification;
-  offset = (fragment_of header).fragment_offset;
-  more = (fragment_of header).more_fragments;
+  identification = (fragment_header_of header).identification;
+  offset = (fragment_header_of header).fragment_offset;
+  more = (fragment_header_of header).more_fragments;
 }
 
 -- by the first fragment header among these extension headers, if there is one

@@ -3,14 +3,14 @@ use Rattle.std.proofs.Common.{◌≡◌, ℕ, ◌+◌, ◌*◌, ◌/◌, ◌%◌
 use Rattle.std.proofs.lemmas.List.{length-append, take_at}
 use Rattle.ep_base.specs.Bytes.{IsBytes}
 use Rattle.ep_base.proofs.Cells.{as_cells, take-drop-cells}
-use Rattle.ep_link.specs.Sll.{IsSllHeader, NamesProtocol, Fits, sll_header_of, number_of, protocol_of, encoding}
+use Rattle.ep_link.specs.Sll.{IsSllHeader, NamesProtocol, Fits, sll_header_of, protocol_number, protocol_of, encoding}
 use Rattle.ep_link.specs.declared.link.arp_hardware_id.ArpHardwareId.{ArpHardwareId}
 use Rattle.ep_link.specs.declared.link.linux_sll_header.LinuxSllHeader.{LinuxSllHeader}
 use Rattle.ep_link.proofs.EthernetEncoding.{at_after_prefix}
 use Rattle.ep_base.proofs.Numbers.{high_of, low_of, two_again}
 
 -- the number stays, whatever the hardware type makes of it
-pub number-protocol_of : (hardware : ArpHardwareId) (n : ℕ) → number_of (protocol_of hardware n) ≡ n
+pub number-protocol_of : (hardware : ArpHardwareId) (n : ℕ) → protocol_number (protocol_of hardware n) ≡ n
 number-protocol_of hardware n = grind arith
 
 -- the fields that are read from a header encode its bytes
@@ -43,7 +43,7 @@ IsSllHeader-encoding h fits = record {
 pub sll_header_of-encoding : (h : LinuxSllHeader) → Fits h → NamesProtocol h
     → sll_header_of (encoding h) ≡ h
 sll_header_of-encoding h fits names =
-    let n = number_of h.protocol_type in
+    let n = protocol_number h.protocol_type in
     let tail : List ℕ = n / 256 % 256 ∷ n % 256 ∷ [] in
     let packet_type = two_again h.packet_type (omega (arith, fits.packet_type)) in
     let hardware = two_again h.arp_hrd_type.0 fits.hardware_type in

@@ -19,8 +19,8 @@ arp_fields p = record {
 }
 
 -- the operation and the addresses, whatever they are
-abbrev pub packet_of : ArpFields → ArpEthIpv4Packet
-packet_of a = record {
+abbrev pub arp_packet_of : ArpFields → ArpEthIpv4Packet
+arp_packet_of a = record {
   operation = a.operation;
   sender_mac = a.sender_hw_addr;
   sender_ipv4 = a.sender_protocol_addr;
@@ -41,7 +41,7 @@ eth_ipv4_at a = unless_refused (
       not (length a.sender_protocol_addr == 4),
       NonMatchingProtoAddrSize (length a.sender_protocol_addr),
     )
-    ∷ []) (packet_of a)
+    ∷ []) (arp_packet_of a)
 
 -- the bytes of a packet
 abbrev pub eth_ipv4_encoding : ArpEthIpv4Packet → List ℕ

@@ -45,12 +45,12 @@ protocol_of hardware n =
     ether_protocol n))
 
 -- the number of a protocol
-abbrev pub number_of : LinuxSllProtocolType → ℕ
-number_of (protocol.Ignored n) = n
-number_of (protocol.NetlinkProtocolType n) = n
-number_of (protocol.GenericRoutingEncapsulationProtocolType n) = n
-number_of (protocol.EtherType t) = t.0
-number_of (protocol.LinuxNonstandardEtherType n) = n
+abbrev pub protocol_number : LinuxSllProtocolType → ℕ
+protocol_number (protocol.Ignored n) = n
+protocol_number (protocol.NetlinkProtocolType n) = n
+protocol_number (protocol.GenericRoutingEncapsulationProtocolType n) = n
+protocol_number (protocol.EtherType t) = t.0
+protocol_number (protocol.LinuxNonstandardEtherType n) = n
 
 -- the same kind of protocol with another number; of the two kinds that share hardware types, the
 -- one that the number belongs to
@@ -82,11 +82,11 @@ abbrev pub encoding : LinuxSllHeader → List ℕ
 encoding h =
     to_be_bytes w16 h.packet_type ++ to_be_bytes w16 h.arp_hrd_type.0
     ++ to_be_bytes w16 h.sender_address_valid_length
-    ++ h.sender_address ++ to_be_bytes w16 (number_of h.protocol_type)
+    ++ h.sender_address ++ to_be_bytes w16 (protocol_number h.protocol_type)
 
 -- the hardware type and the number name the protocol, so that it is read again
 abbrev pub NamesProtocol : LinuxSllHeader → Type 0
-NamesProtocol h = protocol_of h.arp_hrd_type (number_of h.protocol_type) ≡ h.protocol_type
+NamesProtocol h = protocol_of h.arp_hrd_type (protocol_number h.protocol_type) ≡ h.protocol_type
 
 -- the bytes are a header with these fields, which encode it again, and the rest
 abbrev pub IsRead : List ℕ → LinuxSllHeader → List ℕ → Type 0
@@ -98,4 +98,4 @@ pub record Fits (h : LinuxSllHeader) : Type 0 where
   pub hardware_type : h.arp_hrd_type.0 < 2 ^ 16
   pub address_len : h.sender_address_valid_length < 2 ^ 16
   pub address : length h.sender_address ≡ 8
-  pub number : number_of h.protocol_type < 2 ^ 16
+  pub number : protocol_number h.protocol_type < 2 ^ 16

@@ -5,7 +5,7 @@ use Rattle.ep_base.specs.Bytes.{num}
 use Rattle.ep_base.specs.declared.len_source.LenSource.TheVariants.{Slice}
 use Rattle.ep_link.specs.declared.link.linux_sll_protocol_type.LinuxSllProtocolType.{LinuxSllProtocolType}
 use Rattle.ep_link.specs.declared.link.linux_sll_protocol_type.LinuxSllProtocolType.TheVariants as protocol
-use Rattle.ep_link.specs.Sll.{hardware_type_of, number_of, protocol_of, sll_len}
+use Rattle.ep_link.specs.Sll.{hardware_type_of, protocol_number, protocol_of, sll_len}
 use Rattle.ep_tag.specs.Ether.{EtherPayload}
 
 -- the protocol, and the bytes after the header
@@ -30,11 +30,11 @@ kind_index (protocol.LinuxNonstandardEtherType n) = 4
 
 -- kind and number of a protocol, which differ where protocols differ
 abbrev pub protocol_ordered_as : LinuxSllProtocolType → List ℕ
-protocol_ordered_as p = kind_index p ∷ number_of p ∷ []
+protocol_ordered_as p = kind_index p ∷ protocol_number p ∷ []
 
 -- all of a payload in one list, which differs where payloads differ
 abbrev pub compared_as : SllPayload → List ℕ
-compared_as p = kind_index p.protocol_type ∷ number_of p.protocol_type ∷ p.payload
+compared_as p = kind_index p.protocol_type ∷ protocol_number p.protocol_type ∷ p.payload
 
 abbrev pub ether_payload_of : LinuxSllProtocolType → List ℕ → Option EtherPayload
 ether_payload_of (protocol.Ignored n) bytes = None

@@ -16,7 +16,7 @@ use Rattle.ep_ipslice.specs.Packet.{Ipv4Packet, Ipv6Packet}
 use Rattle.ep_ipslice.specs.declared.err.ipv4.slice_error.SliceError.{SliceError as Ipv4Fault}
 use Rattle.ep_ipslice.specs.declared.err.ipv6.slice_error.SliceError.{SliceError as Ipv6Fault}
 use Rattle.ep_link.specs.Ethernet.{Fits}
-use Rattle.ep_link.specs.Sll.{number_of}
+use Rattle.ep_link.specs.Sll.{protocol_number}
 use Rattle.ep_link.specs.SllFault.{whole_at}
 use Rattle.ep_link.specs.SllPayload.{named_payload, payload_of}
 use Rattle.ep_link.specs.declared.link.link_slice.LinkSlice.{LinkSlice}
@@ -114,7 +114,7 @@ alone_is ip number payload class packet is =
 -- ---- after the header of a cooked capture
 
 number_again : (b : Bool) (n : ℕ)
-    → number_of (if b then EtherType (record { 0 = n }) else LinuxNonstandardEtherType n) ≡ n
+    → protocol_number (if b then EtherType (record { 0 = n }) else LinuxNonstandardEtherType n) ≡ n
 number_again b n = grind arith
 
 module _ (packet_type address_len : ℕ) (address : List ℕ) (small : packet_type ≤ 4)

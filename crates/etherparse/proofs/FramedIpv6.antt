@@ -15,7 +15,7 @@ use Rattle.ep_ip.specs.Ipv6Fault.{header_at}
 use Rattle.ep_ip.specs.declared.net.ipv6_header.Ipv6Header.{Ipv6Header}
 use Rattle.ep_ipslice.specs.Ipv6Exts.{exts_of, is_any_fragmenting, view_order}
 use Rattle.ep_ipslice.specs.Ipv6Packet.{body_of, extensions_in, extensions_of, fault_after, ipv6_packet_at}
-use Rattle.ep_ipslice.specs.Ipv6Packet.{number_after, packet_of, rest_after}
+use Rattle.ep_ipslice.specs.Ipv6Packet.{number_after, ipv6_packet_of, rest_after}
 use Rattle.ep_ipslice.specs.Ipv6Walk.{pieces_within}
 use Rattle.ep_ipslice.specs.Packet.{Ipv6Packet, body_len, body_source}
 
@@ -150,7 +150,7 @@ module _ (rows : RowsFound) (ends : RowEnds) (head : List ℕ) (pieces : List Pi
         ≡ body_source head (length (bytes_of pieces) + length message)
     source_after = ap (body_source head) (following ∙ body_size)
 
-    found_is : packet_of bytes head pieces ≡ packet_with_row head pieces last message
+    found_is : ipv6_packet_of bytes head pieces ≡ packet_with_row head pieces last message
     found_is = grind (arith, last_is, source_after, rest_is)
 
     -- it is found at the start of its bytes

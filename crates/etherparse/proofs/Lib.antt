@@ -19,6 +19,7 @@ mod BufferSlots
 mod BuiltFrames
 mod BuiltPackets
 mod BuiltSums
+mod CallAnswers
 mod CallLemmas
 mod FrameClass
 mod FramedIpv4
@@ -39,7 +40,6 @@ mod OpenCount
 mod Ordered
 mod ReassemblyRooms
 mod Returned
-mod Runs
 mod SameBuffers
 mod SameCalls
 mod Sharing

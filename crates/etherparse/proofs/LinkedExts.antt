@@ -8,7 +8,7 @@ use Rattle.ep_ext.specs.Follow.{Follows, header_in, header_len}
 use Rattle.ep_ext.specs.Fragment.{fragment_encoding}
 use Rattle.ep_ext.specs.Ipv4Exts.{ipv4_exts_encoding, ipv4_with_link}
 use Rattle.ep_ext.specs.Link.{all_slots, first_named, piece_if, pieces_in, raw_with_next, with_links}
-use Rattle.ep_ext.specs.Slot.{number_of, slot_of}
+use Rattle.ep_ext.specs.Slot.{slot_number, slot_of}
 use Rattle.ep_ext.specs.Raw.{raw_encoding}
 use Rattle.ep_ext.specs.Value.{Piece, bytes_of}
 use Rattle.ep_ext.specs.declared.net.ip_auth_header.IpAuthHeader.{IpAuthHeader}
@@ -29,17 +29,17 @@ none_some x h = cc
 
 -- a slot with no header before it has the number that leads there
 test : (b : Bool) (n : ℕ) (p q : Ipv6ExtSlot) (other : Option Ipv6ExtSlot)
-    → (b ≡ true → n ≡ number_of p) → (other ≡ Some q → number_of q ≡ n)
-    → cond b (Some p) other ≡ Some q → number_of q ≡ n
+    → (b ≡ true → n ≡ slot_number p) → (other ≡ Some q → slot_number q ≡ n)
+    → cond b (Some p) other ≡ Some q → slot_number q ≡ n
 test b n p q other is rest e = grind arith
 
-begins : (n : ℕ) (q : Ipv6ExtSlot) → slot_of [] n ≡ Some q → number_of q ≡ n
+begins : (n : ℕ) (q : Ipv6ExtSlot) → slot_of [] n ≡ Some q → slot_number q ≡ n
 begins n q e = grind arith
 
 -- the number that leads to a row
 abbrev first_of : List Piece → ℕ → ℕ
 first_of [] last = last
-first_of (piece ∷ pieces) last = number_of piece.0
+first_of (piece ∷ pieces) last = slot_number piece.0
 
 first_in : (value : Ipv6Extensions) (slots : List Ipv6ExtSlot) (last : ℕ)
     → first_of (pieces_in value slots) last ≡ first_named value slots last

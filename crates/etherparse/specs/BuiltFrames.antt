@@ -6,7 +6,7 @@ use Rattle.std.specs.Option.{option_map}
 use Rattle.ep_ext.specs.Auth.{IsAuth, auth_encoding}
 use Rattle.ep_ext.specs.Chain.{Row}
 use Rattle.ep_ext.specs.Follow.{has_slot}
-use Rattle.ep_ext.specs.Fragment.{fragment_of, fragment_encoding}
+use Rattle.ep_ext.specs.Fragment.{fragment_header_of, fragment_encoding}
 use Rattle.ep_ext.specs.Ipv4Exts.{auth_number}
 use Rattle.ep_ext.specs.Link.{all_slots, first_named, pieces_in, with_links}
 use Rattle.ep_ext.specs.Slot.{slot_of}
@@ -94,7 +94,7 @@ AuthFits (Some h) = IsAuth (auth_encoding h)
 
 abbrev pub FragmentFits : Option Ipv6FragmentHeader → Type 0
 FragmentFits None = ⊤
-FragmentFits (Some h) = fragment_of (fragment_encoding h) ≡ h
+FragmentFits (Some h) = fragment_header_of (fragment_encoding h) ≡ h
 
 -- and extension headers are whole, so that linked they lead to what follows
 abbrev pub IpFits : IpHeaders → (number : ℕ) → Type 0

@@ -40,7 +40,7 @@ ethernet_struct frame = record no_link {
 abbrev pub sll_struct : List ℕ → EpLink
 sll_struct bytes = record no_link {
   kind = 2;
-  protocol = sll.number_of (sll.protocol_of (sll.hardware_type_of bytes) (num bytes 14 2));
+  protocol = sll.protocol_number (sll.protocol_of (sll.hardware_type_of bytes) (num bytes 14 2));
   packet_type = sll.packet_type_of bytes;
   hardware_type = (sll.hardware_type_of bytes).0;
   address_len = sll.address_len_of bytes;

@@ -14,10 +14,10 @@ use Rattle.etherparse.specs.tag.declared.link.vlan_header.VlanHeader.TheVariants
 use Rattle.netlines.specs.declared.letter.Letter.{Letter}
 
 -- the fragment header of a message that is cut
-abbrev pub fragment_of : (cut : Bool) → (offset : ℕ) → (more : Bool) → (identification : ℕ)
+abbrev pub posted_fragment_header : (cut : Bool) → (offset : ℕ) → (more : Bool) → (identification : ℕ)
     → Option Ipv6FragmentHeader
-fragment_of false offset more identification = None
-fragment_of true offset more identification =
+posted_fragment_header false offset more identification = None
+posted_fragment_header true offset more identification =
     Some (record {
       next_header = record { 0 = 0 };
       fragment_offset = offset;
@@ -50,7 +50,7 @@ ip_headers_of (Ipv6 source destination identification) cut offset more = ip.Ipv6
   hop_by_hop_options = None;
   destination_options = None;
   routing = None;
-  fragment = fragment_of cut offset more identification;
+  fragment = posted_fragment_header cut offset more identification;
   auth = None;
 })
 

@@ -3,7 +3,7 @@ ghost use Rattle.std.specs.Prelude.{◌≡◌, [], ◌∷◌, map, true, false, 
 ghost use Rattle.ep_ext.specs.Chain.{layer_of};
 ghost use Rattle.ep_ext.specs.Follow.{has_slot, most_len};
 ghost use Rattle.ep_ext.specs.Link.{all_slots};
-ghost use Rattle.ep_ext.specs.Slot.{number_of, slot_of};
+ghost use Rattle.ep_ext.specs.Slot.{slot_number, slot_of};
 ghost use Rattle.ep_ext.specs.ReadsExts.{read_layer};
 ghost use Rattle.ep_ext.specs.declared.net.ipv6_ext_slot.Ipv6ExtSlot.TheVariants.{HopByHop, Destination, Routing};
 ghost use Rattle.ep_ext.specs.declared.net.ipv6_ext_slot.Ipv6ExtSlot.TheVariants.{Fragment, Authentication};
@@ -40,7 +40,7 @@ pub fn worked_slots()
 /// and the layer as which it is read with a limit, and its greatest length; and which numbers have
 /// a slot at all.
 pub fn worked_headers_by_slot()
-    ensures numbers { map number_of all_slots ≡ 0 ∷ 60 ∷ 43 ∷ 44 ∷ 51 ∷ 60 ∷ [] }
+    ensures numbers { map slot_number all_slots ≡ 0 ∷ 60 ∷ 43 ∷ 44 ∷ 51 ∷ 60 ∷ [] }
     ensures layers { map layer_of all_slots
         ≡ Layer.Ipv6HopByHopHeader ∷ Layer.Ipv6DestOptionsHeader ∷ Layer.Ipv6RouteHeader ∷
         Layer.Ipv6FragHeader ∷ Layer.IpAuthHeader ∷ Layer.Ipv6DestOptionsHeader ∷ [] }

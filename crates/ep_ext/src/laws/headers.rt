@@ -2,7 +2,7 @@
 ghost use Rattle.std.specs.Prelude.{◌≡◌, ◌+◌, ℕ, true, false, List, [], ◌∷◌, ◌++◌, map, Some, None, IsOkAnd, Ok, Err};
 ghost use Rattle.ep_base.specs.Bytes.{IsBytes};
 ghost use Rattle.ep_ext.specs.Auth.{IsAuth, auth_of, auth_at, auth_encoding, auth_cleared, icv_fault};
-ghost use Rattle.ep_ext.specs.Fragment.{IsFragment, fragment_of, fragment_encoding, fragment_cleared, fragment_at};
+ghost use Rattle.ep_ext.specs.Fragment.{IsFragment, fragment_header_of, fragment_encoding, fragment_cleared, fragment_at};
 ghost use Rattle.ep_ext.specs.Raw.{IsRawExt, raw_of, raw_at, raw_encoding, is_raw_number, payload_fault};
 ghost use Rattle.ep_base.specs.LenError.{too_few_bytes};
 ghost use Rattle.ep_base.specs.declared.err.slice_error.SliceError.TheVariants as slice_error;
@@ -42,9 +42,9 @@ pub fn raw_headers_are_their_bytes(header: &Ipv6RawExtHeader)
 /// Fragment headers and their bytes are each other's, reserved bits aside.
 pub fn fragment_headers_are_their_bytes(header: &Ipv6FragmentHeader)
     ensures header { IsFragment (fragment_encoding header.now) }
-    ensures fields { fragment_of (fragment_encoding header.now) ≡ header.now }
+    ensures fields { fragment_header_of (fragment_encoding header.now) ≡ header.now }
     ensures again { (bytes : List ℕ) → IsFragment bytes → IsBytes bytes
-        → fragment_encoding (fragment_of bytes) ≡ fragment_cleared bytes }
+        → fragment_encoding (fragment_header_of bytes) ≡ fragment_cleared bytes }
 {
     let _len = header.header_len();
 }
@@ -113,7 +113,7 @@ pub fn worked_headers()
         ≡ Ok (17 ∷ 0 ∷ 1 ∷ 4 ∷ 2 ∷ 3 ∷ 5 ∷ 6 ∷ []) }
     ensures raw_too_short { raw_at (17 ∷ 1 ∷ 1 ∷ 4 ∷ 2 ∷ 3 ∷ 5 ∷ 6 ∷ [])
         ≡ Err (too_few_bytes Layer.Ipv6ExtHeader 16 8) }
-    ensures fragment { fragment_of (58 ∷ 255 ∷ 171 ∷ 205 ∷ 18 ∷ 52 ∷ 86 ∷ 120 ∷ [])
+    ensures fragment { fragment_header_of (58 ∷ 255 ∷ 171 ∷ 205 ∷ 18 ∷ 52 ∷ 86 ∷ 120 ∷ [])
         ≡ record {
           next_header = record { 0 = 58 };
           fragment_offset = 5497;

@@ -1,6 +1,6 @@
 ghost use Rattle.std.specs.Prelude.{◌≡◌};
 ghost use Rattle.ep_ext.specs.Chain.{layer_of};
-ghost use Rattle.ep_ext.specs.Slot.{number_of};
+ghost use Rattle.ep_ext.specs.Slot.{slot_number};
 
 use ep_base::IpNumber;
 use ep_base::err::Layer;
@@ -25,7 +25,7 @@ pub enum Ipv6ExtSlot {
 impl Ipv6ExtSlot {
     /// The number of the header in the slot.
     pub fn number(self) -> IpNumber
-        ensures { result.0 ≡ number_of self }
+        ensures { result.0 ≡ slot_number self }
     {
         match self {
             Ipv6ExtSlot::HopByHop => IpNumber(0),

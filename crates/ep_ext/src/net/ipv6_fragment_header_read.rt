@@ -2,7 +2,7 @@
 
 ghost use Rattle.std.specs.Prelude.{◌≡◌, ℕ, List, ◌++◌, IfOk, IfErr, MatchResult, Some, ◌≤◌, ◌-◌};
 ghost use Rattle.std.specs.Io.KnownBytes.{Consumes};
-ghost use Rattle.ep_ext.specs.Fragment.{IsFragment, fragment_of};
+ghost use Rattle.ep_ext.specs.Fragment.{IsFragment, fragment_header_of};
 ghost use Rattle.ep_ext.specs.Limited.{at_next_layer, Takes, Refuses};
 ghost use Rattle.ep_ext.specs.Reads.{IsIo};
 
@@ -20,11 +20,11 @@ impl Ipv6FragmentHeader {
         // The reader gave a header, and it is read so.
         ensures found { IfOk result (λ h. (header : List ℕ) × IsFragment header
             × Consumes (R.remaining reader.old) (R.remaining reader.new) header
-            × (h ≡ fragment_of header)) }
+            × (h ≡ fragment_header_of header)) }
         // Where a header is next, it is read, or a read failed.
         ensures only { (header rest : List ℕ) → IsFragment header
             → R.remaining reader.old ≡ Some (header ++ rest)
-            → IfOk result (λ h. (h ≡ fragment_of header) × (R.remaining reader.new ≡ Some rest)) }
+            → IfOk result (λ h. (h ≡ fragment_header_of header) × (R.remaining reader.new ≡ Some rest)) }
     {
         let mut bytes = [0; Self::LEN];
         match reader.read_exact(&mut bytes) {
@@ -40,11 +40,11 @@ impl Ipv6FragmentHeader {
     ) -> Result<Ipv6FragmentHeader, LimitedReadError>
         ensures found { IfOk result (λ h. (header : List ℕ) × IsFragment header
             × Takes R.remaining (at_next_layer reader.old Layer.Ipv6FragHeader) header reader.new
-            × (h ≡ fragment_of header)) }
+            × (h ≡ fragment_header_of header)) }
         ensures only { (header rest : List ℕ) → IsFragment header
             → R.remaining reader.old.reader ≡ Some (header ++ rest)
             → 8 ≤ reader.old.max_len - reader.old.read_len
-            → MatchResult result (λ h. (h ≡ fragment_of header)
+            → MatchResult result (λ h. (h ≡ fragment_header_of header)
             × (R.remaining reader.new.reader ≡ Some rest)) IsIo }
         // Else a read failed, or the limit is too low.
         ensures err { IfErr result

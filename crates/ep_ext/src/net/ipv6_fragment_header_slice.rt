@@ -2,7 +2,7 @@ ghost use Rattle.std.specs.Prelude.{◌≡◌, ℕ, List, ◌++◌, IfOk, IfErr,
 ghost use Rattle.std.specs.Cmp.Lexicographic.{pointwise};
 ghost use Rattle.std.specs.Cmp.Rules.{comparing};
 ghost use Rattle.std.proofs.Common.{rules};
-ghost use Rattle.ep_ext.specs.Fragment.{IsFragment, fragment_of, fragment_at, fragments};
+ghost use Rattle.ep_ext.specs.Fragment.{IsFragment, fragment_header_of, fragment_at, fragments};
 
 use super::Ipv6FragmentHeader;
 use ep_base::err::{Layer, LenError};
@@ -79,14 +79,14 @@ impl<'a> Ipv6FragmentHeaderSlice<'a> {
 
     /// The number of the header that follows.
     pub fn next_header(&self) -> IpNumber
-        ensures { result ≡ (fragment_of self.now).next_header }
+        ensures { result ≡ (fragment_header_of self.now).next_header }
     {
         IpNumber(self.slice[0])
     }
 
     /// The offset of the payload in the datagram's payload, in units of 8 bytes.
     pub fn fragment_offset(&self) -> IpFragOffset
-        ensures { result ≡ (fragment_of self.now).fragment_offset }
+        ensures { result ≡ (fragment_header_of self.now).fragment_offset }
     {
         let offset_and_more = u16::from_be_bytes([self.slice[2], self.slice[3]]);
         IpFragOffset::try_new(offset_and_more >> 3).unwrap()
@@ -94,28 +94,28 @@ impl<'a> Ipv6FragmentHeaderSlice<'a> {
 
     /// Whether more fragments follow this one.
     pub fn more_fragments(&self) -> bool
-        ensures { result ≡ (fragment_of self.now).more_fragments }
+        ensures { result ≡ (fragment_header_of self.now).more_fragments }
     {
         self.slice[3] & 1 != 0
     }
 
     /// The identification that the fragments of one datagram share.
     pub fn identification(&self) -> u32
-        ensures { result ≡ (fragment_of self.now).identification }
+        ensures { result ≡ (fragment_header_of self.now).identification }
     {
         u32::from_be_bytes([self.slice[4], self.slice[5], self.slice[6], self.slice[7]])
     }
 
     /// Whether there are other fragments: more follow this one, or its offset isn't 0.
     pub fn is_fragmenting_payload(&self) -> bool
-        ensures { result ≡ fragments (fragment_of self.now) }
+        ensures { result ≡ fragments (fragment_header_of self.now) }
     {
         self.more_fragments() || self.fragment_offset() != IpFragOffset::ZERO
     }
 
     /// The fields.
     pub fn to_header(&self) -> Ipv6FragmentHeader
-        ensures { result ≡ fragment_of self.now }
+        ensures { result ≡ fragment_header_of self.now }
     {
         Ipv6FragmentHeader {
             next_header: self.next_header(),

@@ -3,7 +3,7 @@ ghost use Rattle.std.specs.Prelude.{◌≡◌, ℕ, List, [], ◌∷◌, ◌++�
 ghost use Rattle.ep_base.specs.Bytes.{IsBytes};
 ghost use Rattle.ep_link.specs.declared.link.arp_hardware_id.ArpHardwareId.{ArpHardwareId};
 ghost use Rattle.ep_link.specs.declared.link.linux_sll_protocol_type.LinuxSllProtocolType.TheVariants as protocol;
-ghost use Rattle.ep_link.specs.Sll.{IsSllHeader, NamesProtocol, sll_header_of, number_of, protocol_of, encoding};
+ghost use Rattle.ep_link.specs.Sll.{IsSllHeader, NamesProtocol, sll_header_of, protocol_number, protocol_of, encoding};
 ghost use Rattle.ep_link.specs.Sll.{with_number};
 
 use crate::err::linux_sll::HeaderSliceError;
@@ -57,7 +57,7 @@ pub fn header_is_read_again<'a>(
 
 /// The number of a protocol stays, whatever the hardware type makes of it.
 pub fn number_stays()
-    ensures { (hardware : ArpHardwareId) (n : ℕ) → number_of (protocol_of hardware n) ≡ n }
+    ensures { (hardware : ArpHardwareId) (n : ℕ) → protocol_number (protocol_of hardware n) ≡ n }
 {}
 
 /// What hardware types make of a number, and the number set anew.

@@ -5,7 +5,7 @@ ghost use Rattle.std.specs.Cmp.Lexicographic.{slice_cmp};
 ghost use Rattle.std.specs.Hash as fed;
 ghost use Rattle.std.specs.Ordering.{nat_cmp};
 ghost use Rattle.ep_base.specs.Traits.{DefaultIs, HashIsOf, IsPlainData, OrderIsOf, VariantFeeds};
-ghost use Rattle.ep_link.specs.Sll.{number_of};
+ghost use Rattle.ep_link.specs.Sll.{protocol_number};
 ghost use Rattle.ep_link.specs.SllPayload.{kind_index, protocol_ordered_as};
 ghost use Rattle.ep_link.specs.declared.err.arp.arp_eth_ipv4_from_error.ArpEthIpv4FromError.TheVariants as from;
 ghost use Rattle.ep_link.specs.declared.err.arp.arp_hw_addr_error.ArpHwAddrError.TheVariants as hardware;
@@ -68,7 +68,7 @@ pub fn orders_are_of_numbers()
 pub fn protocols_by_kind_and_number()
     ensures order { (a b : LinuxSllProtocolType) → ⟦<LinuxSllProtocolType as Ord>⟧.cmp a b
         ≡ slice_cmp nat_cmp (protocol_ordered_as a) (protocol_ordered_as b) }
-    ensures hash { HashIsOf (λ p. fed.isize (pos (kind_index p)) ++ fed.u16 (number_of p))
+    ensures hash { HashIsOf (λ p. fed.isize (pos (kind_index p)) ++ fed.u16 (protocol_number p))
         ⟦<LinuxSllProtocolType as Hash>⟧.hash_input }
 {}
 

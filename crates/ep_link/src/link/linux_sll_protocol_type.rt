@@ -1,5 +1,5 @@
 ghost use Rattle.std.specs.Prelude.{◌≡◌};
-ghost use Rattle.ep_link.specs.Sll.{ether_protocol, protocol_of, number_of, with_number};
+ghost use Rattle.ep_link.specs.Sll.{ether_protocol, protocol_of, protocol_number, with_number};
 
 use super::ArpHardwareId;
 use ep_base::EtherType;
@@ -72,7 +72,7 @@ impl From<(ArpHardwareId, u16)> for LinuxSllProtocolType {
 }
 
 impl From<LinuxSllProtocolType> for u16 {
-    ghost from_gives = { λ protocol n. n ≡ number_of protocol };
+    ghost from_gives = { λ protocol n. n ≡ protocol_number protocol };
 
     fn from(protocol: LinuxSllProtocolType) -> u16 {
         match protocol {

@@ -3,7 +3,7 @@ ghost use Rattle.std.specs.Prelude.{◌≡◌, ◌≤◌, ◌<◌, ◌^◌, leng
 ghost use Rattle.etherparse.specs.Built.{packet_with_number, refusal_of, size_of};
 ghost use Rattle.netlines.specs.PostRefusal.{room};
 ghost use Rattle.netlines.specs.Posted.{frame};
-ghost use Rattle.netlines.specs.PostedHeaders.{fragment_of, headers_of, ip_headers_of};
+ghost use Rattle.netlines.specs.PostedHeaders.{posted_fragment_header, headers_of, ip_headers_of};
 
 use crate::{IpFragVersionSpecId, Letter};
 use etherparse::{
@@ -127,7 +127,7 @@ fn fragment_header(
     more: bool,
     identification: u32,
 ) -> Option<Ipv6FragmentHeader>
-    ensures { result ≡ fragment_of is_fragmented offset more identification }
+    ensures { result ≡ posted_fragment_header is_fragmented offset more identification }
 {
     if is_fragmented {
         Some(Ipv6FragmentHeader::new(IpNumber(0), offset, more, identification))

@@ -3,7 +3,7 @@ use Rattle.std.proofs.lemmas.List.{take_all}
 use Rattle.etherparse.specs.declared.defrag.pool_calls.PoolCall.{PoolCall}
 use Rattle.etherparse.specs.PoolCalls.{Answered, Lists, CallsAnswered, ShowsLists, answer_result, lists_after}
 use Rattle.etherparse.proofs.JoinedDatagrams.{answers_join}
-use Rattle.etherparse.proofs.Runs.{bounded_more, prefix_has, no_call, same_call, answers_more, answers_with_memory}
+use Rattle.etherparse.proofs.CallAnswers.{bounded_more, prefix_has, no_call, same_call, answers_more, answers_with_memory}
 use Rattle.etherparse.proofs.defrag.pool_calls.run_calls.Goals as goal
 
 pub loop-call-preserved : goal.loop-call-preserved
