@@ -102,12 +102,12 @@ def described():
 # where what PACKETS.md says bounds them, and what makes the capture.
 HELD = 3 * 1024
 INPUTS = {
-    "40,000 fragments, colliding names": ("show", 102400, 10, fragments(40_000, lambda at: part6(7, at.to_bytes(8, "big") + COLLIDING))),
-    "40,000 fragments, other names": ("show", 102400, 10, fragments(40_000, lambda at: part6(7, numbered(at)))),
-    "2,000 fragments at offset 65,520": ("show", 102400, 50, fragments(2000, lambda at: part6(at, numbered(at), 65_520 | 1))),
-    "2,000 last fragments at offset 65,520": ("show", 102400, 50, fragments(2000, lambda at: part6(at, numbered(at), 65_520))),
-    "a million names": ("show", 102400, 10, fragments(1_000_000, lambda at: part6(at, numbered(at)))),
-    "fragments of one time, --forget 1": ("show --forget 1", 102400, 10, one_time),
+    "40,000 fragments, colliding names": ("show", 102400, 3, fragments(40_000, lambda at: part6(7, at.to_bytes(8, "big") + COLLIDING))),
+    "40,000 fragments, other names": ("show", 102400, 3, fragments(40_000, lambda at: part6(7, numbered(at)))),
+    "20,000 fragments at offset 65,520": ("show", 102400, 3, fragments(20_000, lambda at: part6(at, numbered(at), 65_520 | 1))),
+    "20,000 last fragments at offset 65,520": ("show", 102400, 3, fragments(20_000, lambda at: part6(at, numbered(at), 65_520))),
+    "a million names": ("show", 102400, 3, fragments(1_000_000, lambda at: part6(at, numbered(at)))),
+    "fragments of one time, --forget 1": ("show --forget 1", 102400, 3, one_time),
     "fragments a second apart, --forget 1": ("show --forget 1", HELD, 10, apart),
     "200,000 pairs of addresses": ("summary", None, None, lambda: file(record(ipv4(bytes(26), at, at + 1, 253)) for at in range(COUNT))),
     "first and last second by turns": ("summary", HELD, 10, jumping),

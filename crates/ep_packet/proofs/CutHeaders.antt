@@ -23,10 +23,10 @@ range_in a b n bytes order fits =
 pub link_cut : (n : ℕ) (header : LinkSlice) → link_len (Some header) ≤ n
     → link_fields_of (cut_link n header) ≡ link_fields_of header
 link_cut n (link.Ethernet2 frame) fits =
-    let destination = range_in 0 6 n frame (omega arith) (omega (arith, fits)) in
-    let source = range_in 6 12 n frame (omega arith) (omega (arith, fits)) in
-    let high = get_or-take n frame 12 0 (omega (arith, fits)) in
-    let low = get_or-take n frame 13 0 (omega (arith, fits)) in
+    let destination = range_in 0 6 n frame.bytes (omega arith) (omega (arith, fits)) in
+    let source = range_in 6 12 n frame.bytes (omega arith) (omega (arith, fits)) in
+    let high = get_or-take n frame.bytes 12 0 (omega (arith, fits)) in
+    let low = get_or-take n frame.bytes 13 0 (omega (arith, fits)) in
     rw (destination, source, high, low) refl
 link_cut n (link.LinuxSll bytes) fits =
     let b0 = get_or-take n bytes 0 0 (omega (arith, fits)) in

@@ -27,6 +27,7 @@ use Rattle.ep_ipslice.specs.declared.net.ip_slice.IpSlice.TheVariants as ip
 use Rattle.ep_base.specs.declared.len_source.LenSource.TheVariants.{Ipv4HeaderTotalLen, Slice}
 use Rattle.ep_link.specs.Arp.{packet_at, packet_len_of}
 use Rattle.ep_link.specs.Ethernet.{ethernet_len, next_type_of, payload_of}
+use Rattle.ep_link.specs.Frame.{without_fcs}
 use Rattle.ep_link.specs.Sll.{greatest_packet_type, packet_type_of, sll_len}
 use Rattle.ep_link.specs.SllFault as sll_fault
 use Rattle.ep_link.specs.SllPayload as sll
@@ -53,7 +54,7 @@ use Rattle.ep_packet.specs.Sliced.{in_linux_sll, ip_layers, ipv4_layers, ipv4_ty
 use Rattle.ep_packet.specs.Sliced.{packet_after, packet_tagged, packet_with, read_transport, result_within, sliced_ether_type}
 use Rattle.ep_packet.specs.Sliced.{sliced_ethernet, sliced_ip, sliced_linux_sll, transport_in, transport_of}
 use Rattle.ep_packet.specs.Sliced as strict
-use Rattle.ep_packet.specs.Tags.{Tagged, from_tag, is_macsec_type, is_vlan_type, macsec_tag, most_tags, read_further, tag_at}
+use Rattle.ep_packet.specs.Tags.{Tagged, from_tag, is_macsec_type, macsec_tag, most_tags, read_further, tag_at}
 use Rattle.ep_packet.specs.Tags.{tags_in, vlan_tag, with_tag}
 use Rattle.ep_packet.specs.declared.err.packet.slice_error.SliceError.{SliceError}
 use Rattle.ep_packet.specs.declared.lax_sliced_packet.LaxSlicedPacket.{LaxSlicedPacket}
@@ -68,7 +69,7 @@ use Rattle.ep_tag.specs.LinkExt.{lax_payload_after, lax_tag_len, payload_after, 
 use Rattle.ep_tag.specs.MacsecLax.{lax_macsec_at}
 use Rattle.ep_tag.specs.MacsecPayload.{Macsec, macsec_at}
 use Rattle.ep_tag.specs.Prefix.{whole_at}
-use Rattle.ep_tag.specs.Vlan.{vlan_len}
+use Rattle.ep_tag.specs.Vlan.{is_vlan_type, vlan_len}
 use Rattle.ep_tag.specs.declared.err.macsec.header_error.HeaderError.{HeaderError as MacsecFault}
 use Rattle.ep_tag.specs.declared.link.lax_link_ext_slice.LaxLinkExtSlice.{LaxLinkExtSlice}
 use Rattle.ep_tag.specs.declared.link.link_ext_slice.LinkExtSlice.{LinkExtSlice}
@@ -445,7 +446,7 @@ ethernet_case : CutParts → (short : Bool) (n : ℕ) (bytes : List ℕ) (packet
     → lax_sliced_ethernet (take n bytes) ≡ Ok (cut_packet n packet)
 ethernet_case law true n bytes packet is size fits = cc
 ethernet_case law false n bytes packet is size fits =
-    let frame : LinkSlice = link.Ethernet2 bytes in
+    let frame : LinkSlice = link.Ethernet2 (without_fcs bytes) in
     let inner = later_ok ethernet_len (packet_after frame (payload_of bytes)) packet is in
     let parts = by_link n frame packet (link_is frame (payload_of bytes) packet inner) fits in
     let whole : nat_lt (length (take n bytes)) ethernet_len ≡ false =

@@ -38,6 +38,7 @@ use Rattle.ep_ipslice.specs.declared.err.ip.header_error.HeaderError.{HeaderErro
 use Rattle.ep_link.specs.Arp.{packet_at, packet_len_of}
 use Rattle.ep_link.specs.Ethernet as ethernet
 use Rattle.ep_link.specs.Ethernet.{ethernet_len}
+use Rattle.ep_link.specs.Frame.{without_fcs}
 use Rattle.ep_link.specs.Sll.{packet_type_of, sll_len}
 use Rattle.ep_link.specs.SllFault as sll_fault
 use Rattle.ep_link.specs.SllPayload as sll
@@ -57,7 +58,7 @@ use Rattle.ep_packet.specs.LaxTags.{lax_tags_in, lax_vlan_tag}
 use Rattle.ep_packet.specs.Readable as number
 use Rattle.ep_packet.specs.Readable.{ReadMessage, read_as, tcp_fault}
 use Rattle.ep_packet.specs.Sliced.{arp_type, ether_payload, ipv4_type, ipv6_type, read_transport, result_within, transport_of}
-use Rattle.ep_packet.specs.Tags.{is_macsec_type, is_vlan_type, most_tags}
+use Rattle.ep_packet.specs.Tags.{is_macsec_type, most_tags}
 use Rattle.ep_packet.specs.declared.err.packet.slice_error.SliceError.{SliceError}
 use Rattle.ep_packet.specs.declared.err.packet.slice_error.SliceError.TheVariants as fault
 use Rattle.ep_packet.specs.declared.lax_sliced_packet.LaxSlicedPacket.{LaxSlicedPacket}
@@ -73,7 +74,7 @@ use Rattle.ep_tag.specs.MoreTags as tag_payload
 use Rattle.ep_tag.specs.MoreTags.{IsContinued, KeepsMacsec, KeepsTag}
 use Rattle.ep_tag.specs.Prefix.{whole_at}
 use Rattle.ep_tag.specs.Vlan as vlan
-use Rattle.ep_tag.specs.Vlan.{vlan_len}
+use Rattle.ep_tag.specs.Vlan.{is_vlan_type, vlan_len}
 use Rattle.ep_tag.specs.declared.err.macsec.header_error.HeaderError.{HeaderError as MacsecFault}
 use Rattle.ep_tag.specs.declared.link.lax_link_ext_slice.LaxLinkExtSlice.{LaxLinkExtSlice}
 use Rattle.ep_tag.specs.declared.link.lax_link_ext_slice.LaxLinkExtSlice.TheVariants as tag
@@ -605,10 +606,10 @@ ethernet_case law false bytes more before size is =
     let high = same_byte bytes more 12 (omega (arith, fits)) in
     let low = same_byte bytes more 13 (omega (arith, fits)) in
     let named : ethernet.next_type_of (bytes ++ more) ≡ ethernet.next_type_of bytes = rw (high, low) refl in
-    let kept = after_more law ethernet_len (link.Ethernet2 bytes) (link.Ethernet2 (bytes ++ more))
+    let kept = after_more law ethernet_len (link.Ethernet2 (without_fcs bytes)) (link.Ethernet2 (without_fcs (bytes ++ more)))
     (ethernet.payload_of bytes) (ethernet.payload_of (bytes ++ more))
     (bytes ++ more, refl, (more, refl)) named (more, drop-append-le ethernet_len bytes more fits) in
-    let same : lax_packet_after ethernet_len (link.Ethernet2 bytes) (ethernet.payload_of bytes) ≡ before = cc in
+    let same : lax_packet_after ethernet_len (link.Ethernet2 (without_fcs bytes)) (ethernet.payload_of bytes) ≡ before = cc in
     rw whole (rw same at kept)
 
 pub ethernet_more : MoreParts → (bytes more : List ℕ) (before : LaxSlicedPacket)

@@ -3,6 +3,7 @@ use Rattle.std.specs.Prelude.{ℕ, ◌+◌, ◌-◌, List, [], ◌∷◌, Option
 use Rattle.std.specs.Option.{option_map}
 use Rattle.ep_ipslice.specs.CutPackets.{cut_ipv4, cut_ipv6}
 use Rattle.ep_link.specs.Ethernet.{ethernet_len}
+use Rattle.ep_link.specs.Frame.{without_fcs}
 use Rattle.ep_link.specs.Sll.{sll_len}
 use Rattle.ep_link.specs.declared.link.link_slice.LinkSlice.{LinkSlice}
 use Rattle.ep_link.specs.declared.link.link_slice.LinkSlice.TheVariants as link
@@ -54,7 +55,7 @@ all_headers_len packet = link_len packet.link + len_after_link packet
 
 -- the first n bytes of each layer and of what follows it
 abbrev pub cut_link : ℕ → LinkSlice → LinkSlice
-cut_link n (link.Ethernet2 frame) = link.Ethernet2 (take n frame)
+cut_link n (link.Ethernet2 frame) = link.Ethernet2 (without_fcs (take n frame.bytes))
 cut_link n (link.LinuxSll bytes) = link.LinuxSll (take n bytes)
 cut_link n (link.EtherPayload p) = link.EtherPayload (record p { payload = take n p.payload })
 cut_link n (link.LinuxSllPayload p) = link.LinuxSllPayload (record p { payload = take n p.payload })

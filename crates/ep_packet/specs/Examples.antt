@@ -5,6 +5,7 @@ use Rattle.ep_base.specs.declared.err.layer.Layer.{Layer}
 use Rattle.ep_base.specs.declared.len_source.LenSource.{LenSource}
 use Rattle.ep_base.specs.declared.len_source.LenSource.TheVariants.{Slice}
 use Rattle.ep_ipslice.specs.Packet.{Ipv4Packet}
+use Rattle.ep_link.specs.Frame.{without_fcs}
 use Rattle.ep_link.specs.declared.link.link_slice.LinkSlice.TheVariants as link
 use Rattle.ep_packet.specs.declared.addresses.Addresses.{Addresses}
 use Rattle.ep_packet.specs.declared.addresses.Addresses.TheVariants.{V4}
@@ -57,7 +58,7 @@ whole_frame = frame_addresses ++ 0x81 ∷ 0 ∷ 0 ∷ 5 ∷ 8 ∷ 0 ∷ [] ++ ip
 -- the layers of that frame
 abbrev pub whole_layers : SlicedPacket
 whole_layers = record {
-  link = Some (link.Ethernet2 whole_frame);
+  link = Some (link.Ethernet2 (without_fcs whole_frame));
   link_exts = record { items = tag.Vlan (0 ∷ 5 ∷ 8 ∷ 0 ∷ ipv4_header ++ udp_message) ∷ [] };
   net = Some (net.Ipv4 ipv4_packet);
   transport = Some (message.Udp udp_message);

@@ -17,7 +17,7 @@ use Rattle.ep_tag.specs.declared.link.lax_link_ext_slice.LaxLinkExtSlice.{LaxLin
 -- the link header, and more of what follows it at most
 abbrev pub KeepsLink : LinkSlice → Option LinkSlice → Type 0
 KeepsLink (link.Ethernet2 frame) after =
-    (all : List ℕ) × (after ≡ Some (link.Ethernet2 all)) × IsContinued frame all
+    (all : List ℕ) × (after ≡ Some (link.Ethernet2 (record frame { bytes = all }))) × IsContinued frame.bytes all
 KeepsLink (link.LinuxSll bytes) after =
     (all : List ℕ) × (after ≡ Some (link.LinuxSll all)) × IsContinued bytes all
 KeepsLink (link.EtherPayload p) after =
