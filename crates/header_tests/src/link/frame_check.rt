@@ -88,12 +88,14 @@ fn a_frame_without_sequence(rt: HostRuntime) {
 #[test]
 fn each_bit_counts(rt: HostRuntime) {
     for index in 0..20usize {
-        let mut bytes = BYTES;
-        bytes[index] ^= 1;
-        let Ok((_, found)) = sequence_in(&bytes) else {
-            fail(rt, "no frame");
-        };
-        equal(rt, found, Some(false));
+        for bit in 0..8u32 {
+            let mut bytes = BYTES;
+            bytes[index] ^= 1 << bit;
+            let Ok((_, found)) = sequence_in(&bytes) else {
+                fail(rt, "no frame");
+            };
+            equal(rt, found, Some(false));
+        }
     }
 }
 

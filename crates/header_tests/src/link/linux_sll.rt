@@ -5,8 +5,8 @@ use ep_base::{EtherType, LenSource};
 use ep_link::err::linux_sll::{HeaderError, HeaderSliceError};
 use ep_link::laws::linux_sll::*;
 use ep_link::{
-    ArpHardwareId, LinuxSllHeader, LinuxSllHeaderSlice, LinuxSllPacketType, LinuxSllPayloadSlice,
-    LinuxSllProtocolType, LinuxSllSlice,
+    ArpHardwareId, LinkSlice, LinuxSllHeader, LinuxSllHeaderSlice, LinuxSllPacketType,
+    LinuxSllPayloadSlice, LinuxSllProtocolType, LinuxSllSlice,
 };
 use ep_tag::EtherPayloadSlice;
 use std::process::Abort;
@@ -111,6 +111,38 @@ fn an_ether_payload_and_back(rt: HostRuntime) {
         Ok(slice) => is_named(rt, slice.payload()),
         Err(_) => fail(rt, "no packet"),
     }
+}
+
+// From a netlink socket (hardware type 824), of family 16.
+const NETLINK: [u8; 18] = [0, 4, 3, 0x38, 0, 0, 0, 0, 0, 0, 0, 0, 0, 0, 0, 16, 21, 22];
+
+#[test]
+fn payload_of_a_netlink_packet(rt: HostRuntime) {
+    let Ok(slice) = LinuxSllSlice::from_slice(&NETLINK) else {
+        fail(rt, "no packet");
+    };
+    let payload =
+        "LinuxSllPayloadSlice { protocol_type: NetlinkProtocolType(16), payload: [21, 22] }";
+    shows(rt, &LinkSlice::LinuxSll(slice).sll_payload(), payload);
+}
+
+#[test]
+fn payloads_without_a_link_header(rt: HostRuntime) {
+    let arp = LinkSlice::EtherPayload(EtherPayloadSlice {
+        ether_type: EtherType::ARP,
+        len_source: LenSource::Slice,
+        payload: &[21, 22],
+    });
+    let payload =
+        "LinuxSllPayloadSlice { protocol_type: EtherType(EtherType(2054)), payload: [21, 22] }";
+    shows(rt, &arp.sll_payload(), payload);
+    let gre = LinkSlice::LinuxSllPayload(LinuxSllPayloadSlice {
+        protocol_type: LinuxSllProtocolType::GenericRoutingEncapsulationProtocolType(0x6558),
+        payload: &[23],
+    });
+    let payload = "LinuxSllPayloadSlice { protocol_type: \
+        GenericRoutingEncapsulationProtocolType(25944), payload: [23] }";
+    shows(rt, &gre.sll_payload(), payload);
 }
 
 const WITHOUT_AN_ETHER_TYPE: &[LinuxSllProtocolType] = &[
