@@ -112,6 +112,12 @@ def after_headers():
     yield dataclasses.replace(
         refusal, line=f"{there.line}  refused: TCP data offset 4 below 5", wire=57
     )
+    # A message is longer than its kind, and it was cut, too.
+    packet = v4(1, icmp(13, 0, bytes(36)))
+    there = ip_there(packet, "ICMP", "ICMP")
+    refusal = cut_off(frame(IPV4, bytes(packet)[:44]), *names[IPV4], 14, 60, 44, headers=there)
+    words = "ICMP timestamp request cut off: 20 bytes needed at byte 34, 24 there"
+    yield dataclasses.replace(refusal, line=f"{there.line}  refused: {words}", wire=74)
     # Nothing was captured but a part of the Ethernet header.
     it = cut_off(frame(IPV4, b"")[:10], "Ethernet header", "Ethernet2Header", 0, 14, 10)
     yield dataclasses.replace(it, line="", wire=60, gap="")

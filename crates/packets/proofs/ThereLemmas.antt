@@ -96,6 +96,10 @@ module _ (own : (bytes : List ℕ) (packet : SlicedPacket) → sliced_ethernet b
       ap (λ (l : LaxSlicedPacket). Some l)
       (after (record { 0 = header.ether_type }) bytes packet (before_header _ packet same))
 
+  pub whole_is_there : (header : Option Header) (bytes : List ℕ) (packet : SlicedPacket)
+      → layers_of header bytes ≡ Ok packet → there_of header bytes ≡ Some (whole_packet packet)
+  whole_is_there = is_there
+
   pub headers_are_there : (link : Link) (header : Option Header) (bytes : List ℕ)
       → headers_of link (layers_of header bytes) (there_of header bytes)
       ≡ headers_there link (there_of header bytes)

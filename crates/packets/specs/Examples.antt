@@ -1,13 +1,14 @@
 -- Packets of literal bytes, which the examples dissect and count.
-use Rattle.std.specs.Prelude.{ℕ, ◌+◌, ◌*◌, ◌++◌, true, false, List, [], ◌∷◌, Option, Some, None, replicate}
-use Rattle.ep_base.specs.declared.err.layer.Layer.TheVariants.{Ipv4Header, Ipv4Packet}
+use Rattle.std.specs.Prelude.{ℕ, ◌+◌, ◌*◌, ◌++◌, true, false, List, [], ◌∷◌, Option, Some, None, Err, replicate}
+use Rattle.captures.specs.declared.link.kind.Link.TheVariants as link
+use Rattle.ep_base.specs.declared.err.layer.Layer.TheVariants.{Icmpv4Timestamp, Ipv4Header, Ipv4Packet}
 use Rattle.ep_base.specs.declared.len_source.LenSource.{LenSource}
 use Rattle.ep_base.specs.declared.len_source.LenSource.TheVariants as source
 use Rattle.ep_ipslice.specs.Packet.{Ipv6Packet}
 use Rattle.ep_packet.specs.declared.addresses.Addresses.{Addresses}
 use Rattle.ep_packet.specs.declared.addresses.Addresses.TheVariants.{V4, V6}
 use Rattle.ep_packet.specs.declared.err.packet.slice_error.SliceError.{SliceError}
-use Rattle.ep_packet.specs.declared.err.packet.slice_error.SliceError.TheVariants.{Len}
+use Rattle.ep_packet.specs.declared.err.packet.slice_error.SliceError.TheVariants.{Len, Tcp}
 use Rattle.ep_packet.specs.declared.lax_sliced_packet.LaxSlicedPacket.{LaxSlicedPacket}
 use Rattle.ep_packet.specs.declared.net.lax_net_slice.LaxNetSlice.{LaxNetSlice}
 use Rattle.ep_packet.specs.declared.net.lax_net_slice.LaxNetSlice.TheVariants as lax
@@ -16,9 +17,11 @@ use Rattle.ep_packet.specs.declared.sliced_packet.SlicedPacket.{SlicedPacket}
 use Rattle.ep_packet.specs.declared.transport.transport_slice.TransportSlice.{TransportSlice}
 use Rattle.ep_packet.specs.declared.transport.transport_slice.TransportSlice.TheVariants as transport
 use Rattle.ep_packet.specs.Class.{FragmentName}
+use Rattle.ep_tcpudp.specs.declared.err.tcp.header_error.HeaderError.TheVariants.{DataOffsetTooSmall}
 use Rattle.etherparse.specs.Fragments.{fragment as first_of}
 use Rattle.etherparse.specs.PoolCalls.{Lists}
 use Rattle.packets.specs.ReassemblyMemory.{Order}
+use Rattle.packets.specs.declared.dissection.Dissection.{Dissection}
 use Rattle.packets.specs.declared.outline.Headers.{Headers}
 use Rattle.packets.specs.declared.outline.Net.TheVariants as net
 use Rattle.packets.specs.declared.outline.Outline.{Outline}
@@ -126,6 +129,16 @@ missing by needed there = Len (record {
   layer_start_offset = 14;
 })
 
+-- an ICMP timestamp message after an IPv4 header has 24 bytes, and not the 20 of its kind (RFC 792)
+abbrev pub long_timestamp : SliceError
+long_timestamp = Len (record {
+  required_len = 20;
+  len = 24;
+  len_source = source.Slice;
+  layer = Icmpv4Timestamp;
+  layer_start_offset = 34;
+})
+
 -- ARP packets (RFC 826) in which 10.0.0.1 requests the hardware address of 10.0.0.2: of Ethernet
 -- for IPv4; of IEEE 802, hardware type 6; for the addresses of protocol 0x1234; and of ARCNET,
 -- hardware type 7, whose addresses have one byte
@@ -202,6 +215,25 @@ page = message 1 0 54 (headers_over ipv4_ends 6) (Some verdict.Good)
     ∷ record (refused 8 7 54 reason.TcpDataOffset) { headers = headers_over ipv4_ends 6 }
     ∷ message 9 8 44 (headers_over back_ends 17) (Some verdict.None)
     ∷ outline_of_fragment 10 9 fragment.Waits None ∷ []
+
+-- the eighth of them, a TCP segment that breaks its format
+abbrev pub eighth : Dissection
+eighth = record {
+  number = 8;
+  first_time = 1700000000250000000;
+  previous_time = 1700000001000000000;
+  time = 1700000001125000000;
+  interface = 0;
+  link = link.Ethernet;
+  header = None;
+  bytes = replicate 12 2 ++ 8 ∷ 0 ∷ (ipv4_header 6 ++ segment_with 4);
+  len = 54;
+  captured_len = 54;
+  wire_len = 54;
+  layers = Err (Tcp (DataOffsetTooSmall 4));
+  fragment = None;
+  verdict = None;
+}
 
 abbrev pub tally : (packets bytes first : ℕ) → Tally
 tally packets bytes first = record { packets = packets; bytes = bytes; first = Some first }

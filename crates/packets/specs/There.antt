@@ -24,8 +24,8 @@ if_read (Ok packet) = Some packet
 if_read (Err e) = None
 
 -- the headers that are there of an Ethernet II frame, or of what follows a header that was made: all
--- before the first that isn't whole or breaks its format. There are none in a frame that is shorter
--- than its Ethernet II header
+-- before the first that isn't whole, or has a wrong version, header length, data offset or place.
+-- There are none in a frame that is shorter than its Ethernet II header
 abbrev pub there_of : Option Header → List ℕ → Option LaxSlicedPacket
 there_of None bytes = if_read (lax_sliced_ethernet bytes)
 there_of (Some header) bytes =
@@ -65,7 +65,8 @@ is_end_of_bytes source.ArpAddrLengths = true
 -- that the bytes which are missing were cut off
 abbrev pub is_cut_off : (len cut : ℕ) → SliceError → Bool
 is_cut_off len cut (Len e) = nat_lt 0 cut && is_end_of_bytes e.len_source
-    && (e.layer_start_offset + e.len == len) && nat_le e.required_len (e.len + cut)
+    && (e.layer_start_offset + e.len == len) && nat_lt e.len e.required_len
+    && nat_le e.required_len (e.len + cut)
 is_cut_off len cut (LinuxSll e) = false
 is_cut_off len cut (Macsec e) = false
 is_cut_off len cut (Ip e) = false

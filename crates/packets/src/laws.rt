@@ -1,6 +1,6 @@
 //! What `Clone`, `PartialEq` and `Hash` of the types here mean, and what runs drop and count.
 ghost use Rattle.std.specs.Prelude.{◌≡◌, ◌≤◌, ◌<◌, ◌+◌, ◌-◌, ◌*◌, ◌^◌, ℕ, true, false, not, is_some, pos, List, [], ◌∷◌};
-ghost use Rattle.std.specs.Prelude.{◌++◌, Bool, Option, Some, None};
+ghost use Rattle.std.specs.Prelude.{◌++◌, Bool, Option, Some, None, Ok};
 ghost use Rattle.std.specs.Hash as fed;
 ghost use Rattle.captures.specs.declared.link.header.Header.{Header};
 ghost use Rattle.captures.specs.declared.link.kind.Link.{Link};
@@ -9,6 +9,8 @@ ghost use Rattle.ep_base.specs.Traits.{IsPlainData, VariantFeeds};
 ghost use Rattle.etherparse.specs.PoolCalls.{Lists};
 ghost use Rattle.etherparse.specs.Fragments.{Fragment};
 ghost use Rattle.ep_packet.specs.Class.{FragmentName};
+ghost use Rattle.ep_packet.specs.LaxWhole.{whole_packet};
+ghost use Rattle.ep_packet.specs.declared.sliced_packet.SlicedPacket.{SlicedPacket};
 ghost use Rattle.packets.specs.Conditions.{has_host, packet_has_port, there_has_host, there_has_port};
 ghost use Rattle.packets.specs.Courses.{Course, course_after, lists_at, next_course, no_course};
 ghost use Rattle.packets.specs.ReassemblyMemory.{Tracks, taken};
@@ -179,8 +181,8 @@ pub fn held_within()
     etherparse::laws::defrag::names::equal_names::<u32>();
 }
 
-/// A packet has the headers, the hosts and the ports of the headers that are there: of one that isn't
-/// refused all headers are.
+/// A packet has the headers, the hosts and the ports of the headers that are there. Of one that isn't
+/// refused all are, with what they hold.
 pub fn headers_are_those_there()
     ensures headers { (link : Link) (header : Option Header) (bytes : List ℕ)
         → headers_of link (layers_of header bytes) (there_of header bytes)
@@ -191,6 +193,8 @@ pub fn headers_are_those_there()
     ensures port { (header : Option Header) (bytes : List ℕ) (port : ℕ)
         → packet_has_port (layers_of header bytes) (there_of header bytes) port
         ≡ there_has_port (there_of header bytes) port }
+    ensures whole { (header : Option Header) (bytes : List ℕ) (packet : SlicedPacket)
+        → layers_of header bytes ≡ Ok packet → there_of header bytes ≡ Some (whole_packet packet) }
 {
     ep_packet::laws::whole_packets_are_lax_packets();
 }

@@ -42,8 +42,9 @@ impl<'a> FrameBytes<'a> {
 }
 
 impl<'a> Dissection<'a> {
-    /// The headers that are there, also where it is refused: all before the first that isn't whole
-    /// or breaks its format. There are none in a frame that is shorter than its Ethernet II header.
+    /// The headers that are there, also where it is refused: all before the first that isn't whole,
+    /// or has a wrong version, header length, data offset or place. There are none in a frame that is
+    /// shorter than its Ethernet II header.
     #[inline(never)]
     pub fn there(&self) -> Option<LaxSlicedPacket<'a>>
         ensures { result ≡ there_of self.now.header self.now.bytes }
@@ -92,6 +93,7 @@ fn is_cut_off(len: usize, cut: usize, fault: SliceError) -> bool
             0 < cut
                 && is_end_of_bytes(error.len_source)
                 && end == len as u128
+                && error.len < error.required_len
                 && error.required_len as u128 <= most
         }
         _ => false,

@@ -20,7 +20,7 @@ ghost use Rattle.packets.specs.Conditions.{lets_through, message_has_port, net_h
 ghost use Rattle.packets.specs.Conditions.{packet_has_port, transport_has_port};
 ghost use Rattle.packets.specs.Dissected.{verdict_on};
 ghost use Rattle.packets.specs.Examples.{arp_for_another_protocol, arp_of_arcnet, arp_of_ieee_802, arp_request};
-ghost use Rattle.packets.specs.Examples.{datagram_with, in_part, ipv4_ends, ipv4_header, ipv4_in_part};
+ghost use Rattle.packets.specs.Examples.{datagram_with, eighth, in_part, ipv4_ends, ipv4_header, ipv4_in_part};
 ghost use Rattle.packets.specs.Examples.{ipv6_address, ipv6_header, segment_with};
 ghost use Rattle.packets.specs.There.{there_of};
 ghost use Rattle.etherparse.specs.PoolCalls.CallResult.{Delivered, Nothing};
@@ -46,15 +46,11 @@ pub fn headers_of_packets()
         }) → (holds (condition.Protocol protocol.Ethernet) packet ≡ true)
         × (holds (condition.Protocol protocol.Arp) packet ≡ true)
         × (holds (condition.Protocol protocol.Vlan) packet ≡ false) }
-    ensures refused { (packet : Dissection) → packet.link ≡ link.Ethernet
-        → packet.layers ≡ Err (fault.Tcp (tcp.DataOffsetTooSmall 4))
-        → there_of packet.header packet.bytes
-        ≡ Some (in_part (Some (ipv4_in_part 6 (segment_with 4))) None)
-        → (holds (condition.Protocol protocol.Ethernet) packet ≡ true)
-        × (holds (condition.Protocol protocol.Ipv4) packet ≡ true)
-        × (holds (condition.Protocol (protocol.OverIp (record { 0 = 6 }))) packet ≡ true)
-        × (holds (condition.Protocol (protocol.OverIp (record { 0 = 17 }))) packet ≡ false)
-        × (holds (condition.Protocol protocol.Arp) packet ≡ false) }
+    ensures refused { (holds (condition.Protocol protocol.Ethernet) eighth ≡ true)
+        × (holds (condition.Protocol protocol.Ipv4) eighth ≡ true)
+        × (holds (condition.Protocol (protocol.OverIp (record { 0 = 6 }))) eighth ≡ true)
+        × (holds (condition.Protocol (protocol.OverIp (record { 0 = 17 }))) eighth ≡ false)
+        × (holds (condition.Protocol protocol.Arp) eighth ≡ false) }
     ensures short { (packet : Dissection) → packet.link ≡ link.Ethernet
         → packet.layers ≡ Err (fault.Tcp (tcp.DataOffsetTooSmall 4))
         → there_of packet.header packet.bytes ≡ None

@@ -18,8 +18,8 @@ ghost use Rattle.ep_tag.specs.declared.link.lax_macsec_slice.LaxMacsecSlice.{Lax
 ghost use Rattle.ep_tag.specs.declared.link.link_ext_slice.LinkExtSlice.TheVariants as tag;
 ghost use Rattle.ep_tag.specs.declared.link.macsec_slice.MacsecSlice.{MacsecSlice};
 ghost use Rattle.ep_tcpudp.specs.declared.err.tcp.header_error.HeaderError.TheVariants as tcp;
-ghost use Rattle.packets.specs.Examples.{arp_request, datagram_with, headers_over, in_part, ipv4_ends, ipv4_header};
-ghost use Rattle.packets.specs.Examples.{ipv4_in_part, ipv6_ends};
+ghost use Rattle.packets.specs.Examples.{arp_request, datagram_with, eighth, headers_over, in_part, ipv4_ends};
+ghost use Rattle.packets.specs.Examples.{ipv4_header, ipv4_in_part, ipv6_ends};
 ghost use Rattle.packets.specs.Examples.{ipv6_header, message, no_headers, outline_of_fragment, refused, segment_with};
 ghost use Rattle.packets.specs.Outlines.{headers_of, headers_there, is_ethernet, is_macsec, is_vlan};
 ghost use Rattle.packets.specs.Outlines.{message_refusal, net_of};
@@ -161,22 +161,7 @@ pub fn packets_are_refused()
 /// seventh, an IPv4 header that is cut off; the sixth, which completes a message that started in the
 /// fifth; and the second, whose checksum is wrong.
 pub fn outlines_of_the_page()
-    ensures eighth { outline_of (record {
-      number = 8;
-      first_time = 1700000000250000000;
-      previous_time = 1700000001000000000;
-      time = 1700000001125000000;
-      interface = 0;
-      link = link.Ethernet;
-      header = None;
-      bytes = replicate 12 2 ++ 8 ∷ 0 ∷ (ipv4_header 6 ++ segment_with 4);
-      len = 54;
-      captured_len = 54;
-      wire_len = 54;
-      layers = Err (fault.Tcp (tcp.DataOffsetTooSmall 4));
-      fragment = None;
-      verdict = None;
-    }) ≡ record (refused 8 7 54 reason.TcpDataOffset) { headers = headers_over ipv4_ends 6 } }
+    ensures eighth { outline_of eighth ≡ record (refused 8 7 54 reason.TcpDataOffset) { headers = headers_over ipv4_ends 6 } }
     ensures seventh { outline_of (record {
       number = 7;
       first_time = 1700000000250000000;

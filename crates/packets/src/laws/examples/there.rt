@@ -11,11 +11,12 @@ ghost use Rattle.ep_packet.specs.declared.net.lax_net_slice.LaxNetSlice.TheVaria
 ghost use Rattle.ep_packet.specs.declared.transport.transport_slice.TransportSlice.TheVariants as transport;
 ghost use Rattle.ep_tcpudp.specs.declared.err.tcp.header_error.HeaderError.TheVariants as tcp;
 ghost use Rattle.packets.specs.Examples.{arp_request, datagram_with, in_part, ipv4_header, ipv4_in_part, ipv6_header};
-ghost use Rattle.packets.specs.Examples.{missing, segment_with};
+ghost use Rattle.packets.specs.Examples.{long_timestamp, missing, segment_with};
 ghost use Rattle.packets.specs.There.{promised_len, stop_of, there_of, shown_fault};
 
 /// Frames of a UDP datagram (RFC 768) over IPv4 of which only the headers were captured, also after a
-/// header that was made; one that ends in the IPv4 header; and one that ends in its own.
+/// header that was made; one that ends in the IPv4 header, which is the fault; and one that ends in
+/// its own.
 pub fn frames_in_part()
     ensures datagram { IfSome (there_of None
         (replicate 12 2 ++ 8 ∷ 0 ∷ (ipv4_header 17 ++ take 8 (datagram_with 0x11 0xef))))
@@ -30,6 +31,16 @@ pub fn frames_in_part()
     ensures in_header { IfSome (there_of None
         (replicate 12 2 ++ 8 ∷ 0 ∷ take 7 (ipv4_header 17)))
         (λ packet. (packet.net ≡ None) × (packet.transport ≡ None)) }
+    ensures is_in_header { IsSome (there_of None
+        (replicate 12 2 ++ 8 ∷ 0 ∷ take 7 (ipv4_header 17))) }
+    ensures stop_in_header { stop_of None (there_of None
+        (replicate 12 2 ++ 8 ∷ 0 ∷ take 7 (ipv4_header 17))) ≡ Some (fault.Len (record {
+          required_len = 20;
+          len = 7;
+          len_source = source.Slice;
+          layer = layer.Ipv4Header;
+          layer_start_offset = 14;
+        })) }
     ensures in_own_header { there_of None (replicate 10 2) ≡ None }
 {}
 
@@ -47,8 +58,8 @@ pub fn promised_lengths()
 
 /// Of a frame that wasn't cut the first fault is shown, whatever is there. Of one of which 34 bytes are
 /// there and 12 were cut off, none is shown where at most these are missing of an IPv4 packet of 32
-/// bytes; but a fault is that more are missing, that a length field leaves too few, or that a later
-/// header breaks its format.
+/// bytes; but a fault is that more are missing, that a length field leaves too few, that a later
+/// header breaks its format, or that a message has more bytes than its kind.
 pub fn shown_faults()
     ensures whole { (len : ℕ) (error : SliceError) (stop : Option SliceError)
         → shown_fault len 0 error stop ≡ Some error }
@@ -58,8 +69,18 @@ pub fn shown_faults()
         ≡ Some (missing source.Slice 32 20) }
     ensures before { shown_fault 35 12 (missing source.Slice 32 20) None
         ≡ Some (missing source.Slice 32 20) }
-    ensures field { shown_fault 34 12 (missing source.Ipv4HeaderTotalLen 32 20) None
-        ≡ Some (missing source.Ipv4HeaderTotalLen 32 20) }
+    ensures fields { (shown_fault 34 12 (missing source.Ipv4HeaderTotalLen 32 20) None
+        ≡ Some (missing source.Ipv4HeaderTotalLen 32 20))
+        × (shown_fault 34 12 (missing source.Ipv6HeaderPayloadLen 32 20) None
+        ≡ Some (missing source.Ipv6HeaderPayloadLen 32 20))
+        × (shown_fault 34 12 (missing source.MacsecShortLength 32 20) None
+        ≡ Some (missing source.MacsecShortLength 32 20))
+        × (shown_fault 34 12 (missing source.UdpHeaderLen 32 20) None
+        ≡ Some (missing source.UdpHeaderLen 32 20))
+        × (shown_fault 34 12 (missing source.TcpHeaderLen 32 20) None
+        ≡ Some (missing source.TcpHeaderLen 32 20)) }
+    ensures too_long { shown_fault 58 16 (missing source.Slice 60 44) (Some long_timestamp)
+        ≡ Some long_timestamp }
     ensures later { shown_fault 34 12 (missing source.Slice 32 20)
         (Some (fault.Tcp (tcp.DataOffsetTooSmall 4))) ≡ Some (fault.Tcp (tcp.DataOffsetTooSmall 4)) }
     ensures later_cut { shown_fault 34 12 (missing source.Slice 32 20)

@@ -17,3 +17,11 @@ returns-clause-made c = refl
 pub returns-clause-in_header : goal.returns-clause-in_header
 unfolding lax_tags_in
 returns-clause-in_header c = (refl, refl)
+
+pub returns-clause-is_in_header : goal.returns-clause-is_in_header
+unfolding lax_tags_in
+returns-clause-is_in_header c = refl
+
+pub returns-clause-stop_in_header : goal.returns-clause-stop_in_header
+unfolding lax_tags_in
+returns-clause-stop_in_header c = refl
