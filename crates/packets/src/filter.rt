@@ -24,7 +24,7 @@ use thiserror::Error;
 /// A condition on a packet.
 #[derive(Clone, Copy, Debug, PartialEq, Eq)]
 pub enum Condition {
-    /// It has a header of this protocol, or is a fragment of a datagram that carries it.
+    /// It has a header of this protocol, or its IP header names it, as in a fragment.
     Protocol(Protocol),
     /// The checksum of its message, or of that which it completes, is wrong.
     Bad,
@@ -38,7 +38,8 @@ pub enum Condition {
     /// It comes from this address or goes to it, by its IP header or as an ARP packet for IPv4, if
     /// that header is there.
     Host(IpAddr),
-    /// Its TCP or UDP message, or the one that it completes, comes from this port or goes to it.
+    /// Its TCP or UDP message, or the one that it completes, comes from this port or goes to it, if
+    /// that header is there.
     Port(u16),
 }
 

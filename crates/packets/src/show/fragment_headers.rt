@@ -20,14 +20,14 @@ pub(crate) struct FragmentHeaders {
 
 impl FragmentHeaders {
     /// Those of a fragment that is there as a whole. It has no contract: tests compare the texts.
-    pub(crate) fn of(cut: &IpFragment<'_>) -> FragmentHeaders {
+    pub(crate) fn of(fragment: &IpFragment<'_>) -> FragmentHeaders {
         FragmentHeaders {
-            addresses: cut.addresses,
-            ip_number: cut.ip_number,
-            identification: cut.identification,
-            offset: cut.fragment.offset.byte_offset(),
-            more_fragments: cut.fragment.more_fragments,
-            len: cut.fragment.bytes.len(),
+            addresses: fragment.addresses,
+            ip_number: fragment.ip_number,
+            identification: fragment.identification,
+            offset: fragment.fragment.offset.byte_offset(),
+            more_fragments: fragment.fragment.more_fragments,
+            len: fragment.fragment.bytes.len(),
         }
     }
 

@@ -24,8 +24,8 @@ pub(crate) fn other(
     line.counted(" len ", payload_of(layers).len() as u64)
 }
 
-/// The same of one that is refused, by the headers that are there, without its length. A header that
-/// was made has an address only where the link's own had one. It has no contract: tests compare the
+/// The same of one that is refused, by the headers that are there, without its length. The address of
+/// a header that was made isn't shown where it is all zeros. It has no contract: tests compare the
 /// texts.
 pub(crate) fn there(
     line: &mut Line<'_>,

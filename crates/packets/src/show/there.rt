@@ -5,6 +5,7 @@ use crate::show::fragment_headers::{FragmentHeaders, two_fragment_headers};
 use crate::show::{link, message, refusal};
 use crate::there::promised_len;
 use ep_base::IpNumber;
+use ep_ipslice::{LaxIpv4Slice, LaxIpv6Slice};
 use ep_packet::err::packet::SliceError;
 use ep_packet::{Addresses, LaxNetSlice, LaxSlicedPacket, Message, TransportSlice};
 use header_descriptions::show::Line;
@@ -58,45 +59,54 @@ fn headers(
     } = layers;
     match &net {
         Some(LaxNetSlice::Arp(packet)) => arp(line, packet),
-        Some(LaxNetSlice::Ipv4(packet)) if packet.is_payload_fragmented() => {
-            FragmentHeaders::over_ipv4(packet, len).show(line)?;
-            line.text(")")
-        }
         Some(LaxNetSlice::Ipv4(packet)) => {
-            let header = packet.header();
-            let addresses = Addresses::V4 {
-                source: header.source(),
-                destination: header.destination(),
-            };
             let read = read_in(transport, stop_err.is_some(), packet.payload().payload);
-            message::there(
-                line,
-                &addresses,
-                packet.payload_ip_number(),
-                read.as_ref(),
-                len,
-            )
+            over_ipv4(line, packet, read.as_ref(), len)
         }
         Some(LaxNetSlice::Ipv6(packet)) => {
-            let header = packet.header();
-            let addresses = Addresses::V6 {
-                source: header.source(),
-                destination: header.destination(),
-            };
-            let number = packet.payload_ip_number();
-            if packet.is_payload_fragmented() {
-                return fragment_over_ipv6(
-                    line,
-                    FragmentHeaders::over_ipv6(packet, len),
-                    addresses,
-                    number,
-                );
-            }
             let read = read_in(transport, stop_err.is_some(), packet.payload().payload);
-            message::there(line, &addresses, number, read.as_ref(), len)
+            over_ipv6(line, packet, read.as_ref(), len)
         }
         None => Ok(()),
     }
+}
+
+// An IPv4 packet, its message if its header is there, and the length of its payload.
+fn over_ipv4(
+    line: &mut Line<'_>,
+    packet: &LaxIpv4Slice<'_>,
+    read: Option<&Message<'_>>,
+    len: usize,
+) -> Result<(), AllocError> {
+    if packet.is_payload_fragmented() {
+        FragmentHeaders::over_ipv4(packet, len).show(line)?;
+        return line.text(")");
+    }
+    let header = packet.header();
+    let addresses = Addresses::V4 {
+        source: header.source(),
+        destination: header.destination(),
+    };
+    message::there(line, &addresses, packet.payload_ip_number(), read, len)
+}
+
+fn over_ipv6(
+    line: &mut Line<'_>,
+    packet: &LaxIpv6Slice<'_>,
+    read: Option<&Message<'_>>,
+    len: usize,
+) -> Result<(), AllocError> {
+    let header = packet.header();
+    let addresses = Addresses::V6 {
+        source: header.source(),
+        destination: header.destination(),
+    };
+    let number = packet.payload_ip_number();
+    if packet.is_payload_fragmented() {
+        let fragment = FragmentHeaders::over_ipv6(packet, len);
+        return fragment_over_ipv6(line, fragment, addresses, number);
+    }
+    message::there(line, &addresses, number, read, len)
 }
 
 fn fragment_over_ipv6(
