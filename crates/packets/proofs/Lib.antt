@@ -5,6 +5,7 @@ mod EndLemmas
 mod ForgetLemmas
 mod HeldLemmas
 mod KeepLemmas
+mod LaxLayersLemmas
 mod LimitLemmas
 mod LineLemmas
 mod OrderLemmas
@@ -14,7 +15,6 @@ mod RateLemmas
 mod RouteLemmas
 mod TableLemmas
 mod TallyLemmas
-mod ThereLemmas
 mod TrackLemmas
 mod WalkLemmas
 mod WithinLemmas

@@ -23,9 +23,9 @@ use Rattle.ep_tcpudp.specs.Tcp as tcp
 use Rattle.ep_tcpudp.specs.Udp as udp
 use Rattle.packets.specs.Counts.{is_bad}
 use Rattle.packets.specs.Headers.{has_header}
+use Rattle.packets.specs.LaxLayers.{lax_layers_of}
 use Rattle.packets.specs.Lengths.{is_cut}
 use Rattle.packets.specs.Outlines.{headers_of, refusal_of}
-use Rattle.packets.specs.There.{there_of}
 use Rattle.packets.specs.declared.dissection.Dissection.{Dissection}
 use Rattle.packets.specs.declared.dissection.Fragment.{Fragment}
 use Rattle.packets.specs.declared.dissection.Fragment.TheVariants as fragment
@@ -75,16 +75,16 @@ has_lax_ipv6_host (Some (lax.Ipv6 packet)) address =
     is_either (ipv6.source_of packet.header) (ipv6.destination_of packet.header) address
 has_lax_ipv6_host (Some (lax.Arp packet)) address = false
 
-abbrev pub there_has_host : Option LaxSlicedPacket → IpAddr → Bool
-there_has_host None address = false
-there_has_host (Some packet) (V4 address) = has_lax_ipv4_host packet.net (ipv4_octets address)
-there_has_host (Some packet) (V6 address) = has_lax_ipv6_host packet.net (ipv6_octets address)
+abbrev pub lax_has_host : Option LaxSlicedPacket → IpAddr → Bool
+lax_has_host None address = false
+lax_has_host (Some packet) (V4 address) = has_lax_ipv4_host packet.net (ipv4_octets address)
+lax_has_host (Some packet) (V6 address) = has_lax_ipv6_host packet.net (ipv6_octets address)
 
 -- whether a packet comes from an address or goes to it, by its headers; of one that is refused by
 -- those that are there
 abbrev pub has_host : Result SlicedPacket SliceError → Option LaxSlicedPacket → IpAddr → Bool
-has_host (Ok packet) there address = net_has_host packet.net address
-has_host (Err e) there address = there_has_host there address
+has_host (Ok packet) lax_layers address = net_has_host packet.net address
+has_host (Err e) lax_layers address = lax_has_host lax_layers address
 
 -- whether a segment or a datagram comes from a port or goes to it
 abbrev pub segment_has_port : List ℕ → ℕ → Bool
@@ -111,34 +111,34 @@ message_has_port (Ok (Icmpv6 message)) port = false
 message_has_port (Ok (Raw bytes)) port = false
 message_has_port (Err e) port = false
 
-abbrev pub there_has_port : Option LaxSlicedPacket → ℕ → Bool
-there_has_port None port = false
-there_has_port (Some packet) port = transport_has_port packet.transport port
+abbrev pub lax_has_port : Option LaxSlicedPacket → ℕ → Bool
+lax_has_port None port = false
+lax_has_port (Some packet) port = transport_has_port packet.transport port
 
 abbrev pub packet_has_port : Result SlicedPacket SliceError → Option LaxSlicedPacket → ℕ → Bool
-packet_has_port (Ok packet) there port = transport_has_port packet.transport port
-packet_has_port (Err e) there port = there_has_port there port
+packet_has_port (Ok packet) lax_layers port = transport_has_port packet.transport port
+packet_has_port (Err e) lax_layers port = lax_has_port lax_layers port
 
 -- whether the message of a packet, or the one that it completes, comes from a port or goes to it; of
 -- a packet that is refused by the headers that are there
 abbrev pub has_port : Result SlicedPacket SliceError → Option LaxSlicedPacket → Option Fragment → ℕ → Bool
-has_port layers there None port = packet_has_port layers there port
-has_port layers there (Some (fragment.Waits started)) port = packet_has_port layers there port
-has_port layers there (Some (fragment.Completes started message)) port =
+has_port layers lax_layers None port = packet_has_port layers lax_layers port
+has_port layers lax_layers (Some (fragment.Waits started)) port = packet_has_port layers lax_layers port
+has_port layers lax_layers (Some (fragment.Completes started message)) port =
     message_has_port (message_at message.ip_number.0 message.payload.items) port
-has_port layers there (Some (fragment.Refused started error)) port = packet_has_port layers there port
+has_port layers lax_layers (Some (fragment.Refused started error)) port = packet_has_port layers lax_layers port
 
 abbrev pub holds : Condition → Dissection → Bool
 holds (condition.Protocol protocol) packet =
-    has_header (headers_of packet.link packet.layers (there_of packet.header packet.bytes)) protocol
+    has_header (headers_of packet.link packet.layers (lax_layers_of packet.header packet.bytes)) protocol
 holds condition.Bad packet = is_bad packet.verdict
 holds condition.Refused packet = is_some (refusal_of packet.layers packet.fragment)
 holds condition.Fragment packet = is_some packet.fragment
 holds condition.Cut packet = is_cut packet.captured_len packet.wire_len
 holds (condition.Host address) packet =
-    has_host packet.layers (there_of packet.header packet.bytes) address
+    has_host packet.layers (lax_layers_of packet.header packet.bytes) address
 holds (condition.Port port) packet =
-    has_port packet.layers (there_of packet.header packet.bytes) packet.fragment port
+    has_port packet.layers (lax_layers_of packet.header packet.bytes) packet.fragment port
 
 -- the conditions that a packet has to meet
 abbrev pub conditions_of : Filter → List Condition

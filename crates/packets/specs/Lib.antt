@@ -8,6 +8,7 @@ pub mod Examples
 pub mod Forgetting
 pub mod Headers
 pub mod Inputs
+pub mod LaxLayers
 pub mod Layers
 pub mod Lengths
 pub mod Limits
@@ -21,5 +22,4 @@ pub mod Reasons
 pub mod Sizes
 pub mod Table
 pub mod Tally
-pub mod There
 pub mod Written

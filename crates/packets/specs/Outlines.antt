@@ -20,8 +20,8 @@ use Rattle.ep_tag.specs.declared.link.lax_link_ext_slice.LaxLinkExtSlice.{LaxLin
 use Rattle.ep_tag.specs.declared.link.lax_link_ext_slice.LaxLinkExtSlice.TheVariants as lax_tag
 use Rattle.ep_tag.specs.declared.link.link_ext_slice.LinkExtSlice.{LinkExtSlice}
 use Rattle.ep_tag.specs.declared.link.link_ext_slice.LinkExtSlice.TheVariants.{Vlan, Macsec}
+use Rattle.packets.specs.LaxLayers.{lax_layers_of}
 use Rattle.packets.specs.Reasons.{fragment_reason, reason_of}
-use Rattle.packets.specs.There.{there_of}
 use Rattle.packets.specs.declared.reason.Reason.{Reason}
 use Rattle.packets.specs.declared.dissection.Dissection.{Dissection}
 use Rattle.packets.specs.declared.dissection.Fragment.{Fragment}
@@ -79,14 +79,14 @@ lax_net_of (Some (lax.Ipv6 packet)) =
 lax_net_of (Some (lax.Arp packet)) = Some net.Arp
 
 -- the headers that are there of a packet of a link
-abbrev pub headers_there : Link → Option LaxSlicedPacket → Headers
-headers_there link (Some packet) = record {
+abbrev pub lax_headers_of : Link → Option LaxSlicedPacket → Headers
+lax_headers_of link (Some packet) = record {
   ethernet = is_ethernet link;
   vlan = list_any is_lax_vlan packet.link_exts.items;
   macsec = list_any is_lax_macsec packet.link_exts.items;
   net = lax_net_of packet.net;
 }
-headers_there link None = record {
+lax_headers_of link None = record {
   ethernet = is_ethernet link;
   vlan = false;
   macsec = false;
@@ -95,13 +95,13 @@ headers_there link None = record {
 
 -- the headers of a packet of a link; of one that is refused those that are there
 abbrev pub headers_of : Link → Result SlicedPacket SliceError → Option LaxSlicedPacket → Headers
-headers_of link (Ok packet) there = record {
+headers_of link (Ok packet) lax_layers = record {
   ethernet = is_ethernet link;
   vlan = list_any is_vlan packet.link_exts.items;
   macsec = list_any is_macsec packet.link_exts.items;
   net = net_of packet.net;
 }
-headers_of link (Err e) there = headers_there link there
+headers_of link (Err e) lax_layers = lax_headers_of link lax_layers
 
 -- why a reassembled message can't be read
 abbrev pub message_refusal : Result ReadMessage SliceError → Option Reason
@@ -134,7 +134,7 @@ outline_of packet = record {
   len = packet.len;
   captured_len = packet.captured_len;
   wire_len = packet.wire_len;
-  headers = headers_of packet.link packet.layers (there_of packet.header packet.bytes);
+  headers = headers_of packet.link packet.layers (lax_layers_of packet.header packet.bytes);
   refusal = refusal_of packet.layers packet.fragment;
   fragment = fragment_state_of packet.fragment;
   verdict = packet.verdict;

@@ -2,7 +2,7 @@
 ghost use Rattle.std.specs.Prelude.{◌≡◌};
 ghost use Rattle.packets.specs.Lengths.{is_cut};
 
-use crate::there::FrameBytes;
+use crate::lax_layers::FrameBytes;
 use captures::{Header, Link};
 use checksum_verdicts::Verdict;
 use ep_packet::SlicedPacket;

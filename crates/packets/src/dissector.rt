@@ -18,7 +18,7 @@ ghost use Rattle.packets.specs.Layers.{after_header, layers_of};
 
 use crate::Dissection;
 use crate::datagrams::{Arrival, Datagrams, Finding};
-use crate::there::FrameBytes;
+use crate::lax_layers::FrameBytes;
 use crate::verification::Verification;
 use captures::{Frame, Packet};
 use ep_base::EtherType;

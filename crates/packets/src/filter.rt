@@ -3,10 +3,10 @@ ghost use Rattle.std.specs.Prelude.{◌≡◌, ◌++◌, ◌∷◌, [], OnOk, On
 ghost use Rattle.ep_packet.specs.Readable.{message_at};
 ghost use Rattle.packets.specs.Conditions.{arp_has_host, datagram_has_port, has_host, has_ipv4_host, has_ipv6_host};
 ghost use Rattle.packets.specs.Conditions.{has_lax_ipv4_host, has_lax_ipv6_host, has_port, message_has_port};
-ghost use Rattle.packets.specs.Conditions.{packet_has_port, segment_has_port, there_has_host, there_has_port};
+ghost use Rattle.packets.specs.Conditions.{lax_has_host, lax_has_port, packet_has_port, segment_has_port};
 ghost use Rattle.packets.specs.Conditions.{transport_has_port};
 ghost use Rattle.packets.specs.Counts.{is_bad};
-ghost use Rattle.packets.specs.There.{there_of};
+ghost use Rattle.packets.specs.LaxLayers.{lax_layers_of};
 
 use crate::outline::refusal_of;
 use crate::{Dissection, Fragment, Headers, Protocol};
@@ -127,19 +127,19 @@ fn is_bad(verdict: Option<Verdict>) -> bool
 
 fn has_host(dissection: &Dissection<'_>, address: IpAddr) -> bool
     ensures { result ≡ has_host dissection.now.layers
-        (there_of dissection.now.header dissection.now.bytes) address }
+        (lax_layers_of dissection.now.header dissection.now.bytes) address }
 {
     match (&dissection.layers, address) {
         (Ok(packet), IpAddr::V4(address)) => has_ipv4_host(&packet.net, address.octets()),
         (Ok(packet), IpAddr::V6(address)) => has_ipv6_host(&packet.net, address.octets()),
-        (Err(_), address) => there_has_host(&dissection.there(), address),
+        (Err(_), address) => lax_has_host(&dissection.lax_layers(), address),
     }
 }
 
-fn there_has_host(there: &Option<LaxSlicedPacket<'_>>, address: IpAddr) -> bool
-    ensures { result ≡ there_has_host there.now address }
+fn lax_has_host(layers: &Option<LaxSlicedPacket<'_>>, address: IpAddr) -> bool
+    ensures { result ≡ lax_has_host layers.now address }
 {
-    match (there, address) {
+    match (layers, address) {
         (Some(packet), IpAddr::V4(address)) => has_lax_ipv4_host(&packet.net, address.octets()),
         (Some(packet), IpAddr::V6(address)) => has_lax_ipv6_host(&packet.net, address.octets()),
         (None, _) => false,
@@ -206,7 +206,7 @@ fn has_ipv6_host(net: &Option<NetSlice<'_>>, address: [u8; 16]) -> bool
 
 fn has_port(dissection: &Dissection<'_>, port: u16) -> bool
     ensures { result ≡ has_port dissection.now.layers
-        (there_of dissection.now.header dissection.now.bytes) dissection.now.fragment port }
+        (lax_layers_of dissection.now.header dissection.now.bytes) dissection.now.fragment port }
 {
     match &dissection.fragment {
         Some(Fragment::Completes { message, .. }) => message_has_port(message, port),
@@ -227,18 +227,18 @@ fn message_has_port(message: &IpDefragPayloadVec, port: u16) -> bool
 
 fn packet_has_port(dissection: &Dissection<'_>, port: u16) -> bool
     ensures { result ≡ packet_has_port dissection.now.layers
-        (there_of dissection.now.header dissection.now.bytes) port }
+        (lax_layers_of dissection.now.header dissection.now.bytes) port }
 {
     match &dissection.layers {
         Ok(packet) => transport_has_port(&packet.transport, port),
-        Err(_) => there_has_port(&dissection.there(), port),
+        Err(_) => lax_has_port(&dissection.lax_layers(), port),
     }
 }
 
-fn there_has_port(there: &Option<LaxSlicedPacket<'_>>, port: u16) -> bool
-    ensures { result ≡ there_has_port there.now port }
+fn lax_has_port(layers: &Option<LaxSlicedPacket<'_>>, port: u16) -> bool
+    ensures { result ≡ lax_has_port layers.now port }
 {
-    match there {
+    match layers {
         Some(packet) => transport_has_port(&packet.transport, port),
         None => false,
     }

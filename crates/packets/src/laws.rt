@@ -11,15 +11,15 @@ ghost use Rattle.etherparse.specs.Fragments.{Fragment};
 ghost use Rattle.ep_packet.specs.Class.{FragmentName};
 ghost use Rattle.ep_packet.specs.LaxWhole.{whole_packet};
 ghost use Rattle.ep_packet.specs.declared.sliced_packet.SlicedPacket.{SlicedPacket};
-ghost use Rattle.packets.specs.Conditions.{has_host, packet_has_port, there_has_host, there_has_port};
+ghost use Rattle.packets.specs.Conditions.{has_host, lax_has_host, lax_has_port, packet_has_port};
 ghost use Rattle.packets.specs.Courses.{Course, course_after, lists_at, next_course, no_course};
+ghost use Rattle.packets.specs.LaxLayers.{lax_layers_of};
 ghost use Rattle.packets.specs.ReassemblyMemory.{Tracks, taken};
 ghost use Rattle.packets.specs.Forgetting.{ComeWithin, Fit, ForgetDrops};
 ghost use Rattle.packets.specs.Layers.{layers_of};
 ghost use Rattle.packets.specs.Limits.{AreFewer, AreInTime, is_late};
-ghost use Rattle.packets.specs.Outlines.{headers_of, headers_there};
+ghost use Rattle.packets.specs.Outlines.{headers_of, lax_headers_of};
 ghost use Rattle.packets.specs.Tally.{tally_of};
-ghost use Rattle.packets.specs.There.{there_of};
 ghost use Rattle.packets.specs.declared.outline.Outline.{Outline};
 ghost use Rattle.packets.specs.declared.reason.Reason.TheVariants as reason;
 ghost use Rattle.packets.specs.declared.summary.verified.Verified.TheVariants as verified;
@@ -183,18 +183,18 @@ pub fn held_within()
 
 /// A packet has the headers, the hosts and the ports of the headers that are there. Of one that isn't
 /// refused all are, with what they hold.
-pub fn headers_are_those_there()
+pub fn headers_are_lax_headers()
     ensures headers { (link : Link) (header : Option Header) (bytes : List ℕ)
-        → headers_of link (layers_of header bytes) (there_of header bytes)
-        ≡ headers_there link (there_of header bytes) }
+        → headers_of link (layers_of header bytes) (lax_layers_of header bytes)
+        ≡ lax_headers_of link (lax_layers_of header bytes) }
     ensures host { (header : Option Header) (bytes : List ℕ) (address : IpAddr)
-        → has_host (layers_of header bytes) (there_of header bytes) address
-        ≡ there_has_host (there_of header bytes) address }
+        → has_host (layers_of header bytes) (lax_layers_of header bytes) address
+        ≡ lax_has_host (lax_layers_of header bytes) address }
     ensures port { (header : Option Header) (bytes : List ℕ) (port : ℕ)
-        → packet_has_port (layers_of header bytes) (there_of header bytes) port
-        ≡ there_has_port (there_of header bytes) port }
+        → packet_has_port (layers_of header bytes) (lax_layers_of header bytes) port
+        ≡ lax_has_port (lax_layers_of header bytes) port }
     ensures whole { (header : Option Header) (bytes : List ℕ) (packet : SlicedPacket)
-        → layers_of header bytes ≡ Ok packet → there_of header bytes ≡ Some (whole_packet packet) }
+        → layers_of header bytes ≡ Ok packet → lax_layers_of header bytes ≡ Some (whole_packet packet) }
 {
     ep_packet::laws::whole_packets_are_lax_packets();
 }

@@ -8,6 +8,7 @@ mod dissector;
 mod filter;
 mod json;
 pub mod laws;
+mod lax_layers;
 mod outline;
 mod payload;
 pub mod program;
@@ -16,7 +17,6 @@ mod run;
 mod show;
 mod source_route;
 mod summary;
-mod there;
 mod verification;
 
 pub use captures::{Frame, Header, Link, Packet};
@@ -26,6 +26,7 @@ pub use filter::{Condition, Filter, WordError};
 pub use header_descriptions::show::{Style, TimeForm};
 pub use header_descriptions::{Protocol, ip_number_name, ip_number_named};
 pub use json::packet::JsonLines;
+pub use lax_layers::FrameBytes;
 pub use outline::{FragmentState, Headers, Net, Outline};
 pub use reason::Reason;
 pub use run::line_writer::{LineWriter, write_lines};
@@ -44,4 +45,3 @@ pub use summary::summary::{ChecksumTallies, FragmentTallies, ProtocolTallies, Su
 pub use summary::table::Table;
 pub use summary::tally::Tally;
 pub use summary::verified::Verified;
-pub use there::FrameBytes;

@@ -3,11 +3,11 @@ ghost use Rattle.std.specs.Prelude.{◌≡◌};
 ghost use Rattle.std.specs.List.{list_any};
 ghost use Rattle.ep_packet.specs.Readable.{message_at};
 ghost use Rattle.packets.specs.Headers.{has_header, net_addresses, net_number};
+ghost use Rattle.packets.specs.LaxLayers.{lax_layers_of};
 ghost use Rattle.packets.specs.Lengths.{is_cut};
-ghost use Rattle.packets.specs.Outlines.{headers_of, headers_there, is_ethernet, is_lax_macsec, is_lax_vlan};
+ghost use Rattle.packets.specs.Outlines.{headers_of, is_ethernet, is_lax_macsec, is_lax_vlan, lax_headers_of};
 ghost use Rattle.packets.specs.Outlines.{is_macsec, is_vlan, lax_net_of, message_refusal, net_of};
 ghost use Rattle.packets.specs.Outlines.{outline_of, fragment_state_of, fragment_refusal, refusal_of};
-ghost use Rattle.packets.specs.There.{there_of};
 
 use crate::{Dissection, Fragment, Protocol, Reason};
 use captures::Link;
@@ -145,7 +145,7 @@ impl Headers {
     /// The headers of a packet; of one that is refused those that are there.
     pub fn of(dissection: &Dissection<'_>) -> Headers
         ensures { result ≡ headers_of dissection.now.link dissection.now.layers
-            (there_of dissection.now.header dissection.now.bytes) }
+            (lax_layers_of dissection.now.header dissection.now.bytes) }
     {
         match &dissection.layers {
             Ok(packet) => Headers {
@@ -154,16 +154,16 @@ impl Headers {
                 macsec: has_macsec(packet),
                 net: net_of(packet),
             },
-            Err(_) => Headers::there(dissection.link, &dissection.there()),
+            Err(_) => Headers::lax(dissection.link, &dissection.lax_layers()),
         }
     }
 
     // Those that are there of a packet that is refused.
-    fn there(link: Link, there: &Option<LaxSlicedPacket<'_>>) -> Headers
-        ensures { result ≡ headers_there link there.now }
+    fn lax(link: Link, layers: &Option<LaxSlicedPacket<'_>>) -> Headers
+        ensures { result ≡ lax_headers_of link layers.now }
     {
         let ethernet = is_ethernet(link);
-        match there {
+        match layers {
             Some(packet) => Headers {
                 ethernet,
                 vlan: has_lax_vlan(packet),

@@ -8,4 +8,4 @@ mod message;
 pub(crate) mod options;
 pub(crate) mod packet_line;
 mod refusal;
-mod there;
+mod refused;

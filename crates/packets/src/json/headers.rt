@@ -22,13 +22,13 @@ pub(crate) fn members<S: Serializer>(
 
 /// The headers that are there of a packet that is refused. It has no contract: tests compare the
 /// texts.
-pub(crate) fn there<S: Serializer>(
+pub(crate) fn lax_headers<S: Serializer>(
     out: &mut S,
     layers: &LaxSlicedPacket<'_>,
     made: Option<&Header>,
 ) -> Result<(), S::Error> {
     link::header(out, layers.link.as_ref(), made)?;
     lax_tags(out, layers.link_exts.as_slice())?;
-    net::there(out, layers)?;
+    net::lax_net(out, layers)?;
     transport::member(out, layers.transport.as_ref())
 }

@@ -26,7 +26,7 @@ pub(crate) fn member<S: Serializer>(
 }
 
 /// What is there of it in a packet that is refused. It has no contract: tests compare the texts.
-pub(crate) fn there<S: Serializer>(
+pub(crate) fn lax_net<S: Serializer>(
     out: &mut S,
     layers: &LaxSlicedPacket<'_>,
 ) -> Result<(), S::Error> {

@@ -72,16 +72,16 @@ impl PacketObject<'_, '_> {
         match &self.packet.layers {
             Ok(layers) => self.layers(layers, out),
             Err(error) => {
-                self.there(out)?;
+                self.lax_layers(out)?;
                 errors::member(out, "error", error)
             }
         }
     }
 
     #[inline(never)]
-    fn there<S: Serializer>(&self, out: &mut S) -> Result<(), S::Error> {
-        match &self.packet.there() {
-            Some(layers) => headers::there(out, layers, self.packet.header.as_ref()),
+    fn lax_layers<S: Serializer>(&self, out: &mut S) -> Result<(), S::Error> {
+        match &self.packet.lax_layers() {
+            Some(layers) => headers::lax_headers(out, layers, self.packet.header.as_ref()),
             None => Ok(()),
         }
     }

@@ -4,9 +4,9 @@
 pub mod conditions;
 pub mod counts;
 pub mod headers;
+pub mod lax_layers;
 pub mod layers;
 pub mod memory;
 pub mod outlines;
 pub mod reasons;
 pub mod source_routes;
-pub mod there;

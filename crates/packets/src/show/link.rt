@@ -27,7 +27,7 @@ pub(crate) fn other(
 /// The same of one that is refused, by the headers that are there, without its length. The address of
 /// a header that was made isn't shown where it is all zeros. It has no contract: tests compare the
 /// texts.
-pub(crate) fn there(
+pub(crate) fn lax_other(
     line: &mut Line<'_>,
     layers: &LaxSlicedPacket<'_>,
     made: Option<&Header>,
@@ -38,7 +38,7 @@ pub(crate) fn there(
             source_of(line, made)?;
         }
     }
-    content(line, layers.payload_ether_type(), hidden_there(layers))
+    content(line, layers.payload_ether_type(), lax_hidden(layers))
 }
 
 // The addresses of an Ethernet frame, if it is one.
@@ -82,7 +82,7 @@ fn hidden(layers: &SlicedPacket<'_>) -> &'static str {
     }
 }
 
-fn hidden_there(layers: &LaxSlicedPacket<'_>) -> &'static str {
+fn lax_hidden(layers: &LaxSlicedPacket<'_>) -> &'static str {
     match layers.link_exts.as_slice().last() {
         Some(LaxLinkExtSlice::Macsec(tag)) => match &tag.payload {
             LaxMacsecPayloadSlice::Modified { .. } => modified(&tag.header),

@@ -24,7 +24,7 @@ pub(crate) fn whole(
 
 /// What is there of a message in so many bytes: the same without a verdict, and of a header that
 /// isn't there as a whole only the protocol. It has no contract: tests compare the texts.
-pub(crate) fn there(
+pub(crate) fn lax_message(
     line: &mut Line<'_>,
     addresses: &Addresses,
     ip_number: IpNumber,

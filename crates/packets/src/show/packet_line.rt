@@ -2,7 +2,7 @@
 
 use crate::show::fragment_headers::two_fragment_headers;
 use crate::show::options::ShowOptions;
-use crate::show::{fragment, link, message, there};
+use crate::show::{fragment, link, message, refused};
 use crate::{Dissection, Headers};
 use ep_packet::{Class, NetSlice, SlicedPacket};
 use header_descriptions::show::Line;
@@ -30,7 +30,7 @@ impl ShowOptions {
                 body(&mut line, packet, layers)?;
                 ", "
             }
-            Err(error) => there::refused(&mut line, packet, *error)?,
+            Err(error) => refused::refused(&mut line, packet, *error)?,
         };
         if packet.is_cut() {
             line.text(separator)?;

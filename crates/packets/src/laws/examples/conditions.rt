@@ -22,7 +22,7 @@ ghost use Rattle.packets.specs.Dissected.{verdict_on};
 ghost use Rattle.packets.specs.Examples.{arp_for_another_protocol, arp_of_arcnet, arp_of_ieee_802, arp_request};
 ghost use Rattle.packets.specs.Examples.{datagram_with, eighth, in_part, ipv4_ends, ipv4_header, ipv4_in_part};
 ghost use Rattle.packets.specs.Examples.{ipv6_address, ipv6_header, segment_with};
-ghost use Rattle.packets.specs.There.{there_of};
+ghost use Rattle.packets.specs.LaxLayers.{lax_layers_of};
 ghost use Rattle.etherparse.specs.PoolCalls.CallResult.{Delivered, Nothing};
 ghost use Rattle.ep_base.specs.declared.len_source.LenSource.TheVariants as source;
 ghost use Rattle.ep_packet.specs.Class.Class.{Cut};
@@ -53,7 +53,7 @@ pub fn headers_of_packets()
         × (holds (condition.Protocol protocol.Arp) eighth ≡ false) }
     ensures short { (packet : Dissection) → packet.link ≡ link.Ethernet
         → packet.layers ≡ Err (fault.Tcp (tcp.DataOffsetTooSmall 4))
-        → there_of packet.header packet.bytes ≡ None
+        → lax_layers_of packet.header packet.bytes ≡ None
         → (holds (condition.Protocol protocol.Ethernet) packet ≡ true)
         × (holds (condition.Protocol protocol.Ipv4) packet ≡ false) }
 {}

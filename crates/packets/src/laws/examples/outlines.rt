@@ -21,7 +21,7 @@ ghost use Rattle.ep_tcpudp.specs.declared.err.tcp.header_error.HeaderError.TheVa
 ghost use Rattle.packets.specs.Examples.{arp_request, datagram_with, eighth, headers_over, in_part, ipv4_ends};
 ghost use Rattle.packets.specs.Examples.{ipv4_header, ipv4_in_part, ipv6_ends};
 ghost use Rattle.packets.specs.Examples.{ipv6_header, message, no_headers, outline_of_fragment, refused, segment_with};
-ghost use Rattle.packets.specs.Outlines.{headers_of, headers_there, is_ethernet, is_macsec, is_vlan};
+ghost use Rattle.packets.specs.Outlines.{headers_of, is_ethernet, is_macsec, is_vlan, lax_headers_of};
 ghost use Rattle.packets.specs.Outlines.{message_refusal, net_of};
 ghost use Rattle.packets.specs.Outlines.{outline_of, fragment_state_of, fragment_refusal, refusal_of};
 ghost use Rattle.packets.specs.declared.dissection.Dissection.{Dissection};
@@ -96,7 +96,7 @@ pub fn headers_of_packets()
         ≡ record { ethernet = false; vlan = false; macsec = false; net = None })
         × (headers_of link.Ethernet (Err (fault.Tcp (tcp.DataOffsetTooSmall 4)))
         (Some (in_part (Some (ipv4_in_part 6 (segment_with 4))) None)) ≡ headers_over ipv4_ends 6) }
-    ensures tagged_in_part { (header : LaxMacsecSlice) → headers_there link.Ethernet (Some (record {
+    ensures tagged_in_part { (header : LaxMacsecSlice) → lax_headers_of link.Ethernet (Some (record {
       link = None;
       link_exts = record {
         items = lax_tag.Macsec header ∷ lax_tag.Vlan (0 ∷ 5 ∷ 8 ∷ 6 ∷ []) ∷ [];
@@ -107,7 +107,7 @@ pub fn headers_of_packets()
     })) ≡ record { ethernet = true; vlan = true; macsec = true; net = Some net.Arp } }
     ensures ipv6_in_part { (packet : LaxIpv6Packet) → packet.header ≡ ipv6_header
         → packet.payload.ip_number ≡ record { 0 = 17 }
-        → headers_there link.Ethernet (Some (in_part (Some (lax.Ipv6 packet)) None))
+        → lax_headers_of link.Ethernet (Some (in_part (Some (lax.Ipv6 packet)) None))
         ≡ headers_over ipv6_ends 17 }
 {}
 

@@ -1,9 +1,9 @@
 //! Packets that are refused.
 
 use crate::Dissection;
+use crate::lax_layers::promised_len;
 use crate::show::fragment_headers::{FragmentHeaders, two_fragment_headers};
 use crate::show::{link, message, refusal};
-use crate::there::promised_len;
 use ep_base::IpNumber;
 use ep_ipslice::{LaxIpv4Slice, LaxIpv6Slice};
 use ep_packet::err::packet::SliceError;
@@ -22,9 +22,9 @@ pub(crate) fn refused(
     packet: &Dissection<'_>,
     error: SliceError,
 ) -> Result<&'static str, AllocError> {
-    let there = packet.there();
-    let fault = packet.shown_fault(error, &there);
-    let gap = match there {
+    let layers = packet.lax_layers();
+    let fault = packet.shown_fault(error, &layers);
+    let gap = match layers {
         Some(layers) => {
             headers(line, packet, layers)?;
             "  "
@@ -48,7 +48,7 @@ fn headers(
 ) -> Result<(), AllocError> {
     lax_tags(line, layers.link_exts.as_slice())?;
     if layers.net.is_none() {
-        return link::there(line, &layers, packet.header.as_ref());
+        return link::lax_other(line, &layers, packet.header.as_ref());
     }
     let len = promised_len(&layers.net);
     let LaxSlicedPacket {
@@ -87,7 +87,7 @@ fn over_ipv4(
         source: header.source(),
         destination: header.destination(),
     };
-    message::there(line, &addresses, packet.payload_ip_number(), read, len)
+    message::lax_message(line, &addresses, packet.payload_ip_number(), read, len)
 }
 
 fn over_ipv6(
@@ -106,7 +106,7 @@ fn over_ipv6(
         let fragment = FragmentHeaders::over_ipv6(packet, len);
         return fragment_over_ipv6(line, fragment, addresses, number);
     }
-    message::there(line, &addresses, number, read, len)
+    message::lax_message(line, &addresses, number, read, len)
 }
 
 fn fragment_over_ipv6(

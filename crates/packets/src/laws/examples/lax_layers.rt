@@ -12,28 +12,28 @@ ghost use Rattle.ep_packet.specs.declared.transport.transport_slice.TransportSli
 ghost use Rattle.ep_tcpudp.specs.declared.err.tcp.header_error.HeaderError.TheVariants as tcp;
 ghost use Rattle.packets.specs.Examples.{arp_request, datagram_with, in_part, ipv4_header, ipv4_in_part, ipv6_header};
 ghost use Rattle.packets.specs.Examples.{long_timestamp, missing, segment_with};
-ghost use Rattle.packets.specs.There.{promised_len, stop_of, there_of, shown_fault};
+ghost use Rattle.packets.specs.LaxLayers.{lax_layers_of, promised_len, shown_fault, stop_fault_of};
 
 /// Frames of a UDP datagram (RFC 768) over IPv4 of which only the headers were captured, also after a
 /// header that was made; one that ends in the IPv4 header, which is the fault; and one that ends in
 /// its own.
 pub fn frames_in_part()
-    ensures datagram { IfSome (there_of None
+    ensures datagram { IfSome (lax_layers_of None
         (replicate 12 2 ++ 8 ∷ 0 ∷ (ipv4_header 17 ++ take 8 (datagram_with 0x11 0xef))))
         (λ packet. (packet.net ≡ Some (ipv4_in_part 17 (take 8 (datagram_with 0x11 0xef))))
         × (packet.transport ≡ Some (transport.Udp (take 8 (datagram_with 0x11 0xef))))
         × (packet.stop_err ≡ None)) }
-    ensures is_datagram { IsSome (there_of None
+    ensures is_datagram { IsSome (lax_layers_of None
         (replicate 12 2 ++ 8 ∷ 0 ∷ (ipv4_header 17 ++ take 8 (datagram_with 0x11 0xef)))) }
-    ensures made { IfSome (there_of (Some (record { source = replicate 6 0; ether_type = 0x0800 }))
+    ensures made { IfSome (lax_layers_of (Some (record { source = replicate 6 0; ether_type = 0x0800 }))
         (ipv4_header 17 ++ take 8 (datagram_with 0x11 0xef)))
         (λ packet. packet.transport ≡ Some (transport.Udp (take 8 (datagram_with 0x11 0xef)))) }
-    ensures in_header { IfSome (there_of None
+    ensures in_header { IfSome (lax_layers_of None
         (replicate 12 2 ++ 8 ∷ 0 ∷ take 7 (ipv4_header 17)))
         (λ packet. (packet.net ≡ None) × (packet.transport ≡ None)) }
-    ensures is_in_header { IsSome (there_of None
+    ensures is_in_header { IsSome (lax_layers_of None
         (replicate 12 2 ++ 8 ∷ 0 ∷ take 7 (ipv4_header 17))) }
-    ensures stop_in_header { stop_of None (there_of None
+    ensures stop_in_header { stop_fault_of None (lax_layers_of None
         (replicate 12 2 ++ 8 ∷ 0 ∷ take 7 (ipv4_header 17))) ≡ Some (fault.Len (record {
           required_len = 20;
           len = 7;
@@ -41,7 +41,7 @@ pub fn frames_in_part()
           layer = layer.Ipv4Header;
           layer_start_offset = 14;
         })) }
-    ensures in_own_header { there_of None (replicate 10 2) ≡ None }
+    ensures in_own_header { lax_layers_of None (replicate 10 2) ≡ None }
 {}
 
 /// The lengths that the headers promise (RFC 791; RFC 8200): 12 bytes after an IPv4 header, of which 8
@@ -51,7 +51,7 @@ pub fn promised_lengths()
     ensures ipv6 { (packet : LaxIpv6Packet) → packet.header ≡ ipv6_header
         → packet.exts.slice ≡ [] → packet.incomplete ≡ true
         → promised_len (Some (lax.Ipv6 packet)) ≡ 12 }
-    ensures there { (packet : LaxIpv6Packet) → packet.incomplete ≡ false
+    ensures complete { (packet : LaxIpv6Packet) → packet.incomplete ≡ false
         → packet.payload.payload ≡ 1 ∷ 2 ∷ 3 ∷ [] → promised_len (Some (lax.Ipv6 packet)) ≡ 3 }
     ensures others { (promised_len None ≡ 0) × (promised_len (Some (lax.Arp arp_request)) ≡ 0) }
 {}
@@ -92,11 +92,11 @@ pub fn shown_faults()
 /// The fault of the first header that isn't there: its offset counts from the start of the Ethernet II
 /// header, also of one that was made.
 pub fn stops()
-    ensures none { (stop_of None None ≡ None) × (stop_of None (Some (in_part None None)) ≡ None) }
-    ensures own { stop_of None (Some (record (in_part None None) {
+    ensures none { (stop_fault_of None None ≡ None) × (stop_fault_of None (Some (in_part None None)) ≡ None) }
+    ensures own { stop_fault_of None (Some (record (in_part None None) {
       stop_err = Some (missing source.Slice 32 20, layer.Ipv4Header);
     })) ≡ Some (missing source.Slice 32 20) }
-    ensures made { stop_of (Some (record { source = replicate 6 0; ether_type = 0x0800 }))
+    ensures made { stop_fault_of (Some (record { source = replicate 6 0; ether_type = 0x0800 }))
         (Some (record (in_part None None) {
           stop_err = Some (
             fault.Len (record {

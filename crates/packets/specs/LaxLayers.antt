@@ -26,9 +26,9 @@ if_read (Err e) = None
 -- the headers that are there of an Ethernet II frame, or of what follows a header that was made: all
 -- before the first that isn't whole, or has a wrong version, header length, data offset or place.
 -- There are none in a frame that is shorter than its Ethernet II header
-abbrev pub there_of : Option Header → List ℕ → Option LaxSlicedPacket
-there_of None bytes = if_read (lax_sliced_ethernet bytes)
-there_of (Some header) bytes =
+abbrev pub lax_layers_of : Option Header → List ℕ → Option LaxSlicedPacket
+lax_layers_of None bytes = if_read (lax_sliced_ethernet bytes)
+lax_layers_of (Some header) bytes =
     Some (lax_sliced_ether_type (record { 0 = header.ether_type }) bytes)
 
 -- ---- how long it was
@@ -86,9 +86,9 @@ in_frame None e = e
 in_frame (Some header) e = after_header e
 
 -- the fault of the first header that isn't there
-abbrev pub stop_of : Option Header → Option LaxSlicedPacket → Option SliceError
-stop_of header None = None
-stop_of header (Some packet) =
+abbrev pub stop_fault_of : Option Header → Option LaxSlicedPacket → Option SliceError
+stop_fault_of header None = None
+stop_fault_of header (Some packet) =
     option_map (λ (stop : SliceError × Layer). in_frame header stop.0) packet.stop_err
 
 -- the fault that is shown of a packet that is refused for one: this one; where bytes were cut off and

@@ -1,8 +1,8 @@
 //! What is there of packets that are refused.
 ghost use Rattle.std.specs.Prelude.{◌≡◌, ◌-◌, List, ℕ, length};
 ghost use Rattle.ep_ext.specs.Ipv4Exts.{auth_bytes};
-ghost use Rattle.packets.specs.There.{in_frame, is_cut_off, is_end_of_bytes, promised, promised_len, stop_of};
-ghost use Rattle.packets.specs.There.{there_of, shown_fault, unless_cut_off};
+ghost use Rattle.packets.specs.LaxLayers.{in_frame, is_cut_off, is_end_of_bytes, promised, promised_len, stop_fault_of};
+ghost use Rattle.packets.specs.LaxLayers.{lax_layers_of, shown_fault, unless_cut_off};
 
 use crate::Dissection;
 use crate::dissector::fault_after_header;
@@ -46,8 +46,8 @@ impl<'a> Dissection<'a> {
     /// or has a wrong version, header length, data offset or place. There are none in a frame that is
     /// shorter than its Ethernet II header.
     #[inline(never)]
-    pub fn there(&self) -> Option<LaxSlicedPacket<'a>>
-        ensures { result ≡ there_of self.now.header self.now.bytes }
+    pub fn lax_layers(&self) -> Option<LaxSlicedPacket<'a>>
+        ensures { result ≡ lax_layers_of self.now.header self.now.bytes }
     {
         let bytes = self.bytes.bytes();
         match &self.header {
@@ -62,19 +62,19 @@ impl<'a> Dissection<'a> {
         }
     }
 
-    /// The fault that is shown of a packet that is refused for this one and of which this is there:
+    /// The fault that is shown of a packet that is refused for this one and has these layers there:
     /// the first that isn't only that bytes are missing which were cut off, if there is one.
     pub(crate) fn shown_fault(
         &self,
         fault: SliceError,
-        there: &Option<LaxSlicedPacket<'_>>,
+        layers: &Option<LaxSlicedPacket<'_>>,
     ) -> Option<SliceError>
         ensures { result ≡ shown_fault self.now.len (self.now.wire_len - self.now.captured_len) fault
-            (stop_of self.now.header there.now) }
+            (stop_fault_of self.now.header layers.now) }
     {
         let cut = (self.wire_len as usize).saturating_sub(self.captured_len);
         if is_cut_off(self.len, cut, fault) {
-            unless_cut_off(self.len, cut, stop_of(&self.header, there))
+            unless_cut_off(self.len, cut, stop_fault_of(&self.header, layers))
         } else {
             Some(fault)
         }
@@ -122,10 +122,13 @@ fn unless_cut_off(len: usize, cut: usize, fault: Option<SliceError>) -> Option<S
 }
 
 // The fault of the first header that isn't there.
-fn stop_of(header: &Option<Header>, there: &Option<LaxSlicedPacket<'_>>) -> Option<SliceError>
-    ensures { result ≡ stop_of header.now there.now }
+fn stop_fault_of(
+    header: &Option<Header>,
+    layers: &Option<LaxSlicedPacket<'_>>,
+) -> Option<SliceError>
+    ensures { result ≡ stop_fault_of header.now layers.now }
 {
-    match there {
+    match layers {
         Some(packet) => match packet.stop_err {
             Some((fault, _)) => Some(in_frame(header, fault)),
             None => None,

@@ -1,6 +1,6 @@
 use Rattle.std.proofs.Common.{refl}
 use Rattle.ep_packet.specs.LaxTags.{lax_tags_in}
-use Rattle.packets.proofs.laws.examples.there.frames_in_part.Goals as goal
+use Rattle.packets.proofs.laws.examples.lax_layers.frames_in_part.Goals as goal
 
 pub returns-clause-datagram : goal.returns-clause-datagram
 unfolding lax_tags_in
