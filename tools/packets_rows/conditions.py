@@ -99,22 +99,22 @@ OF_OTHERS = (
     (("port=443",), (5,)),
     (("port=51234",), (5,)),
 )
-# Packets that were cut meet conditions by the headers that are there. The ninth is a fragment over IPv6, in
-# the twelfth the TCP header breaks its format, and in the last not even the Ethernet header is there.
+# Packets that were cut meet conditions by the headers that are there. The ninth is a fragment over IPv6, in the twelfth the TCP
+# header breaks its format, the thirteenth is an ICMP message, and in the last not even the Ethernet header is there.
 OF_CUT = (
-    (("eth",), tuple(range(1, 14))),
-    (("refused", "cut"), tuple(range(1, 14))),
+    (("eth",), tuple(range(1, 15))),
+    (("refused", "cut"), tuple(range(1, 15))),
     (("fragments",), ()),
     (("bad",), ()),
     (("vlan",), (10,)),
-    (("ip4",), (1, 2, 3, 4, 7, 8, 10, 11, 12)),
+    (("ip4",), (1, 2, 3, 4, 7, 8, 10, 11, 12, 13)),
     (("ip6",), (5, 6, 9)),
     (("tcp",), (1, 2, 3, 4, 12)),
     (("udp",), (5, 8, 9, 10, 11)),
     (("gre",), (7,)),
     (("icmp6",), (6,)),
     (("ipv6-frag",), ()),
-    (("host=10.0.0.1",), (1, 2, 3, 4, 7, 8, 10, 11, 12)),
+    (("host=10.0.0.1",), (1, 2, 3, 4, 7, 8, 10, 11, 12, 13)),
     (("host=2001:db8::2",), (5, 6, 9)),
     (("host=10.0.0.3",), ()),
     (("port=443",), (1, 2)),
