@@ -126,6 +126,11 @@ def of_two_interfaces(d):
     return "fragment" in d.it and "section" in d.packet.traits and is_of_fragments(d)
 
 
+def of_first_fragment(d):
+    """tshark shows the header of a message, which is the last one, in a fragment at offset 0 that it doesn't put together."""
+    return d.field == "headers" and "fragments" in d.packet.traits and d.ours == d.theirs[:-1]
+
+
 def of_malformed(d):
     return d.dissected.is_malformed and ends_early(d)
 
@@ -144,6 +149,7 @@ RULES = (
     Rule("fragments that contradict each other", "which bytes count, which fragments are refused: as tools/hostile_frames/answers.py, by RFC 791 and RFC 8200 (docs/LINES.md); tshark shows all of them", of_contradicting_fragments),
     Rule("fragment of no bytes", "a fragment, which may give the end of the message; tshark 4.0 shows an empty message, too", of_empty_fragment),
     Rule("extension header after a fragment header", "read in each fragment (docs/LINES.md); by tshark in the first one", of_extension_header_in_a_fragment),
+    Rule("message of a first fragment", "read when its fragments are put together, which those of cut packets aren't (docs/PACKETS.md); tshark reads it in the first one", of_first_fragment),
     Rule("fragments on two interfaces", "kept apart (docs/LINES.md); tshark joins them", of_two_interfaces),
     Rule("tshark: malformed", "tshark ends where options or what they hold break their format; here options are bytes", of_malformed),
 )

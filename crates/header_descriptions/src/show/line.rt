@@ -73,6 +73,10 @@ impl<'o> Line<'o> {
 
     /// So many spaces. It has no contract: tests compare the texts.
     pub fn spaces(&mut self, count: usize) -> Result<(), AllocError> {
+        const SPACES: &str = "                ";
+        if let Some(spaces) = SPACES.get(..count) {
+            return self.text(spaces);
+        }
         for _ in 0..count {
             self.text(" ")?;
         }
