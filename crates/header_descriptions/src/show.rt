@@ -14,4 +14,5 @@ pub mod tcp;
 pub mod time;
 
 pub use line::Line;
+pub(crate) use line::digit;
 pub use style::{Style, TimeForm, Tone};

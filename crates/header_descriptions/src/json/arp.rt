@@ -1,10 +1,9 @@
 //! ARP packets (RFC 826).
 
-use crate::json::fields::{Hex, begin, hardware, numbers, printed};
+use crate::json::fields::{Hex, begin, hardware, ipv4_address, numbers, printed};
 use ep_base::EtherType;
 use ep_link::ArpPacketSlice;
 use serde::Serializer;
-use std::net::Ipv4Addr;
 
 /// A packet. It has no contract: tests compare the texts.
 pub fn arp<S: Serializer>(out: &mut S, packet: &ArpPacketSlice<'_>) -> Result<(), S::Error> {
@@ -40,7 +39,7 @@ fn protocol_address<S: Serializer>(
     address: &[u8],
 ) -> Result<(), S::Error> {
     match (packet.proto_addr_type(), <[u8; 4]>::try_from(address)) {
-        (EtherType::IPV4, Ok(address)) => printed(out, name, &Ipv4Addr::from(address)),
+        (EtherType::IPV4, Ok(address)) => ipv4_address(out, name, address),
         _ => printed(out, name, &Hex(address)),
     }
 }

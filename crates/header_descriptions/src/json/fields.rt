@@ -1,5 +1,7 @@
 //! Members of objects.
 
+use crate::show::addresses::ipv4_text;
+use crate::show::digit;
 use serde::Serializer;
 use std::fmt;
 use std::fmt::{Debug, Display};
@@ -82,10 +84,24 @@ pub(crate) struct Hex<'a>(pub &'a [u8]);
 impl Display for Hex<'_> {
     fn fmt<W: fmt::Write>(&self, f: &mut fmt::Formatter<W>) -> fmt::Result {
         for byte in self.0 {
-            write!(f, "{byte:02x}")?;
+            hex_digits(f, *byte)?;
         }
         Ok(())
     }
+}
+
+fn hex_digits<W: fmt::Write>(f: &mut fmt::Formatter<W>, byte: u8) -> fmt::Result {
+    f.write_str(digit(byte / 16))?;
+    f.write_str(digit(byte % 16))
+}
+
+/// A member that is an IPv4 address, in its usual text. It has no contract: tests compare the texts.
+pub fn ipv4_address<S: Serializer>(
+    out: &mut S,
+    name: &str,
+    address: [u8; 4],
+) -> Result<(), S::Error> {
+    text(out, name, ipv4_text(address).as_str())
 }
 
 /// A member that is a hardware address, by its bytes in hex with colons between them. It has no
@@ -101,7 +117,8 @@ impl Display for HardwareAddress<'_> {
     fn fmt<W: fmt::Write>(&self, f: &mut fmt::Formatter<W>) -> fmt::Result {
         let mut between = "";
         for byte in self.0 {
-            write!(f, "{between}{byte:02x}")?;
+            f.write_str(between)?;
+            hex_digits(f, *byte)?;
             between = ":";
         }
         Ok(())

@@ -1,11 +1,11 @@
 //! IP headers.
 
 use crate::json::extensions::{auth, list};
-use crate::json::fields::{Hex, begin, flag, numbers, printed};
+use crate::json::fields::{Hex, begin, flag, ipv4_address, numbers, printed};
 use ep_ip::{Ipv4HeaderSlice, Ipv6HeaderSlice};
 use ep_ipslice::{Ipv4ExtensionsSlice, Ipv6ExtensionsSlice};
 use serde::Serializer;
-use std::net::{Ipv4Addr, Ipv6Addr};
+use std::net::Ipv6Addr;
 
 /// An IPv4 header (RFC 791), and an authentication header after it. It has no contract: tests
 /// compare the texts.
@@ -41,8 +41,8 @@ fn ipv4_header<S: Serializer>(out: &mut S, header: &Ipv4HeaderSlice<'_>) -> Resu
         ("header_checksum", header.header_checksum().into()),
     ];
     numbers(out, &rest)?;
-    printed(out, "source", &Ipv4Addr::from(header.source()))?;
-    printed(out, "destination", &Ipv4Addr::from(header.destination()))?;
+    ipv4_address(out, "source", header.source())?;
+    ipv4_address(out, "destination", header.destination())?;
     printed(out, "options", &Hex(header.options()))
 }
 

@@ -1,7 +1,7 @@
 //! Addresses in their usual text.
 
 use crate::show::line::Line;
-use arrayvec::{ArrayString, ArrayVec};
+use arrayvec::ArrayString;
 use std::alloc::AllocError;
 use std::fmt::Write;
 use std::net::Ipv6Addr;
@@ -9,19 +9,24 @@ use std::net::Ipv6Addr;
 /// An IPv4 address, by its bytes with dots between them. It has no contract: tests compare the
 /// texts.
 pub fn ipv4(line: &mut Line<'_>, address: &[u8; 4]) -> Result<(), AllocError> {
-    // The longest has 15 bytes.
-    let mut text = ArrayVec::<u8, 16>::new();
-    let [a, b, c, d] = *address;
-    push_decimal(&mut text, a);
-    for byte in [b, c, d] {
-        let _ = text.try_push(b'.');
-        push_decimal(&mut text, byte);
-    }
-    line.bytes(text.as_slice())
+    line.text(ipv4_text(*address).as_str())
 }
 
-// A byte in decimal. A line has many of them, and each write to it costs more than its digits.
-fn push_decimal(text: &mut ArrayVec<u8, 16>, byte: u8) {
+/// The text of an IPv4 address. Outputs have many of them: so it costs less than by `Display`.
+pub(crate) fn ipv4_text(address: [u8; 4]) -> ArrayString<16> {
+    // The longest has 15 bytes.
+    let mut text = ArrayString::new();
+    let [a, b, c, d] = address;
+    push_decimal(&mut text, a);
+    for byte in [b, c, d] {
+        let _ = text.try_push('.');
+        push_decimal(&mut text, byte);
+    }
+    text
+}
+
+// A byte in decimal.
+fn push_decimal(text: &mut ArrayString<16>, byte: u8) {
     if byte >= 100 {
         push_digit(text, byte / 100);
     }
@@ -31,8 +36,8 @@ fn push_decimal(text: &mut ArrayVec<u8, 16>, byte: u8) {
     push_digit(text, byte % 10);
 }
 
-fn push_digit(text: &mut ArrayVec<u8, 16>, digit: u8) {
-    let _ = text.try_push(b'0' + digit % 10);
+fn push_digit(text: &mut ArrayString<16>, digit: u8) {
+    let _ = text.try_push(char::from(b'0' + digit % 10));
 }
 
 /// An IPv6 address (RFC 5952). It has no contract: tests compare the texts.

@@ -108,7 +108,8 @@ impl<'o> Line<'o> {
     }
 }
 
-fn digit(value: u8) -> &'static str {
+/// The hex digit of a number below 16.
+pub(crate) fn digit(value: u8) -> &'static str {
     const DIGITS: &str = "0123456789abcdef";
     let at = usize::from(value % 16);
     DIGITS.get(at..at + 1).unwrap_or("0")
