@@ -78,11 +78,11 @@ def of_type_that_is_a_length(d):
 
 
 def of_family_of_linux(d):
-    return d.packet.link in (0, 108) and 10 in (d.packet.data[0], d.packet.data[3]) and d.theirs is None
+    return d.packet.link in (0, 108) and 10 in (d.packet.data[0], d.packet.data[3]) and not d.theirs
 
 
 def of_fourth_tag(d):
-    return len(d.it.get("link_exts", ())) == 3 and len(d.dissected.tags) > 3 and d.field in ("tags", "network layer", "message")
+    return len(d.it.get("link_exts", ())) == 3 and len(d.dissected.tags) > 3 and d.field in ("tags", "network layer", "message", "headers")
 
 
 def of_unknown_route(d):
@@ -131,6 +131,16 @@ def of_first_fragment(d):
     return d.field == "headers" and "fragments" in d.packet.traits and d.ours == d.theirs[:-1]
 
 
+def of_check_value(d):
+    """tshark takes the last 16 bytes for MACsec's check value, and shows no header where fewer follow it."""
+    return d.field == "headers" and "MACsec" in d.packet.traits and ends_early(d) and d.ours[len(d.theirs)] == "Macsec"
+
+
+def of_timestamp(d):
+    kind = d.dissected.message.get("icmp.type") if d.dissected.message else None
+    return d.field == "headers" and kind in ("13", "14") and d.ours == d.theirs[:-1]
+
+
 def of_malformed(d):
     return d.dissected.is_malformed and ends_early(d)
 
@@ -146,10 +156,12 @@ RULES = (
     Rule("`netlines` and source routes", "it takes the destination of the IP header (docs/LINES.md), `packets` the final one", of_netlines),
     Rule("interfaces of a later section", "numbered through all sections (docs/CAPTURES.md); by tshark from 0 in each", of_interface),
     Rule("reserved bits of MACsec's short length", "IEEE 802.1AE, clause 9.7: six bits; tshark shows all eight", of_reserved_bits),
+    Rule("MACsec's check value", "its length isn't in the packet, so that none is cut off; tshark takes 16 bytes at the end", of_check_value),
     Rule("fragments that contradict each other", "which bytes count, which fragments are refused: as tools/hostile_frames/answers.py, by RFC 791 and RFC 8200 (docs/LINES.md); tshark shows all of them", of_contradicting_fragments),
     Rule("fragment of no bytes", "a fragment, which may give the end of the message; tshark 4.0 shows an empty message, too", of_empty_fragment),
     Rule("extension header after a fragment header", "read in each fragment (docs/LINES.md); by tshark in the first one", of_extension_header_in_a_fragment),
     Rule("message of a first fragment", "read when its fragments are put together, which those of cut packets aren't (docs/PACKETS.md); tshark reads it in the first one", of_first_fragment),
+    Rule("ICMP timestamps of other lengths", "RFC 792: such a message has 20 bytes; tshark shows longer ones", of_timestamp),
     Rule("fragments on two interfaces", "kept apart (docs/LINES.md); tshark joins them", of_two_interfaces),
     Rule("tshark: malformed", "tshark ends where options or what they hold break their format; here options are bytes", of_malformed),
 )
