@@ -435,6 +435,23 @@ typedef struct {
     ep_icmp icmp;
 } ep_packet;
 
+/* The fields of a packet as far as it is there: of a frame that was cut off, or whose headers
+   break their format. */
+typedef struct {
+    /* The layers that are there. A payload ends with the bytes that were passed where its length
+       field says more. Refused is a packet without a whole link header, or, where it begins with its
+       IP header, without that one. */
+    ep_packet packet;
+    /* What stopped the reading: why the first layer that isn't there is refused. All fields are 0
+       where nothing is. */
+    ep_refusal stop;
+    /* The layer that was being read then, numbered as in `EpRefusal`, else 0. */
+    uint32_t stop_layer;
+    /* Whether bytes are missing of the payload of `ipv4` or `ipv6`, or where neither is there of
+       `ether_payload`: the length field of IPv4, IPv6 or MACsec says more than is there. */
+    bool incomplete;
+} ep_lax_packet;
+
 /* The headers of a packet to build. The fields of headers that it doesn't have are ignored.
    Lengths, checksums, ether types and the numbers of headers follow from it. */
 typedef struct {
@@ -571,6 +588,19 @@ ep_packet ep_slice_linux_sll(const uint8_t *bytes, size_t bytes_len);
 
 /* Gives the parts of an IP packet of either version, or why it is refused. */
 ep_packet ep_slice_ip(const uint8_t *bytes, size_t bytes_len);
+
+/* Gives the parts of an Ethernet II frame as far as they are there, and what stopped the
+   reading. Only a frame shorter than its link header is refused. */
+ep_lax_packet ep_slice_ethernet_lax(const uint8_t *bytes, size_t bytes_len);
+
+/* Gives the parts of a packet of a Linux cooked capture as far as they are there, and what
+   stopped the reading. Only a packet without a whole link header of a known packet type is
+   refused. */
+ep_lax_packet ep_slice_linux_sll_lax(const uint8_t *bytes, size_t bytes_len);
+
+/* Gives the parts of an IP packet of either version as far as they are there, and what stopped
+   the reading. Only a packet without a whole IP header of a right version and length is refused. */
+ep_lax_packet ep_slice_ip_lax(const uint8_t *bytes, size_t bytes_len);
 
 /* The verdict on the message in an Ethernet II frame: 0 no checksum, 1 a right one, 2 a wrong
    one, 3 no whole message that can be read. */

@@ -1,4 +1,5 @@
-/* The fields of an ep_packet and of an ep_plan by their names. Written by tools/bindings. */
+/* The fields of an ep_packet, of an ep_lax_packet (but its packet's) and of an ep_plan by their names. Written by
+   tools/bindings. */
 struct field {
     const char *path;
     size_t offset, size;
@@ -141,6 +142,18 @@ static const struct field packet_fields[] = {
     {"icmp.icmp_type", 650, 1, 'n'},
     {"icmp.code", 651, 1, 'n'},
     {"icmp.rest", 652, 4, 'b'},
+};
+
+static const struct field lax_packet_fields[] = {
+    {"stop.kind", 656, 4, 'n'},
+    {"stop.layer", 660, 4, 'n'},
+    {"stop.needed", 664, 8, 'n'},
+    {"stop.there", 672, 8, 'n'},
+    {"stop.place", 680, 8, 'n'},
+    {"stop.source", 688, 4, 'n'},
+    {"stop.value", 692, 4, 'n'},
+    {"stop_layer", 696, 4, 'n'},
+    {"incomplete", 700, 1, 'n'},
 };
 
 static const struct field plan_fields[] = {

@@ -153,6 +153,11 @@ _Static_assert(offsetof(ep_packet, arp) == 424 && sizeof(((ep_packet *)0)->arp) 
 _Static_assert(offsetof(ep_packet, udp) == 512 && sizeof(((ep_packet *)0)->udp) == 40, "ep_packet.udp");
 _Static_assert(offsetof(ep_packet, tcp) == 552 && sizeof(((ep_packet *)0)->tcp) == 64, "ep_packet.tcp");
 _Static_assert(offsetof(ep_packet, icmp) == 616 && sizeof(((ep_packet *)0)->icmp) == 40, "ep_packet.icmp");
+_Static_assert(sizeof(ep_lax_packet) == 704, "ep_lax_packet");
+_Static_assert(offsetof(ep_lax_packet, packet) == 0 && sizeof(((ep_lax_packet *)0)->packet) == 656, "ep_lax_packet.packet");
+_Static_assert(offsetof(ep_lax_packet, stop) == 656 && sizeof(((ep_lax_packet *)0)->stop) == 40, "ep_lax_packet.stop");
+_Static_assert(offsetof(ep_lax_packet, stop_layer) == 696 && sizeof(((ep_lax_packet *)0)->stop_layer) == 4, "ep_lax_packet.stop_layer");
+_Static_assert(offsetof(ep_lax_packet, incomplete) == 700 && sizeof(((ep_lax_packet *)0)->incomplete) == 1, "ep_lax_packet.incomplete");
 _Static_assert(sizeof(ep_plan) == 176, "ep_plan");
 _Static_assert(offsetof(ep_plan, link) == 0 && sizeof(((ep_plan *)0)->link) == 4, "ep_plan.link");
 _Static_assert(offsetof(ep_plan, destination) == 4 && sizeof(((ep_plan *)0)->destination) == 6, "ep_plan.destination");
@@ -206,6 +211,9 @@ _Static_assert(__builtin_types_compatible_p(__typeof__(ep_pool_free), void (ep_p
 _Static_assert(__builtin_types_compatible_p(__typeof__(ep_slice_ethernet), ep_packet (const uint8_t *bytes, size_t bytes_len)), "ep_slice_ethernet");
 _Static_assert(__builtin_types_compatible_p(__typeof__(ep_slice_linux_sll), ep_packet (const uint8_t *bytes, size_t bytes_len)), "ep_slice_linux_sll");
 _Static_assert(__builtin_types_compatible_p(__typeof__(ep_slice_ip), ep_packet (const uint8_t *bytes, size_t bytes_len)), "ep_slice_ip");
+_Static_assert(__builtin_types_compatible_p(__typeof__(ep_slice_ethernet_lax), ep_lax_packet (const uint8_t *bytes, size_t bytes_len)), "ep_slice_ethernet_lax");
+_Static_assert(__builtin_types_compatible_p(__typeof__(ep_slice_linux_sll_lax), ep_lax_packet (const uint8_t *bytes, size_t bytes_len)), "ep_slice_linux_sll_lax");
+_Static_assert(__builtin_types_compatible_p(__typeof__(ep_slice_ip_lax), ep_lax_packet (const uint8_t *bytes, size_t bytes_len)), "ep_slice_ip_lax");
 _Static_assert(__builtin_types_compatible_p(__typeof__(ep_verdict_ethernet), uint32_t (const uint8_t *bytes, size_t bytes_len)), "ep_verdict_ethernet");
 _Static_assert(__builtin_types_compatible_p(__typeof__(ep_verdict_linux_sll), uint32_t (const uint8_t *bytes, size_t bytes_len)), "ep_verdict_linux_sll");
 _Static_assert(__builtin_types_compatible_p(__typeof__(ep_verdict_ip), uint32_t (const uint8_t *bytes, size_t bytes_len)), "ep_verdict_ip");

@@ -14,14 +14,18 @@ the folder that it was installed beside, and where the loader looks, which choos
 from ._handles import InUse, Message, PartRefused, Pool, Session, answers
 from ._layers import Arp, Icmp, Ipv4, Ipv6, Link, Tag, Tcp, Udp
 from ._packets import (
+    LaxPacket,
     Packet,
     Refused,
     Verdict,
     checksum,
     checksum_is_right,
     slice_ethernet,
+    slice_ethernet_lax,
     slice_ip,
+    slice_ip_lax,
     slice_linux_sll,
+    slice_linux_sll_lax,
     verdict_ethernet,
     verdict_ip,
     verdict_linux_sll,
@@ -31,10 +35,11 @@ from ._plans import BuildRefused, PlannedCapture, PlannedEcho, PlannedEthernet, 
 __version__ = "1.0.0"
 
 __all__ = [
-    "Arp", "BuildRefused", "Icmp", "InUse", "Ipv4", "Ipv6", "Link", "Message", "Packet", "PartRefused", "PlannedCapture",
-    "PlannedEcho", "PlannedEthernet", "PlannedTcp", "PlannedUdp", "Pool", "Refused", "Session", "Tag", "Tcp", "Udp",
-    "Verdict", "answers", "build", "checksum", "checksum_is_right", "slice_ethernet", "slice_ip", "slice_linux_sll",
-    "verdict_ethernet", "verdict_ip", "verdict_linux_sll",
+    "Arp", "BuildRefused", "Icmp", "InUse", "Ipv4", "Ipv6", "LaxPacket", "Link", "Message", "Packet", "PartRefused",
+    "PlannedCapture", "PlannedEcho", "PlannedEthernet", "PlannedTcp", "PlannedUdp", "Pool", "Refused", "Session", "Tag",
+    "Tcp", "Udp", "Verdict", "answers", "build", "checksum", "checksum_is_right", "slice_ethernet", "slice_ethernet_lax",
+    "slice_ip", "slice_ip_lax", "slice_linux_sll", "slice_linux_sll_lax", "verdict_ethernet", "verdict_ip",
+    "verdict_linux_sll",
 ]  # fmt: skip
 
 # In errors and pickles each is named by the package, whatever module of it has it.

@@ -3,7 +3,7 @@
 import enum
 import struct
 from dataclasses import dataclass
-from typing import Any, Callable, Dict, Optional, Tuple, Type
+from typing import Any, Callable, Dict, Optional, Tuple, Type, TypeVar
 
 from . import _raw
 from ._arguments import Buffer, bytes_of
@@ -66,14 +66,20 @@ class Refused(ValueError):
             return _KINDS[self.kind]
         return f"{_KINDS[self.kind]}: {self.value}"
 
+    def __eq__(self, other: object) -> bool:
+        return self.args == other.args if isinstance(other, Refused) else NotImplemented
+
+    def __hash__(self) -> int:
+        return hash(self.args)
+
 
 # Kind, layer, numbers of bytes, place, source and value of an `EpRefusal`.
 _REFUSAL = struct.Struct("IINNNII")
 
 
-def refused(refusal: Any) -> Refused:
-    """The error of an `EpRefusal`, or of the bytes that begin with one."""
-    return Refused(*_REFUSAL.unpack_from(refusal))
+def refused(refusal: Any, at: int = 0) -> Refused:
+    """The error of an `EpRefusal`, or of the bytes that have one at this offset."""
+    return Refused(*_REFUSAL.unpack_from(refusal, at))
 
 
 # The numbers that are read here, of layers and of kinds, are of four bytes, the lowest first, of which all but that are 0.
@@ -140,27 +146,73 @@ class Packet(Lazy):
     payload: bytes
 
 
-def _sliced(call: Callable[[bytes, int], Any], name: str, data: Buffer) -> Packet:
+def _stop(_: bytes, raw: bytes, at: int) -> Optional[Refused]:
+    return refused(raw, at) if raw[at] else None
+
+
+# An `EpLaxPacket` begins with an `EpPacket`, so that the layers are read as those of one.
+@reads(
+    {
+        "stop": (_raw.EpLaxPacket.stop.offset, _stop),
+        "stop_layer": (_raw.EpLaxPacket.stop_layer.offset, lambda frame, raw, at: raw[at]),
+        "incomplete": (_raw.EpLaxPacket.incomplete.offset, lambda frame, raw, at: raw[at] != 0),
+    }
+)
+@dataclass(frozen=True)
+class LaxPacket(Packet):
+    """A packet as far as it is there, also where it was cut off or a header breaks its format.
+
+    Where a length field says more than is there, the payload ends with the packet's bytes. `stop` says why the reading
+    stopped before the end, if it did: the refusal of the first layer that isn't there. `stop_layer` is then the number that
+    the layer that was being read has in etherparse.h, else 0. `incomplete` says whether bytes are missing that the length
+    field of IPv4, IPv6 or MACsec counts: of the payload of the IP packet, or where there is none, of what the last ether
+    type names.
+    """
+
+    stop: Optional[Refused]
+    stop_layer: int
+    incomplete: bool
+
+
+_Sliced = TypeVar("_Sliced", bound=Packet)
+
+
+def _sliced(call: Callable[[bytes, int], Any], kind: Type[_Sliced], name: str, data: Buffer) -> _Sliced:
     frame = data if type(data) is bytes else bytes_of(name, data)
     raw = bytes(call(frame, len(frame)))
     if raw[0]:
         raise refused(raw)
-    return Packet._of(frame, raw, 0)
+    return kind._of(frame, raw, 0)
 
 
 def slice_ethernet(frame: Buffer) -> Packet:
     """Slices an Ethernet II frame; raises Refused."""
-    return _sliced(etherparse.ep_slice_ethernet, "frame", frame)
+    return _sliced(etherparse.ep_slice_ethernet, Packet, "frame", frame)
 
 
 def slice_linux_sll(packet: Buffer) -> Packet:
     """Slices a packet of a Linux cooked capture; raises Refused."""
-    return _sliced(etherparse.ep_slice_linux_sll, "packet", packet)
+    return _sliced(etherparse.ep_slice_linux_sll, Packet, "packet", packet)
 
 
 def slice_ip(packet: Buffer) -> Packet:
     """Slices an IP packet of either version; raises Refused."""
-    return _sliced(etherparse.ep_slice_ip, "packet", packet)
+    return _sliced(etherparse.ep_slice_ip, Packet, "packet", packet)
+
+
+def slice_ethernet_lax(frame: Buffer) -> LaxPacket:
+    """Slices an Ethernet II frame as far as it is there; raises Refused where it is shorter than its link header."""
+    return _sliced(etherparse.ep_slice_ethernet_lax, LaxPacket, "frame", frame)
+
+
+def slice_linux_sll_lax(packet: Buffer) -> LaxPacket:
+    """The same of a packet of a Linux cooked capture; raises Refused where its link header isn't whole or breaks its format."""
+    return _sliced(etherparse.ep_slice_linux_sll_lax, LaxPacket, "packet", packet)
+
+
+def slice_ip_lax(packet: Buffer) -> LaxPacket:
+    """The same of an IP packet of either version; raises Refused where its IP header isn't whole or breaks its format."""
+    return _sliced(etherparse.ep_slice_ip_lax, LaxPacket, "packet", packet)
 
 
 class Verdict(enum.Enum):

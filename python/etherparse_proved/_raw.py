@@ -332,6 +332,17 @@ class EpPacket(c.Structure):
     ]
 
 
+class EpLaxPacket(c.Structure):
+    """The fields of a packet as far as it is there: of a frame that was cut off, or whose headers break their format."""
+
+    _fields_ = [
+        ("packet", EpPacket),
+        ("stop", EpRefusal),
+        ("stop_layer", c.c_uint32),
+        ("incomplete", c.c_bool),
+    ]
+
+
 class EpPlan(c.Structure):
     """The headers of a packet to build. The fields of headers that it doesn't have are ignored. Lengths, checksums, ether types and the numbers of headers follow from it."""
 
@@ -408,6 +419,7 @@ assert c.sizeof(EpUdp) == 40
 assert c.sizeof(EpTcp) == 64
 assert c.sizeof(EpIcmp) == 40
 assert c.sizeof(EpPacket) == 656
+assert c.sizeof(EpLaxPacket) == 704
 assert c.sizeof(EpPlan) == 176
 assert c.sizeof(EpPool) == 16
 
@@ -440,6 +452,12 @@ def declare_etherparse(library: c.CDLL) -> None:
     library.ep_slice_linux_sll.restype = EpPacket
     library.ep_slice_ip.argtypes = [c.c_char_p, c.c_size_t]
     library.ep_slice_ip.restype = EpPacket
+    library.ep_slice_ethernet_lax.argtypes = [c.c_char_p, c.c_size_t]
+    library.ep_slice_ethernet_lax.restype = EpLaxPacket
+    library.ep_slice_linux_sll_lax.argtypes = [c.c_char_p, c.c_size_t]
+    library.ep_slice_linux_sll_lax.restype = EpLaxPacket
+    library.ep_slice_ip_lax.argtypes = [c.c_char_p, c.c_size_t]
+    library.ep_slice_ip_lax.restype = EpLaxPacket
     library.ep_verdict_ethernet.argtypes = [c.c_char_p, c.c_size_t]
     library.ep_verdict_ethernet.restype = c.c_uint32
     library.ep_verdict_linux_sll.argtypes = [c.c_char_p, c.c_size_t]

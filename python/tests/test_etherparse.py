@@ -1,5 +1,6 @@
 """Run at the top of the repository: python3 -m unittest discover -s python -t python"""
 
+import dataclasses
 import ipaddress
 import unittest
 from pathlib import Path
@@ -12,6 +13,7 @@ CALLS = {
     "linux_sll": (ep.slice_linux_sll, ep.verdict_linux_sll),
     "ip": (ep.slice_ip, ep.verdict_ip),
 }
+LAX_CALLS = {"ethernet": ep.slice_ethernet_lax, "linux_sll": ep.slice_linux_sll_lax, "ip": ep.slice_ip_lax}
 UDP = bytes.fromhex(
     "02000000000202000000000108004500002400070000401166c00a0000010a000002000100020010dbb40102030405060708"
 )
@@ -25,7 +27,49 @@ def rows():
             yield call, frame, dict(field.split("=") for field in fields)
 
 
+def cut_rows():
+    """Of each row of c/tests/cut_packets.txt the call, the first bytes, and the expected fields."""
+    for line in (TOP / "c/tests/cut_packets.txt").read_text().splitlines():
+        first, *words = line.split()
+        if first in LAX_CALLS:
+            call, frame = first, bytes.fromhex(words[0])
+        elif first != "#":
+            start, _, end = first.partition("-")
+            for n in range(int(start), int(end or start) + 1):
+                fields = (word.split("=") for word in words)
+                yield call, frame[:n], {path: expected(value, n) for path, value in fields}
+
+
+def expected(value, n):
+    """A value of the table for the first n bytes."""
+    if value.startswith("n"):
+        return str(n - int(value[2:] or 0))
+    offset, plus, length = value.partition("+")
+    return offset + plus + expected(length, n) if plus else value
+
+
 class Packets(unittest.TestCase):
+    def compare(self, packet, frame, wanted):
+        """The layers' fields of a table, by way of the package's own names."""
+        for path, text in wanted.items():
+            if "." not in path or path.startswith(("refusal", "stop", "link.kind")):
+                continue
+            value, layer = self.field(packet, frame, path)
+            if layer is None:
+                self.assertIn(text, ("0", "0+0"), path)
+            elif "+" in text:
+                offset, length = map(int, text.split("+"))
+                self.assertEqual(value, frame[offset : offset + length], path)
+                self.assertEqual(layer.offset(path.rpartition(".")[2]), offset, path)
+            else:
+                self.assertEqual(value.hex() if isinstance(value, bytes) else str(int(value)), text, path)
+
+    def compare_refusal(self, error, prefix, wanted):
+        self.assertEqual(error.reason, wanted[f"{prefix}.kind"].lower())
+        for name in ("layer", "needed", "there", "place", "source", "value"):
+            if f"{prefix}.{name}" in wanted:
+                self.assertEqual(getattr(error, name), int(wanted[f"{prefix}.{name}"]), name)
+
     def field(self, packet, frame, path):
         """The field of this path as the table writes it, by way of the package's own names."""
         first, _, rest = path.partition(".")
@@ -51,24 +95,38 @@ class Packets(unittest.TestCase):
                 if wanted.get("refusal.kind", "NONE") != "NONE":
                     with self.assertRaises(ep.Refused) as refused:
                         slice_call(frame)
-                    self.assertEqual(refused.exception.reason, wanted["refusal.kind"].lower())
-                    for name in ("layer", "needed", "there", "place", "source", "value"):
-                        if f"refusal.{name}" in wanted:
-                            self.assertEqual(getattr(refused.exception, name), int(wanted[f"refusal.{name}"]), name)
+                    self.compare_refusal(refused.exception, "refusal", wanted)
+                else:
+                    self.compare(slice_call(frame), frame, wanted)
+
+    def test_cut_packets(self):
+        stopped = 0
+        for call, frame, wanted in cut_rows():
+            with self.subTest(call=call, frame=frame.hex()):
+                if wanted.get("refusal.kind", "NONE") != "NONE":
+                    with self.assertRaises(ep.Refused) as refused:
+                        LAX_CALLS[call](frame)
+                    self.compare_refusal(refused.exception, "refusal", wanted)
                     continue
-                packet = slice_call(frame)
-                for path, text in wanted.items():
-                    if "." not in path or path.startswith(("refusal", "link.kind")):
-                        continue
-                    value, layer = self.field(packet, frame, path)
-                    if layer is None:
-                        self.assertIn(text, ("0", "0+0"), path)
-                    elif "+" in text:
-                        offset, length = map(int, text.split("+"))
-                        self.assertEqual(value, frame[offset : offset + length], path)
-                        self.assertEqual(layer.offset(path.rpartition(".")[2]), offset, path)
-                    else:
-                        self.assertEqual(value.hex() if isinstance(value, bytes) else str(int(value)), text, path)
+                packet = LAX_CALLS[call](frame)
+                self.compare(packet, frame, wanted)
+                self.assertEqual(packet.incomplete, wanted["incomplete"] == "1")
+                if wanted["stop.kind"] == "NONE":
+                    self.assertEqual((packet.stop, packet.stop_layer), (None, 0))
+                else:
+                    self.compare_refusal(packet.stop, "stop", wanted)
+                    self.assertEqual(packet.stop_layer, int(wanted["stop_layer"]))
+                    stopped += 1
+        self.assertGreater(stopped, 300)
+
+    def test_whole_packets_are_there(self):
+        for call, frame, wanted in rows():
+            if wanted.get("refusal.kind", "NONE") == "NONE":
+                with self.subTest(call=call, frame=frame.hex()):
+                    packet, found = CALLS[call][0](frame), LAX_CALLS[call](frame)
+                    for field in dataclasses.fields(packet):
+                        self.assertEqual(getattr(found, field.name), getattr(packet, field.name))
+                    self.assertEqual((found.stop, found.stop_layer, found.incomplete), (None, 0, False))
 
     def test_layers(self):
         packet = ep.slice_ethernet(UDP)

@@ -74,6 +74,19 @@ class Values(unittest.TestCase):
         self.assertEqual(len({packet, same, other}), 2)
         self.assertIsNone(packet.tcp)
 
+    def test_equal_lax_packets(self):
+        cut, same, other = (ep.slice_ethernet_lax(TAGGED[:n]) for n in (45, 45, 44))
+        self.assertEqual((cut, cut.stop, hash(cut), hash(cut.stop)), (same, same.stop, hash(same), hash(same.stop)))
+        self.assertNotEqual(cut.stop, other.stop)
+        self.assertNotEqual(cut.stop, "udp header")
+        self.assertEqual(str(cut.stop), "udp header at byte 38 needs 8 bytes, and 7 are there")
+        whole = ep.slice_ethernet_lax(TAGGED)
+        self.assertEqual((whole.stop, whole.stop_layer, whole.incomplete), (None, 0, False))
+        self.assertNotEqual(whole, ep.slice_ethernet(TAGGED))
+        for copied in copy.copy(cut), copy.deepcopy(cut), pickle.loads(pickle.dumps(cut)):
+            self.assertEqual((copied, copied.stop), (cut, cut.stop))
+        self.assertEqual(dataclasses.asdict(cut)["stop"], cut.stop)
+
     def test_text(self):
         packet = ep.slice_ethernet(TAGGED)
         self.assertEqual(

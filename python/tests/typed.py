@@ -38,17 +38,25 @@ def built() -> bytes:
     return ep.build(b"", source="::1", destination=IPv6Address("::2"), transport=ep.PlannedTcp(1, 2, syn=True), link=link)
 
 
+def stopped(frame: bytes) -> Optional[Tuple[str, int, bool]]:
+    packet = ep.slice_ethernet_lax(frame)
+    return (packet.stop.reason, packet.stop_layer, packet.incomplete) if packet.stop else None
+
+
 def why(error: ep.Refused) -> Tuple[str, int]:
     return error.reason, error.needed
 
 
 version: str = ep.__version__
 verdict: Optional[ep.Verdict] = ep.verdict_ip(b"")
+cut: ep.Packet = ep.slice_ip_lax(b"")
 vlan_ids: List[int] = [tag.vlan_id for tag in ep.slice_ethernet(b"").tags]
 
 packet = ep.slice_ethernet(b"")
 packet.udp.source_port  # type: ignore[union-attr]
 packet.upd  # type: ignore[attr-defined]
+packet.stop  # type: ignore[attr-defined]
+ep.slice_linux_sll_lax(b"").stop.kind  # type: ignore[union-attr]
 packet.payload = b""  # type: ignore[misc]
 assert packet.udp and packet.ipv4 and packet.link
 packet.udp.source_prt  # type: ignore[attr-defined]

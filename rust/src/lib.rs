@@ -15,7 +15,7 @@ mod pool;
 pub mod raw;
 mod refusal;
 
-pub use packet::{Link, Net, Packet, Transport};
+pub use packet::{LaxPacket, Link, Net, Packet, Stop, Transport};
 pub use plan::{
     build, BuildError, Plan, PlanField, PlannedAddresses, PlannedEcho, PlannedLink, PlannedTransport,
 };
@@ -40,6 +40,22 @@ pub fn slice_linux_sll(packet: &[u8]) -> Result<Packet<'_>, Refusal> {
 /// Slices an IP packet of either version.
 pub fn slice_ip(packet: &[u8]) -> Result<Packet<'_>, Refusal> {
     Packet::from_raw(packet, unsafe { raw::ep_slice_ip(packet.as_ptr(), packet.len()) })
+}
+
+/// Slices an Ethernet II frame as far as it is there, also where it was cut off or a header breaks its format. Refused is one
+/// that is shorter than its link header.
+pub fn slice_ethernet_lax(frame: &[u8]) -> Result<LaxPacket<'_>, Refusal> {
+    LaxPacket::from_raw(frame, unsafe { raw::ep_slice_ethernet_lax(frame.as_ptr(), frame.len()) })
+}
+
+/// The same of a packet of a Linux cooked capture. Refused is one whose link header isn't whole or breaks its format.
+pub fn slice_linux_sll_lax(packet: &[u8]) -> Result<LaxPacket<'_>, Refusal> {
+    LaxPacket::from_raw(packet, unsafe { raw::ep_slice_linux_sll_lax(packet.as_ptr(), packet.len()) })
+}
+
+/// The same of an IP packet of either version. Refused is one whose IP header isn't whole or breaks its format.
+pub fn slice_ip_lax(packet: &[u8]) -> Result<LaxPacket<'_>, Refusal> {
+    LaxPacket::from_raw(packet, unsafe { raw::ep_slice_ip_lax(packet.as_ptr(), packet.len()) })
 }
 
 /// What the checksum of a message says.

@@ -1,7 +1,7 @@
 //! Packets that were sliced.
 
-use crate::raw::{EpArp, EpIcmp, EpIpv4, EpIpv6, EpLink, EpPacket, EpPart, EpTag, EpTcp, EpUdp};
-use crate::Refusal;
+use crate::raw::{EpArp, EpIcmp, EpIpv4, EpIpv6, EpLaxPacket, EpLink, EpPacket, EpPart, EpTag, EpTcp, EpUdp};
+use crate::{Layer, Refusal};
 use std::net::{Ipv4Addr, Ipv6Addr};
 
 /// A packet that was sliced, over the bytes that it was sliced from.
@@ -9,6 +9,50 @@ use std::net::{Ipv4Addr, Ipv6Addr};
 pub struct Packet<'a> {
     bytes: &'a [u8],
     fields: EpPacket,
+}
+
+/// A packet as far as it is there, also where it was cut off or a header breaks its format.
+#[derive(Clone, Debug)]
+pub struct LaxPacket<'a> {
+    packet: Packet<'a>,
+    stop: Option<Stop>,
+    incomplete: bool,
+}
+
+/// Why the reading of a packet stopped before its end.
+#[derive(Clone, Copy, Debug, PartialEq, Eq)]
+pub struct Stop {
+    /// The refusal of the first layer that isn't there.
+    pub refusal: Refusal,
+    /// The layer that was being read.
+    pub layer: Layer,
+}
+
+impl<'a> LaxPacket<'a> {
+    pub(crate) fn from_raw(bytes: &'a [u8], raw: EpLaxPacket) -> Result<LaxPacket<'a>, Refusal> {
+        let packet = Packet::from_raw(bytes, raw.packet)?;
+        let stop = Refusal::from_raw(&raw.stop).map(|refusal| Stop { refusal, layer: Layer(raw.stop_layer) });
+        Ok(LaxPacket { packet, stop, incomplete: raw.incomplete })
+    }
+
+    /// The layers that are there. Where a length field says more than is there, the payload ends with the packet's bytes.
+    #[must_use]
+    pub fn packet(&self) -> &Packet<'a> {
+        &self.packet
+    }
+
+    /// Why the reading stopped before the end, if it did.
+    #[must_use]
+    pub fn stop(&self) -> Option<Stop> {
+        self.stop
+    }
+
+    /// Whether bytes are missing that the length field of IPv4, IPv6 or MACsec counts: of the payload of the IP packet, or
+    /// where there is none, of what the last ether type names.
+    #[must_use]
+    pub fn is_incomplete(&self) -> bool {
+        self.incomplete
+    }
 }
 
 /// A link header.

@@ -527,6 +527,25 @@ pub struct EpPacket {
     pub icmp: EpIcmp,
 }
 
+/// The fields of a packet as far as it is there: of a frame that was cut off, or whose headers break
+/// their format.
+#[repr(C)]
+#[derive(Clone, Copy, Debug, PartialEq, Eq)]
+pub struct EpLaxPacket {
+    /// The layers that are there. A payload ends with the bytes that were passed where its length
+    /// field says more. Refused is a packet without a whole link header, or, where it begins with
+    /// its IP header, without that one.
+    pub packet: EpPacket,
+    /// What stopped the reading: why the first layer that isn't there is refused. All fields are 0
+    /// where nothing is.
+    pub stop: EpRefusal,
+    /// The layer that was being read then, numbered as in `EpRefusal`, else 0.
+    pub stop_layer: u32,
+    /// Whether bytes are missing of the payload of `ipv4` or `ipv6`, or where neither is there of
+    /// `ether_payload`: the length field of IPv4, IPv6 or MACsec says more than is there.
+    pub incomplete: bool,
+}
+
 /// The headers of a packet to build. The fields of headers that it doesn't have are ignored.
 /// Lengths, checksums, ether types and the numbers of headers follow from it.
 #[repr(C)]
@@ -641,6 +660,9 @@ extern "C" {
     pub(crate) fn ep_slice_ethernet(bytes: *const u8, bytes_len: usize) -> EpPacket;
     pub(crate) fn ep_slice_linux_sll(bytes: *const u8, bytes_len: usize) -> EpPacket;
     pub(crate) fn ep_slice_ip(bytes: *const u8, bytes_len: usize) -> EpPacket;
+    pub(crate) fn ep_slice_ethernet_lax(bytes: *const u8, bytes_len: usize) -> EpLaxPacket;
+    pub(crate) fn ep_slice_linux_sll_lax(bytes: *const u8, bytes_len: usize) -> EpLaxPacket;
+    pub(crate) fn ep_slice_ip_lax(bytes: *const u8, bytes_len: usize) -> EpLaxPacket;
     pub(crate) fn ep_verdict_ethernet(bytes: *const u8, bytes_len: usize) -> u32;
     pub(crate) fn ep_verdict_linux_sll(bytes: *const u8, bytes_len: usize) -> u32;
     pub(crate) fn ep_verdict_ip(bytes: *const u8, bytes_len: usize) -> u32;
@@ -667,6 +689,7 @@ const _: () = assert!(std::mem::size_of::<EpUdp>() == 40);
 const _: () = assert!(std::mem::size_of::<EpTcp>() == 64);
 const _: () = assert!(std::mem::size_of::<EpIcmp>() == 40);
 const _: () = assert!(std::mem::size_of::<EpPacket>() == 656);
+const _: () = assert!(std::mem::size_of::<EpLaxPacket>() == 704);
 const _: () = assert!(std::mem::size_of::<EpPlan>() == 176);
 const _: () = assert!(std::mem::size_of::<EpPool>() == 16);
 const _: () = assert!(std::mem::size_of::<NetlinesSession>() == 16);

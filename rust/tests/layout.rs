@@ -151,6 +151,10 @@ fn offsets() {
     assert_eq!(offset!(EpPacket, udp), 512);
     assert_eq!(offset!(EpPacket, tcp), 552);
     assert_eq!(offset!(EpPacket, icmp), 616);
+    assert_eq!(offset!(EpLaxPacket, packet), 0);
+    assert_eq!(offset!(EpLaxPacket, stop), 656);
+    assert_eq!(offset!(EpLaxPacket, stop_layer), 696);
+    assert_eq!(offset!(EpLaxPacket, incomplete), 700);
     assert_eq!(offset!(EpPlan, link), 0);
     assert_eq!(offset!(EpPlan, destination), 4);
     assert_eq!(offset!(EpPlan, source), 10);

@@ -1,4 +1,6 @@
+mod ExtensionLemmas
 mod HeldValues
 pub mod Offsets
 mod PlanLemmas
 mod PoolLemmas
+mod WholeLemmas

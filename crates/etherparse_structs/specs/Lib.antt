@@ -1,5 +1,6 @@
 pub mod Build
 pub mod FramePool
+pub mod LaxPacket
 pub mod Link
 pub mod Message
 pub mod Net

@@ -8,11 +8,13 @@ use Rattle.etherparse.specs.link.Frame.{EthernetFrame}
 use Rattle.etherparse.specs.link.Sll as sll
 use Rattle.etherparse.specs.link.declared.link.link_slice.LinkSlice.{LinkSlice}
 use Rattle.etherparse.specs.link.declared.link.link_slice.LinkSlice.TheVariants as link
-use Rattle.etherparse.specs.tag.LinkExt.{tag_len}
+use Rattle.etherparse.specs.packet.LaxWhole.{whole_tag}
+use Rattle.etherparse.specs.tag.LinkExt.{lax_tag_len}
 use Rattle.etherparse.specs.tag.Macsec as macsec
 use Rattle.etherparse.specs.tag.Vlan as vlan
+use Rattle.etherparse.specs.tag.declared.link.lax_link_ext_slice.LaxLinkExtSlice.{LaxLinkExtSlice}
+use Rattle.etherparse.specs.tag.declared.link.lax_link_ext_slice.LaxLinkExtSlice.TheVariants as tag
 use Rattle.etherparse.specs.tag.declared.link.link_ext_slice.LinkExtSlice.{LinkExtSlice}
-use Rattle.etherparse.specs.tag.declared.link.link_ext_slice.LinkExtSlice.TheVariants as tag
 use Rattle.etherparse_structs.specs.Part.{no_part, part_at}
 use Rattle.etherparse_structs.specs.declared.link.EpLink.{EpLink}
 use Rattle.etherparse_structs.specs.declared.link.EpTag.{EpTag}
@@ -101,19 +103,27 @@ macsec_struct place header = record no_tag {
 }
 
 -- a tag at this offset, if there is one
-abbrev pub tag_struct : ℕ → Option LinkExtSlice → EpTag
+abbrev pub tag_struct : ℕ → Option LaxLinkExtSlice → EpTag
 tag_struct place None = no_tag
 tag_struct place (Some (tag.Vlan bytes)) = vlan_struct place bytes
 tag_struct place (Some (tag.Macsec m)) = macsec_struct place m.header
 
-abbrev pub len_of : Option LinkExtSlice → ℕ
+abbrev pub len_of : Option LaxLinkExtSlice → ℕ
 len_of None = 0
-len_of (Some t) = tag_len t
+len_of (Some t) = lax_tag_len t
 
--- the first three tags, one after the other, from an offset on
-abbrev pub tags_struct : ℕ → List LinkExtSlice → List EpTag
-tags_struct place tags =
-    tag_struct place (slice_get tags 0)
-    ∷ tag_struct (place + len_of (slice_get tags 0)) (slice_get tags 1)
-    ∷ tag_struct (place + len_of (slice_get tags 0) + len_of (slice_get tags 1)) (slice_get tags 2)
+-- the tag of an index, if there is one, of which nothing is missing
+abbrev pub whole_tag_in : List LinkExtSlice → ℕ → Option LaxLinkExtSlice
+whole_tag_in tags index = option_map whole_tag (slice_get tags index)
+
+-- the tags of the indices 0 to 2, one after the other, from an offset on
+abbrev pub tags_struct : ℕ → (ℕ → Option LaxLinkExtSlice) → List EpTag
+tags_struct place found =
+    tag_struct place (found 0)
+    ∷ tag_struct (place + len_of (found 0)) (found 1)
+    ∷ tag_struct (place + len_of (found 0) + len_of (found 1)) (found 2)
     ∷ []
+
+-- where they end
+abbrev pub tags_end : ℕ → (ℕ → Option LaxLinkExtSlice) → ℕ
+tags_end place found = place + len_of (found 0) + len_of (found 1) + len_of (found 2)

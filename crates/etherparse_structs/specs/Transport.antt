@@ -1,8 +1,7 @@
 -- A message of a transport protocol, as fields and numbers.
-use Rattle.std.specs.Prelude.{ℕ, ◌+◌, ◌*◌, false, List, length, drop, replicate, slice_range, Option, Some, None}
+use Rattle.std.specs.Prelude.{ℕ, ◌+◌, ◌*◌, false, List, drop, replicate, slice_range, Option, Some, None}
 use Rattle.etherparse.specs.base.Bytes.{num}
 use Rattle.etherparse.specs.icmp.Icmpv4 as icmpv4
-use Rattle.etherparse.specs.packet.Parts.{transport_bytes}
 use Rattle.etherparse.specs.packet.declared.transport.transport_slice.TransportSlice.{TransportSlice}
 use Rattle.etherparse.specs.packet.declared.transport.transport_slice.TransportSlice.TheVariants as transport
 use Rattle.etherparse.specs.tcpudp.Tcp as tcp
@@ -129,11 +128,6 @@ icmp_struct_in place (Some (transport.Tcp m)) = no_icmp
 icmp_struct_in place (Some (transport.Icmpv4 m)) =
     icmp_struct place (icmpv4.header_len (icmpv4.type_of m)) m
 icmp_struct_in place (Some (transport.Icmpv6 m)) = icmp_struct place 8 m
-
--- how many bytes it has
-abbrev pub message_len : Option TransportSlice → ℕ
-message_len None = 0
-message_len (Some m) = length (transport_bytes m)
 
 -- the number of its protocol
 abbrev pub transport_number : Option TransportSlice → ℕ

@@ -3,5 +3,6 @@
 
 pub mod headers;
 pub mod numbers;
+pub mod packets;
 pub mod pools;
 pub mod refusals;

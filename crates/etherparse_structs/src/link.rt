@@ -1,12 +1,13 @@
 //! A link header and the tags after it, as fields and numbers.
-ghost use Rattle.std.specs.Prelude.{◌≡◌, ◌≤◌};
+ghost use Rattle.std.specs.Prelude.{◌≡◌, ◌+◌, ◌≤◌};
 ghost use Rattle.std.specs.List.{slice_get};
 ghost use Rattle.etherparse_structs.specs.Link.{ethernet_struct, len_of, link_struct, macsec_struct, no_link, no_tag};
-ghost use Rattle.etherparse_structs.specs.Link.{sll_struct, tag_struct, vlan_struct};
+ghost use Rattle.etherparse_structs.specs.Link.{sll_struct, tag_struct, tags_end, tags_struct, vlan_struct, whole_tag_in};
 
 use crate::EpPart;
 use etherparse::{
-    Ethernet2Slice, LinkExtSlice, LinkSlice, LinuxSllSlice, MacsecHeaderSlice, SingleVlanSlice,
+    Ethernet2Slice, LaxLinkExtSlice, LinkExtSlice, LinkSlice, LinuxSllSlice, MacsecHeaderSlice,
+    SingleVlanSlice,
 };
 
 /// A link header. The fields of other kinds are 0.
@@ -118,25 +119,62 @@ fn sll_struct(packet: &LinuxSllSlice<'_>) -> EpLink
     }
 }
 
-/// The tag of this index, if there is one, at this offset.
-pub(crate) fn tag_struct(place: usize, tags: &[LinkExtSlice<'_>], index: usize) -> EpTag
-    ensures { result ≡ tag_struct place (slice_get tags.now index) }
+/// The tags from this offset on, and where they end.
+pub(crate) fn tags_struct(place: usize, tags: &[LinkExtSlice<'_>]) -> ([EpTag; 3], usize)
+    requires { place ≤ 16 }
+    ensures tags { result.0 ≡ tags_struct place (whole_tag_in tags.now) }
+    ensures end { result.1 ≡ tags_end place (whole_tag_in tags.now) }
+    ensures most { result.1 ≤ 64 }
+{
+    let (first, second_place) = tag_struct(place, tags, 0);
+    let (second, third_place) = tag_struct(second_place, tags, 1);
+    let (third, end) = tag_struct(third_place, tags, 2);
+    ([first, second, third], end)
+}
+
+/// The same of tags after which bytes may be missing.
+pub(crate) fn lax_tags_struct(place: usize, tags: &[LaxLinkExtSlice<'_>]) -> ([EpTag; 3], usize)
+    requires { place ≤ 16 }
+    ensures tags { result.0 ≡ tags_struct place (slice_get tags.now) }
+    ensures end { result.1 ≡ tags_end place (slice_get tags.now) }
+    ensures most { result.1 ≤ 64 }
+{
+    let (first, second_place) = lax_tag_struct(place, tags, 0);
+    let (second, third_place) = lax_tag_struct(second_place, tags, 1);
+    let (third, end) = lax_tag_struct(third_place, tags, 2);
+    ([first, second, third], end)
+}
+
+// The tag of this index, if there is one, at this offset, and where it ends.
+fn tag_struct(place: usize, tags: &[LinkExtSlice<'_>], index: usize) -> (EpTag, usize)
+    requires { place ≤ 48 }
+    ensures tag { result.0 ≡ tag_struct place (whole_tag_in tags.now index) }
+    ensures end { result.1 ≡ place + len_of (whole_tag_in tags.now index) }
+    ensures most { result.1 ≤ place + 16 }
 {
     match tags.get(index) {
-        None => no_tag(),
-        Some(LinkExtSlice::Vlan(tag)) => vlan_struct(place, tag),
-        Some(LinkExtSlice::Macsec(macsec)) => macsec_struct(place, &macsec.header),
+        None => (no_tag(), place),
+        Some(LinkExtSlice::Vlan(tag)) => (vlan_struct(place, tag), place + tag.header_len()),
+        Some(LinkExtSlice::Macsec(macsec)) => {
+            let end = place + macsec.header.header_len();
+            (macsec_struct(place, &macsec.header), end)
+        }
     }
 }
 
-/// How many bytes it has.
-pub(crate) fn tag_len(tags: &[LinkExtSlice<'_>], index: usize) -> usize
-    ensures len { result ≡ len_of (slice_get tags.now index) }
-    ensures most { result ≤ 16 }
+fn lax_tag_struct(place: usize, tags: &[LaxLinkExtSlice<'_>], index: usize) -> (EpTag, usize)
+    requires { place ≤ 48 }
+    ensures tag { result.0 ≡ tag_struct place (slice_get tags.now index) }
+    ensures end { result.1 ≡ place + len_of (slice_get tags.now index) }
+    ensures most { result.1 ≤ place + 16 }
 {
     match tags.get(index) {
-        None => 0,
-        Some(tag) => tag.header_len(),
+        None => (no_tag(), place),
+        Some(LaxLinkExtSlice::Vlan(tag)) => (vlan_struct(place, tag), place + tag.header_len()),
+        Some(LaxLinkExtSlice::Macsec(macsec)) => {
+            let end = place + macsec.header.header_len();
+            (macsec_struct(place, &macsec.header), end)
+        }
     }
 }
 

@@ -1,16 +1,24 @@
 //! A packet of the network layer, as fields and numbers.
-ghost use Rattle.std.specs.Prelude.{◌≡◌, ◌+◌, ◌^◌, ◌<◌, length};
-ghost use Rattle.etherparse.specs.ext.Ipv4Exts.{auth_bytes};
+ghost use Rattle.std.specs.Prelude.{◌≡◌, ◌+◌, ◌≤◌, ◌<◌, ◌^◌, ℕ, List, [], None, Some};
 ghost use Rattle.std.specs.Option.{option_map};
-ghost use Rattle.etherparse.specs.ipslice.Ipv6Packet.{fragment_fields_in};
-ghost use Rattle.etherparse.specs.ipslice.Packet.{fragment_fields};
-ghost use Rattle.etherparse.specs.packet.Parts.{headers_len};
-ghost use Rattle.etherparse_structs.specs.Net.{arp_struct_in, arp_struct, ipv4_struct_in, ipv4_struct, ipv6_fields};
-ghost use Rattle.etherparse_structs.specs.Net.{ipv6_struct_in, ipv6_struct, net_number, no_arp, no_ipv4, no_ipv6};
+ghost use Rattle.etherparse.specs.ext.Chain.{Row};
+ghost use Rattle.etherparse.specs.ext.Ipv4Exts.{auth_bytes};
+ghost use Rattle.etherparse.specs.ext.Value.{Piece};
+ghost use Rattle.etherparse.specs.ipslice.Compared.{lax_value};
+ghost use Rattle.etherparse.specs.ipslice.Ipv6Exts.{exts_of, view_order};
+ghost use Rattle.etherparse.specs.ipslice.Packet.{fragment_fields, ipv6_fragment_fields};
+ghost use Rattle.etherparse.specs.packet.LaxWhole.{whole_net};
+ghost use Rattle.etherparse.specs.packet.declared.net.lax_net_slice.LaxNetSlice.TheVariants as net;
+ghost use Rattle.etherparse_structs.specs.Net.{arp_struct, fragment_fields_in, ipv4_struct, ipv6_fields, ipv6_struct};
+ghost use Rattle.etherparse_structs.specs.Net.{net_fields, no_arp, no_ipv4, no_ipv6};
 
 use crate::EpPart;
-use etherparse::laws::ipslice::{extensions_of_a_packet, ipv6_fragment_fields};
-use etherparse::{ArpPacketSlice, IpFragOffset, Ipv4Slice, Ipv6Slice, NetSlice};
+use etherparse::laws::ext::whole_header_is_found;
+use etherparse::laws::ipslice::rows_are_found;
+use etherparse::{
+    ArpPacketSlice, IpFragOffset, IpPayloadSlice, Ipv4ExtensionsSlice, Ipv4HeaderSlice,
+    Ipv6ExtensionsSlice, Ipv6HeaderSlice, LaxIpPayloadSlice, LaxNetSlice, NetSlice,
+};
 
 /// An IPv4 packet (RFC 791). Its options are the last bytes of its header.
 #[repr(C)]
@@ -113,59 +121,120 @@ pub struct EpArp {
     pub operation: u16,
 }
 
-pub(crate) fn net_number(packet: &Option<NetSlice<'_>>) -> u32
-    ensures { result ≡ net_number packet.now }
+/// The packet of the network layer, if there is one, and the offset of the message in it.
+#[derive(Drop)]
+pub struct NetFields {
+    /// 0 none, 1 ARP, 4 IPv4, 6 IPv6.
+    pub number: u32,
+    /// The offset of what follows the headers.
+    pub message_offset: usize,
+    /// The packet, where it is one of IPv4.
+    pub ipv4: EpIpv4,
+    /// The packet, where it is one of IPv6.
+    pub ipv6: EpIpv6,
+    /// The packet, where it is one of ARP.
+    pub arp: EpArp,
+}
+
+/// The packet at this offset.
+pub(crate) fn net_fields(place: usize, packet: &Option<NetSlice<'_>>) -> NetFields
+    requires { place ≤ 64 }
+    ensures fields { result ≡ net_fields place (option_map whole_net packet.now) }
+    ensures room { result.message_offset + 60 < 2 ^ 64 }
 {
     match packet {
-        None => 0,
-        Some(NetSlice::Ipv4(_)) => 4,
-        Some(NetSlice::Ipv6(_)) => 6,
-        Some(NetSlice::Arp(_)) => 1,
+        None => no_net(place),
+        Some(NetSlice::Ipv4(packet)) => in_ipv4(ipv4_fields(
+            place,
+            packet.header(),
+            packet.extensions(),
+            packet.payload(),
+        )),
+        Some(NetSlice::Ipv6(packet)) => in_ipv6(ipv6_fields(
+            place,
+            packet.header(),
+            packet.extensions(),
+            packet.payload(),
+        )),
+        Some(NetSlice::Arp(packet)) => in_arp(place, packet),
     }
 }
 
-/// The bytes before the payload.
-pub(crate) fn headers_len(packet: &Option<NetSlice<'_>>) -> usize
-    requires { headers_len packet.now < 2 ^ 64 }
-    ensures { result ≡ headers_len packet.now }
+/// The packet at this offset, as far as it is there.
+pub(crate) fn lax_net_fields(place: usize, packet: &Option<LaxNetSlice<'_>>) -> NetFields
+    requires { place ≤ 64 }
+    ensures fields { result ≡ net_fields place packet.now }
+    ensures room { result.message_offset + 60 < 2 ^ 64 }
 {
     match packet {
-        None => 0,
-        Some(NetSlice::Ipv4(packet)) => packet.header().slice().len() + auth_bytes(packet).len(),
-        Some(NetSlice::Ipv6(packet)) => {
-            packet.header().slice().len() + packet.extensions().slice().len()
+        None => no_net(place),
+        Some(LaxNetSlice::Ipv4(packet)) => {
+            let payload = present(packet.payload());
+            in_ipv4(ipv4_fields(place, packet.header(), packet.extensions(), &payload))
         }
-        Some(NetSlice::Arp(packet)) => packet.slice().len(),
+        Some(LaxNetSlice::Ipv6(packet)) => {
+            let payload = present(packet.payload());
+            in_ipv6(ipv6_fields(place, packet.header(), packet.extensions(), &payload))
+        }
+        Some(LaxNetSlice::Arp(packet)) => in_arp(place, packet),
     }
 }
 
-pub(crate) fn ipv4_in(place: usize, packet: &Option<NetSlice<'_>>) -> EpIpv4
-    requires { place + headers_len packet.now < 2 ^ 64 }
-    ensures { result ≡ ipv4_struct_in place packet.now }
+// The bytes of a payload that are there.
+fn present<'a>(payload: &LaxIpPayloadSlice<'a>) -> IpPayloadSlice<'a>
+    ensures { result ≡ (lax_value payload.now).1 }
 {
-    match packet {
-        Some(NetSlice::Ipv4(packet)) => ipv4_fields(place, packet),
-        _ => no_ipv4(),
+    IpPayloadSlice {
+        ip_number: payload.ip_number,
+        fragmented: payload.fragmented,
+        len_source: payload.len_source,
+        payload: payload.payload,
     }
 }
 
-pub(crate) fn ipv6_in(place: usize, packet: &Option<NetSlice<'_>>) -> EpIpv6
-    requires { place + headers_len packet.now < 2 ^ 64 }
-    ensures { result ≡ ipv6_struct_in place packet.now }
+/// No packet at this offset.
+pub(crate) fn no_net(place: usize) -> NetFields
+    ensures { result ≡ net_fields place None }
 {
-    match packet {
-        Some(NetSlice::Ipv6(packet)) => ipv6_fields(place, packet),
-        _ => no_ipv6(),
+    NetFields {
+        number: 0,
+        message_offset: place,
+        ipv4: no_ipv4(),
+        ipv6: no_ipv6(),
+        arp: no_arp(),
     }
 }
 
-pub(crate) fn arp_in(place: usize, packet: &Option<NetSlice<'_>>) -> EpArp
-    requires { place + headers_len packet.now < 2 ^ 64 }
-    ensures { result ≡ arp_struct_in place packet.now }
+fn in_ipv4(ipv4: EpIpv4) -> NetFields
+    ensures { result ≡ record (net_fields ipv4.payload.offset None) { number = 4; ipv4 = ipv4 } }
 {
-    match packet {
-        Some(NetSlice::Arp(packet)) => arp_fields(place, packet),
-        _ => no_arp(),
+    NetFields {
+        number: 4,
+        message_offset: ipv4.payload.offset,
+        ipv4,
+        ..no_net(0)
+    }
+}
+
+fn in_ipv6(ipv6: EpIpv6) -> NetFields
+    ensures { result ≡ record (net_fields ipv6.payload.offset None) { number = 6; ipv6 = ipv6 } }
+{
+    NetFields {
+        number: 6,
+        message_offset: ipv6.payload.offset,
+        ipv6,
+        ..no_net(0)
+    }
+}
+
+fn in_arp(place: usize, packet: &ArpPacketSlice<'_>) -> NetFields
+    requires { place ≤ 64 }
+    ensures { result ≡ net_fields place (Some (net.Arp packet.now)) }
+{
+    NetFields {
+        number: 1,
+        arp: arp_fields(place, packet),
+        ..no_net(place)
     }
 }
 
@@ -193,13 +262,18 @@ fn no_ipv4() -> EpIpv4
     }
 }
 
-fn ipv4_fields(place: usize, packet: &Ipv4Slice<'_>) -> EpIpv4
-    requires { place + length packet.now.header + length (auth_bytes packet.now.auth) < 2 ^ 64 }
-    ensures { result ≡ ipv4_struct place packet.now }
+#[tactic(auto, using(crate::proofs::Offsets::ipv4_header_most))]
+fn ipv4_fields(
+    place: usize,
+    header: &Ipv4HeaderSlice<'_>,
+    extensions: &Ipv4ExtensionsSlice<'_>,
+    payload: &IpPayloadSlice<'_>,
+) -> EpIpv4
+    requires { place ≤ 64 }
+    ensures fields { result ≡ ipv4_struct place header.now extensions.now.auth payload.now }
+    ensures room { result.payload.offset + 60 < 2 ^ 64 }
 {
-    let header = packet.header();
-    let extensions = auth_bytes(packet);
-    let payload = packet.payload();
+    let extensions = auth_bytes(extensions);
     let after_header = place + header.slice().len();
     EpIpv4 {
         header: EpPart::of(place, header.slice()),
@@ -222,10 +296,10 @@ fn ipv4_fields(place: usize, packet: &Ipv4Slice<'_>) -> EpIpv4
     }
 }
 
-fn auth_bytes<'a>(packet: &Ipv4Slice<'a>) -> &'a [u8]
-    ensures { result.now ≡ auth_bytes packet.now.auth }
+fn auth_bytes<'a>(extensions: &Ipv4ExtensionsSlice<'a>) -> &'a [u8]
+    ensures { result.now ≡ auth_bytes extensions.now.auth }
 {
-    match &packet.extensions().auth {
+    match &extensions.auth {
         Some(header) => header.slice(),
         None => &[],
     }
@@ -254,12 +328,18 @@ fn no_ipv6() -> EpIpv6
     }
 }
 
-fn ipv6_fields(place: usize, packet: &Ipv6Slice<'_>) -> EpIpv6
-    requires { place + length packet.now.header + length packet.now.exts.slice < 2 ^ 64 }
-    ensures { result ≡ ipv6_struct place packet.now }
+fn ipv6_fields(
+    place: usize,
+    header: &Ipv6HeaderSlice<'_>,
+    extensions: &Ipv6ExtensionsSlice<'_>,
+    payload: &IpPayloadSlice<'_>,
+) -> EpIpv6
+    requires { place ≤ 64 }
+    ensures fields { result ≡ ipv6_struct place header.now extensions.now payload.now }
+    ensures room { result.payload.offset + 60 < 2 ^ 64 }
 {
-    let reported = ipv6_header_struct(place, packet);
-    match fragment_fields(packet) {
+    let reported = ipv6_header_fields(place, header, extensions, payload);
+    match fragment_fields(extensions) {
         Some((identification, offset, more_fragments)) => EpIpv6 {
             has_fragment_header: true,
             identification,
@@ -273,21 +353,41 @@ fn ipv6_fields(place: usize, packet: &Ipv6Slice<'_>) -> EpIpv6
 
 // What the first fragment header states, if there is one: identification, offset, and whether more
 // fragments follow.
-fn fragment_fields(packet: &Ipv6Slice<'_>) -> Option<(u32, IpFragOffset, bool)>
-    ensures { option_map fragment_fields result ≡ fragment_fields_in packet.now }
+fn fragment_fields(extensions: &Ipv6ExtensionsSlice<'_>) -> Option<(u32, IpFragOffset, bool)>
+    ensures { option_map fragment_fields result ≡ fragment_fields_in extensions.now }
 {
-    extensions_of_a_packet();
-    let _extensions = packet.extensions();
-    ipv6_fragment_fields(packet)
+    whole_header_is_found();
+    rows_are_found();
+    let _headers = extensions.slice();
+    first_fragment(extensions)
 }
 
-fn ipv6_header_struct(place: usize, packet: &Ipv6Slice<'_>) -> EpIpv6
-    requires { place + length packet.now.header + length packet.now.exts.slice < 2 ^ 64 }
-    ensures { result ≡ ipv6_fields place packet.now }
+fn first_fragment(extensions: &Ipv6ExtensionsSlice<'_>) -> Option<(u32, IpFragOffset, bool)>
+    ensures { (first : ℕ) (pieces : List Piece) (last : ℕ) → Row view_order [] first pieces last
+        → extensions.now ≡ exts_of first pieces
+        → ipv6_fragment_fields pieces ≡ option_map fragment_fields result }
 {
-    let header = packet.header();
-    let extensions = packet.extensions().slice();
-    let payload = packet.payload();
+    match extensions.first_fragment_header() {
+        Some(header) => Some((
+            header.identification(),
+            header.fragment_offset(),
+            header.more_fragments(),
+        )),
+        None => None,
+    }
+}
+
+fn ipv6_header_fields(
+    place: usize,
+    header: &Ipv6HeaderSlice<'_>,
+    extensions: &Ipv6ExtensionsSlice<'_>,
+    payload: &IpPayloadSlice<'_>,
+) -> EpIpv6
+    requires { place ≤ 64 }
+    ensures fields { result ≡ ipv6_fields place header.now extensions.now payload.now }
+    ensures room { result.payload.offset + 60 < 2 ^ 64 }
+{
+    let extensions = extensions.slice();
     let after_header = place + header.slice().len();
     EpIpv6 {
         header: EpPart::of(place, header.slice()),
@@ -322,7 +422,7 @@ fn no_arp() -> EpArp
 }
 
 fn arp_fields(place: usize, packet: &ArpPacketSlice<'_>) -> EpArp
-    requires { place + length packet.now < 2 ^ 64 }
+    requires { place ≤ 64 }
     ensures { result ≡ arp_struct place packet.now }
 {
     let bytes = packet.slice();

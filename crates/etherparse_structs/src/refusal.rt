@@ -167,7 +167,8 @@ fn content(kind: u32, layer: u32, value: u32) -> EpRefusal
     }
 }
 
-fn layer_number(layer: Layer) -> u32
+/// The number of a layer.
+pub(crate) fn layer_number(layer: Layer) -> u32
     ensures { result ≡ layer_number layer }
 {
     match layer {

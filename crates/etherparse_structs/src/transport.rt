@@ -1,7 +1,7 @@
 //! A message of a transport protocol, as fields and numbers.
-ghost use Rattle.std.specs.Prelude.{◌≡◌, ◌+◌, ◌^◌, ◌<◌, length};
+ghost use Rattle.std.specs.Prelude.{◌≡◌, ◌+◌, ◌^◌, ◌<◌};
 ghost use Rattle.etherparse.specs.icmp.Icmpv4.{header_len, type_of};
-ghost use Rattle.etherparse_structs.specs.Transport.{icmp_struct_in, icmp_struct, message_len, no_icmp, no_tcp, no_udp};
+ghost use Rattle.etherparse_structs.specs.Transport.{icmp_struct_in, icmp_struct, no_icmp, no_tcp, no_udp};
 ghost use Rattle.etherparse_structs.specs.Transport.{tcp_struct_in, tcp_struct, transport_number, udp_struct_in};
 ghost use Rattle.etherparse_structs.specs.Transport.{udp_struct};
 
@@ -98,8 +98,9 @@ pub(crate) fn transport_number(message: &Option<TransportSlice<'_>>) -> u32
     }
 }
 
+/// The message at this offset, after which a header of up to 60 bytes has room.
 pub(crate) fn udp_in(place: usize, message: &Option<TransportSlice<'_>>) -> EpUdp
-    requires { place + message_len message.now < 2 ^ 64 }
+    requires { place + 60 < 2 ^ 64 }
     ensures { result ≡ udp_struct_in place message.now }
 {
     match message {
@@ -109,7 +110,7 @@ pub(crate) fn udp_in(place: usize, message: &Option<TransportSlice<'_>>) -> EpUd
 }
 
 pub(crate) fn tcp_in(place: usize, message: &Option<TransportSlice<'_>>) -> EpTcp
-    requires { place + message_len message.now < 2 ^ 64 }
+    requires { place + 60 < 2 ^ 64 }
     ensures { result ≡ tcp_struct_in place message.now }
 {
     match message {
@@ -119,7 +120,7 @@ pub(crate) fn tcp_in(place: usize, message: &Option<TransportSlice<'_>>) -> EpTc
 }
 
 pub(crate) fn icmp_in(place: usize, message: &Option<TransportSlice<'_>>) -> EpIcmp
-    requires { place + message_len message.now < 2 ^ 64 }
+    requires { place + 60 < 2 ^ 64 }
     ensures { result ≡ icmp_struct_in place message.now }
 {
     match message {
@@ -142,8 +143,9 @@ fn no_icmp() -> EpIcmp
     }
 }
 
+#[tactic(auto, using(crate::proofs::Offsets::icmpv4_header_most))]
 fn icmpv4_fields(place: usize, message: &Icmpv4Slice<'_>) -> EpIcmp
-    requires { place + length message.now < 2 ^ 64 }
+    requires { place + 60 < 2 ^ 64 }
     ensures { result ≡ icmp_struct place (header_len (type_of message.now)) message.now }
 {
     let len = message.header_len();
@@ -158,11 +160,9 @@ fn icmpv4_fields(place: usize, message: &Icmpv4Slice<'_>) -> EpIcmp
 }
 
 fn icmpv6_fields(place: usize, message: &Icmpv6Slice<'_>) -> EpIcmp
-    requires { place + length message.now < 2 ^ 64 }
+    requires { place + 60 < 2 ^ 64 }
     ensures { result ≡ icmp_struct place 8 message.now }
 {
-    // For the proof alone: that the message has a header.
-    let _message = message.slice();
     let len = message.header_len();
     EpIcmp {
         header: EpPart { offset: place, len },
@@ -188,11 +188,9 @@ fn no_udp() -> EpUdp
 }
 
 fn udp_fields(place: usize, datagram: &UdpSlice<'_>) -> EpUdp
-    requires { place + length datagram.now < 2 ^ 64 }
+    requires { place + 60 < 2 ^ 64 }
     ensures { result ≡ udp_struct place datagram.now }
 {
-    // For the proof alone: that the datagram has a header.
-    let _datagram = datagram.slice();
     EpUdp {
         header: EpPart {
             offset: place,
@@ -232,7 +230,7 @@ fn no_tcp() -> EpTcp
 }
 
 fn tcp_fields(place: usize, segment: &TcpSlice<'_>) -> EpTcp
-    requires { place + length segment.now < 2 ^ 64 }
+    requires { place + 60 < 2 ^ 64 }
     ensures { result ≡ tcp_struct place segment.now }
 {
     EpTcp {

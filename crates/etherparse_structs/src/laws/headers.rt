@@ -1,16 +1,18 @@
 //! The fields that are given of headers, by the layouts of the standards.
 ghost use Rattle.std.specs.Prelude.{◌≡◌, ℕ, List, [], ◌∷◌, ◌++◌, map, replicate, true, false, Some, None};
+ghost use Rattle.std.specs.List.{slice_get};
 ghost use Rattle.etherparse.specs.base.declared.len_source.LenSource.TheVariants as source;
-ghost use Rattle.etherparse.specs.ipslice.Packet.{Ipv4Packet, Ipv6Packet};
+ghost use Rattle.etherparse.specs.ipslice.LaxPackets.{LaxIpv4Packet, LaxIpv6Packet};
+ghost use Rattle.etherparse.specs.ipslice.Packet.{IpPayload};
 ghost use Rattle.etherparse.specs.link.Frame.{without_fcs};
 ghost use Rattle.etherparse.specs.link.declared.link.link_slice.LinkSlice.TheVariants as link;
-ghost use Rattle.etherparse.specs.packet.declared.net.net_slice.NetSlice.TheVariants as net;
+ghost use Rattle.etherparse.specs.packet.declared.net.lax_net_slice.LaxNetSlice.TheVariants as net;
 ghost use Rattle.etherparse.specs.packet.declared.transport.transport_slice.TransportSlice.TheVariants as transport;
 ghost use Rattle.etherparse.specs.tag.Ether.{EtherPayload};
-ghost use Rattle.etherparse.specs.tag.MacsecPayload.{Modified};
-ghost use Rattle.etherparse.specs.tag.declared.link.link_ext_slice.LinkExtSlice.TheVariants as tag;
-ghost use Rattle.etherparse_structs.specs.Link.{link_struct, no_tag, tag_struct, tags_struct};
-ghost use Rattle.etherparse_structs.specs.Net.{arp_struct_in, ipv4_struct_in, ipv6_struct_in, net_number};
+ghost use Rattle.etherparse.specs.tag.MacsecLax.{LaxModified};
+ghost use Rattle.etherparse.specs.tag.declared.link.lax_link_ext_slice.LaxLinkExtSlice.TheVariants as tag;
+ghost use Rattle.etherparse_structs.specs.Link.{link_struct, no_tag, tag_struct, tags_end, tags_struct};
+ghost use Rattle.etherparse_structs.specs.Net.{arp_struct_in, ipv4_struct_in, ipv6_struct_in, message_offset_in, net_number};
 ghost use Rattle.etherparse_structs.specs.Transport.{icmp_struct_in, tcp_struct_in, transport_number, udp_struct_in};
 
 /// Link headers: of Ethernet II (RFC 894) and of a cooked capture (LINKTYPE_LINUX_SLL), sent by us,
@@ -69,7 +71,7 @@ pub fn vlan_tags()
 pub fn macsec_headers()
     ensures channel { tag_struct 18 (Some (tag.Macsec (record {
       header = 0x22 ∷ 0 ∷ 10 ∷ 11 ∷ 12 ∷ 13 ∷ 1 ∷ 2 ∷ 3 ∷ 4 ∷ 5 ∷ 6 ∷ 7 ∷ 8 ∷ 0x81 ∷ 0 ∷ [];
-      payload = Modified [];
+      payload = LaxModified false [];
     }))) ≡ record no_tag {
       header = record { offset = 18; len = 16 };
       kind = 2;
@@ -81,7 +83,7 @@ pub fn macsec_headers()
     } }
     ensures encrypted { tag_struct 14 (Some (tag.Macsec (record {
       header = 0x5c ∷ 0x28 ∷ 0 ∷ 0 ∷ 0 ∷ 9 ∷ [];
-      payload = Modified [];
+      payload = LaxModified false [];
     }))) ≡ record no_tag {
       header = record { offset = 14; len = 6 };
       kind = 2;
@@ -94,19 +96,22 @@ pub fn macsec_headers()
     } }
 {}
 
-/// Where tags are, and of which kinds: a MACsec header of 6 bytes between two VLAN tags after an
+/// Where tags are and end, and of which kinds: a MACsec header of 6 bytes between two VLAN tags after an
 /// Ethernet II header; one tag after a cooked capture's; none, whose fields are all 0.
 pub fn offsets_of_tags()
-    ensures kinds { map (λ t. t.kind) (tags_struct 14 (tag.Vlan (0 ∷ 1 ∷ 0x88 ∷ 0xe5 ∷ [])
-        ∷ tag.Macsec (record { header = 0x0c ∷ 0 ∷ 0 ∷ 0 ∷ 0 ∷ 9 ∷ []; payload = Modified [] })
-        ∷ tag.Vlan (0 ∷ 2 ∷ 8 ∷ 0 ∷ []) ∷ [])) ≡ 1 ∷ 2 ∷ 1 ∷ [] }
-    ensures three { map (λ t. t.header) (tags_struct 14 (tag.Vlan (0 ∷ 1 ∷ 0x88 ∷ 0xe5 ∷ [])
-        ∷ tag.Macsec (record { header = 0x0c ∷ 0 ∷ 0 ∷ 0 ∷ 0 ∷ 9 ∷ []; payload = Modified [] })
-        ∷ tag.Vlan (0 ∷ 2 ∷ 8 ∷ 0 ∷ []) ∷ [])) ≡ record { offset = 14; len = 4 }
+    ensures kinds { map (λ t. t.kind) (tags_struct 14 (slice_get (tag.Vlan (0 ∷ 1 ∷ 0x88 ∷ 0xe5 ∷ [])
+        ∷ tag.Macsec (record { header = 0x0c ∷ 0 ∷ 0 ∷ 0 ∷ 0 ∷ 9 ∷ []; payload = LaxModified false [] })
+        ∷ tag.Vlan (0 ∷ 2 ∷ 8 ∷ 0 ∷ []) ∷ []))) ≡ 1 ∷ 2 ∷ 1 ∷ [] }
+    ensures three { map (λ t. t.header) (tags_struct 14 (slice_get (tag.Vlan (0 ∷ 1 ∷ 0x88 ∷ 0xe5 ∷ [])
+        ∷ tag.Macsec (record { header = 0x0c ∷ 0 ∷ 0 ∷ 0 ∷ 0 ∷ 9 ∷ []; payload = LaxModified false [] })
+        ∷ tag.Vlan (0 ∷ 2 ∷ 8 ∷ 0 ∷ []) ∷ []))) ≡ record { offset = 14; len = 4 }
         ∷ record { offset = 18; len = 6 } ∷ record { offset = 24; len = 4 } ∷ [] }
-    ensures one { map (λ t. t.header) (tags_struct 16 (tag.Vlan (0 ∷ 1 ∷ 8 ∷ 0 ∷ []) ∷ []))
+    ensures one { map (λ t. t.header) (tags_struct 16 (slice_get (tag.Vlan (0 ∷ 1 ∷ 8 ∷ 0 ∷ []) ∷ [])))
         ≡ record { offset = 16; len = 4 } ∷ record { offset = 0; len = 0 }
         ∷ record { offset = 0; len = 0 } ∷ [] }
+    ensures ends { (tags_end 14 (slice_get (tag.Vlan (0 ∷ 1 ∷ 0x88 ∷ 0xe5 ∷ [])
+        ∷ tag.Macsec (record { header = 0x0c ∷ 0 ∷ 0 ∷ 0 ∷ 0 ∷ 9 ∷ []; payload = LaxModified false [] })
+        ∷ tag.Vlan (0 ∷ 2 ∷ 8 ∷ 0 ∷ []) ∷ [])) ≡ 28) × (tags_end 16 (λ _. None) ≡ 16) }
     ensures none { (tag_struct 14 None ≡ no_tag) × (no_tag.header ≡ record { offset = 0; len = 0 }) }
     ensures no_number { no_tag.kind ∷ no_tag.ether_type ∷ no_tag.vlan_id ∷ no_tag.priority
         ∷ no_tag.association ∷ no_tag.short_len ∷ no_tag.packet_number ∷ no_tag.channel ∷ []
@@ -122,7 +127,13 @@ pub fn ipv4_packets()
       header = 0x45 ∷ 0xb9 ∷ 0 ∷ 36 ∷ 0xbe ∷ 0xef ∷ 0x21 ∷ 0x23 ∷ 63 ∷ 51 ∷ 0x12 ∷ 0x34 ∷ 10 ∷ 1 ∷ 2 ∷
           3 ∷ 192 ∷ 168 ∷ 4 ∷ 5 ∷ [];
       auth = Some (17 ∷ 1 ∷ 0 ∷ 0 ∷ 0 ∷ 0 ∷ 0 ∷ 1 ∷ 0 ∷ 0 ∷ 0 ∷ 2 ∷ []);
-      payload = 7 ∷ 8 ∷ 9 ∷ 10 ∷ [];
+      incomplete = false;
+      payload = record {
+        ip_number = record { 0 = 17 };
+        fragmented = true;
+        len_source = source.Ipv4HeaderTotalLen;
+        payload = 7 ∷ 8 ∷ 9 ∷ 10 ∷ [];
+      };
     }))) ≡ record {
       header = record { offset = 14; len = 20 };
       extensions = record { offset = 34; len = 12 };
@@ -146,7 +157,13 @@ pub fn ipv4_packets()
       header = 0x46 ∷ 2 ∷ 0 ∷ 25 ∷ 0 ∷ 7 ∷ 0x40 ∷ 0 ∷ 1 ∷ 253 ∷ 0 ∷ 1 ∷ 10 ∷ 0 ∷ 0 ∷ 1 ∷ 10 ∷ 0 ∷ 0 ∷ 2 ∷
           0x94 ∷ 4 ∷ 0 ∷ 0 ∷ [];
       auth = None;
-      payload = 9 ∷ [];
+      incomplete = false;
+      payload = record {
+        ip_number = record { 0 = 253 };
+        fragmented = false;
+        len_source = source.Ipv4HeaderTotalLen;
+        payload = 9 ∷ [];
+      };
     }))) ≡ record {
       header = record { offset = 0; len = 24 };
       extensions = record { offset = 24; len = 0 };
@@ -176,6 +193,7 @@ pub fn ipv6_packets()
       header = 0x6b ∷ 0x81 ∷ 0x23 ∷ 0x45 ∷ 0 ∷ 4 ∷ 58 ∷ 255 ∷ 0xfd ∷ (replicate 14 0 ++ 1 ∷ 0xfd
           ∷ (replicate 14 0 ++ 2 ∷ []));
       exts = record { first_header = None; fragmented = false; slice = [] };
+      incomplete = false;
       payload = record {
         ip_number = record { 0 = 58 };
         fragmented = false;
@@ -208,6 +226,7 @@ pub fn ipv6_packets()
         fragmented = true;
         slice = 44 ∷ 0 ∷ 1 ∷ 4 ∷ 0 ∷ 0 ∷ 0 ∷ 0 ∷ 17 ∷ 0 ∷ 3 ∷ 0xb9 ∷ 0xde ∷ 0xad ∷ 0xbe ∷ 0xef ∷ [];
       };
+      incomplete = false;
       payload = record {
         ip_number = record { 0 = 17 };
         fragmented = true;
@@ -343,11 +362,31 @@ pub fn icmp_messages()
         } }
 {}
 
+/// The offset of a message: after an IPv4 header of 20 bytes and an authentication header of 12, and
+/// after an IPv6 header of 40 bytes and extension headers of 16; in no packet and in an ARP packet
+/// there is none, and the offset is theirs.
+pub fn offsets_of_messages()
+    ensures ipv4 { (p : IpPayload) → message_offset_in 14 (Some (net.Ipv4 (record {
+      header = replicate 20 0;
+      auth = Some (replicate 12 0);
+      incomplete = false;
+      payload = p;
+    }))) ≡ 46 }
+    ensures ipv6 { (p : IpPayload) → message_offset_in 14 (Some (net.Ipv6 (record {
+      header = replicate 40 0;
+      exts = record { first_header = None; fragmented = false; slice = replicate 16 0 };
+      incomplete = false;
+      payload = p;
+    }))) ≡ 70 }
+    ensures none { (bytes : List ℕ) → (message_offset_in 14 None ≡ 14)
+        × (message_offset_in 14 (Some (net.Arp bytes)) ≡ 14) }
+{}
+
 /// Which layer there is: 1 ARP, 4 IPv4, 6 IPv6; and 1 ICMPv4, 6 TCP, 17 UDP, 58 ICMPv6.
 pub fn kinds_of_layers()
     ensures none { (net_number None ≡ 0) × (transport_number None ≡ 0) }
     ensures arp { (bytes : List ℕ) → net_number (Some (net.Arp bytes)) ≡ 1 }
-    ensures ip { (p : Ipv4Packet) (q : Ipv6Packet) → (net_number (Some (net.Ipv4 p)) ≡ 4)
+    ensures ip { (p : LaxIpv4Packet) (q : LaxIpv6Packet) → (net_number (Some (net.Ipv4 p)) ≡ 4)
         × (net_number (Some (net.Ipv6 q)) ≡ 6) }
     ensures messages { (bytes : List ℕ) → (transport_number (Some (transport.Icmpv4 bytes)) ≡ 1)
         × (transport_number (Some (transport.Tcp bytes)) ≡ 6)

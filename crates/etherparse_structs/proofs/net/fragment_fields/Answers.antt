@@ -1,9 +1,6 @@
-use Rattle.std.proofs.Common.{◌∙◌, ap, sym}
-use Rattle.etherparse.specs.ipslice.Packet.{ipv6_fragment_fields}
+use Rattle.etherparse_structs.proofs.ExtensionLemmas.{fragment_is}
 use Rattle.etherparse_structs.proofs.net.fragment_fields.Goals as goal
 
 pub returns : goal.returns
-returns c =
-    let whole = c.extensions-extensions.ensures.whole in
-    sym (ap ipv6_fragment_fields (c.extensions_of_a_packet.ensures _ _ whole)
-    ∙ c.ipv6_fragment_fields.ensures _ whole)
+returns c = fragment_is c.whole_header_is_found.ensures.least c.rows_are_found.ensures
+    c.args.extensions.now c.slice-headers.ensures.view c.first_fragment.result c.first_fragment.ensures
