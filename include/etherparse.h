@@ -435,20 +435,21 @@ typedef struct {
     ep_icmp icmp;
 } ep_packet;
 
-/* The fields of a packet as far as it is there: of a frame that was cut off, or whose headers
-   break their format. */
+/* The fields of a packet as far as it is there, also where it was cut off or a header breaks its
+   format. */
 typedef struct {
-    /* The layers that are there. A payload ends with the bytes that were passed where its length
-       field says more. Refused is a packet without a whole link header, or, where it begins with its
-       IP header, without that one. */
+    /* The layers that are there. Where a length field says more than is there, the payload ends with
+       the bytes that were passed. Its `refusal` says why not even the first header can be read: the
+       link header, or the IP header of a packet without one. */
     ep_packet packet;
-    /* What stopped the reading: why the first layer that isn't there is refused. All fields are 0
-       where nothing is. */
+    /* Why the reading stopped before the end: the refusal of the first layer after these. All fields
+       are 0 where it didn't stop. */
     ep_refusal stop;
-    /* The layer that was being read then, numbered as in `EpRefusal`, else 0. */
+    /* The layer that was being read when it stopped, numbered as the layer of a refusal; 0 where it
+       didn't stop. */
     uint32_t stop_layer;
-    /* Whether bytes are missing of the payload of `ipv4` or `ipv6`, or where neither is there of
-       `ether_payload`: the length field of IPv4, IPv6 or MACsec says more than is there. */
+    /* Whether bytes are missing that the length field of IPv4, IPv6 or MACsec counts: bytes of the
+       payload of `ipv4` or `ipv6`, or where neither is there, of `ether_payload`. */
     bool incomplete;
 } ep_lax_packet;
 

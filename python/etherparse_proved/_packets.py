@@ -67,7 +67,9 @@ class Refused(ValueError):
         return f"{_KINDS[self.kind]}: {self.value}"
 
     def __eq__(self, other: object) -> bool:
-        return self.args == other.args if isinstance(other, Refused) else NotImplemented
+        if not isinstance(other, Refused):
+            return NotImplemented
+        return self.args == other.args
 
     def __hash__(self) -> int:
         return hash(self.args)

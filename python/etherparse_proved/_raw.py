@@ -333,7 +333,7 @@ class EpPacket(c.Structure):
 
 
 class EpLaxPacket(c.Structure):
-    """The fields of a packet as far as it is there: of a frame that was cut off, or whose headers break their format."""
+    """The fields of a packet as far as it is there, also where it was cut off or a header breaks its format."""
 
     _fields_ = [
         ("packet", EpPacket),

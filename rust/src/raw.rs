@@ -527,22 +527,23 @@ pub struct EpPacket {
     pub icmp: EpIcmp,
 }
 
-/// The fields of a packet as far as it is there: of a frame that was cut off, or whose headers break
-/// their format.
+/// The fields of a packet as far as it is there, also where it was cut off or a header breaks its
+/// format.
 #[repr(C)]
 #[derive(Clone, Copy, Debug, PartialEq, Eq)]
 pub struct EpLaxPacket {
-    /// The layers that are there. A payload ends with the bytes that were passed where its length
-    /// field says more. Refused is a packet without a whole link header, or, where it begins with
-    /// its IP header, without that one.
+    /// The layers that are there. Where a length field says more than is there, the payload ends
+    /// with the bytes that were passed. Its `refusal` says why not even the first header can be
+    /// read: the link header, or the IP header of a packet without one.
     pub packet: EpPacket,
-    /// What stopped the reading: why the first layer that isn't there is refused. All fields are 0
-    /// where nothing is.
+    /// Why the reading stopped before the end: the refusal of the first layer after these. All
+    /// fields are 0 where it didn't stop.
     pub stop: EpRefusal,
-    /// The layer that was being read then, numbered as in `EpRefusal`, else 0.
+    /// The layer that was being read when it stopped, numbered as the layer of a refusal; 0 where
+    /// it didn't stop.
     pub stop_layer: u32,
-    /// Whether bytes are missing of the payload of `ipv4` or `ipv6`, or where neither is there of
-    /// `ether_payload`: the length field of IPv4, IPv6 or MACsec says more than is there.
+    /// Whether bytes are missing that the length field of IPv4, IPv6 or MACsec counts: bytes of the
+    /// payload of `ipv4` or `ipv6`, or where neither is there, of `ether_payload`.
     pub incomplete: bool,
 }
 

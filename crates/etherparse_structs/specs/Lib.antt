@@ -1,6 +1,7 @@
 pub mod Build
 pub mod FramePool
 pub mod LaxPacket
+pub mod LaxParts
 pub mod Link
 pub mod Message
 pub mod Net

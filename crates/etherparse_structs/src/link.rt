@@ -126,9 +126,9 @@ pub(crate) fn tags_struct(place: usize, tags: &[LinkExtSlice<'_>]) -> ([EpTag; 3
     ensures end { result.1 ≡ tags_end place (whole_tag_in tags.now) }
     ensures most { result.1 ≤ 64 }
 {
-    let (first, second_place) = tag_struct(place, tags, 0);
-    let (second, third_place) = tag_struct(second_place, tags, 1);
-    let (third, end) = tag_struct(third_place, tags, 2);
+    let (first, second_offset) = tag_struct(place, tags, 0);
+    let (second, third_offset) = tag_struct(second_offset, tags, 1);
+    let (third, end) = tag_struct(third_offset, tags, 2);
     ([first, second, third], end)
 }
 
@@ -139,9 +139,9 @@ pub(crate) fn lax_tags_struct(place: usize, tags: &[LaxLinkExtSlice<'_>]) -> ([E
     ensures end { result.1 ≡ tags_end place (slice_get tags.now) }
     ensures most { result.1 ≤ 64 }
 {
-    let (first, second_place) = lax_tag_struct(place, tags, 0);
-    let (second, third_place) = lax_tag_struct(second_place, tags, 1);
-    let (third, end) = lax_tag_struct(third_place, tags, 2);
+    let (first, second_offset) = lax_tag_struct(place, tags, 0);
+    let (second, third_offset) = lax_tag_struct(second_offset, tags, 1);
+    let (third, end) = lax_tag_struct(third_offset, tags, 2);
     ([first, second, third], end)
 }
 

@@ -1,5 +1,6 @@
 //! What is reported of whole packets, and of packets as far as they are there.
-ghost use Rattle.std.specs.Prelude.{◌≡◌, ◌≤◌, ◌+◌, ℕ, Bool, List, length, false, Some, None, Ok};
+ghost use Rattle.std.specs.Prelude.{◌≡◌, ◌≤◌, ◌+◌, ℕ, Bool, List, length, false, Some, None, Ok, IfOk};
+ghost use Rattle.std.specs.List.{slice_get};
 ghost use Rattle.etherparse.specs.base.declared.err.layer.Layer.TheVariants as layer;
 ghost use Rattle.etherparse.specs.base.declared.err.len_error.LenError.{LenError};
 ghost use Rattle.etherparse.specs.base.declared.err.slice_error.SliceError.TheVariants as header_error;
@@ -16,9 +17,11 @@ ghost use Rattle.etherparse.specs.packet.declared.err.packet.slice_error.SliceEr
 ghost use Rattle.etherparse.specs.packet.declared.err.packet.slice_error.SliceError.TheVariants as error;
 ghost use Rattle.etherparse.specs.packet.declared.sliced_packet.SlicedPacket.{SlicedPacket};
 ghost use Rattle.etherparse.specs.tag.Ether.{LaxEtherPayload};
+ghost use Rattle.etherparse.specs.tag.declared.link.lax_link_ext_slice.LaxLinkExtSlice.{LaxLinkExtSlice};
 ghost use Rattle.etherparse.specs.tag.declared.link.link_ext_slice.LinkExtSlice.{LinkExtSlice};
 ghost use Rattle.etherparse_structs.specs.LaxPacket.{incomplete_of, lax_refused, lax_reported, of_ip_header, of_len};
 ghost use Rattle.etherparse_structs.specs.LaxPacket.{stop_layer_of, stop_refusal};
+ghost use Rattle.etherparse_structs.specs.LaxParts.{AreLaxPartsOf, lax_tags_len};
 ghost use Rattle.etherparse_structs.specs.Link.{tags_end, whole_tag_in};
 ghost use Rattle.etherparse_structs.specs.Packet.{packet_struct, refused};
 ghost use Rattle.etherparse_structs.specs.Refusal.{no_refusal, refusal_of};
@@ -28,8 +31,10 @@ use etherparse::laws::packet::{payloads_of_whole_packets, whole_packets_are_lax_
 /// The packet of the network layer comes after the tags, at the offset at which the packet's parts
 /// have it.
 pub fn offsets_after_tags()
-    ensures { (place : ℕ) (tags : List LinkExtSlice) → length tags ≤ 3
+    ensures whole { (place : ℕ) (tags : List LinkExtSlice) → length tags ≤ 3
         → tags_end place (whole_tag_in tags) ≡ place + tags_len tags }
+    ensures lax { (place : ℕ) (tags : List LaxLinkExtSlice) → length tags ≤ 3
+        → tags_end place (slice_get tags) ≡ place + lax_tags_len tags }
 {}
 
 /// A packet that is there is the same as far as it is there, nothing stopped the reading, and nothing
@@ -60,6 +65,17 @@ pub fn whole_packets_are_there()
     whole_packets_are_lax_packets();
     payloads_of_whole_packets();
 }
+
+/// Each part of a packet as far as it is there is at its offset in the bytes, so that what is
+/// reported of offsets and lengths lies in them.
+pub fn parts_that_are_there()
+    ensures ethernet { (bytes : List ℕ) → IfOk (lax_sliced_ethernet bytes)
+        (λ packet. AreLaxPartsOf bytes ethernet_len packet) }
+    ensures linux_sll { (bytes : List ℕ) → IfOk (lax_sliced_linux_sll bytes)
+        (λ packet. AreLaxPartsOf bytes sll_len packet) }
+    ensures ip { (bytes : List ℕ) → IfOk (lax_sliced_ip bytes)
+        (λ packet. AreLaxPartsOf bytes 0 packet) }
+{}
 
 /// What stopped the reading: nothing, a UDP header of which 7 bytes are there, and a hop-by-hop
 /// options header, whose error names extension headers of any kind.
