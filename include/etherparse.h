@@ -566,6 +566,13 @@ uint32_t ep_pool_new(ep_pool *pool);
    the pool isn't open or keeps a message: then nothing is changed. */
 ep_added ep_pool_add(ep_pool *pool, const uint8_t *frame, size_t frame_len, uint64_t time, uint32_t channel, uint8_t *output, size_t output_len);
 
+/* Takes a packet of a Linux cooked capture, as `ep_pool_add` takes a frame. All frames of a pool
+   may come from captures of different kinds. */
+ep_added ep_pool_add_linux_sll(ep_pool *pool, const uint8_t *packet, size_t packet_len, uint64_t time, uint32_t channel, uint8_t *output, size_t output_len);
+
+/* Takes an IP packet of either version, as `ep_pool_add` takes a frame. */
+ep_added ep_pool_add_ip(ep_pool *pool, const uint8_t *packet, size_t packet_len, uint64_t time, uint32_t channel, uint8_t *output, size_t output_len);
+
 /* Returns the message that a pool keeps. The status is 5 where the output starts with it, 1
    where the output is shorter than the message, and 4 where the pool isn't open or keeps none. */
 ep_added ep_pool_take(ep_pool *pool, uint8_t *output, size_t output_len);

@@ -204,6 +204,8 @@ _Static_assert(__builtin_types_compatible_p(__typeof__(ep_checksum), uint16_t (c
 _Static_assert(__builtin_types_compatible_p(__typeof__(ep_checksum_is_right), bool (const uint8_t *bytes, size_t bytes_len)), "ep_checksum_is_right");
 _Static_assert(__builtin_types_compatible_p(__typeof__(ep_pool_new), uint32_t (ep_pool *pool)), "ep_pool_new");
 _Static_assert(__builtin_types_compatible_p(__typeof__(ep_pool_add), ep_added (ep_pool *pool, const uint8_t *frame, size_t frame_len, uint64_t time, uint32_t channel, uint8_t *output, size_t output_len)), "ep_pool_add");
+_Static_assert(__builtin_types_compatible_p(__typeof__(ep_pool_add_linux_sll), ep_added (ep_pool *pool, const uint8_t *packet, size_t packet_len, uint64_t time, uint32_t channel, uint8_t *output, size_t output_len)), "ep_pool_add_linux_sll");
+_Static_assert(__builtin_types_compatible_p(__typeof__(ep_pool_add_ip), ep_added (ep_pool *pool, const uint8_t *packet, size_t packet_len, uint64_t time, uint32_t channel, uint8_t *output, size_t output_len)), "ep_pool_add_ip");
 _Static_assert(__builtin_types_compatible_p(__typeof__(ep_pool_take), ep_added (ep_pool *pool, uint8_t *output, size_t output_len)), "ep_pool_take");
 _Static_assert(__builtin_types_compatible_p(__typeof__(ep_pool_forget_before), uint32_t (ep_pool *pool, uint64_t time)), "ep_pool_forget_before");
 _Static_assert(__builtin_types_compatible_p(__typeof__(ep_pool_open), size_t (ep_pool *pool)), "ep_pool_open");

@@ -6,6 +6,19 @@
 
 enum room { MUCH, ENOUGH, TOO_LITTLE, NONE };
 
+/* The calls that take frames, by their names in the table, and those that slice them. */
+struct call {
+    const char *name;
+    ep_added (*add)(ep_pool *, const uint8_t *, size_t, uint64_t, uint32_t, uint8_t *, size_t);
+    ep_packet (*slice)(const uint8_t *, size_t);
+};
+
+static const struct call calls[] = {
+    {"add", ep_pool_add, ep_slice_ethernet},
+    {"add_linux_sll", ep_pool_add_linux_sll, ep_slice_linux_sll},
+    {"add_ip", ep_pool_add_ip, ep_slice_ip},
+};
+
 static int same_refusal(ep_refusal a, ep_refusal b) {
     return a.kind == b.kind && a.layer == b.layer && a.needed == b.needed && a.there == b.there && a.place == b.place &&
            a.source == b.source && a.value == b.value;
@@ -40,11 +53,11 @@ static uint8_t *room_of(size_t len) {
 }
 
 /* Whether the pool keeps the message, takes no frame, and returns it once. */
-static int returned_later(ep_pool *pool, const uint8_t *frame, size_t len, ep_added wanted, const uint8_t *message) {
+static int returned_later(const struct call *by, ep_pool *pool, const uint8_t *frame, size_t len, ep_added wanted, const uint8_t *message) {
     const ep_added wrong_state = {.status = EP_WRONG_STATE};
     uint8_t *room = room_of(wanted.message.len), none = 7;
     size_t open = ep_pool_open(pool);
-    int right = same(ep_pool_add(pool, frame, len, 0, 0, room, wanted.message.len), wrong_state) &&
+    int right = same(by->add(pool, frame, len, 0, 0, room, wanted.message.len), wrong_state) &&
                 is_filled(room, wanted.message.len) && ep_pool_open(pool) == open;
     wanted.status = EP_NO_ROOM;
     right &= same(ep_pool_take(pool, &none, 0), wanted) && none == 7;
@@ -56,18 +69,18 @@ static int returned_later(ep_pool *pool, const uint8_t *frame, size_t len, ep_ad
 }
 
 /* Whether a frame is answered as it is to be, with a room of this kind. */
-static int answers(ep_pool *pool, const uint8_t *frame, size_t len, uint64_t time, uint32_t channel, ep_added wanted,
-                   const uint8_t *message, enum room kind) {
+static int answers(const struct call *by, ep_pool *pool, const uint8_t *frame, size_t len, uint64_t time, uint32_t channel,
+                   ep_added wanted, const uint8_t *message, enum room kind) {
     size_t size = kind == MUCH ? wanted.message.len + 2 : kind == ENOUGH ? wanted.message.len : 0;
     if (kind == TOO_LITTLE && wanted.message.len) size = wanted.message.len - 1;
     uint8_t *room = room_of(size);
     int lacks = size < wanted.message.len;
     if (lacks) wanted.status = EP_NO_ROOM;
-    int right = same(ep_pool_add(pool, frame, len, time, channel, room, size), wanted);
+    int right = same(by->add(pool, frame, len, time, channel, room, size), wanted);
     size_t written = lacks ? 0 : wanted.message.len;
     right &= !memcmp(room, message, written) && is_filled(room + written, size - written);
     free(room);
-    return right && (!lacks || returned_later(pool, frame, len, wanted, message));
+    return right && (!lacks || returned_later(by, pool, frame, len, wanted, message));
 }
 
 static void read_address(const char *hex, uint8_t *address, size_t needed) {
@@ -79,7 +92,7 @@ static void read_address(const char *hex, uint8_t *address, size_t needed) {
 }
 
 /* What the rest of a line says of a frame, and the bytes of the message that is complete with it. */
-static ep_added wanted_of(const uint8_t *frame, size_t len, uint8_t **message) {
+static ep_added wanted_of(const struct call *by, const uint8_t *frame, size_t len, uint8_t **message) {
     const char *answer = strtok(NULL, " \n"), *word[5] = {0};
     ep_added wanted = {.status = EP_REFUSED};
     size_t none;
@@ -88,7 +101,7 @@ static ep_added wanted_of(const uint8_t *frame, size_t len, uint8_t **message) {
     if (!strcmp(answer, "none")) {
         wanted.status = EP_DONE;
     } else if (!strcmp(answer, "frame")) {
-        wanted.refusal = ep_slice_ethernet(frame, len).refusal;
+        wanted.refusal = by->slice(frame, len).refusal;
         if (wanted.refusal.kind != strtoul(word[0], NULL, 10)) exit(2);
     } else if (!strcmp(answer, "part")) {
         unsigned long number[5];
@@ -115,12 +128,13 @@ static ep_added wanted_of(const uint8_t *frame, size_t len, uint8_t **message) {
     return wanted;
 }
 
-static void add(ep_pool *pool, enum room kind) {
+static void add(const struct call *by, ep_pool *pool, enum room kind) {
     const char *time = strtok(NULL, " "), *channel = strtok(NULL, " "), *hex = strtok(NULL, " ");
     size_t len;
     uint8_t *frame = block_of(hex, &len), *message;
-    const ep_added wanted = wanted_of(frame, len, &message);
-    check(answers(pool, frame, len, strtoull(time, NULL, 10), (uint32_t)strtoul(channel, NULL, 10), wanted, message, kind), hex);
+    const ep_added wanted = wanted_of(by, frame, len, &message);
+    check(answers(by, pool, frame, len, strtoull(time, NULL, 10), (uint32_t)strtoul(channel, NULL, 10), wanted, message, kind),
+          hex);
     free(frame);
     free(message);
 }
@@ -134,8 +148,9 @@ static void rows(FILE *table, enum room kind) {
         if (!strcmp(call, "pool")) {
             ep_pool_free(&pool);
             check(ep_pool_new(&pool) == EP_DONE, "a new pool");
-        } else if (!strcmp(call, "add")) {
-            add(&pool, kind);
+        } else if (!strncmp(call, "add", 3)) {
+            for (size_t i = 0; i < sizeof calls / sizeof *calls; i++)
+                if (!strcmp(call, calls[i].name)) add(&calls[i], &pool, kind);
         } else if (!strcmp(call, "forget")) {
             check(ep_pool_forget_before(&pool, strtoull(strtok(NULL, " \n"), NULL, 10)) == EP_DONE, "forget");
         } else if (!strcmp(call, "open")) {

@@ -139,11 +139,22 @@ class Pool(_Handle):
         """Takes an Ethernet II frame, which came at this time on this channel, and gives the message that is complete
         with it. Messages of other channels are other messages. Raises Refused, PartRefused and MemoryError, and leaves
         all messages as they were then; but a part that overlaps another over IPv6, of kind 4, ends its own (RFC 5722)."""
-        taken = bytes_of("frame", frame)
+        return self._add(etherparse.ep_pool_add, "frame", frame, time, channel)
+
+    def add_linux_sll(self, packet: Buffer, time: int, channel: int = 0) -> Optional[Message]:
+        """The same of a packet of a Linux cooked capture. What a pool takes may come from captures of different kinds."""
+        return self._add(etherparse.ep_pool_add_linux_sll, "packet", packet, time, channel)
+
+    def add_ip(self, packet: Buffer, time: int, channel: int = 0) -> Optional[Message]:
+        """The same of an IP packet of either version."""
+        return self._add(etherparse.ep_pool_add_ip, "packet", packet, time, channel)
+
+    def _add(self, call: Callable[..., Any], name: str, data: Buffer, time: int, channel: int) -> Optional[Message]:
+        taken = bytes_of(name, data)
         time, channel = integer("time", time), number_up_to("channel", channel, 0xFFFF_FFFF)
         with self._alone:
             pool, room = self._opened(), self._room
-            added = etherparse.ep_pool_add(pool, taken, len(taken), self._time(time), channel, room, _MESSAGE_LEN)
+            added = call(pool, taken, len(taken), self._time(time), channel, room, _MESSAGE_LEN)
             status = added.status
             if status == _raw.DONE:
                 return None

@@ -438,6 +438,10 @@ def declare_etherparse(library: c.CDLL) -> None:
     library.ep_pool_new.restype = c.c_uint32
     library.ep_pool_add.argtypes = [c.POINTER(EpPool), c.c_char_p, c.c_size_t, c.c_uint64, c.c_uint32, c.POINTER(c.c_uint8), c.c_size_t]
     library.ep_pool_add.restype = EpAdded
+    library.ep_pool_add_linux_sll.argtypes = [c.POINTER(EpPool), c.c_char_p, c.c_size_t, c.c_uint64, c.c_uint32, c.POINTER(c.c_uint8), c.c_size_t]
+    library.ep_pool_add_linux_sll.restype = EpAdded
+    library.ep_pool_add_ip.argtypes = [c.POINTER(EpPool), c.c_char_p, c.c_size_t, c.c_uint64, c.c_uint32, c.POINTER(c.c_uint8), c.c_size_t]
+    library.ep_pool_add_ip.restype = EpAdded
     library.ep_pool_take.argtypes = [c.POINTER(EpPool), c.POINTER(c.c_uint8), c.c_size_t]
     library.ep_pool_take.restype = EpAdded
     library.ep_pool_forget_before.argtypes = [c.POINTER(EpPool), c.c_uint64]

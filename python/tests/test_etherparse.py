@@ -235,10 +235,10 @@ class Plans(unittest.TestCase):
 
 
 class Pools(unittest.TestCase):
-    def answer(self, pool, frame, time, channel):
+    def answer(self, add, frame, time, channel):
         """What a frame is answered, in the words of the table."""
         try:
-            message = pool.add(frame, time, channel)
+            message = add(frame, time, channel)
         except ep.Refused as refused:
             return ["frame", refused.kind]
         except ep.PartRefused as part:
@@ -256,9 +256,9 @@ class Pools(unittest.TestCase):
                 if call == "pool":
                     pool.close()
                     pool = ep.Pool()
-                elif call == "add":
+                elif call.startswith("add"):
                     time, channel, digits, *wanted = words
-                    found = self.answer(pool, bytes.fromhex(digits.strip("-")), int(time), int(channel))
+                    found = self.answer(getattr(pool, call), bytes.fromhex(digits.strip("-")), int(time), int(channel))
                     self.assertEqual([str(word) for word in found], wanted)
                 elif call == "forget":
                     pool.forget_before(int(words[0]))

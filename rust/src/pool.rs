@@ -144,6 +144,8 @@ impl Message {
     }
 }
 
+type AddCall = unsafe extern "C" fn(*mut EpPool, *const u8, usize, u64, u32, *mut u8, usize) -> EpAdded;
+
 impl Pool {
     /// A pool with no message.
     pub fn new() -> Result<Pool, OutOfMemory> {
@@ -158,12 +160,26 @@ impl Pool {
     /// Takes an Ethernet II frame, which came at this time on this channel, and returns the message that is
     /// complete with it. Messages of other channels are other messages.
     pub fn add(&mut self, frame: &[u8], time: u64, channel: u32) -> Result<Option<Message>, AddError> {
+        self.add_by(raw::ep_pool_add, frame, time, channel)
+    }
+
+    /// The same of a packet of a Linux cooked capture. What a pool takes may come from captures of different kinds.
+    pub fn add_linux_sll(&mut self, packet: &[u8], time: u64, channel: u32) -> Result<Option<Message>, AddError> {
+        self.add_by(raw::ep_pool_add_linux_sll, packet, time, channel)
+    }
+
+    /// The same of an IP packet of either version.
+    pub fn add_ip(&mut self, packet: &[u8], time: u64, channel: u32) -> Result<Option<Message>, AddError> {
+        self.add_by(raw::ep_pool_add_ip, packet, time, channel)
+    }
+
+    fn add_by(&mut self, call: AddCall, bytes: &[u8], time: u64, channel: u32) -> Result<Option<Message>, AddError> {
         // SAFETY: pointers and lengths are those of slices that were written, and nothing overlaps.
         let added: EpAdded = unsafe {
-            raw::ep_pool_add(
+            call(
                 &mut self.raw,
-                frame.as_ptr(),
-                frame.len(),
+                bytes.as_ptr(),
+                bytes.len(),
                 time,
                 channel,
                 self.room.as_mut_ptr(),

@@ -654,6 +654,8 @@ extern "C" {
     pub(crate) fn ep_checksum_is_right(bytes: *const u8, bytes_len: usize) -> bool;
     pub(crate) fn ep_pool_new(pool: *mut EpPool) -> u32;
     pub(crate) fn ep_pool_add(pool: *mut EpPool, frame: *const u8, frame_len: usize, time: u64, channel: u32, output: *mut u8, output_len: usize) -> EpAdded;
+    pub(crate) fn ep_pool_add_linux_sll(pool: *mut EpPool, packet: *const u8, packet_len: usize, time: u64, channel: u32, output: *mut u8, output_len: usize) -> EpAdded;
+    pub(crate) fn ep_pool_add_ip(pool: *mut EpPool, packet: *const u8, packet_len: usize, time: u64, channel: u32, output: *mut u8, output_len: usize) -> EpAdded;
     pub(crate) fn ep_pool_take(pool: *mut EpPool, output: *mut u8, output_len: usize) -> EpAdded;
     pub(crate) fn ep_pool_forget_before(pool: *mut EpPool, time: u64) -> u32;
     pub(crate) fn ep_pool_open(pool: *mut EpPool) -> usize;

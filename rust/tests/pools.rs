@@ -1,6 +1,6 @@
 //! Messages that come in parts.
 
-use etherparse_proved::{slice_ethernet, AddError, Message, PartRefusal, Pool};
+use etherparse_proved::{slice_ethernet, slice_ip, slice_linux_sll, AddError, Message, PartRefusal, Pool, Refusal};
 use std::fs;
 use std::net::{IpAddr, Ipv4Addr, Ipv6Addr};
 
@@ -18,8 +18,18 @@ fn address(hex: &str) -> IpAddr {
     }
 }
 
+/// Why a frame that a call of the table takes is refused.
+fn refusal(call: &str, frame: &[u8]) -> Refusal {
+    let sliced = match call {
+        "add" => slice_ethernet(frame),
+        "add_linux_sll" => slice_linux_sll(frame),
+        _ => slice_ip(frame),
+    };
+    sliced.unwrap_err()
+}
+
 /// What the words of an answer in the table expect.
-fn wanted(frame: &[u8], answer: &[&str]) -> Result<Option<Message>, AddError> {
+fn wanted(call: &str, frame: &[u8], answer: &[&str]) -> Result<Option<Message>, AddError> {
     match *answer {
         ["none"] => Ok(None),
         ["message", version, number, source, destination, message] => {
@@ -27,7 +37,7 @@ fn wanted(frame: &[u8], answer: &[&str]) -> Result<Option<Message>, AddError> {
             assert_eq!(source.is_ipv4(), version == "4");
             Ok(Some(Message { source, destination, number: number.parse().unwrap(), bytes: bytes(message) }))
         }
-        ["frame", _] => Err(AddError::Frame(slice_ethernet(frame).unwrap_err())),
+        ["frame", _] => Err(AddError::Frame(refusal(call, frame))),
         ["part", kind, offset, previous_end, end, len] => {
             let (offset, len) = (offset.parse().unwrap(), len.parse().unwrap());
             Err(AddError::Part(match kind {
@@ -51,10 +61,15 @@ fn table() {
         match line.split(' ').collect::<Vec<_>>()[..] {
             ["#", ..] => {}
             ["pool"] => pool = Pool::new().unwrap(),
-            ["add", time, channel, frame, ref answer @ ..] => {
+            [call @ ("add" | "add_linux_sll" | "add_ip"), time, channel, frame, ref answer @ ..] => {
                 let frame = bytes(frame);
-                let found = pool.add(&frame, time.parse().unwrap(), channel.parse().unwrap());
-                assert_eq!(found, wanted(&frame, answer), "{line}");
+                let (time, channel) = (time.parse().unwrap(), channel.parse().unwrap());
+                let found = match call {
+                    "add" => pool.add(&frame, time, channel),
+                    "add_linux_sll" => pool.add_linux_sll(&frame, time, channel),
+                    _ => pool.add_ip(&frame, time, channel),
+                };
+                assert_eq!(found, wanted(call, &frame, answer), "{line}");
             }
             ["forget", time] => pool.forget_before(time.parse().unwrap()),
             ["open", count] => assert_eq!(pool.open_len(), count.parse().unwrap(), "{line}"),

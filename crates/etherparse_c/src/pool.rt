@@ -2,11 +2,12 @@
 ghost use Rattle.std.specs.Prelude.{◌≡◌, ◌<◌, ◌⊎◌, true, false, Option, Some, None, length};
 ghost use Rattle.etherparse.specs.OpenReassemblies.{IsOpenCount};
 ghost use Rattle.etherparse.specs.PoolCalls.{Lists, fault_in, no_lists, retained_from};
-ghost use Rattle.etherparse.specs.packet.Class.{class_of};
-ghost use Rattle.etherparse.specs.packet.Sliced.{sliced_ethernet};
+ghost use Rattle.etherparse.specs.packet.Class.{class_of, sliced_class};
+ghost use Rattle.etherparse.specs.packet.Sliced.{sliced_ethernet, sliced_ip, sliced_linux_sll};
 ghost use Rattle.etherparse_structs.specs.FramePool.{IsAnswered, Kept, added, completed, kept_of, written};
 ghost use Rattle.etherparse_structs.specs.Pool.{IsPool, Keeps};
 
+use etherparse::SlicedPacket;
 use etherparse_structs::{EpAdded, EpPool};
 use std::alloc::Global;
 
@@ -55,7 +56,66 @@ pub extern "C" fn ep_pool_add(
     ensures closed { pool.old.is_open ≡ false
         → (pool.new ≡ pool.old) × (result ≡ added 4) × (output.new ≡ output.old) }
 {
-    pool.add(alloc, frame, time, channel, output)
+    pool.add(
+        alloc,
+        SlicedPacket::from_ethernet(frame),
+        time,
+        channel,
+        output,
+    )
+}
+
+/// Takes a packet of a Linux cooked capture, as `ep_pool_add` takes a frame. All frames of a pool
+/// may come from captures of different kinds.
+#[unsafe(no_mangle)]
+pub extern "C" fn ep_pool_add_linux_sll(
+    alloc: Global,
+    pool: &mut EpPool,
+    packet: &[u8],
+    time: u64,
+    channel: u32,
+    output: &mut [u8],
+) -> EpAdded
+    requires { IsPool pool.old }
+    ensures pool { IsPool pool.new }
+    ensures answered { (lists : Lists) → Keeps pool.old lists None → IsAnswered (Keeps pool.new)
+        lists (sliced_class (sliced_linux_sll packet.now)) time channel
+        (fault_in (sliced_linux_sll packet.now)) output.old output.new result }
+    ensures keeps { (lists : Lists) (kept : Kept) → Keeps pool.old lists (Some kept)
+        → Keeps pool.new lists (Some kept) × (result ≡ added 4) × (output.new ≡ output.old) }
+    ensures closed { pool.old.is_open ≡ false
+        → (pool.new ≡ pool.old) × (result ≡ added 4) × (output.new ≡ output.old) }
+{
+    pool.add(
+        alloc,
+        SlicedPacket::from_linux_sll(packet),
+        time,
+        channel,
+        output,
+    )
+}
+
+/// Takes an IP packet of either version, as `ep_pool_add` takes a frame.
+#[unsafe(no_mangle)]
+pub extern "C" fn ep_pool_add_ip(
+    alloc: Global,
+    pool: &mut EpPool,
+    packet: &[u8],
+    time: u64,
+    channel: u32,
+    output: &mut [u8],
+) -> EpAdded
+    requires { IsPool pool.old }
+    ensures pool { IsPool pool.new }
+    ensures answered { (lists : Lists) → Keeps pool.old lists None → IsAnswered (Keeps pool.new)
+        lists (sliced_class (sliced_ip packet.now)) time channel
+        (fault_in (sliced_ip packet.now)) output.old output.new result }
+    ensures keeps { (lists : Lists) (kept : Kept) → Keeps pool.old lists (Some kept)
+        → Keeps pool.new lists (Some kept) × (result ≡ added 4) × (output.new ≡ output.old) }
+    ensures closed { pool.old.is_open ≡ false
+        → (pool.new ≡ pool.old) × (result ≡ added 4) × (output.new ≡ output.old) }
+{
+    pool.add(alloc, SlicedPacket::from_ip(packet), time, channel, output)
 }
 
 /// Returns the message that a pool keeps.

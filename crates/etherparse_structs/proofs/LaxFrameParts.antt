@@ -1,14 +1,13 @@
 -- The parts of frames, of packets of cooked captures and of IP packets, as far as they are there.
-use Rattle.std.proofs.Common.{◌≡◌, ◌∙◌, sym, ap, subst, refl, ℕ, ◌+◌, ◌≤◌, ◌==◌, Bool, true, false, cond, List, [], length, drop}
+use Rattle.std.proofs.Common.{◌≡◌, sym, ap, subst, refl, ℕ, ◌≤◌, ◌==◌, List, [], length, drop}
 use Rattle.std.proofs.Common.{Option, Some, None, Result, Ok, Err, IfOk, arith}
-use Rattle.std.specs.Option.{option_map}
 use Rattle.etherparse.specs.base.declared.err.layer.Layer.TheVariants.{Ethernet2Header}
 use Rattle.etherparse.specs.base.declared.err.len_error.LenError.{LenError}
 use Rattle.etherparse.specs.base.declared.err.slice_error.SliceError.{SliceError as HeaderSliceError}
 use Rattle.etherparse.specs.ip.Ipv4.{version_of}
 use Rattle.etherparse.specs.ip.declared.err.ipv4.header_error.HeaderError.{HeaderError as Ipv4HeaderFault}
 use Rattle.etherparse.specs.ip.declared.err.ipv6.header_error.HeaderError.{HeaderError as Ipv6HeaderFault}
-use Rattle.etherparse.specs.ipslice.LaxIp.{StoppedIp, lax_ip_packet_at, with_lax_ipv4, with_lax_ipv6}
+use Rattle.etherparse.specs.ipslice.LaxIp.{StoppedIp, with_lax_ipv4, with_lax_ipv6}
 use Rattle.etherparse.specs.ipslice.LaxPackets.{StoppedIpv4, StoppedIpv6, lax_ipv4_packet_at, lax_ipv6_packet_at}
 use Rattle.etherparse.specs.ipslice.declared.err.ip.header_error.HeaderError.{HeaderError as IpHeaderFault}
 use Rattle.etherparse.specs.link.Ethernet.{ethernet_len, payload_of}
@@ -18,10 +17,9 @@ use Rattle.etherparse.specs.link.SllFault as sll_fault
 use Rattle.etherparse.specs.link.SllPayload as sll
 use Rattle.etherparse.specs.link.declared.err.linux_sll.header_error.HeaderError.{HeaderError as SllFault}
 use Rattle.etherparse.specs.link.declared.link.link_slice.LinkSlice.TheVariants as link
-use Rattle.etherparse.specs.packet.LaxSliced.{exts_stop, in_lax_cooked, in_lax_frame, in_lax_ip, in_lax_linux_sll, in_lax_version}
-use Rattle.etherparse.specs.packet.LaxSliced.{lax_packet_after, lax_packet_of, lax_sliced_ethernet, lax_sliced_ip}
+use Rattle.etherparse.specs.packet.LaxSliced.{in_lax_cooked, in_lax_frame, in_lax_linux_sll, in_lax_version}
+use Rattle.etherparse.specs.packet.LaxSliced.{lax_packet_of, lax_sliced_ethernet, lax_sliced_ip}
 use Rattle.etherparse.specs.packet.LaxSliced.{lax_sliced_linux_sll, no_layers}
-use Rattle.etherparse.specs.packet.Parts.{IsAt}
 use Rattle.etherparse.specs.packet.Tags.{most_tags}
 use Rattle.etherparse.specs.packet.declared.lax_sliced_packet.LaxSlicedPacket.{LaxSlicedPacket}
 use Rattle.etherparse.specs.tag.Ether.{EtherPayload, complete_ether}

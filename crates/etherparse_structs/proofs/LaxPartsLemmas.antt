@@ -1,22 +1,20 @@
 -- The parts of a packet as far as it is there, in its bytes.
-use Rattle.std.proofs.Common.{◌≡◌, ◌∙◌, sym, ap, subst, refl, ℕ, zero, suc, ◌+◌, ◌≤◌, ◌==◌, Bool, true, false, cond, List, []}
-use Rattle.std.proofs.Common.{◌∷◌, ◌++◌, length, take, drop, Option, Some, None, Result, Ok, Err, IfOk, IfSome, arith}
+use Rattle.std.proofs.Common.{◌≡◌, sym, subst, refl, ℕ, zero, suc, ◌+◌, ◌≤◌, ◌==◌, List, []}
+use Rattle.std.proofs.Common.{◌∷◌, length, take, drop, Option, Some, None, Result, Ok, Err, IfOk, IfSome, arith}
 use Rattle.std.proofs.lemmas.Bool.{ltb-false}
-use Rattle.std.specs.Option.{option_map}
 use Rattle.etherparse.specs.base.declared.err.layer.Layer.{Layer}
-use Rattle.etherparse.specs.base.declared.err.layer.Layer.TheVariants.{Ethernet2Header, VlanHeader}
+use Rattle.etherparse.specs.base.declared.err.layer.Layer.TheVariants.{VlanHeader}
 use Rattle.etherparse.specs.base.declared.err.len_error.LenError.{LenError}
 use Rattle.etherparse.specs.base.declared.err.slice_error.SliceError.{SliceError as HeaderSliceError}
 use Rattle.etherparse.specs.ext.Ipv4Exts.{auth_bytes}
 use Rattle.etherparse.specs.ip.declared.err.ipv4.header_error.HeaderError.{HeaderError as Ipv4HeaderFault}
 use Rattle.etherparse.specs.ip.declared.err.ipv6.header_error.HeaderError.{HeaderError as Ipv6HeaderFault}
 use Rattle.etherparse.specs.ipslice.LaxPackets.{StoppedIpv4, StoppedIpv6, lax_ipv4_packet_at, lax_ipv6_packet_at}
-use Rattle.etherparse.specs.ipslice.Packet.{IpPayload}
 use Rattle.etherparse.specs.link.Arp as arp
 use Rattle.etherparse.specs.link.declared.link.link_slice.LinkSlice.{LinkSlice}
 use Rattle.etherparse.specs.packet.LaxSliced.{LaxLayers, in_lax_ipv4, in_lax_ipv6, lax_arp_layers, lax_ipv4_layers, lax_ipv6_layers}
-use Rattle.etherparse.specs.packet.LaxSliced.{lax_layers_in, lax_layers_of, lax_packet_tagged, lax_transport_in, no_layers}
-use Rattle.etherparse.specs.packet.LaxTags.{LaxTagged, Stop, ended, joined, lax_from_tag, lax_macsec_tag, lax_read_further}
+use Rattle.etherparse.specs.packet.LaxSliced.{lax_layers_in, lax_layers_of, lax_packet_tagged, lax_transport_in}
+use Rattle.etherparse.specs.packet.LaxTags.{LaxTagged, Stop, joined, lax_from_tag, lax_macsec_tag, lax_read_further}
 use Rattle.etherparse.specs.packet.LaxTags.{lax_tag_at, lax_tags_in, lax_vlan_tag}
 use Rattle.etherparse.specs.packet.Parts.{IsAt, StandAt, transport_bytes}
 use Rattle.etherparse.specs.packet.Sliced.{arp_type, ipv4_type, ipv6_type}
@@ -26,11 +24,10 @@ use Rattle.etherparse.specs.packet.declared.net.lax_net_slice.LaxNetSlice.TheVar
 use Rattle.etherparse.specs.packet.declared.transport.transport_slice.TransportSlice.{TransportSlice}
 use Rattle.etherparse.specs.tag.Ether.{LaxEtherPayload}
 use Rattle.etherparse.specs.tag.LinkExt.{lax_payload_after, lax_tag_len}
-use Rattle.etherparse.specs.tag.Macsec.{header_len_of, short_len_of}
+use Rattle.etherparse.specs.tag.Macsec.{header_len_of}
 use Rattle.etherparse.specs.tag.MacsecFault.{header_at}
-use Rattle.etherparse.specs.tag.MacsecLax.{LaxMacsec, LaxMacsecPayload, LaxModified, LaxUnmodified, lax_macsec_after}
-use Rattle.etherparse.specs.tag.MacsecLax.{lax_macsec_at, lax_macsec_with, lax_named_payload, lax_payload_under}
-use Rattle.etherparse.specs.tag.MacsecPayload.{bytes_under, payload_len_of}
+use Rattle.etherparse.specs.tag.MacsecLax.{LaxMacsecPayload, LaxModified, LaxUnmodified, lax_macsec_after}
+use Rattle.etherparse.specs.tag.MacsecLax.{lax_macsec_with, lax_named_payload}
 use Rattle.etherparse.specs.tag.Prefix.{whole_at}
 use Rattle.etherparse.specs.tag.Vlan.{is_vlan_type, vlan_len}
 use Rattle.etherparse.specs.tag.declared.err.macsec.header_error.HeaderError.{HeaderError}
@@ -38,7 +35,7 @@ use Rattle.etherparse.specs.tag.declared.link.lax_link_ext_slice.LaxLinkExtSlice
 use Rattle.etherparse.specs.tag.declared.link.lax_link_ext_slice.LaxLinkExtSlice.TheVariants as tag
 use Rattle.etherparse_structs.specs.LaxParts.{AreLaxPartsOf, AreLaxTagsAt, IsLaxNetAt, IsLaxTagAt, lax_macsec_bytes, lax_tags_len}
 use Rattle.etherparse_structs.specs.Net.{message_offset_in}
-use Rattle.etherparse_structs.proofs.LaxMessageParts.{MessageAt, transport_at}
+use Rattle.etherparse_structs.proofs.LaxMessageParts.{transport_at}
 use Rattle.etherparse_structs.proofs.LaxNetParts.{arp_stands, ipv4_stands, ipv6_stands}
 use Rattle.etherparse_structs.proofs.PartPlaces.{at_drop, at_later, at_same_position, at_take, at_whole, chosen}
 use Rattle.etherparse_structs.proofs.PartPlaces.{prefix_is, stand_later}

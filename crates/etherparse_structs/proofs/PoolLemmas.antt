@@ -5,7 +5,12 @@ use Rattle.etherparse.specs.IpDefragPool.{payload_parsed}
 use Rattle.etherparse.specs.PoolCalls.{FrameAnswered, GoesOn, Lists, ShowsLists, CallResult, answer_to_frame}
 use Rattle.etherparse.specs.PoolCalls.{lists_with_frame, memory_error_at_frame}
 use Rattle.etherparse.specs.PoolCalls.CallResult.{Delivered}
-use Rattle.etherparse.specs.packet.Class.{Class}
+use Rattle.etherparse.specs.packet.Class.{Class, net_class, packet_parsed}
+use Rattle.etherparse.specs.packet.Class.Class.{Refused as Faulty}
+use Rattle.etherparse.specs.packet.Tags.{vlan_ids_of}
+use Rattle.etherparse.specs.packet.declared.net.net_slice.NetSlice.{NetSlice}
+use Rattle.etherparse.specs.packet.declared.sliced_packet.SlicedPacket.{SlicedPacket}
+use Rattle.etherparse.specs.packet.declared.transport.transport_slice.TransportSlice.{TransportSlice}
 use Rattle.etherparse.specs.packet.declared.addresses.Addresses.{Addresses}
 use Rattle.etherparse.specs.packet.declared.err.packet.slice_error.SliceError.{SliceError}
 use Rattle.etherparse_structs.specs.FramePool.{HasAddresses, IsAnswered, Kept, call_result_of, addresses_in, completed}
@@ -18,6 +23,15 @@ use Rattle.etherparse_structs.specs.declared.frame_pool.Added.TheVariants as mad
 use Rattle.etherparse_structs.specs.declared.frame_pool.Completed.{Completed}
 use Rattle.etherparse_structs.specs.declared.frame_pool.FramePool.{FramePool}
 use Rattle.etherparse_structs.specs.declared.pool.EpPool.{EpPool}
+
+-- a packet that was sliced has a class other than that of refused ones
+net_is_read : (vlan_ids : List ℕ) (packet : Option NetSlice) (message : Option TransportSlice)
+    → net_class vlan_ids packet message ≡ Faulty → ⊥
+net_is_read vlan_ids packet message same = grind arith
+
+pub packet_is_read : (packet : SlicedPacket) → packet_parsed packet ≡ Faulty → ⊥
+packet_is_read packet same =
+    net_is_read (vlan_ids_of packet.link_exts.items) packet.net packet.transport same
 
 -- the reassemblies show these lists, and this message is kept
 pub record Show (frames : FramePool) (lists : Lists) (kept : Option Kept) : Type 0 where

@@ -3,9 +3,8 @@ ghost use Rattle.std.specs.Prelude.{◌≡◌, Option, Some, None, IsSome, lengt
 ghost use Rattle.etherparse.specs.IpDefragPool.{payload_parsed};
 ghost use Rattle.etherparse.specs.PoolCalls.{FrameAnswered, Lists, ShowsLists, fault_in, retained_from, as_call_result};
 ghost use Rattle.etherparse.specs.OpenReassemblies.{IsOpenCount};
-ghost use Rattle.etherparse.specs.packet.Class.{IdentificationFits, as_class, class_of, packet_parsed};
+ghost use Rattle.etherparse.specs.packet.Class.{IdentificationFits, as_class, packet_parsed, sliced_class};
 ghost use Rattle.etherparse.specs.packet.Class.Class.{Refused as Faulty};
-ghost use Rattle.etherparse.specs.packet.Sliced.{sliced_ethernet};
 ghost use Rattle.etherparse.specs.packet.declared.class.Class.TheVariants as class;
 ghost use Rattle.etherparse.specs.packet.declared.err.packet.slice_error.SliceError.{SliceError as Fault};
 ghost use Rattle.etherparse_structs.specs.FramePool.{HasAddresses, IsAnswered, Kept, added, call_result_of};
@@ -52,12 +51,12 @@ pub enum Added {
 }
 
 impl FramePool {
-    /// Takes an Ethernet II frame, which came at this time on this channel, and writes the message
+    /// Takes a frame that was sliced, which came at this time on this channel, and writes the message
     /// that is complete with it, unless the output is too short. While a message is kept, no frame
     /// is taken.
     pub(crate) fn take_frame(
         &mut self,
-        frame: &[u8],
+        sliced: Result<SlicedPacket<'_>, SliceError>,
         time: u64,
         channel: u32,
         output: &mut [u8],
@@ -65,7 +64,7 @@ impl FramePool {
         ensures answered { self.old.kept ≡ None → (lists : Lists) → ShowsLists self.old.pool lists
             → IsAnswered
             (λ next kept. ShowsLists self.new.pool next × (kept_of_message self.new.kept ≡ kept)) lists
-            (class_of frame.now) time channel (fault_in (sliced_ethernet frame.now))
+            (sliced_class sliced.entry) time channel (fault_in sliced.entry)
             output.old output.new result }
         ensures keeps { IsSome self.old.kept
             → (self.new ≡ self.old) × (result ≡ added 4) × (output.new ≡ output.old) }
@@ -73,7 +72,7 @@ impl FramePool {
         if self.kept.is_some() {
             return EpAdded::of(WRONG_STATE);
         }
-        match add(&mut self.pool, frame, time, channel) {
+        match add(&mut self.pool, sliced, time, channel) {
             Added::Nothing => EpAdded::of(DONE),
             Added::Completed(message) => self.copy_out(message, output),
             Added::Refused(error) => EpAdded::fragment_refused(&error),
@@ -147,14 +146,19 @@ impl FramePool {
     }
 }
 
-// Takes an Ethernet II frame, which came at this time on this channel.
-fn add(pool: &mut IpDefragPool<u64, u32>, frame: &[u8], time: u64, channel: u32) -> Added
+// Takes a frame that was sliced, which came at this time on this channel.
+fn add(
+    pool: &mut IpDefragPool<u64, u32>,
+    sliced: Result<SlicedPacket<'_>, SliceError>,
+    time: u64,
+    channel: u32,
+) -> Added
     ensures reported { (lists : Lists) → ShowsLists pool.old lists
-        → FrameAnswered (ShowsLists pool.new) lists (class_of frame.now) time channel
-        (fault_in (sliced_ethernet frame.now)) (call_result_of result) }
-    ensures addresses { HasAddresses (addresses_in (class_of frame.now)) result }
+        → FrameAnswered (ShowsLists pool.new) lists (sliced_class sliced.entry) time channel
+        (fault_in sliced.entry) (call_result_of result) }
+    ensures addresses { HasAddresses (addresses_in (sliced_class sliced.entry)) result }
 {
-    match SlicedPacket::from_ethernet(frame) {
+    match sliced {
         Ok(packet) => add_packet(pool, &packet, time, channel),
         Err(error) => Added::NotSliced(error),
     }

@@ -2,8 +2,7 @@
 ghost use Rattle.std.specs.Prelude.{◌≡◌, ◌<◌, ◌⊎◌, true, false, Option, Some, None, IfOk, IsSome, length};
 ghost use Rattle.etherparse.specs.OpenReassemblies.{IsOpenCount};
 ghost use Rattle.etherparse.specs.PoolCalls.{Lists, ShowsLists, fault_in, no_lists, retained_from};
-ghost use Rattle.etherparse.specs.packet.Class.{class_of};
-ghost use Rattle.etherparse.specs.packet.Sliced.{sliced_ethernet};
+ghost use Rattle.etherparse.specs.packet.Class.{sliced_class};
 ghost use Rattle.etherparse_structs.specs.FramePool.{IsAnswered, Kept, added, completed, kept_of, written};
 ghost use Rattle.etherparse_structs.specs.Pool.{IsPool, Keeps};
 
@@ -11,7 +10,9 @@ use crate::frame_pool::FramePool;
 use crate::held::Held;
 use crate::{DONE, EpAdded, NO_MEMORY, WRONG_STATE};
 use c_handles::Loose;
+use etherparse::SlicedPacket;
 use etherparse::defrag::IpDefragPool;
+use etherparse::err::packet::SliceError;
 use etherparse::laws::defrag::reassemblies::a_new_pool_shows_no_lists;
 use std::alloc::{AllocError, Global};
 use std::mem::replace;
@@ -47,7 +48,7 @@ impl EpPool {
         DONE
     }
 
-    /// Takes an Ethernet II frame, which came at this time on this channel, and writes the message
+    /// Takes a frame that was sliced, which came at this time on this channel, and writes the message
     /// that is complete with it, unless the output is too short. While a message is kept, no frame
     /// is taken.
     ///
@@ -58,7 +59,7 @@ impl EpPool {
     pub fn add(
         &mut self,
         alloc: Global,
-        frame: &[u8],
+        sliced: Result<SlicedPacket<'_>, SliceError>,
         time: u64,
         channel: u32,
         output: &mut [u8],
@@ -66,8 +67,8 @@ impl EpPool {
         requires { IsPool self.old }
         ensures pool { IsPool self.new }
         ensures answered { (lists : Lists) → Keeps self.old lists None → IsAnswered
-            (Keeps self.new) lists (class_of frame.now) time channel
-            (fault_in (sliced_ethernet frame.now)) output.old output.new result }
+            (Keeps self.new) lists (sliced_class sliced.entry) time channel
+            (fault_in sliced.entry) output.old output.new result }
         ensures keeps { (lists : Lists) (kept : Kept) → Keeps self.old lists (Some kept)
             → Keeps self.new lists (Some kept) × (result ≡ added 4) × (output.new ≡ output.old) }
         ensures closed { self.old.is_open ≡ false
@@ -77,7 +78,7 @@ impl EpPool {
             return EpAdded::of(WRONG_STATE);
         }
         let mut frames = taken(alloc, self);
-        let added = frames.take_frame(frame, time, channel, output);
+        let added = frames.take_frame(sliced, time, channel, output);
         put(self, frames);
         added
     }
