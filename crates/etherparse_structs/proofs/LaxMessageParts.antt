@@ -21,7 +21,7 @@ use Rattle.etherparse.specs.tcpudp.TcpFault.{segment_at}
 use Rattle.etherparse.specs.tcpudp.Udp.{length_of}
 use Rattle.etherparse.specs.tcpudp.UdpFault.{lax_udp_at, udp_at}
 use Rattle.etherparse_structs.specs.LaxPacket.{of_len}
-use Rattle.etherparse_structs.proofs.PartPlaces.{at_take, at_whole, chosen}
+use Rattle.etherparse_structs.proofs.PartOffsets.{at_take, at_whole, chosen}
 
 abbrev Reads : {E : Type 0} → List ℕ → Result (List ℕ) E → Type 0
 Reads bytes r = IfOk r (IsAt bytes 0)

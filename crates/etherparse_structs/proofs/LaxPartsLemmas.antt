@@ -37,8 +37,8 @@ use Rattle.etherparse_structs.specs.LaxParts.{AreLaxPartsOf, AreLaxTagsAt, IsLax
 use Rattle.etherparse_structs.specs.Net.{message_offset_in}
 use Rattle.etherparse_structs.proofs.LaxMessageParts.{transport_at}
 use Rattle.etherparse_structs.proofs.LaxNetParts.{arp_stands, ipv4_stands, ipv6_stands}
-use Rattle.etherparse_structs.proofs.PartPlaces.{at_drop, at_later, at_same_position, at_take, at_whole, chosen}
-use Rattle.etherparse_structs.proofs.PartPlaces.{prefix_is, stand_later}
+use Rattle.etherparse_structs.proofs.PartOffsets.{at_drop, at_later, at_same_position, at_take, at_whole, chosen}
+use Rattle.etherparse_structs.proofs.PartOffsets.{prefix_is, stand_later}
 
 -- network layer and transport layer from this offset on
 pub record LayersAt (frame : List ℕ) (position : ℕ) (packet : Option LaxNetSlice)

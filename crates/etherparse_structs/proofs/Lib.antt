@@ -5,7 +5,7 @@ mod LaxMessageParts
 mod LaxNetParts
 mod LaxPartsLemmas
 pub mod Offsets
-mod PartPlaces
+mod PartOffsets
 mod PlanLemmas
 mod PoolLemmas
 mod WholeLemmas
