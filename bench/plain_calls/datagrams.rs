@@ -30,10 +30,10 @@ impl Job for UdpDatagrams {
 pub struct Datagram<'a> {
     pub header: &'a [u8; HEADER],
     pub payload: &'a [u8],
-    len_source: u8,
+    pub len_source: u8,
 }
 
-const HEADER: usize = 8;
+pub const HEADER: usize = 8;
 
 impl<'a> Datagram<'a> {
     /// As RFC 768 has it; a length of 0 stands for all bytes (RFC 2675, section 4).

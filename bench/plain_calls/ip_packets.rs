@@ -92,27 +92,28 @@ pub struct Ipv6<'a> {
 }
 
 pub struct Extensions<'a> {
-    first: Option<u8>,
-    is_fragment: bool,
+    pub first: Option<u8>,
+    pub is_fragment: bool,
     pub bytes: &'a [u8],
 }
 
+#[derive(Clone, Copy)]
 pub struct Payload<'a> {
     pub number: u8,
     pub is_fragment: bool,
-    source: LenSource,
+    pub source: LenSource,
     pub bytes: &'a [u8],
 }
 
 /// What the length of the payload came from, by the numbers that the library gives them.
 #[derive(Clone, Copy)]
-enum LenSource {
+pub enum LenSource {
     Slice = 0,
     TotalLen = 2,
     PayloadLength = 3,
 }
 
-const IPV6_HEADER: usize = 40;
+pub const IPV6_HEADER: usize = 40;
 pub const HOP_BY_HOP: u8 = 0;
 pub const ROUTING: u8 = 43;
 pub const FRAGMENT: u8 = 44;
@@ -196,16 +197,7 @@ impl<'a> Ipv4<'a> {
 
 impl<'a> Ipv6<'a> {
     pub fn parse(bytes: &'a [u8]) -> Result<Ipv6<'a>, Fault> {
-        let Some((header, rest)) = bytes.split_first_chunk() else {
-            return Err(Fault::Short {
-                needed: IPV6_HEADER,
-                found: bytes.len(),
-                at: 0,
-            });
-        };
-        if header[0] >> 4 != 6 {
-            return Err(Fault::Version(header[0] >> 4));
-        }
+        let (header, rest) = Ipv6::header(bytes)?;
         let payload_length = usize::from(u16::from_be_bytes([header[4], header[5]]));
         let (source, body) = if payload_length == 0 && !rest.is_empty() {
             (LenSource::Slice, rest)
@@ -225,6 +217,21 @@ impl<'a> Ipv6<'a> {
                 bytes: payload,
             },
         })
+    }
+
+    /// The header at the start, and what follows it.
+    pub fn header(bytes: &'a [u8]) -> Result<(&'a [u8; IPV6_HEADER], &'a [u8]), Fault> {
+        let Some((header, rest)) = bytes.split_first_chunk() else {
+            return Err(Fault::Short {
+                needed: IPV6_HEADER,
+                found: bytes.len(),
+                at: 0,
+            });
+        };
+        if header[0] >> 4 != 6 {
+            return Err(Fault::Version(header[0] >> 4));
+        }
+        Ok((header, rest))
     }
 
     pub fn address(&self, at: usize) -> Ipv6Addr {
@@ -284,7 +291,7 @@ pub fn authentication_len(bytes: &[u8], at: usize) -> Result<usize, Fault> {
 }
 
 /// Whether a fragment header is that of a part of a message (RFC 8200, section 4.5).
-fn is_part(header: &[u8]) -> bool {
+pub fn is_part(header: &[u8]) -> bool {
     u16::from_be_bytes([header[2], header[3]]) & 0xfff9 != 0
 }
 

@@ -10,6 +10,7 @@ mod ip_packets;
 mod ipv4_headers;
 mod ipv6_extensions;
 mod job;
+mod lax_packets;
 mod links;
 mod random;
 mod segments;
@@ -23,6 +24,7 @@ use crate::ip_packets::{Ipv4Packets, Ipv6Packets, Ipv6PacketsTwoExtensions};
 use crate::ipv4_headers::Ipv4Headers;
 use crate::ipv6_extensions::{ReadExtensions, SkippedExtensions};
 use crate::job::{Measured, Repeats};
+use crate::lax_packets::LaxSlicedMix;
 use crate::links::{ArpPackets, EthernetFrames, VlanTags};
 use crate::segments::TcpSegments;
 use crate::sliced_packets::{SlicedFrames, SlicedMix};
@@ -89,6 +91,7 @@ fn measure(name: &str, repeats: Repeats) -> Option<Measured> {
         "sliced_arp" => job::measure::<SlicedFrames<6>>(repeats),
         "sliced_refused" => job::measure::<SlicedFrames<7>>(repeats),
         "sliced_mix" => job::measure::<SlicedMix>(repeats),
+        "lax_sliced_mix" => job::measure::<LaxSlicedMix>(repeats),
         "built_udp_ipv4" => built_frames::measure::<UdpIpv4>(repeats),
         "built_tcp_ipv6" => built_frames::measure::<TcpIpv6>(repeats),
         _ => return None,

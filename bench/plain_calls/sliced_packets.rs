@@ -41,25 +41,31 @@ impl Job for SlicedMix {
 /// A frame of one kind.
 fn frame(random: &mut Random, kind: u8) -> Vec<u8> {
     let mut frame = Vec::new();
-    random.append(12, &mut frame);
+    let payload_len = append_headers(random, kind, &mut frame);
+    random.append(payload_len.into(), &mut frame);
+    frame
+}
+
+/// The headers of a frame of one kind; returned is how many bytes of payload follow them.
+pub fn append_headers(random: &mut Random, kind: u8, frame: &mut Vec<u8>) -> u8 {
+    random.append(12, frame);
     match kind {
-        0 => append_udp_over_ipv4(random, &mut frame),
-        1 => append_tcp_over_ipv4(random, 8, &mut frame),
-        2 => append_udp_over_ipv6(random, &mut frame),
+        0 => append_udp_over_ipv4(random, frame),
+        1 => append_tcp_over_ipv4(random, 8, frame),
+        2 => append_udp_over_ipv6(random, frame),
         3 => {
-            append_tag(random, &[0x81, 0], &mut frame);
-            append_udp_over_ipv4(random, &mut frame);
+            append_tag(random, &[0x81, 0], frame);
+            append_udp_over_ipv4(random, frame)
         }
         4 => {
-            append_tag(random, &[0x88, 0xa8], &mut frame);
-            append_tag(random, &[0x81, 0], &mut frame);
-            append_udp_over_ipv4(random, &mut frame);
+            append_tag(random, &[0x88, 0xa8], frame);
+            append_tag(random, &[0x81, 0], frame);
+            append_udp_over_ipv4(random, frame)
         }
-        5 => append_options_over_ipv6(random, &mut frame),
-        6 => append_arp(random, &mut frame),
-        _ => append_refused(random, &mut frame),
+        5 => append_options_over_ipv6(random, frame),
+        6 => append_arp(random, frame),
+        _ => append_refused(random, frame),
     }
-    frame
 }
 
 /// An ether type of tags, and what else a tag has.
@@ -68,31 +74,34 @@ fn append_tag(random: &mut Random, ether_type: &[u8], frame: &mut Vec<u8>) {
     random.append(2, frame);
 }
 
-fn append_udp_over_ipv4(random: &mut Random, frame: &mut Vec<u8>) {
+fn append_udp_over_ipv4(random: &mut Random, frame: &mut Vec<u8>) -> u8 {
     let payload_len = random.below(64);
     append_ipv4_header(random, 0x45, 28 + payload_len, 17, frame);
-    append_udp(random, 8 + payload_len, payload_len, frame);
+    append_udp_header(random, 8 + payload_len, frame);
+    payload_len
 }
 
-/// A segment with timestamps.
-fn append_tcp_over_ipv4(random: &mut Random, data_offset: u8, frame: &mut Vec<u8>) {
+/// A header with timestamps.
+fn append_tcp_over_ipv4(random: &mut Random, data_offset: u8, frame: &mut Vec<u8>) -> u8 {
     let payload_len = random.below(64);
     append_ipv4_header(random, 0x45, 52 + payload_len, 6, frame);
     random.append(12, frame);
     frame.push(data_offset << 4);
     random.append(7, frame);
     frame.extend_from_slice(&[1, 1, 8, 10]);
-    random.append(8 + usize::from(payload_len), frame);
+    random.append(8, frame);
+    payload_len
 }
 
-fn append_udp_over_ipv6(random: &mut Random, frame: &mut Vec<u8>) {
+fn append_udp_over_ipv6(random: &mut Random, frame: &mut Vec<u8>) -> u8 {
     let payload_len = random.below(64);
     append_ipv6_header(random, 17, 8 + payload_len, frame);
-    append_udp(random, 8 + payload_len, payload_len, frame);
+    append_udp_header(random, 8 + payload_len, frame);
+    payload_len
 }
 
 /// Hop-by-hop options, destination options and UDP.
-fn append_options_over_ipv6(random: &mut Random, frame: &mut Vec<u8>) {
+fn append_options_over_ipv6(random: &mut Random, frame: &mut Vec<u8>) -> u8 {
     let payload_len = random.below(64);
     let words = random.below(3);
     append_ipv6_header(random, 0, 24 + 8 * words + payload_len, frame);
@@ -100,31 +109,36 @@ fn append_options_over_ipv6(random: &mut Random, frame: &mut Vec<u8>) {
     random.append(6, frame);
     frame.extend_from_slice(&[17, words]);
     random.append(6 + 8 * usize::from(words), frame);
-    append_udp(random, 8 + payload_len, payload_len, frame);
+    append_udp_header(random, 8 + payload_len, frame);
+    payload_len
 }
 
-/// An ARP packet of Ethernet and IPv4, with padding.
-fn append_arp(random: &mut Random, frame: &mut Vec<u8>) {
+/// An ARP packet of Ethernet and IPv4, which padding follows.
+fn append_arp(random: &mut Random, frame: &mut Vec<u8>) -> u8 {
     frame.extend_from_slice(&[8, 6, 0, 1, 8, 0, 6, 4, 0, 1 + random.below(2)]);
-    random.append(38, frame);
+    random.append(20, frame);
+    18
 }
 
 /// A packet that is cut off, one whose version isn't that of its ether type, one of a data offset of 4,
 /// and one of a UDP length above the payload's.
-fn append_refused(random: &mut Random, frame: &mut Vec<u8>) {
+fn append_refused(random: &mut Random, frame: &mut Vec<u8>) -> u8 {
     match random.below(4) {
         0 => {
             append_ipv4_header(random, 0x45, 200, 17, frame);
-            append_udp(random, 180, 100, frame)
+            append_udp_header(random, 180, frame);
+            100
         }
         1 => {
             append_ipv4_header(random, 0x65, 28, 17, frame);
-            append_udp(random, 8, 0, frame)
+            append_udp_header(random, 8, frame);
+            0
         }
         2 => append_tcp_over_ipv4(random, 4, frame),
         _ => {
             append_ipv4_header(random, 0x45, 38, 17, frame);
-            append_udp(random, 19, 10, frame)
+            append_udp_header(random, 19, frame);
+            10
         }
     }
 }
@@ -156,10 +170,10 @@ fn append_ipv6_header(
     random.append(33, frame);
 }
 
-fn append_udp(random: &mut Random, length: u8, payload_len: u8, frame: &mut Vec<u8>) {
+fn append_udp_header(random: &mut Random, length: u8, frame: &mut Vec<u8>) {
     random.append(4, frame);
     frame.extend_from_slice(&[0, length]);
-    random.append(2 + usize::from(payload_len), frame);
+    random.append(2, frame);
 }
 
 /// The parts of a frame.
@@ -170,36 +184,38 @@ struct Packet<'a> {
     transport: Option<Transport<'a>>,
 }
 
-enum LinkTag<'a> {
+pub enum LinkTag<'a> {
     Vlan(Tag<'a>),
     Macsec(Macsec<'a>),
 }
 
-enum Net<'a> {
+pub enum Net<'a> {
     V4(Ipv4<'a>),
     V6(Ipv6<'a>),
     Arp(Arp<'a>),
 }
 
-enum Transport<'a> {
+pub enum Transport<'a> {
     Udp(Datagram<'a>),
     Tcp(Segment<'a>),
     Icmpv4(Message<'a>),
     Icmpv6(Message<'a>),
 }
 
-/// A MACsec header; the ether type is that of an unmodified payload.
-struct Macsec<'a> {
+/// A MACsec header and what is there of its payload, and how many bytes of that are missing; the ether
+/// type is that of an unmodified payload.
+pub struct Macsec<'a> {
     header: &'a [u8],
     ether_type: Option<u16>,
     payload: &'a [u8],
+    missing: u8,
 }
 
 /// The ether type of what comes next, its bytes, and their place in the frame.
-struct Rest<'a> {
-    ether_type: u16,
-    bytes: &'a [u8],
-    at: usize,
+pub struct Rest<'a> {
+    pub ether_type: u16,
+    pub bytes: &'a [u8],
+    pub at: usize,
 }
 
 const ETHERNET_HEADER: usize = 14;
@@ -208,11 +224,7 @@ const VLAN_HEADER: usize = 4;
 impl<'a> Packet<'a> {
     fn parse(bytes: &'a [u8]) -> Result<Packet<'a>, Fault> {
         let link = Frame::parse(bytes)?;
-        let mut rest = Some(Rest {
-            ether_type: u16::from_be_bytes([link.header[12], link.header[13]]),
-            bytes: link.payload,
-            at: ETHERNET_HEADER,
-        });
+        let mut rest = Some(Rest::after_link(&link));
         let mut tags = [const { None }; 3];
         for slot in &mut tags {
             let Some((tag, following)) = rest.as_ref().map_or(Ok(None), LinkTag::parse)? else {
@@ -234,9 +246,30 @@ impl<'a> Packet<'a> {
     }
 }
 
+impl<'a> Rest<'a> {
+    pub fn after_link(link: &Frame<'a>) -> Rest<'a> {
+        Rest {
+            ether_type: u16::from_be_bytes([link.header[12], link.header[13]]),
+            bytes: link.payload,
+            at: ETHERNET_HEADER,
+        }
+    }
+}
+
+/// A tag and what follows it.
+type Tagged<'a> = (LinkTag<'a>, Option<Rest<'a>>);
+
 impl<'a> LinkTag<'a> {
-    /// The tag that the ether type names, if it names one, and what follows it.
-    fn parse(rest: &Rest<'a>) -> Result<Option<(LinkTag<'a>, Option<Rest<'a>>)>, Fault> {
+    /// The tag that the ether type names, if it names one.
+    fn parse(rest: &Rest<'a>) -> Result<Option<Tagged<'a>>, Fault> {
+        LinkTag::parse_with(Macsec::parse, rest)
+    }
+
+    /// The same, where this reads a MACsec header and its payload.
+    pub fn parse_with(
+        parse_macsec: impl FnOnce(&'a [u8]) -> Result<Macsec<'a>, Fault>,
+        rest: &Rest<'a>,
+    ) -> Result<Option<Tagged<'a>>, Fault> {
         match rest.ether_type {
             0x8100 | 0x88a8 | 0x9100 => {
                 let tag = Tag::parse(rest.bytes).map_err(|fault| fault.moved(rest.at))?;
@@ -248,7 +281,7 @@ impl<'a> LinkTag<'a> {
                 Ok(Some((LinkTag::Vlan(tag), Some(following))))
             }
             0x88e5 => {
-                let macsec = Macsec::parse(rest.bytes).map_err(|fault| fault.moved(rest.at))?;
+                let macsec = parse_macsec(rest.bytes).map_err(|fault| fault.moved(rest.at))?;
                 let following = macsec.ether_type.map(|ether_type| Rest {
                     ether_type,
                     bytes: macsec.payload,
@@ -264,6 +297,13 @@ impl<'a> LinkTag<'a> {
 impl<'a> Macsec<'a> {
     /// As IEEE 802.1AE has it (clause 9).
     fn parse(bytes: &'a [u8]) -> Result<Macsec<'a>, Fault> {
+        let macsec = Macsec::parse_lax(bytes)?;
+        need(bytes.len() + usize::from(macsec.missing), bytes, 0)?;
+        Ok(macsec)
+    }
+
+    /// The same, whether the payload is whole or not.
+    pub fn parse_lax(bytes: &'a [u8]) -> Result<Macsec<'a>, Fault> {
         need(6, bytes, 0)?;
         if bytes[0] & 0x80 != 0 {
             return Err(Fault::Version(1));
@@ -278,12 +318,9 @@ impl<'a> Macsec<'a> {
         let header_len = 6 + identifier_len + ether_type_len;
         need(header_len, bytes, 0)?;
         let (header, rest) = bytes.split_at(header_len);
-        let payload = if short_len == 0 {
-            rest
-        } else {
-            let payload_len = short_len - ether_type_len;
-            need(header_len + payload_len, bytes, 0)?;
-            &rest[..payload_len]
+        let payload_len = match short_len {
+            0 => rest.len(),
+            short_len => short_len - ether_type_len,
         };
         let ether_type = if is_modified {
             None
@@ -296,7 +333,8 @@ impl<'a> Macsec<'a> {
         Ok(Macsec {
             header,
             ether_type,
-            payload,
+            payload: rest.get(..payload_len).unwrap_or(rest),
+            missing: payload_len.saturating_sub(rest.len()) as u8,
         })
     }
 }
@@ -331,7 +369,8 @@ fn layers<'a>(rest: &Rest<'a>) -> Result<Layers<'a>, Fault> {
 
 impl<'a> Transport<'a> {
     /// The message that the payload is, unless it is a part of one or its protocol is another.
-    fn parse(payload: &Payload<'a>) -> Result<Option<Transport<'a>>, Fault> {
+    #[inline(always)]
+    pub fn parse(payload: &Payload<'a>) -> Result<Option<Transport<'a>>, Fault> {
         if payload.is_fragment {
             return Ok(None);
         }
@@ -349,22 +388,31 @@ impl<'a> Transport<'a> {
 fn sum_of_frame(frame: &[u8]) -> u64 {
     match Packet::parse(frame) {
         Ok(packet) => sum_of_packet(&packet),
-        Err(Fault::Short { needed, found, at }) => (needed + found + at) as u64,
-        Err(_) => 1,
+        Err(fault) => sum_of_fault(&fault),
+    }
+}
+
+#[inline(always)]
+pub fn sum_of_fault(fault: &Fault) -> u64 {
+    match fault {
+        Fault::Short { needed, found, at } => (needed + found + at) as u64,
+        _ => 1,
     }
 }
 
 fn sum_of_packet(packet: &Packet) -> u64 {
     let tags: u64 = packet.tags.iter().flatten().map(sum_of_tag).sum();
-    let net = packet.net.as_ref().map_or(3, sum_of_net);
-    let transport = packet.transport.as_ref().map_or(4, sum_of_transport);
     sum_of_link(&packet.link)
         .wrapping_add(tags)
-        .wrapping_add(net)
-        .wrapping_add(transport)
+        .wrapping_add(sum_of_net(&packet.net))
+        .wrapping_add(sum_of_transport(&packet.transport))
 }
 
-fn sum_of_link(frame: &Frame) -> u64 {
+// Two kinds of packets have what the next functions sum up. These are inlined always, since a part whose
+// address a call is given is kept in memory.
+
+#[inline(always)]
+pub fn sum_of_link(frame: &Frame) -> u64 {
     let [a, b, c, d, e, f, g, h, i, j, k, l, m, n] = *frame.header;
     sum_of_address([a, b, c, d, e, f])
         + sum_of_address([g, h, i, j, k, l])
@@ -372,56 +420,63 @@ fn sum_of_link(frame: &Frame) -> u64 {
         + frame.payload.len() as u64
 }
 
-fn sum_of_tag(tag: &LinkTag) -> u64 {
+#[inline(always)]
+pub fn sum_of_tag(tag: &LinkTag) -> u64 {
     match tag {
         LinkTag::Vlan(tag) => {
             let [a, b, c, d] = *tag.header;
             (word(a, b) & 0xfff) + word(c, d) + tag.payload.len() as u64
         }
-        LinkTag::Macsec(macsec) => macsec.header.len() as u64,
+        LinkTag::Macsec(macsec) => macsec.header.len() as u64 + u64::from(macsec.missing > 0),
     }
 }
 
-fn sum_of_net(packet: &Net) -> u64 {
+#[inline(always)]
+pub fn sum_of_net(packet: &Option<Net>) -> u64 {
     match packet {
-        Net::V4(packet) => {
+        Some(Net::V4(packet)) => {
             u64::from(packet.address(12).to_bits())
                 + u64::from(packet.address(16).to_bits())
                 + sum_of_payload(&packet.payload)
         }
-        Net::V6(packet) => (u128::from_be_bytes(packet.address(8).octets()) as u64)
+        Some(Net::V6(packet)) => (u128::from_be_bytes(packet.address(8).octets()) as u64)
             .wrapping_add(u128::from_be_bytes(packet.address(24).octets()) as u64)
             .wrapping_add(packet.extensions.bytes.len() as u64)
             .wrapping_add(sum_of_payload(&packet.payload)),
-        Net::Arp(packet) => {
+        Some(Net::Arp(packet)) => {
             word(packet.fixed[6], packet.fixed[7])
                 + sum_of_bytes(packet.sender_hardware)
                 + sum_of_bytes(packet.sender_protocol)
                 + sum_of_bytes(packet.target_hardware)
                 + sum_of_bytes(packet.target_protocol)
         }
+        None => 3,
     }
 }
 
+#[inline(always)]
 fn sum_of_payload(payload: &Payload) -> u64 {
     u64::from(payload.number) + u64::from(payload.is_fragment) + sum_of_bytes(payload.bytes)
 }
 
-fn sum_of_transport(message: &Transport) -> u64 {
+#[inline(always)]
+pub fn sum_of_transport(message: &Option<Transport>) -> u64 {
     match message {
-        Transport::Udp(datagram) => {
+        Some(Transport::Udp(datagram)) => {
             let [a, b, c, d, ..] = *datagram.header;
             word(a, b) + word(c, d) + sum_of_bytes(datagram.payload)
         }
-        Transport::Tcp(segment) => sum_of_segment(segment),
-        Transport::Icmpv4(message) | Transport::Icmpv6(message) => {
+        Some(Transport::Tcp(segment)) => sum_of_segment(segment),
+        Some(Transport::Icmpv4(message) | Transport::Icmpv6(message)) => {
             u64::from(message.header[0])
                 + u64::from(message.header[1])
                 + sum_of_bytes(message.payload)
         }
+        None => 4,
     }
 }
 
+#[inline(always)]
 fn sum_of_segment(segment: &Segment) -> u64 {
     let [a, b, c, d, e, f, g, h, _, _, _, _, _, flags, ..] = *segment.fixed;
     let flag = |at: u32| u64::from(flags >> at & 1);

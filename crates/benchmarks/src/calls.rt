@@ -7,6 +7,7 @@ use crate::echoes::{Icmpv4Echoes, Icmpv6Echoes};
 use crate::ip_packets::{Ipv4Packets, Ipv6Packets, Ipv6PacketsTwoExtensions};
 use crate::ipv4_headers::Ipv4Headers;
 use crate::ipv6_extensions::{ReadExtensions, SkippedExtensions};
+use crate::lax_packets::LaxSlicedMix;
 use crate::links::{ArpPackets, EthernetFrames, VlanTags};
 use crate::measured::{Measured, Repeats};
 use crate::segments::TcpSegments;
@@ -48,6 +49,7 @@ pub fn measure(rt: &HostRuntime, name: &str, repeats: Repeats) -> io::Result<Opt
         "sliced_arp" => job::measure::<SlicedFrames<6>>(rt, repeats),
         "sliced_refused" => job::measure::<SlicedFrames<7>>(rt, repeats),
         "sliced_mix" => job::measure::<SlicedMix>(rt, repeats),
+        "lax_sliced_mix" => job::measure::<LaxSlicedMix>(rt, repeats),
         "built_udp_ipv4" => built_frames::measure::<UdpIpv4>(rt, repeats),
         "built_tcp_ipv6" => built_frames::measure::<TcpIpv6>(rt, repeats),
         _ => return Ok(None),

@@ -18,6 +18,7 @@ mod ip_packets;
 mod ipv4_headers;
 mod ipv6_extensions;
 mod job;
+mod lax_packets;
 mod links;
 mod measured;
 mod order;

@@ -2,10 +2,13 @@
 use crate::job::Job;
 use crate::links::{sum_of_address, sum_of_bytes};
 use crate::random::Random;
-use ep_link::LinkSlice;
+use ep_base::IpNumber;
+use ep_base::err::LenError;
+use ep_ip::{Ipv4HeaderSlice, Ipv6HeaderSlice};
+use ep_link::{ArpPacketSlice, LinkSlice};
 use ep_packet::err::packet::SliceError;
 use ep_packet::{NetSlice, SlicedPacket, TransportSlice};
-use ep_tag::LinkExtSlice;
+use ep_tag::{LinkExtSlice, SingleVlanSlice};
 use ep_tcpudp::TcpSlice;
 use std::alloc::{AllocError, Global};
 
@@ -45,25 +48,36 @@ impl Job for SlicedMix {
 /// A frame of one kind; it has no contract, as any would do.
 fn frame(alloc: Global, random: &mut Random, kind: u8) -> Result<Vec<u8>, AllocError> {
     let mut frame = Vec::new(alloc);
-    random.append(12, &mut frame)?;
+    let payload_len = append_headers(random, kind, &mut frame)?;
+    random.append(usize::from(payload_len), &mut frame)?;
+    Ok(frame)
+}
+
+/// The headers of a frame of one kind; returned is how many bytes of payload follow them. It has no
+/// contract, as `frame`.
+pub fn append_headers(
+    random: &mut Random,
+    kind: u8,
+    frame: &mut Vec<u8>,
+) -> Result<u8, AllocError> {
+    random.append(12, frame)?;
     match kind {
-        0 => append_udp_over_ipv4(random, &mut frame)?,
-        1 => append_tcp_over_ipv4(random, 8, &mut frame)?,
-        2 => append_udp_over_ipv6(random, &mut frame)?,
+        0 => append_udp_over_ipv4(random, frame),
+        1 => append_tcp_over_ipv4(random, 8, frame),
+        2 => append_udp_over_ipv6(random, frame),
         3 => {
-            append_tag(random, &[0x81, 0], &mut frame)?;
-            append_udp_over_ipv4(random, &mut frame)?;
+            append_tag(random, &[0x81, 0], frame)?;
+            append_udp_over_ipv4(random, frame)
         }
         4 => {
-            append_tag(random, &[0x88, 0xa8], &mut frame)?;
-            append_tag(random, &[0x81, 0], &mut frame)?;
-            append_udp_over_ipv4(random, &mut frame)?;
+            append_tag(random, &[0x88, 0xa8], frame)?;
+            append_tag(random, &[0x81, 0], frame)?;
+            append_udp_over_ipv4(random, frame)
         }
-        5 => append_options_over_ipv6(random, &mut frame)?,
-        6 => append_arp(random, &mut frame)?,
-        _ => append_refused(random, &mut frame)?,
+        5 => append_options_over_ipv6(random, frame),
+        6 => append_arp(random, frame),
+        _ => append_refused(random, frame),
     }
-    Ok(frame)
 }
 
 /// An ether type of tags, and what else a tag has; it has no contract, as `frame`.
@@ -76,37 +90,40 @@ fn append_tag(
     random.append(2, frame)
 }
 
-/// It has no contract, as `frame`.
-fn append_udp_over_ipv4(random: &mut Random, frame: &mut Vec<u8>) -> Result<(), AllocError> {
+/// It has no contract, as `append_headers`.
+fn append_udp_over_ipv4(random: &mut Random, frame: &mut Vec<u8>) -> Result<u8, AllocError> {
     let payload_len = random.below(64);
     append_ipv4_header(random, 0x45, 28 + payload_len, 17, frame)?;
-    append_udp(random, 8 + payload_len, payload_len, frame)
+    append_udp_header(random, 8 + payload_len, frame)?;
+    Ok(payload_len)
 }
 
-/// A segment with timestamps; it has no contract, as `frame`.
+/// A header with timestamps; it has no contract, as `append_headers`.
 fn append_tcp_over_ipv4(
     random: &mut Random,
     data_offset: u8,
     frame: &mut Vec<u8>,
-) -> Result<(), AllocError> {
+) -> Result<u8, AllocError> {
     let payload_len = random.below(64);
     append_ipv4_header(random, 0x45, 52 + payload_len, 6, frame)?;
     random.append(12, frame)?;
     frame.push(data_offset << 4)?;
     random.append(7, frame)?;
     frame.extend_from_slice(&[1, 1, 8, 10])?;
-    random.append(8 + usize::from(payload_len), frame)
+    random.append(8, frame)?;
+    Ok(payload_len)
 }
 
-/// It has no contract, as `frame`.
-fn append_udp_over_ipv6(random: &mut Random, frame: &mut Vec<u8>) -> Result<(), AllocError> {
+/// It has no contract, as `append_headers`.
+fn append_udp_over_ipv6(random: &mut Random, frame: &mut Vec<u8>) -> Result<u8, AllocError> {
     let payload_len = random.below(64);
     append_ipv6_header(random, 17, 8 + payload_len, frame)?;
-    append_udp(random, 8 + payload_len, payload_len, frame)
+    append_udp_header(random, 8 + payload_len, frame)?;
+    Ok(payload_len)
 }
 
-/// Hop-by-hop options, destination options and UDP; it has no contract, as `frame`.
-fn append_options_over_ipv6(random: &mut Random, frame: &mut Vec<u8>) -> Result<(), AllocError> {
+/// Hop-by-hop options, destination options and UDP; it has no contract, as `append_headers`.
+fn append_options_over_ipv6(random: &mut Random, frame: &mut Vec<u8>) -> Result<u8, AllocError> {
     let payload_len = random.below(64);
     let words = random.below(3);
     append_ipv6_header(random, 0, 24 + 8 * words + payload_len, frame)?;
@@ -114,31 +131,36 @@ fn append_options_over_ipv6(random: &mut Random, frame: &mut Vec<u8>) -> Result<
     random.append(6, frame)?;
     frame.extend_from_slice(&[17, words])?;
     random.append(6 + 8 * usize::from(words), frame)?;
-    append_udp(random, 8 + payload_len, payload_len, frame)
+    append_udp_header(random, 8 + payload_len, frame)?;
+    Ok(payload_len)
 }
 
-/// An ARP packet of Ethernet and IPv4, with padding; it has no contract, as `frame`.
-fn append_arp(random: &mut Random, frame: &mut Vec<u8>) -> Result<(), AllocError> {
+/// An ARP packet of Ethernet and IPv4, which padding follows; it has no contract, as `append_headers`.
+fn append_arp(random: &mut Random, frame: &mut Vec<u8>) -> Result<u8, AllocError> {
     frame.extend_from_slice(&[8, 6, 0, 1, 8, 0, 6, 4, 0, 1 + random.below(2)])?;
-    random.append(38, frame)
+    random.append(20, frame)?;
+    Ok(18)
 }
 
 /// A packet that is cut off, one whose version isn't that of its ether type, one of a data offset
-/// of 4, and one of a UDP length above the payload's; it has no contract, as `frame`.
-fn append_refused(random: &mut Random, frame: &mut Vec<u8>) -> Result<(), AllocError> {
+/// of 4, and one of a UDP length above the payload's; it has no contract, as `append_headers`.
+fn append_refused(random: &mut Random, frame: &mut Vec<u8>) -> Result<u8, AllocError> {
     match random.below(4) {
         0 => {
             append_ipv4_header(random, 0x45, 200, 17, frame)?;
-            append_udp(random, 180, 100, frame)
+            append_udp_header(random, 180, frame)?;
+            Ok(100)
         }
         1 => {
             append_ipv4_header(random, 0x65, 28, 17, frame)?;
-            append_udp(random, 8, 0, frame)
+            append_udp_header(random, 8, frame)?;
+            Ok(0)
         }
         2 => append_tcp_over_ipv4(random, 4, frame),
         _ => {
             append_ipv4_header(random, 0x45, 38, 17, frame)?;
-            append_udp(random, 19, 10, frame)
+            append_udp_header(random, 19, frame)?;
+            Ok(10)
         }
     }
 }
@@ -171,34 +193,45 @@ fn append_ipv6_header(
 }
 
 /// It has no contract, as `frame`.
-fn append_udp(
+fn append_udp_header(
     random: &mut Random,
     length: u8,
-    payload_len: u8,
     frame: &mut Vec<u8>,
 ) -> Result<(), AllocError> {
     random.append(4, frame)?;
     frame.extend_from_slice(&[0, length])?;
-    random.append(2 + usize::from(payload_len), frame)
+    random.append(2, frame)
 }
 
 /// It has no contract: the sum is compared with that of a plain program.
 fn sum_of_frame(frame: &[u8]) -> u64 {
     match SlicedPacket::from_ethernet(frame) {
         Ok(packet) => sum_of_packet(&packet),
-        Err(SliceError::Len(error)) => (error.required_len as u64)
-            .wrapping_add(error.len as u64)
-            .wrapping_add(error.layer_start_offset as u64),
-        Err(_) => 1,
+        Err(error) => sum_of_error(&error),
     }
+}
+
+/// Of too few bytes the lengths and the offset, else 1; it has no contract, as the sum is compared
+/// with that of a plain program.
+#[inline(always)]
+pub fn sum_of_error(error: &SliceError) -> u64 {
+    match error {
+        SliceError::Len(error) => sum_of_len_error(error),
+        _ => 1,
+    }
+}
+
+/// It has no contract: the sum is compared with that of a plain program.
+#[inline(always)]
+pub fn sum_of_len_error(error: &LenError) -> u64 {
+    (error.required_len as u64)
+        .wrapping_add(error.len as u64)
+        .wrapping_add(error.layer_start_offset as u64)
 }
 
 /// The sum of all parts; it has no contract, as it is compared with that of a plain program.
 fn sum_of_packet(packet: &SlicedPacket) -> u64 {
-    let mut sum = match &packet.link {
-        Some(link) => sum_of_link(link),
-        None => 2,
-    };
+    let mut sum = sum_of_link(&packet.link);
     for tag in packet.link_exts.as_slice() {
         sum = sum.wrapping_add(sum_of_tag(tag));
     }
@@ -206,60 +239,48 @@ fn sum_of_packet(packet: &SlicedPacket) -> u64 {
         Some(packet) => sum_of_net(packet),
         None => 3,
     };
-    let transport = match &packet.transport {
-        Some(message) => sum_of_transport(message),
-        None => 4,
-    };
-    sum.wrapping_add(net).wrapping_add(transport)
+    sum.wrapping_add(net)
+        .wrapping_add(sum_of_transport(&packet.transport))
 }
 
+// Two kinds of packets have what the next functions sum up. These are inlined always, since a part
+// whose address a call is given is kept in memory.
+
 /// It has no contract: the sum is compared with that of a plain program.
-fn sum_of_link(link: &LinkSlice) -> u64 {
+#[inline(always)]
+pub fn sum_of_link(link: &Option<LinkSlice>) -> u64 {
     match link {
-        LinkSlice::Ethernet2(frame) => sum_of_address(frame.destination())
+        Some(LinkSlice::Ethernet2(frame)) => sum_of_address(frame.destination())
             .wrapping_add(sum_of_address(frame.source()))
             .wrapping_add(u64::from(frame.ether_type().0))
             .wrapping_add(frame.payload_slice().len() as u64),
-        _ => 5,
+        Some(_) => 5,
+        None => 2,
     }
 }
 
 /// It has no contract: the sum is compared with that of a plain program.
-fn sum_of_tag(tag: &LinkExtSlice) -> u64 {
-    match tag {
-        LinkExtSlice::Vlan(tag) => u64::from(tag.vlan_identifier().value())
-            .wrapping_add(u64::from(tag.ether_type().0))
-            .wrapping_add(tag.payload_slice().len() as u64),
-        LinkExtSlice::Macsec(macsec) => macsec.header_len() as u64,
-    }
+#[inline(always)]
+pub fn sum_of_vlan(tag: &SingleVlanSlice) -> u64 {
+    u64::from(tag.vlan_identifier().value())
+        .wrapping_add(u64::from(tag.ether_type().0))
+        .wrapping_add(tag.payload_slice().len() as u64)
 }
 
 /// It has no contract: the sum is compared with that of a plain program.
-fn sum_of_net(packet: &NetSlice) -> u64 {
-    match packet {
-        NetSlice::Ipv4(packet) => {
-            let (header, payload) = (packet.header(), packet.payload());
-            u64::from(u32::from_be_bytes(header.source()))
-                .wrapping_add(u64::from(u32::from_be_bytes(header.destination())))
-                .wrapping_add(u64::from(payload.ip_number.0))
-                .wrapping_add(u64::from(payload.fragmented))
-                .wrapping_add(sum_of_bytes(payload.payload))
-        }
-        NetSlice::Ipv6(packet) => {
-            let (header, payload) = (packet.header(), packet.payload());
-            u64::from_be_bytes(half(header.source()))
-                .wrapping_add(u64::from_be_bytes(half(header.destination())))
-                .wrapping_add(packet.extensions().slice().len() as u64)
-                .wrapping_add(u64::from(payload.ip_number.0))
-                .wrapping_add(u64::from(payload.fragmented))
-                .wrapping_add(sum_of_bytes(payload.payload))
-        }
-        NetSlice::Arp(packet) => u64::from(packet.operation().0)
-            .wrapping_add(sum_of_bytes(packet.sender_hw_addr()))
-            .wrapping_add(sum_of_bytes(packet.sender_protocol_addr()))
-            .wrapping_add(sum_of_bytes(packet.target_hw_addr()))
-            .wrapping_add(sum_of_bytes(packet.target_protocol_addr())),
-    }
+#[inline(always)]
+pub fn sum_of_ipv4_addresses(header: &Ipv4HeaderSlice) -> u64 {
+    let source = u32::from_be_bytes(header.source());
+    let destination = u32::from_be_bytes(header.destination());
+    u64::from(source).wrapping_add(u64::from(destination))
+}
+
+/// It has no contract: the sum is compared with that of a plain program.
+#[inline(always)]
+pub fn sum_of_ipv6_addresses(header: &Ipv6HeaderSlice) -> u64 {
+    let source = u64::from_be_bytes(half(header.source()));
+    let destination = u64::from_be_bytes(half(header.destination()));
+    source.wrapping_add(destination)
 }
 
 /// The second half of an address, which identifies an interface. It has no contract: the sum is
@@ -270,22 +291,43 @@ fn half(address: [u8; 16]) -> [u8; 8] {
 }
 
 /// It has no contract: the sum is compared with that of a plain program.
-fn sum_of_transport(message: &TransportSlice) -> u64 {
+#[inline(always)]
+pub fn sum_of_ip_payload(ip_number: IpNumber, fragmented: bool, payload: &[u8]) -> u64 {
+    u64::from(ip_number.0)
+        .wrapping_add(u64::from(fragmented))
+        .wrapping_add(sum_of_bytes(payload))
+}
+
+/// It has no contract: the sum is compared with that of a plain program.
+#[inline(always)]
+pub fn sum_of_arp(packet: &ArpPacketSlice) -> u64 {
+    u64::from(packet.operation().0)
+        .wrapping_add(sum_of_bytes(packet.sender_hw_addr()))
+        .wrapping_add(sum_of_bytes(packet.sender_protocol_addr()))
+        .wrapping_add(sum_of_bytes(packet.target_hw_addr()))
+        .wrapping_add(sum_of_bytes(packet.target_protocol_addr()))
+}
+
+/// It has no contract: the sum is compared with that of a plain program.
+#[inline(always)]
+pub fn sum_of_transport(message: &Option<TransportSlice>) -> u64 {
     match message {
-        TransportSlice::Udp(datagram) => u64::from(datagram.source_port())
+        Some(TransportSlice::Udp(datagram)) => u64::from(datagram.source_port())
             .wrapping_add(u64::from(datagram.destination_port()))
             .wrapping_add(sum_of_bytes(datagram.payload())),
-        TransportSlice::Tcp(segment) => sum_of_segment(segment),
-        TransportSlice::Icmpv4(message) => u64::from(message.type_u8())
+        Some(TransportSlice::Tcp(segment)) => sum_of_segment(segment),
+        Some(TransportSlice::Icmpv4(message)) => u64::from(message.type_u8())
             .wrapping_add(u64::from(message.code_u8()))
             .wrapping_add(sum_of_bytes(message.payload())),
-        TransportSlice::Icmpv6(message) => u64::from(message.type_u8())
+        Some(TransportSlice::Icmpv6(message)) => u64::from(message.type_u8())
             .wrapping_add(u64::from(message.code_u8()))
             .wrapping_add(sum_of_bytes(message.payload())),
+        None => 4,
     }
 }
 
 /// It has no contract: the sum is compared with that of a plain program.
+#[inline(always)]
 fn sum_of_segment(segment: &TcpSlice) -> u64 {
     let flags = u64::from(segment.syn())
         + u64::from(segment.ack())
@@ -298,4 +340,37 @@ fn sum_of_segment(segment: &TcpSlice) -> u64 {
         .wrapping_add(flags)
         .wrapping_add(sum_of_bytes(segment.options()))
         .wrapping_add(sum_of_bytes(segment.payload()))
+}
+
+/// It has no contract: the sum is compared with that of a plain program.
+fn sum_of_tag(tag: &LinkExtSlice) -> u64 {
+    match tag {
+        LinkExtSlice::Vlan(tag) => sum_of_vlan(tag),
+        LinkExtSlice::Macsec(macsec) => macsec.header_len() as u64,
+    }
+}
+
+/// It has no contract: the sum is compared with that of a plain program.
+fn sum_of_net(packet: &NetSlice) -> u64 {
+    match packet {
+        NetSlice::Ipv4(packet) => {
+            let payload = packet.payload();
+            sum_of_ipv4_addresses(packet.header()).wrapping_add(sum_of_ip_payload(
+                payload.ip_number,
+                payload.fragmented,
+                payload.payload,
+            ))
+        }
+        NetSlice::Ipv6(packet) => {
+            let payload = packet.payload();
+            sum_of_ipv6_addresses(packet.header())
+                .wrapping_add(packet.extensions().slice().len() as u64)
+                .wrapping_add(sum_of_ip_payload(
+                    payload.ip_number,
+                    payload.fragmented,
+                    payload.payload,
+                ))
+        }
+        NetSlice::Arp(packet) => sum_of_arp(packet),
+    }
 }
