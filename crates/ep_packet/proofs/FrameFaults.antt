@@ -164,7 +164,7 @@ layers_by law false false true p e is4 is6 isa is =
     (eqb-true p.ether_type.0 arp_type isa) refl is
 layers_by law false false false p e is4 is6 isa is = cc
 
-with_err : (header : Option LinkSlice) (tags : List LinkExtSlice) (r : Result Layers SliceError)
+pub with_err : (header : Option LinkSlice) (tags : List LinkExtSlice) (r : Result Layers SliceError)
     (e : SliceError) → packet_with header tags r ≡ Err e → r ≡ Err e
 with_err header tags r e is = grind arith
 

@@ -236,7 +236,7 @@ other_cases false false true n bytes m is fits =
 other_cases false false false n bytes m is fits = grind arith
 
 -- without UDP
-abbrev rest_at : Bool → ℕ → List ℕ → Result ReadMessage SliceError
+abbrev pub rest_at : Bool → ℕ → List ℕ → Result ReadMessage SliceError
 rest_at c k bytes =
     if k == number.icmpv4 then read_as (λ x. number.Icmpv4 x) (λ e. fault.Len e) (icmpv4_fault.message_at bytes)
     else (if k == number.tcp then read_as (λ x. number.Tcp x) tcp_fault (segment_at bytes)

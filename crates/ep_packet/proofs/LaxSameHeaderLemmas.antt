@@ -239,7 +239,7 @@ alone_same layers h same = record {
 }
 
 -- what stopped, through a fault of either version
-auth_is : (stop : Option (HeaderSliceError AuthFault))
+pub auth_is : (stop : Option (HeaderSliceError AuthFault))
     → option_map slices.exts_stop (option_map auth_stop stop) ≡ option_map slices.auth_stop stop
 auth_is None = refl
 auth_is (Some (slice_error.Len e)) = refl

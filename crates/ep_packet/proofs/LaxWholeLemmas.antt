@@ -62,7 +62,7 @@ use Rattle.ep_tag.specs.declared.link.link_ext_slice.LinkExtSlice.TheVariants as
 use Rattle.ep_tcpudp.specs.UdpFault.{lax_udp_at, udp_at}
 
 -- tags and layers that are there, as those that are there as far as they go
-abbrev whole_tags : Tagged → LaxTagged
+abbrev pub whole_tags : Tagged → LaxTagged
 whole_tags t = record {
   tags = map whole_tag t.tags;
   len = t.len;
@@ -89,14 +89,14 @@ pub record WholeParts : Type 0 where
       → lax_ip_packet_at bytes ≡ Ok (whole_ip packet, None)
   pub datagram : (bytes datagram : List ℕ) → udp_at bytes ≡ Ok datagram → lax_udp_at bytes ≡ Ok datagram
 
-len_same : (t : LinkExtSlice) → lax_tag_len (whole_tag t) ≡ tag_len t
+pub len_same : (t : LinkExtSlice) → lax_tag_len (whole_tag t) ≡ tag_len t
 len_same t = grind arith
 
 pub payload_same : (t : LinkExtSlice)
     → lax_payload_after (whole_tag t) ≡ option_map complete_ether (payload_after t)
 payload_same t = grind arith
 
-tag_whole : WholeParts → (p : EtherPayload) (o : Option LinkExtSlice) → tag_at p ≡ Ok o
+pub tag_whole : WholeParts → (p : EtherPayload) (o : Option LinkExtSlice) → tag_at p ≡ Ok o
     → lax_tag_at (complete_ether p) ≡ Ok (option_map whole_tag o)
 tag_whole law p o at = let macsec = law.macsec p.payload in grind arith
 

@@ -1,4 +1,8 @@
 mod Agreement
+mod AheadFrames
+mod AheadIp
+mod AheadMessages
+mod AheadNet
 pub mod ClassLemmas
 mod CutHeaders
 mod CutPackets
@@ -32,6 +36,7 @@ mod SameHeaderParts
 mod SameNet
 mod SamePackets
 mod SlicedLemmas
+mod StopLengths
 mod TagFaults
 mod TaggedLaws
 mod TagsLemmas

@@ -38,7 +38,7 @@ pub tag_read : MacsecIsRead → (p : EtherPayload) (o : Option LinkExtSlice)
     → tag_at p ≡ Ok o → IsRead p o
 tag_read law p o e = grind (arith, nat_tests)
 
-tag_only : MacsecIsRead → (p : EtherPayload) (t : LinkExtSlice) → IsTag p t → tag_at p ≡ Ok (Some t)
+pub tag_only : MacsecIsRead → (p : EtherPayload) (t : LinkExtSlice) → IsTag p t → tag_at p ≡ Ok (Some t)
 tag_only law p (tag.Vlan bytes) is = grind arith
 tag_only law p (tag.Macsec m) is = rw (is.0, is.1) (ap macsec_tag (law.only p.payload m is.2))
 

@@ -28,10 +28,14 @@ frame_addresses = 2 ∷ 0 ∷ 0 ∷ 0 ∷ 0 ∷ 2 ∷ 2 ∷ 0 ∷ 0 ∷ 0 ∷ 0 
 abbrev pub udp_message : List ℕ
 udp_message = 0 ∷ 1 ∷ 0 ∷ 2 ∷ 0 ∷ 8 ∷ 0 ∷ 0 ∷ []
 
--- the IPv4 header before a whole message of eight bytes with this number, from 10.0.0.1 to 10.0.0.2
+-- an IPv4 header with this total length, before this number, from 10.0.0.1 to 10.0.0.2
+abbrev pub ipv4_header_with : (total number : ℕ) → List ℕ
+ipv4_header_with total number = 0x45 ∷ 0 ∷ 0 ∷ total ∷ 0 ∷ 7 ∷ 0 ∷ 0 ∷ 64 ∷ number ∷ 0 ∷ 0 ∷ 10 ∷ 0 ∷
+    0 ∷ 1 ∷ 10 ∷ 0 ∷ 0 ∷ 2 ∷ []
+
+-- that before a whole message of eight bytes with this number
 abbrev pub ipv4_header_before : ℕ → List ℕ
-ipv4_header_before number = 0x45 ∷ 0 ∷ 0 ∷ 28 ∷ 0 ∷ 7 ∷ 0 ∷ 0 ∷ 64 ∷ number ∷ 0 ∷ 0 ∷ 10 ∷ 0 ∷ 0 ∷
-    1 ∷ 10 ∷ 0 ∷ 0 ∷ 2 ∷ []
+ipv4_header_before number = ipv4_header_with 28 number
 
 -- the same header with the number of UDP
 abbrev pub ipv4_header : List ℕ
@@ -123,6 +127,14 @@ abbrev pub vlan_named : List ℕ → EtherPayload
 vlan_named bytes =
     record { ether_type = record { 0 = 0x8100 }; len_source = Slice; payload = bytes }
 
+-- an authentication header of 12 bytes before UDP (RFC 4302), with this byte for its length
+abbrev pub auth_header_of_length : ℕ → List ℕ
+auth_header_of_length words = 17 ∷ words ∷ 0 ∷ 0 ∷ 0 ∷ 0 ∷ 0 ∷ 9 ∷ 0 ∷ 0 ∷ 0 ∷ 1 ∷ []
+
+-- a frame whose authentication header has no length
+abbrev pub auth_frame : List ℕ
+auth_frame = frame_addresses ++ 8 ∷ 0 ∷ [] ++ ipv4_header_with 32 51 ++ auth_header_of_length 0
+
 -- frames that end within a header: of IPv4 after a VLAN tag, of ARP after a MACsec header, of UDP
 -- after an authentication header (RFC 4302), of ICMPv6 after hop-by-hop options (RFC 8200), and of
 -- TCP within its options (RFC 9293)
@@ -135,9 +147,8 @@ cut_after_macsec = frame_addresses ++ 0x88 ∷ 0xe5 ∷ 0 ∷ 0 ∷ 0 ∷ 0 ∷ 
     0 ∷ 1 ∷ 8 ∷ 0 ∷ 6 ∷ 4 ∷ []
 
 abbrev pub cut_after_auth : List ℕ
-cut_after_auth = frame_addresses ++ 8 ∷ 0 ∷
-    0x45 ∷ 0 ∷ 0 ∷ 36 ∷ 0 ∷ 7 ∷ 0 ∷ 0 ∷ 64 ∷ 51 ∷ 0 ∷ 0 ∷ 10 ∷ 0 ∷ 0 ∷ 1 ∷ 10 ∷ 0 ∷ 0 ∷ 2 ∷
-    17 ∷ 1 ∷ 0 ∷ 0 ∷ 0 ∷ 0 ∷ 0 ∷ 9 ∷ 0 ∷ 0 ∷ 0 ∷ 1 ∷ 0 ∷ 1 ∷ 0 ∷ 2 ∷ []
+cut_after_auth = frame_addresses ++ 8 ∷ 0 ∷ [] ++ ipv4_header_with 36 51 ++ auth_header_of_length 1
+    ++ 0 ∷ 1 ∷ 0 ∷ 2 ∷ []
 
 abbrev pub cut_after_options : List ℕ
 cut_after_options = frame_addresses ++ 0x86 ∷ 0xdd ∷

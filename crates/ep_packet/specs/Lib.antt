@@ -20,6 +20,7 @@ pub mod LaxTags
 pub mod LaxView
 pub mod LaxWhole
 pub mod LaxWholeHeaders
+pub mod LayersAhead
 pub mod NetHeaders
 pub mod NetSlice
 pub mod PacketHeaders

@@ -1,0 +1,180 @@
+-- Where a packet is refused: the layers that are whole ahead of its first fault, at which reading as far as
+-- the bytes are there stops, too, unless the fault is a length that it passes over.
+use Rattle.std.specs.Prelude.{◌≡◌, ◌<◌, ◌≤◌, ◌||◌, ℕ, Bool, true, false, if◌then◌else◌, List, [], length, map}
+use Rattle.std.specs.Prelude.{Option, Some, None, IfSome, Ok, Err}
+use Rattle.std.specs.Option.{option_map}
+use Rattle.ep_base.specs.declared.err.layer.Layer.{Layer}
+use Rattle.ep_base.specs.declared.err.layer.Layer.TheVariants as layer
+use Rattle.ep_base.specs.declared.err.len_error.LenError.{LenError}
+use Rattle.ep_base.specs.declared.err.slice_error.SliceError.{SliceError as HeaderSliceError}
+use Rattle.ep_base.specs.declared.err.slice_error.SliceError.TheVariants as slice_error
+use Rattle.ep_base.specs.declared.len_source.LenSource.{LenSource}
+use Rattle.ep_base.specs.declared.len_source.LenSource.TheVariants as source
+use Rattle.ep_base.specs.declared.link.ether_type.EtherType.{EtherType}
+use Rattle.ep_ext.specs.Ipv4Exts.{auth_after}
+use Rattle.ep_ext.specs.declared.err.ip_auth.header_error.HeaderError.{HeaderError as AuthFault}
+use Rattle.ep_ip.specs.Ipv4.{protocol_of, total_len_of, version_of}
+use Rattle.ep_ip.specs.Ipv4Fault as v4
+use Rattle.ep_ip.specs.Ipv6Fault as v6
+use Rattle.ep_ip.specs.declared.err.ipv4.header_error.HeaderError.{HeaderError as Ipv4HeaderFault}
+use Rattle.ep_ip.specs.declared.err.ipv6.header_error.HeaderError.{HeaderError as Ipv6HeaderFault}
+use Rattle.ep_ipslice.specs.Ipv4Packet.{body_of, ipv4_packet_at, of_auth_fault}
+use Rattle.ep_ipslice.specs.Ipv6Exts.{view_order}
+use Rattle.ep_ipslice.specs.Ipv6Fault.{IsRowFault}
+use Rattle.ep_ipslice.specs.Ipv6Packet.{ipv6_packet_at, ipv6_packet_of}
+use Rattle.ep_ipslice.specs.Packet.{Ipv4Packet, Ipv6Packet, ipv4_payload}
+use Rattle.ep_ipslice.specs.declared.err.ip.header_error.HeaderError.{HeaderError as IpHeaderFault}
+use Rattle.ep_ipslice.specs.declared.err.ipv6.slice_error.SliceError.{SliceError as Ipv6Fault}
+use Rattle.ep_link.specs.Arp as arp
+use Rattle.ep_link.specs.Sll.{sll_len}
+use Rattle.ep_link.specs.SllPayload as sll
+use Rattle.ep_link.specs.declared.link.link_slice.LinkSlice.{LinkSlice}
+use Rattle.ep_link.specs.declared.link.link_slice.LinkSlice.TheVariants as link
+use Rattle.ep_packet.specs.FrameFault.{IsPayloadFault, IsTagFault}
+use Rattle.ep_packet.specs.IsTagged.{AreTags, IsTagged}
+use Rattle.ep_packet.specs.LaxSliced.{message_layer, of_ipv4_header, of_ipv6_header}
+use Rattle.ep_packet.specs.LaxTags.{Stop, stop_by}
+use Rattle.ep_packet.specs.LaxWhole.{whole_net, whole_tag}
+use Rattle.ep_packet.specs.Parts.{headers_len, tags_len}
+use Rattle.ep_packet.specs.SliceFault.{of_ipv4, of_ipv6, offset_by}
+use Rattle.ep_packet.specs.Sliced.{arp_type, ipv4_type, ipv6_type}
+use Rattle.ep_packet.specs.Tags.{most_tags}
+use Rattle.ep_packet.specs.declared.err.packet.slice_error.SliceError.{SliceError}
+use Rattle.ep_packet.specs.declared.err.packet.slice_error.SliceError.TheVariants.{Ip, Len}
+use Rattle.ep_packet.specs.declared.lax_sliced_packet.LaxSlicedPacket.{LaxSlicedPacket}
+use Rattle.ep_packet.specs.declared.net.net_slice.NetSlice.{NetSlice}
+use Rattle.ep_packet.specs.declared.net.net_slice.NetSlice.TheVariants as net
+use Rattle.ep_tag.specs.Ether.{EtherPayload}
+use Rattle.ep_tag.specs.Vlan.{is_vlan_type}
+use Rattle.ep_tag.specs.declared.link.link_ext_slice.LinkExtSlice.{LinkExtSlice}
+use Rattle.ep_tcpudp.specs.UdpFault.{udp_at}
+
+-- the layers that are as long as a length field says
+abbrev pub has_length_field : Layer → Bool
+has_length_field layer.MacsecPacket = true
+has_length_field layer.Ipv4Packet = true
+has_length_field layer.Ipv6Packet = true
+has_length_field layer.UdpPayload = true
+has_length_field other = false
+
+abbrev pub is_udp_length : LenSource → Bool
+is_udp_length source.UdpHeaderLen = true
+is_udp_length other = false
+
+-- a length field counts more bytes than are there, or fewer than its own header has: reading as far as the
+-- bytes are there goes on after such a fault
+abbrev pub is_passed_over : SliceError → Bool
+is_passed_over (Len e) = has_length_field e.layer || is_udp_length e.len_source
+is_passed_over other = false
+
+-- what stopped, if anything did, isn't passed over
+abbrev pub NoLengthStopped : Option Stop → Type 0
+NoLengthStopped stop = IfSome stop (λ s. is_passed_over s.0 ≡ false)
+
+-- the layer of the tag that an ether type names
+abbrev pub tag_layer : EtherType → Layer
+tag_layer t = if is_vlan_type t then layer.VlanHeader else layer.MacsecHeader
+
+-- an IPv4 packet is there with all bytes that its total length counts, and the authentication header that
+-- its header names has this fault
+pub record IsAuthFault (bytes header : List ℕ) (fault : HeaderSliceError AuthFault) : Type 0 where
+  pub read : v4.header_at bytes ≡ Ok header
+  pub counted : length header ≤ total_len_of header
+  pub there : total_len_of header ≤ length bytes
+  pub auth : auth_after (protocol_of header) (body_of header bytes) ≡ Err fault
+
+-- what is whole of an IPv4 packet ahead of a fault after its header, and this fault with its layer: the
+-- packet without its authentication header, or all of it, where the fault is in its message
+pub data IsIpv4Ahead (bytes : List ℕ) (ahead : Ipv4Packet) (stop : Stop) : Type 0 where
+  InAuth : (header : List ℕ) (fault : HeaderSliceError AuthFault) → IsAuthFault bytes header fault
+      → ahead ≡ record { header = header; auth = None; payload = body_of header bytes }
+      → stop ≡ (of_ipv4 (of_auth_fault (length header) fault), layer.IpAuthHeader)
+      → IsIpv4Ahead bytes ahead stop
+  InMessage : (fault : SliceError) → ipv4_packet_at bytes ≡ Ok ahead
+      → IsPayloadFault udp_at (headers_len (Some (net.Ipv4 ahead))) (ipv4_payload ahead) fault
+      → stop ≡ (fault, message_layer (ipv4_payload ahead).ip_number.0) → IsIpv4Ahead bytes ahead stop
+
+-- the same of an IPv6 packet: with the extension headers ahead of one that has a fault, or all of it
+pub data IsIpv6Ahead (bytes : List ℕ) (ahead : Ipv6Packet) (stop : Stop) : Type 0 where
+  InExtensions : (header : List ℕ) (fault : Ipv6Fault) → v6.header_at bytes ≡ Ok header
+      → (row : IsRowFault view_order bytes header fault)
+      → ahead ≡ ipv6_packet_of bytes header row.pieces → stop ≡ (of_ipv6 fault, row.fault.1)
+      → IsIpv6Ahead bytes ahead stop
+  InMessage : (fault : SliceError) → ipv6_packet_at bytes ≡ Ok ahead
+      → IsPayloadFault udp_at (headers_len (Some (net.Ipv6 ahead))) ahead.payload fault
+      → stop ≡ (fault, message_layer ahead.payload.ip_number.0) → IsIpv6Ahead bytes ahead stop
+
+-- what is whole of what an ether type names ahead of its first fault: nothing, where the fault is in the
+-- header of IP or in ARP
+pub data IsNetAhead (t : EtherType) (bytes : List ℕ) (ahead : Option NetSlice) (stop : Stop) : Type 0 where
+  InIpv4Header : (fault : HeaderSliceError Ipv4HeaderFault) → t.0 ≡ ipv4_type
+      → v4.header_at bytes ≡ Err fault → ahead ≡ None
+      → stop ≡ (of_ipv4_header fault, layer.Ipv4Header) → IsNetAhead t bytes ahead stop
+  InIpv4 : (packet : Ipv4Packet) → t.0 ≡ ipv4_type → IsIpv4Ahead bytes packet stop
+      → ahead ≡ Some (net.Ipv4 packet) → IsNetAhead t bytes ahead stop
+  InIpv6Header : (fault : HeaderSliceError Ipv6HeaderFault) → t.0 ≡ ipv6_type
+      → v6.header_at bytes ≡ Err fault → ahead ≡ None
+      → stop ≡ (of_ipv6_header fault, layer.Ipv6Header) → IsNetAhead t bytes ahead stop
+  InIpv6 : (packet : Ipv6Packet) → t.0 ≡ ipv6_type → IsIpv6Ahead bytes packet stop
+      → ahead ≡ Some (net.Ipv6 packet) → IsNetAhead t bytes ahead stop
+  InArp : (fault : LenError) → t.0 ≡ arp_type → arp.packet_at bytes ≡ Err fault → ahead ≡ None
+      → stop ≡ (Len fault, layer.Arp) → IsNetAhead t bytes ahead stop
+
+-- the layers of what an ether type names ahead of its first fault: the tags ahead of one that has a fault,
+-- or all tags and what is whole of what the last of them names
+pub data AreAhead (p : EtherPayload) (tags : List LinkExtSlice) (ahead : Option NetSlice)
+    (stop : Stop) : Type 0 where
+  InTag : (q : EtherPayload) (fault : SliceError) → length tags < most_tags → AreTags p tags (Some q)
+      → IsTagFault q fault → ahead ≡ None
+      → stop ≡ (offset_by (tags_len tags) fault, tag_layer q.ether_type) → AreAhead p tags ahead stop
+  InLayers : (q : EtherPayload) (fault : Stop) → IsTagged most_tags p tags (Some q)
+      → IsNetAhead q.ether_type q.payload ahead fault → stop ≡ stop_by (tags_len tags) fault
+      → AreAhead p tags ahead stop
+
+-- link header, tags and packet of the network layer, of which nothing is missing, and what stopped after
+-- them
+abbrev pub stopped_packet : Option LinkSlice → List LinkExtSlice → Option NetSlice → Stop → LaxSlicedPacket
+stopped_packet header tags ahead stop = record {
+  link = header;
+  link_exts = record { items = map whole_tag tags };
+  net = option_map whole_net ahead;
+  transport = None;
+  stop_err = Some stop;
+}
+
+-- after this link header of so many bytes, the packet has exactly the layers ahead of its first fault, and
+-- what stopped is this fault, with its layer
+pub record StopsAfter (header : LinkSlice) (n : ℕ) (p : EtherPayload) (e : SliceError)
+    (packet : LaxSlicedPacket) : Type 0 where
+  pub tags : List LinkExtSlice
+  pub ahead : Option NetSlice
+  pub stop : Stop
+  pub layers : AreAhead p tags ahead stop
+  pub fault : e ≡ offset_by n stop.0
+  pub stopped : packet ≡ stopped_packet (Some header) tags ahead (e, stop.1)
+
+-- the same after the header of a Linux cooked capture, whose protocol is an ether type
+pub record StopsCooked (bytes : List ℕ) (e : SliceError) (packet : LaxSlicedPacket) : Type 0 where
+  pub p : EtherPayload
+  pub named : sll.named_payload (sll.payload_of bytes) ≡ Some p
+  pub stops : StopsAfter (link.LinuxSll bytes) sll_len p e packet
+
+-- the fault of an IP header of either version
+abbrev pub of_ip_header : HeaderSliceError IpHeaderFault → SliceError
+of_ip_header (slice_error.Len e) = Len e
+of_ip_header (slice_error.Content e) = Ip e
+
+-- what is whole of an IP packet, of the version in its first byte, ahead of a fault after its header
+pub data IsIpAhead (bytes : List ℕ) (ahead : NetSlice) (stop : Stop) : Type 0 where
+  InIpv4 : (packet : Ipv4Packet) → version_of bytes ≡ 4 → IsIpv4Ahead bytes packet stop
+      → ahead ≡ net.Ipv4 packet → IsIpAhead bytes ahead stop
+  InIpv6 : (packet : Ipv6Packet) → version_of bytes ≡ 6 → IsIpv6Ahead bytes packet stop
+      → ahead ≡ net.Ipv6 packet → IsIpAhead bytes ahead stop
+
+-- an IP packet has exactly what is whole ahead of its first fault, and this fault stopped it
+pub record StopsIp (bytes : List ℕ) (e : SliceError) (packet : LaxSlicedPacket) : Type 0 where
+  pub ahead : NetSlice
+  pub stop : Stop
+  pub layers : IsIpAhead bytes ahead stop
+  pub fault : e ≡ stop.0
+  pub stopped : packet ≡ stopped_packet None [] (Some ahead) stop

@@ -1,0 +1,102 @@
+//! Laws of packets that are refused, and of what is there of them.
+ghost use Rattle.std.specs.Prelude.{◌≡◌, ◌++◌, ℕ, List, [], ◌∷◌, false, true, None, Some, Ok, Err, IfOk, MatchResult};
+ghost use Rattle.ep_base.specs.declared.err.layer.Layer.TheVariants as layer;
+ghost use Rattle.ep_base.specs.declared.len_source.LenSource.TheVariants as source;
+ghost use Rattle.ep_base.specs.declared.link.ether_type.EtherType.{EtherType};
+ghost use Rattle.ep_ext.specs.declared.err.ip_auth.header_error.HeaderError.TheVariants.{ZeroPayloadLen};
+ghost use Rattle.ep_link.specs.Ethernet.{ethernet_len, payload_of};
+ghost use Rattle.ep_link.specs.Frame.{without_fcs};
+ghost use Rattle.ep_link.specs.declared.link.link_slice.LinkSlice.TheVariants as link;
+ghost use Rattle.ep_packet.specs.Examples.{auth_frame, auth_header_of_length, cut_after_auth, cut_after_tag};
+ghost use Rattle.ep_packet.specs.Examples.{ipv4_header_with, missing_bytes};
+ghost use Rattle.ep_packet.specs.LaxSliced.{lax_sliced_ether_type, lax_sliced_ethernet, lax_sliced_ip};
+ghost use Rattle.ep_packet.specs.LaxSliced.{lax_sliced_linux_sll};
+ghost use Rattle.ep_packet.specs.LayersAhead.{NoLengthStopped, StopsAfter, StopsCooked, StopsIp};
+ghost use Rattle.ep_packet.specs.LayersAhead.{is_passed_over, of_ip_header, stopped_packet};
+ghost use Rattle.ep_packet.specs.SliceFault.{of_linux_sll};
+ghost use Rattle.ep_packet.specs.Sliced.{ether_payload, sliced_ether_type, sliced_ethernet, sliced_ip};
+ghost use Rattle.ep_packet.specs.Sliced.{sliced_linux_sll};
+ghost use Rattle.ep_packet.specs.declared.err.packet.slice_error.SliceError.{SliceError};
+ghost use Rattle.ep_packet.specs.declared.err.packet.slice_error.SliceError.TheVariants.{Ipv4Exts, Len};
+ghost use Rattle.ep_packet.specs.declared.net.net_slice.NetSlice.TheVariants as net;
+ghost use Rattle.ep_tag.specs.declared.link.link_ext_slice.LinkExtSlice.TheVariants as tag;
+
+/// Where a packet is refused, reading it as far as it is there stops at the same fault: it has exactly the
+/// layers that are whole ahead of this fault, and what stopped is the fault, with its layer. A fault of the
+/// link header, or of the IP header of a packet without one, is refused by both. Passed over, and not
+/// spoken of here, is only a length that counts more bytes than are there, or fewer than its own header
+/// has: the total length of IPv4, the payload length of IPv6, the short length of MACsec, that of UDP.
+pub fn faults_stop_lax_packets()
+    ensures ethernet { (frame : List ℕ) (e : SliceError) → sliced_ethernet frame ≡ Err e
+        → is_passed_over e ≡ false
+        → MatchResult (lax_sliced_ethernet frame) (λ packet. StopsAfter
+        (link.Ethernet2 (without_fcs frame)) ethernet_len (payload_of frame) e packet)
+        (λ short. e ≡ Len short) }
+    ensures linux_sll { (bytes : List ℕ) (e : SliceError) → sliced_linux_sll bytes ≡ Err e
+        → is_passed_over e ≡ false
+        → MatchResult (lax_sliced_linux_sll bytes) (λ packet. StopsCooked bytes e packet)
+        (λ fault. e ≡ of_linux_sll fault) }
+    ensures ether_type { (t : EtherType) (bytes : List ℕ) (e : SliceError)
+        → sliced_ether_type t bytes ≡ Err e → is_passed_over e ≡ false
+        → StopsAfter (link.EtherPayload (ether_payload t bytes)) 0 (ether_payload t bytes) e
+        (lax_sliced_ether_type t bytes) }
+    ensures ip { (bytes : List ℕ) (e : SliceError) → sliced_ip bytes ≡ Err e
+        → is_passed_over e ≡ false
+        → MatchResult (lax_sliced_ip bytes) (λ packet. StopsIp bytes e packet)
+        (λ fault. e ≡ of_ip_header fault) }
+{
+    ep_ipslice::laws::whole_packets_are_lax_packets();
+    ep_ipslice::laws::faults_found_are_first();
+    ep_ipslice::laws::rows_are_found();
+    ep_tag::laws::macsec::payload_is_read();
+    ep_tag::laws::macsec_lax::lax_reads_find_what_is_there();
+    ep_tcpudp::laws::udp::lax_reads_find_what_is_there();
+}
+
+/// What stops reading as far as a packet is there is never a length that is passed over: where a packet
+/// is refused for such a length, the reading goes on, to its end or to another fault.
+pub fn lengths_stop_no_lax_packet()
+    ensures ethernet { (frame : List ℕ)
+        → IfOk (lax_sliced_ethernet frame) (λ packet. NoLengthStopped packet.stop_err) }
+    ensures linux_sll { (bytes : List ℕ)
+        → IfOk (lax_sliced_linux_sll bytes) (λ packet. NoLengthStopped packet.stop_err) }
+    ensures ether_type { (t : EtherType) (bytes : List ℕ)
+        → NoLengthStopped (lax_sliced_ether_type t bytes).stop_err }
+    ensures ip { (bytes : List ℕ)
+        → IfOk (lax_sliced_ip bytes) (λ packet. NoLengthStopped packet.stop_err) }
+{}
+
+/// What is there of frames that are refused, worked out by hand: the tag ahead of an IPv4 header that was
+/// cut off; the headers ahead of a UDP header that was; and the IPv4 header ahead of an authentication
+/// header whose length is 0 (RFC 4302, section 2.2). And which faults are passed over: an IPv4 packet and a
+/// UDP datagram shorter than their lengths, and a UDP length of 7; not a UDP header that was cut off.
+pub fn stops_at_literals()
+    ensures tag { lax_sliced_ethernet cut_after_tag ≡ Ok (stopped_packet
+        (Some (link.Ethernet2 (without_fcs cut_after_tag)))
+        (tag.Vlan (0 ∷ 5 ∷ 8 ∷ 0 ∷ 0x45 ∷ 0 ∷ 0 ∷ 28 ∷ 0 ∷ 7 ∷ 0 ∷ 0 ∷ 64 ∷ 17 ∷ []) ∷ []) None
+        (missing_bytes layer.Ipv4Header 20 10 source.Slice 18, layer.Ipv4Header)) }
+    ensures message { lax_sliced_ethernet cut_after_auth ≡ Ok (stopped_packet
+        (Some (link.Ethernet2 (without_fcs cut_after_auth))) []
+        (Some (net.Ipv4 (record {
+          header = ipv4_header_with 36 51;
+          auth = Some (auth_header_of_length 1);
+          payload = 0 ∷ 1 ∷ 0 ∷ 2 ∷ [];
+        })))
+        (missing_bytes layer.UdpHeader 8 4 source.Ipv4HeaderTotalLen 46, layer.UdpHeader)) }
+    ensures auth { lax_sliced_ethernet auth_frame ≡ Ok (stopped_packet
+        (Some (link.Ethernet2 (without_fcs auth_frame))) []
+        (Some (net.Ipv4 (record {
+          header = ipv4_header_with 32 51;
+          auth = None;
+          payload = auth_header_of_length 0;
+        })))
+        (Ipv4Exts ZeroPayloadLen, layer.IpAuthHeader)) }
+    ensures auth_refused { sliced_ethernet auth_frame ≡ Err (Ipv4Exts ZeroPayloadLen) }
+    ensures ipv4_length { is_passed_over (missing_bytes layer.Ipv4Packet 28 24 source.Slice 14) ≡ true }
+    ensures udp_length { is_passed_over
+        (missing_bytes layer.UdpPayload 9 8 source.Ipv4HeaderTotalLen 34) ≡ true }
+    ensures no_header { is_passed_over
+        (missing_bytes layer.UdpHeader 8 7 source.UdpHeaderLen 34) ≡ true }
+    ensures header { is_passed_over
+        (missing_bytes layer.UdpHeader 8 4 source.Ipv4HeaderTotalLen 46) ≡ false }
+{}
