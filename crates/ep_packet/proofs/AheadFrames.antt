@@ -22,7 +22,7 @@ use Rattle.ep_link.specs.declared.err.linux_sll.header_error.HeaderError.{Header
 use Rattle.ep_link.specs.declared.link.link_slice.LinkSlice.{LinkSlice}
 use Rattle.ep_link.specs.declared.link.link_slice.LinkSlice.TheVariants as link
 use Rattle.ep_packet.specs.FrameFault.{IsTagFault, OfMacsec, OfVlan}
-use Rattle.ep_packet.specs.IsTagged.{AreTags, IsTagged}
+use Rattle.ep_packet.specs.IsTagged.{AreTags, IsTag, IsTagged}
 use Rattle.ep_packet.specs.LaxSliced.{in_lax_cooked, in_lax_frame, in_lax_linux_sll, lax_layers_of, lax_packet_after}
 use Rattle.ep_packet.specs.LaxSliced.{lax_packet_tagged, lax_sliced_ether_type, lax_sliced_ethernet, lax_sliced_linux_sll}
 use Rattle.ep_packet.specs.LaxTags.{LaxTagged, Stop, joined, lax_from_tag, lax_read_further, lax_tag_at, lax_tags_in}
@@ -49,7 +49,7 @@ use Rattle.ep_packet.proofs.SlicedLemmas.{sll_whole}
 use Rattle.ep_packet.proofs.TagFaults.{tags_first}
 use Rattle.ep_packet.proofs.TaggedLaws.{MacsecIsRead, tag_only, tags_found}
 use Rattle.ep_tag.specs.Ether.{EtherPayload, complete_ether}
-use Rattle.ep_tag.specs.LinkExt.{lax_payload_after, lax_tag_len, payload_after, tag_len}
+use Rattle.ep_tag.specs.LinkExt.{payload_after, tag_len}
 use Rattle.ep_tag.specs.MacsecFault as macsec_fault
 use Rattle.ep_tag.specs.MacsecLax.{lax_macsec_after, lax_macsec_at}
 use Rattle.ep_tag.specs.MacsecPayload.{Macsec, bytes_under, macsec_after, macsec_at, payload_len_of, payload_under}
@@ -113,15 +113,13 @@ after_tag n t tags (Some next) q e layer are each =
     ap (joined (whole_tag t ∷ []) (tag_len t)) (each next are)
     ∙ ap (stopped_by (t ∷ tags) (tag_len t + tags_len tags) layer) (moved_twice (tag_len t) (tags_len tags) e)
 
-further : (n : ℕ) (t : LinkExtSlice) (tags : List LinkExtSlice) (q : EtherPayload) (e : SliceError)
-    (layer : Layer)
-    → MatchOption (payload_after t) ((tags ≡ []) × (Some q ≡ None)) (λ next. AreTags next tags (Some q))
-    → ((next : EtherPayload) → AreTags next tags (Some q)
-    → lax_tags_in n (complete_ether next) ≡ stopped_tags tags e layer)
-    → joined (whole_tag t ∷ []) (lax_tag_len (whole_tag t))
-    (lax_read_further (lax_tags_in n) (lax_payload_after (whole_tag t))) ≡ stopped_tags (t ∷ tags) e layer
-further n t tags q e layer are each =
-    rw (payload_same t, len_same t) (after_tag n t tags (payload_after t) q e layer are each)
+-- a whole tag is read, and then what follows it
+pub tag_step : WholeParts → MacsecIsRead → (n : ℕ) (p : EtherPayload) (t : LinkExtSlice) → IsTag p t
+    → lax_tags_in (suc n) (complete_ether p) ≡ joined (whole_tag t ∷ []) (tag_len t)
+    (lax_read_further (lax_tags_in n) (option_map complete_ether (payload_after t)))
+unfolding lax_tags_in
+tag_step whole read n p t is =
+    rw (tag_whole whole p (Some t) (tag_only read p t is), payload_same t, len_same t) refl
 
 tags_stop : WholeParts → MacsecIsRead → (tags : List LinkExtSlice) (n : ℕ) (p q : EtherPayload)
     (e : SliceError) (layer : Layer) → length tags < n → AreTags p tags (Some q)
@@ -135,10 +133,8 @@ tags_stop whole read [] (suc n) p q e layer few are fault =
     let here : lax_tag_at (complete_ether p) ≡ Err (e, layer) = rw same at fault in
     ap (lax_from_tag (lax_tags_in n) (complete_ether p)) here
     ∙ ap (stopped_by [] 0 layer) (sym (moved_nothing e))
-tags_stop whole read (t ∷ tags) (suc n) p q e layer few are fault =
-    let here = tag_whole whole p (Some t) (tag_only read p t are.0) in
-    ap (lax_from_tag (lax_tags_in n) (complete_ether p)) here
-    ∙ further n t tags q e layer are.1
+tags_stop whole read (t ∷ tags) (suc n) p q e layer few are fault = tag_step whole read n p t are.0
+    ∙ after_tag n t tags (payload_after t) q e layer are.1
     (λ next stands. tags_stop whole read tags n next q e layer (omega (arith, few)) stands fault)
 
 -- the laws of all layers, as they are called

@@ -1,6 +1,7 @@
 mod Agreement
 mod AheadFrames
 mod AheadIp
+mod AheadKept
 mod AheadMessages
 mod AheadNet
 pub mod ClassLemmas

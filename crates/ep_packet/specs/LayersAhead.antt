@@ -1,8 +1,9 @@
 -- Where a packet is refused: the layers that are whole ahead of its first fault, at which reading as far as
 -- the bytes are there stops, too, unless the fault is a length that it passes over.
-use Rattle.std.specs.Prelude.{◌≡◌, ◌<◌, ◌≤◌, ◌||◌, ℕ, Bool, true, false, if◌then◌else◌, List, [], length, map}
-use Rattle.std.specs.Prelude.{Option, Some, None, IfSome, Ok, Err}
+use Rattle.std.specs.Prelude.{◌≡◌, ◌<◌, ◌≤◌, ◌||◌, ℕ, Bool, true, false, if◌then◌else◌, ⊤, List, [], ◌++◌, length, map}
+use Rattle.std.specs.Prelude.{Option, Some, None, IfSome, Result, Ok, Err, IsOkAnd}
 use Rattle.std.specs.Option.{option_map}
+use Rattle.ep_base.specs.LenError.{too_few_bytes}
 use Rattle.ep_base.specs.declared.err.layer.Layer.{Layer}
 use Rattle.ep_base.specs.declared.err.layer.Layer.TheVariants as layer
 use Rattle.ep_base.specs.declared.err.len_error.LenError.{LenError}
@@ -26,15 +27,21 @@ use Rattle.ep_ipslice.specs.Packet.{Ipv4Packet, Ipv6Packet, ipv4_payload}
 use Rattle.ep_ipslice.specs.declared.err.ip.header_error.HeaderError.{HeaderError as IpHeaderFault}
 use Rattle.ep_ipslice.specs.declared.err.ipv6.slice_error.SliceError.{SliceError as Ipv6Fault}
 use Rattle.ep_link.specs.Arp as arp
+use Rattle.ep_link.specs.Ethernet.{ethernet_len, payload_of}
+use Rattle.ep_link.specs.Frame.{without_fcs}
 use Rattle.ep_link.specs.Sll.{sll_len}
 use Rattle.ep_link.specs.SllPayload as sll
+use Rattle.ep_link.specs.declared.err.linux_sll.header_error.HeaderError.{HeaderError as SllFault}
 use Rattle.ep_link.specs.declared.link.link_slice.LinkSlice.{LinkSlice}
 use Rattle.ep_link.specs.declared.link.link_slice.LinkSlice.TheVariants as link
+use Rattle.ep_packet.specs.FrameFault as frame_fault
+use Rattle.ep_packet.specs.FrameFault.{IsCookedFault, IsFaultAfter, IsFrameFault, IsIpPacketFault, IsLayersFault}
 use Rattle.ep_packet.specs.FrameFault.{IsPayloadFault, IsTagFault}
 use Rattle.ep_packet.specs.IsTagged.{AreTags, IsTagged}
 use Rattle.ep_packet.specs.LaxSliced.{message_layer, of_ipv4_header, of_ipv6_header}
 use Rattle.ep_packet.specs.LaxTags.{Stop, stop_by}
 use Rattle.ep_packet.specs.LaxWhole.{whole_net, whole_tag}
+use Rattle.ep_packet.specs.NetSlice.{of_ip as net_of}
 use Rattle.ep_packet.specs.Parts.{headers_len, tags_len}
 use Rattle.ep_packet.specs.SliceFault.{of_ipv4, of_ipv6, offset_by}
 use Rattle.ep_packet.specs.Sliced.{arp_type, ipv4_type, ipv6_type}
@@ -42,10 +49,12 @@ use Rattle.ep_packet.specs.Tags.{most_tags}
 use Rattle.ep_packet.specs.declared.err.packet.slice_error.SliceError.{SliceError}
 use Rattle.ep_packet.specs.declared.err.packet.slice_error.SliceError.TheVariants.{Ip, Len}
 use Rattle.ep_packet.specs.declared.lax_sliced_packet.LaxSlicedPacket.{LaxSlicedPacket}
+use Rattle.ep_packet.specs.declared.net.lax_net_slice.LaxNetSlice.{LaxNetSlice}
 use Rattle.ep_packet.specs.declared.net.net_slice.NetSlice.{NetSlice}
 use Rattle.ep_packet.specs.declared.net.net_slice.NetSlice.TheVariants as net
 use Rattle.ep_tag.specs.Ether.{EtherPayload}
 use Rattle.ep_tag.specs.Vlan.{is_vlan_type}
+use Rattle.ep_tag.specs.declared.link.lax_link_ext_slice.LaxLinkExtSlice.{LaxLinkExtSlice}
 use Rattle.ep_tag.specs.declared.link.link_ext_slice.LinkExtSlice.{LinkExtSlice}
 use Rattle.ep_tcpudp.specs.UdpFault.{udp_at}
 
@@ -178,3 +187,43 @@ pub record StopsIp (bytes : List ℕ) (e : SliceError) (packet : LaxSlicedPacket
   pub layers : IsIpAhead bytes ahead stop
   pub fault : e ≡ stop.0
   pub stopped : packet ≡ stopped_packet None [] (Some ahead) stop
+
+-- whether the fault is passed over or not: where it is in the message of a whole packet of the network
+-- layer, this packet is there
+abbrev pub HasNetAhead : (t : EtherType) (bytes : List ℕ) (e : SliceError) → IsLayersFault t bytes e
+    → Option LaxNetSlice → Type 0
+HasNetAhead t bytes e (frame_fault.InNet f) found = ⊤
+HasNetAhead t bytes e (frame_fault.InIpv4 packet named read f) found =
+    found ≡ Some (whole_net (net.Ipv4 packet))
+HasNetAhead t bytes e (frame_fault.InIpv6 packet named read f) found =
+    found ≡ Some (whole_net (net.Ipv6 packet))
+
+-- and so are the whole tags ahead of it, before others if it is in a tag
+abbrev pub HasLayersAhead : (p : EtherPayload) (e : SliceError) → IsFaultAfter IsLayersFault p e
+    → LaxSlicedPacket → Type 0
+HasLayersAhead p e (frame_fault.InTag tags q f few are is error) packet =
+    (more : List LaxLinkExtSlice) × (packet.link_exts.items ≡ map whole_tag tags ++ more)
+HasLayersAhead p e (frame_fault.InLayers tags q f tagged is error) packet =
+    (packet.link_exts.items ≡ map whole_tag tags)
+    × HasNetAhead q.ether_type q.payload f is packet.net
+
+-- the same with the link header, without which nothing is there
+abbrev pub HasFrameAhead : (frame : List ℕ) (e : SliceError) → IsFrameFault frame e
+    → Result LaxSlicedPacket LenError → Type 0
+HasFrameAhead frame e (frame_fault.InHeader short error) r =
+    r ≡ Err (too_few_bytes layer.Ethernet2Header ethernet_len (length frame))
+HasFrameAhead frame e (frame_fault.Following f size after error) r = IsOkAnd r (λ packet.
+    (packet.link ≡ Some (link.Ethernet2 (without_fcs frame)))
+    × HasLayersAhead (payload_of frame) f after packet)
+
+abbrev pub HasCookedAhead : (bytes : List ℕ) (e : SliceError) → IsCookedFault bytes e
+    → Result LaxSlicedPacket (HeaderSliceError SllFault) → Type 0
+HasCookedAhead bytes e (frame_fault.InHeader f read error) r = r ≡ Err f
+HasCookedAhead bytes e (frame_fault.Following p f read named after error) r = IsOkAnd r (λ packet.
+    (packet.link ≡ Some (link.LinuxSll bytes)) × HasLayersAhead p f after packet)
+
+abbrev pub HasIpAhead : (bytes : List ℕ) (e : SliceError) → IsIpPacketFault bytes e
+    → Result LaxSlicedPacket (HeaderSliceError IpHeaderFault) → Type 0
+HasIpAhead bytes e (frame_fault.InPacket f is error) r = ⊤
+HasIpAhead bytes e (frame_fault.InMessage packet read f) r =
+    IsOkAnd r (λ found. found.net ≡ Some (whole_net (net_of packet)))

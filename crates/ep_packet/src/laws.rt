@@ -21,4 +21,7 @@ pub use headers::{ipv6_headers_agree_with_view, ipv6_headers_at_a_literal};
 pub use lax::{cut_messages_are_found, payloads_of_whole_packets, whole_packets_are_lax_packets};
 pub use lax_headers::lax_headers_are_those_of_slices;
 pub use readable::{messages_at_literals, readable_messages};
-pub use stops::{faults_stop_lax_packets, lengths_stop_no_lax_packet, stops_at_literals};
+pub use stops::{
+    faults_stop_lax_packets, layers_ahead_of_faults_are_kept, lengths_stop_no_lax_packet,
+    stops_at_literals,
+};

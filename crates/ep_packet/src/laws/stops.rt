@@ -9,8 +9,10 @@ ghost use Rattle.ep_link.specs.Frame.{without_fcs};
 ghost use Rattle.ep_link.specs.declared.link.link_slice.LinkSlice.TheVariants as link;
 ghost use Rattle.ep_packet.specs.Examples.{auth_frame, auth_header_of_length, cut_after_auth, cut_after_tag};
 ghost use Rattle.ep_packet.specs.Examples.{ipv4_header_with, missing_bytes};
+ghost use Rattle.ep_packet.specs.FrameFault.{IsCookedFault, IsEtherTypeFault, IsFrameFault, IsIpPacketFault};
 ghost use Rattle.ep_packet.specs.LaxSliced.{lax_sliced_ether_type, lax_sliced_ethernet, lax_sliced_ip};
 ghost use Rattle.ep_packet.specs.LaxSliced.{lax_sliced_linux_sll};
+ghost use Rattle.ep_packet.specs.LayersAhead.{HasCookedAhead, HasFrameAhead, HasIpAhead, HasLayersAhead};
 ghost use Rattle.ep_packet.specs.LayersAhead.{NoLengthStopped, StopsAfter, StopsCooked, StopsIp};
 ghost use Rattle.ep_packet.specs.LayersAhead.{is_passed_over, of_ip_header, stopped_packet};
 ghost use Rattle.ep_packet.specs.SliceFault.{of_linux_sll};
@@ -48,6 +50,27 @@ pub fn faults_stop_lax_packets()
     ep_ipslice::laws::whole_packets_are_lax_packets();
     ep_ipslice::laws::faults_found_are_first();
     ep_ipslice::laws::rows_are_found();
+    ep_tag::laws::macsec::payload_is_read();
+    ep_tag::laws::macsec_lax::lax_reads_find_what_is_there();
+    ep_tcpudp::laws::udp::lax_reads_find_what_is_there();
+}
+
+/// Where a packet is refused, whatever the fault, the layers that are whole ahead of it are there: the link
+/// header, the tags, and if the fault is in the message of a packet of the network layer, this packet.
+pub fn layers_ahead_of_faults_are_kept()
+    ensures ethernet { (frame : List ℕ) (e : SliceError) → sliced_ethernet frame ≡ Err e
+        → (first : IsFrameFault frame e) × HasFrameAhead frame e first (lax_sliced_ethernet frame) }
+    ensures linux_sll { (bytes : List ℕ) (e : SliceError) → sliced_linux_sll bytes ≡ Err e
+        → (first : IsCookedFault bytes e)
+        × HasCookedAhead bytes e first (lax_sliced_linux_sll bytes) }
+    ensures ether_type { (t : EtherType) (bytes : List ℕ) (e : SliceError)
+        → sliced_ether_type t bytes ≡ Err e → (first : IsEtherTypeFault t bytes e)
+        × HasLayersAhead (ether_payload t bytes) e first (lax_sliced_ether_type t bytes) }
+    ensures ip { (bytes : List ℕ) (e : SliceError) → sliced_ip bytes ≡ Err e
+        → (first : IsIpPacketFault bytes e) × HasIpAhead bytes e first (lax_sliced_ip bytes) }
+{
+    ep_ipslice::laws::whole_packets_are_lax_packets();
+    ep_ipslice::laws::faults_found_are_first();
     ep_tag::laws::macsec::payload_is_read();
     ep_tag::laws::macsec_lax::lax_reads_find_what_is_there();
     ep_tcpudp::laws::udp::lax_reads_find_what_is_there();
