@@ -135,6 +135,10 @@ auth_header_of_length words = 17 ∷ words ∷ 0 ∷ 0 ∷ 0 ∷ 0 ∷ 0 ∷ 9 �
 abbrev pub auth_frame : List ℕ
 auth_frame = frame_addresses ++ 8 ∷ 0 ∷ [] ++ ipv4_header_with 32 51 ++ auth_header_of_length 0
 
+-- a frame that ends four bytes before its IPv4 packet does, within the UDP header
+abbrev pub short_frame : List ℕ
+short_frame = frame_addresses ++ 8 ∷ 0 ∷ [] ++ ipv4_header ++ 0 ∷ 1 ∷ 0 ∷ 2 ∷ []
+
 -- frames that end within a header: of IPv4 after a VLAN tag, of ARP after a MACsec header, of UDP
 -- after an authentication header (RFC 4302), of ICMPv6 after hop-by-hop options (RFC 8200), and of
 -- TCP within its options (RFC 9293)

@@ -4,11 +4,12 @@ ghost use Rattle.ep_base.specs.declared.err.layer.Layer.TheVariants as layer;
 ghost use Rattle.ep_base.specs.declared.len_source.LenSource.TheVariants as source;
 ghost use Rattle.ep_base.specs.declared.link.ether_type.EtherType.{EtherType};
 ghost use Rattle.ep_ext.specs.declared.err.ip_auth.header_error.HeaderError.TheVariants.{ZeroPayloadLen};
+ghost use Rattle.ep_ipslice.specs.CutPackets.{cut_ipv4};
 ghost use Rattle.ep_link.specs.Ethernet.{ethernet_len, payload_of};
 ghost use Rattle.ep_link.specs.Frame.{without_fcs};
 ghost use Rattle.ep_link.specs.declared.link.link_slice.LinkSlice.TheVariants as link;
 ghost use Rattle.ep_packet.specs.Examples.{auth_frame, auth_header_of_length, cut_after_auth, cut_after_tag};
-ghost use Rattle.ep_packet.specs.Examples.{ipv4_header_with, missing_bytes};
+ghost use Rattle.ep_packet.specs.Examples.{ipv4_header_with, ipv4_packet, missing_bytes, short_frame};
 ghost use Rattle.ep_packet.specs.FrameFault.{IsCookedFault, IsEtherTypeFault, IsFrameFault, IsIpPacketFault};
 ghost use Rattle.ep_packet.specs.LaxSliced.{lax_sliced_ether_type, lax_sliced_ethernet, lax_sliced_ip};
 ghost use Rattle.ep_packet.specs.LaxSliced.{lax_sliced_linux_sll};
@@ -20,6 +21,7 @@ ghost use Rattle.ep_packet.specs.Sliced.{ether_payload, sliced_ether_type, slice
 ghost use Rattle.ep_packet.specs.Sliced.{sliced_linux_sll};
 ghost use Rattle.ep_packet.specs.declared.err.packet.slice_error.SliceError.{SliceError};
 ghost use Rattle.ep_packet.specs.declared.err.packet.slice_error.SliceError.TheVariants.{Ipv4Exts, Len};
+ghost use Rattle.ep_packet.specs.declared.net.lax_net_slice.LaxNetSlice.TheVariants as lax_net;
 ghost use Rattle.ep_packet.specs.declared.net.net_slice.NetSlice.TheVariants as net;
 ghost use Rattle.ep_tag.specs.declared.link.link_ext_slice.LinkExtSlice.TheVariants as tag;
 
@@ -91,8 +93,9 @@ pub fn lengths_stop_no_lax_packet()
 
 /// What is there of frames that are refused, worked out by hand: the tag ahead of an IPv4 header that was
 /// cut off; the headers ahead of a UDP header that was; and the IPv4 header ahead of an authentication
-/// header whose length is 0 (RFC 4302, section 2.2). And which faults are passed over: an IPv4 packet and a
-/// UDP datagram shorter than their lengths, and a UDP length of 7; not a UDP header that was cut off.
+/// header whose length is 0 (RFC 4302, section 2.2). One that is refused for its IPv4 length stops at its UDP
+/// header. And which faults are passed over: an IPv4 packet and a UDP datagram shorter than their lengths,
+/// and a UDP length of 7; not a UDP header that was cut off.
 pub fn stops_at_literals()
     ensures tag { lax_sliced_ethernet cut_after_tag ≡ Ok (stopped_packet
         (Some (link.Ethernet2 (without_fcs cut_after_tag)))
@@ -115,6 +118,15 @@ pub fn stops_at_literals()
         })))
         (Ipv4Exts ZeroPayloadLen, layer.IpAuthHeader)) }
     ensures auth_refused { sliced_ethernet auth_frame ≡ Err (Ipv4Exts ZeroPayloadLen) }
+    ensures length_refused { sliced_ethernet short_frame
+        ≡ Err (missing_bytes layer.Ipv4Packet 28 24 source.Slice 14) }
+    ensures after_length { lax_sliced_ethernet short_frame ≡ Ok (record {
+      link = Some (link.Ethernet2 (without_fcs short_frame));
+      link_exts = record { items = [] };
+      net = Some (lax_net.Ipv4 (cut_ipv4 24 ipv4_packet));
+      transport = None;
+      stop_err = Some (missing_bytes layer.UdpHeader 8 4 source.Slice 34, layer.UdpHeader);
+    }) }
     ensures ipv4_length { is_passed_over (missing_bytes layer.Ipv4Packet 28 24 source.Slice 14) ≡ true }
     ensures udp_length { is_passed_over
         (missing_bytes layer.UdpPayload 9 8 source.Ipv4HeaderTotalLen 34) ≡ true }

@@ -19,6 +19,14 @@ pub returns-clause-auth_refused : goal.returns-clause-auth_refused
 unfolding tags_in
 returns-clause-auth_refused c = refl
 
+pub returns-clause-length_refused : goal.returns-clause-length_refused
+unfolding tags_in
+returns-clause-length_refused c = refl
+
+pub returns-clause-after_length : goal.returns-clause-after_length
+unfolding lax_tags_in
+returns-clause-after_length c = refl
+
 pub returns-clause-ipv4_length : goal.returns-clause-ipv4_length
 returns-clause-ipv4_length c = refl
 
