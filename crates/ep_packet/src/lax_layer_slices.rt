@@ -147,6 +147,7 @@ impl<'a> LaxLayerSlices<'a> {
 
 /// The message in the payload after so many bytes of headers, or what stops there, unless the headers
 /// were stopped.
+#[inline(always)]
 pub(crate) fn transport_in<'a>(
     payload: &LaxIpPayloadSlice<'a>,
     headers_len: usize,

@@ -40,6 +40,7 @@ impl<'a> LaxMacsecSlice<'a> {
     ///
     /// A short length above the bytes there is no fault: the payload is all that follows the header,
     /// incomplete, and the slice bounds it.
+    #[inline(always)]
     pub fn from_slice(slice: &'a [u8]) -> Result<LaxMacsecSlice<'a>, HeaderSliceError>
         ensures exact { result ≡ lax_macsec_at slice.now }
         ensures offset { IfErr result (λ e. content_offset e ≡ 0) }
