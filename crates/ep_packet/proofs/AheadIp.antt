@@ -39,10 +39,10 @@ use Rattle.ep_ipslice.specs.declared.err.ipv4.slice_error.SliceError.TheVariants
 use Rattle.ep_ipslice.specs.declared.err.ipv6.slice_error.SliceError.{SliceError as Ipv6Fault}
 use Rattle.ep_ipslice.specs.declared.err.ipv6.slice_error.SliceError.TheVariants as ipv6
 use Rattle.ep_packet.specs.LaxSliced.{LaxLayers, exts_stop, in_lax_ipv4, in_lax_ipv6, in_lax_version}
-use Rattle.ep_packet.specs.LaxSliced.{ipv6_exts_stop, lax_packet_of, lax_sliced_ip, message_layer}
+use Rattle.ep_packet.specs.LaxSliced.{ipv6_exts_stop, lax_packet_of, lax_sliced_ip, message_layer, of_ip_header}
 use Rattle.ep_packet.specs.LaxTags.{Stop}
 use Rattle.ep_packet.specs.LayersAhead as layers_ahead
-use Rattle.ep_packet.specs.LayersAhead.{IsIpAhead, StopsIp, is_passed_over, of_ip_header}
+use Rattle.ep_packet.specs.LayersAhead.{IsIpAhead, StopsIp, is_passed_over}
 use Rattle.ep_packet.specs.SliceFault.{of_ip, of_ipv4, of_ipv6}
 use Rattle.ep_packet.specs.Sliced.{Layers, ip_layers, sliced_ip}
 use Rattle.ep_packet.specs.declared.err.packet.slice_error.SliceError.{SliceError}

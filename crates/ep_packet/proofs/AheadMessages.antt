@@ -11,7 +11,7 @@ use Rattle.ep_base.specs.declared.len_source.LenSource.{LenSource}
 use Rattle.ep_base.specs.declared.len_source.LenSource.TheVariants as source
 use Rattle.ep_ipslice.specs.Packet.{IpPayload}
 use Rattle.ep_packet.specs.LaxSliced.{lax_message_at, lax_message_in, lax_transport_in, message_layer}
-use Rattle.ep_packet.specs.LayersAhead.{has_length_field, is_passed_over, is_udp_length}
+use Rattle.ep_packet.specs.LayersAhead.{counts_payload, is_passed_over, is_udp_length}
 use Rattle.ep_packet.specs.Readable.{ReadMessage, message_at, read_as, udp}
 use Rattle.ep_packet.specs.Readable.ReadMessage.{Udp}
 use Rattle.ep_packet.specs.SliceFault.{bounded_by, offset_by, within}
@@ -41,7 +41,7 @@ source_within b outer own over = over
 
 inside : (outer : LenSource) (e : SliceError) → is_passed_over (within outer e) ≡ false
     → is_passed_over e ≡ false
-inside outer (Len e) over = source_within (has_length_field e.layer) outer e.len_source over
+inside outer (Len e) over = source_within (counts_payload e.layer) outer e.len_source over
 inside outer e over = over
 
 -- a refusal that is passed over isn't this one

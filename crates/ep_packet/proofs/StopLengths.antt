@@ -1,7 +1,7 @@
 -- What stops reading as far as the bytes are there is never a length that it passes over.
 use Rattle.std.proofs.Common.{◌≡◌, ◌∙◌, sym, ap, refl, subst, ℕ, zero, suc, ◌+◌, ◌-◌, ◌==◌, ◌&&◌, ◌||◌, not, Bool, true, false, List}
-use Rattle.std.proofs.Common.{length, Option, Some, None, Result, Ok, Err, IfOk, arith}
-use Rattle.std.specs.Prelude.{if◌then◌else◌, nat_lt}
+use Rattle.std.proofs.Common.{length, Option, Some, None, Result, Ok, Err, arith}
+use Rattle.std.specs.Prelude.{if◌then◌else◌, nat_lt, MatchResult}
 use Rattle.std.specs.Option.{option_map}
 use Rattle.std.proofs.lemmas.Bool.{eqb-true}
 use Rattle.ep_base.proofs.Prefixes.{err_same}
@@ -36,7 +36,7 @@ use Rattle.ep_ip.specs.declared.err.ipv6.header_error.HeaderError.{HeaderError a
 use Rattle.ep_ipslice.specs.IpSlice.{no_version}
 use Rattle.ep_ipslice.specs.Ipv6Exts.{view_order}
 use Rattle.ep_ipslice.specs.Ipv6Packet.{body_of, extensions_of, fault_after, number_after, rest_after}
-use Rattle.ep_ipslice.specs.LaxIp.{with_lax_ipv4, with_lax_ipv6}
+use Rattle.ep_ipslice.specs.LaxIp.{ipv4_header_fault, ipv6_header_fault, map_content, with_lax_ipv4, with_lax_ipv6}
 use Rattle.ep_ipslice.specs.LaxPackets.{LaxIpv6Packet, StoppedIpv4, StoppedIpv6, fault_within, lax_ipv4_after}
 use Rattle.ep_ipslice.specs.LaxPackets.{lax_ipv4_body, lax_ipv4_of, lax_ipv4_packet_at, lax_ipv4_source, lax_ipv4_with}
 use Rattle.ep_ipslice.specs.LaxPackets.{lax_ipv6_after, lax_ipv6_of, lax_ipv6_packet_at, lax_ipv6_source, lax_ipv6_with}
@@ -58,13 +58,13 @@ use Rattle.ep_packet.specs.LaxSliced.{in_lax_version, ipv6_exts_stop, lax_arp_la
 use Rattle.ep_packet.specs.LaxSliced.{lax_layers_in, lax_message_at, lax_message_in, lax_packet_after, lax_transport_in}
 use Rattle.ep_packet.specs.LaxSliced.{lax_sliced_ether_type, lax_sliced_ethernet, lax_sliced_ip, lax_sliced_linux_sll}
 use Rattle.ep_packet.specs.LaxSliced.{message_layer, message_or_stop, no_layers, of_auth, of_ipv4_header, of_ipv6_exts}
-use Rattle.ep_packet.specs.LaxSliced.{of_ipv6_header}
+use Rattle.ep_packet.specs.LaxSliced.{of_ip_header, of_ipv6_header}
 use Rattle.ep_packet.specs.LaxTags.{LaxTagged, Stop, lax_from_tag, lax_macsec_tag, lax_read_further, lax_tag_at}
 use Rattle.ep_packet.specs.LaxTags.{lax_tags_in, lax_vlan_tag, stop_by}
-use Rattle.ep_packet.specs.LayersAhead.{NoLengthStopped, has_length_field, is_passed_over, is_udp_length}
+use Rattle.ep_packet.specs.LayersAhead.{NoLengthStopped, counts_payload, is_passed_over, is_udp_length}
 use Rattle.ep_packet.specs.Readable as number
 use Rattle.ep_packet.specs.Readable.{ReadMessage, message_at, read_as, tcp_fault}
-use Rattle.ep_packet.specs.SliceFault.{bounded_by, of_macsec, within}
+use Rattle.ep_packet.specs.SliceFault.{bounded_by, of_linux_sll, of_macsec, within}
 use Rattle.ep_packet.specs.Sliced.{arp_type, ether_payload, ipv4_type, ipv6_type, read_transport, result_within}
 use Rattle.ep_packet.specs.Tags.{is_macsec_type, most_tags}
 use Rattle.ep_packet.specs.declared.err.packet.slice_error.SliceError.{SliceError}
@@ -215,7 +215,7 @@ source_stays false outer own bounds stays = stays
 within_stays : (outer : LenSource) (e : SliceError) → is_udp_length outer ≡ false → Stays e
     → Stays (within outer e)
 within_stays outer (Len e) bounds stays =
-    source_stays (has_length_field e.layer) outer e.len_source bounds stays
+    source_stays (counts_payload e.layer) outer e.len_source bounds stays
 within_stays outer e bounds stays = refl
 
 in_payload : (cut : Bool) (outer : LenSource) (r : Result ReadMessage SliceError) (e : SliceError)
@@ -404,53 +404,70 @@ after_stays n header p =
     (stays_moved n t.stop (tags_stay most_tags (complete_ether p)))
     (stays_moved (n + t.len) (lax_layers_in t.last).stop (layers_stay t.last))
 
--- a packet that is read, whatever the result
-abbrev pub PacketStays : {E : Type 0} → Result LaxSlicedPacket E → Type 0
-PacketStays r = IfOk r (λ packet. NoLengthStopped packet.stop_err)
+-- a packet that is read, or refused for its first header
+abbrev pub PacketStays : {E : Type 0} → (E → SliceError) → Result LaxSlicedPacket E → Type 0
+PacketStays fault r = MatchResult r (λ packet. NoLengthStopped packet.stop_err) (λ e. Stays (fault e))
 
-frame_stays : (r : Result (List ℕ) LenError) → PacketStays (in_lax_frame r)
-frame_stays (Ok frame) = after_stays ethernet_len (link.Ethernet2 (without_fcs frame)) (payload_of frame)
-frame_stays (Err e) = tt
+frame_stays : (short : Bool) (n : ℕ) (frame : List ℕ) → PacketStays (λ e. Len e)
+    (in_lax_frame (if short then Err (too_few_bytes layer.Ethernet2Header ethernet_len n) else Ok frame))
+frame_stays true n frame = refl
+frame_stays false n frame =
+    after_stays ethernet_len (link.Ethernet2 (without_fcs frame)) (payload_of frame)
 
-pub ethernet_stays : (frame : List ℕ) → PacketStays (lax_sliced_ethernet frame)
-ethernet_stays frame = frame_stays (whole_at layer.Ethernet2Header ethernet_len frame)
+pub ethernet_stays : (frame : List ℕ) → PacketStays (λ e. Len e) (lax_sliced_ethernet frame)
+ethernet_stays frame = frame_stays (nat_lt (length frame) ethernet_len) (length frame) frame
 
 named_stays : (bytes : List ℕ) (o : Option EtherPayload) → NoLengthStopped (in_lax_linux_sll bytes o).stop_err
 named_stays bytes None = tt
 named_stays bytes (Some p) = after_stays sll_len (link.LinuxSll bytes) p
 
-cooked_stays : (r : Result (List ℕ) (HeaderSliceError SllFault)) → PacketStays (in_lax_cooked r)
-cooked_stays (Ok bytes) = named_stays bytes (sll.named_payload (sll.payload_of bytes))
-cooked_stays (Err e) = tt
+sll_stays : (bytes : List ℕ) (e : HeaderSliceError SllFault) → sll_fault.whole_at bytes ≡ Err e
+    → Stays (of_linux_sll e)
+sll_stays bytes e is = grind arith
 
-pub linux_sll_stays : (bytes : List ℕ) → PacketStays (lax_sliced_linux_sll bytes)
-linux_sll_stays bytes = cooked_stays (sll_fault.whole_at bytes)
+cooked_stays : (packet : List ℕ) (r : Result (List ℕ) (HeaderSliceError SllFault))
+    → sll_fault.whole_at packet ≡ r → PacketStays of_linux_sll (in_lax_cooked r)
+cooked_stays packet (Ok bytes) read = named_stays bytes (sll.named_payload (sll.payload_of bytes))
+cooked_stays packet (Err e) read = sll_stays packet e read
+
+pub linux_sll_stays : (bytes : List ℕ) → PacketStays of_linux_sll (lax_sliced_linux_sll bytes)
+linux_sll_stays bytes = cooked_stays bytes (sll_fault.whole_at bytes) refl
 
 pub ether_type_stays : (t : EtherType) (bytes : List ℕ) → NoLengthStopped (lax_sliced_ether_type t bytes).stop_err
 ether_type_stays t bytes = after_stays 0 (link.EtherPayload (ether_payload t bytes)) (ether_payload t bytes)
 
 -- an IP packet of each version stops as what an ether type names does
+ipv4_refused : (e : HeaderSliceError Ipv4HeaderFault) → Stays (of_ipv4_header e)
+    → Stays (of_ip_header (map_content ipv4_header_fault e))
+ipv4_refused (slice_error.Len e) stays = stays
+ipv4_refused (slice_error.Content e) stays = refl
+
+ipv6_refused : (e : HeaderSliceError Ipv6HeaderFault) → Stays (of_ipv6_header e)
+    → Stays (of_ip_header (map_content ipv6_header_fault e))
+ipv6_refused (slice_error.Len e) stays = stays
+ipv6_refused (slice_error.Content e) stays = refl
+
 ipv4_version : (r : Result StoppedIpv4 (HeaderSliceError Ipv4HeaderFault))
-    → NoLengthStopped (lax_ipv4_layers r).stop → PacketStays (in_lax_version (with_lax_ipv4 r))
-ipv4_version (Err e) stays = tt
+    → NoLengthStopped (lax_ipv4_layers r).stop → PacketStays of_ip_header (in_lax_version (with_lax_ipv4 r))
+ipv4_version (Err e) stays = ipv4_refused e stays
 ipv4_version (Ok s) stays = subst (λ (o : Option Stop). NoLengthStopped (in_lax_ipv4 s.0 o).stop)
     (sym (auth_is s.1)) stays
 
 ipv6_version : (r : Result StoppedIpv6 (HeaderSliceError Ipv6HeaderFault))
-    → NoLengthStopped (lax_ipv6_layers r).stop → PacketStays (in_lax_version (with_lax_ipv6 r))
-ipv6_version (Err e) stays = tt
+    → NoLengthStopped (lax_ipv6_layers r).stop → PacketStays of_ip_header (in_lax_version (with_lax_ipv6 r))
+ipv6_version (Err e) stays = ipv6_refused e stays
 ipv6_version (Ok s) stays = subst (λ (o : Option Stop). NoLengthStopped (in_lax_ipv6 s.0 o).stop)
     (sym (row_is s.1)) stays
 
-version_by : (none four six : Bool) (bytes : List ℕ) (e f : HeaderSliceError IpHeaderFault)
-    → PacketStays (in_lax_version (if none then Err e
+version_by : (none four six : Bool) (bytes : List ℕ) (f : IpHeaderFault)
+    → PacketStays of_ip_header (in_lax_version (if none then Err (slice_error.Len no_version)
     else (if four then with_lax_ipv4 (lax_ipv4_packet_at bytes)
-    else (if six then with_lax_ipv6 (lax_ipv6_packet_at bytes) else Err f))))
-version_by true four six bytes e f = tt
-version_by false true six bytes e f = ipv4_version (lax_ipv4_packet_at bytes) (ipv4_stay bytes)
-version_by false false true bytes e f = ipv6_version (lax_ipv6_packet_at bytes) (ipv6_stay bytes)
-version_by false false false bytes e f = tt
+    else (if six then with_lax_ipv6 (lax_ipv6_packet_at bytes) else Err (slice_error.Content f)))))
+version_by true four six bytes f = refl
+version_by false true six bytes f = ipv4_version (lax_ipv4_packet_at bytes) (ipv4_stay bytes)
+version_by false false true bytes f = ipv6_version (lax_ipv6_packet_at bytes) (ipv6_stay bytes)
+version_by false false false bytes f = refl
 
-pub ip_stays : (bytes : List ℕ) → PacketStays (lax_sliced_ip bytes)
+pub ip_stays : (bytes : List ℕ) → PacketStays of_ip_header (lax_sliced_ip bytes)
 ip_stays bytes = version_by (length bytes == 0) (version_of bytes == 4) (version_of bytes == 6) bytes
-    (slice_error.Len no_version) (slice_error.Content (UnsupportedIpVersion (version_of bytes)))
+    (UnsupportedIpVersion (version_of bytes))

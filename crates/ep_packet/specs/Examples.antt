@@ -129,9 +129,9 @@ vlan_named bytes =
 
 -- an authentication header of 12 bytes before UDP (RFC 4302), with this byte for its length
 abbrev pub auth_header_of_length : ℕ → List ℕ
-auth_header_of_length words = 17 ∷ words ∷ 0 ∷ 0 ∷ 0 ∷ 0 ∷ 0 ∷ 9 ∷ 0 ∷ 0 ∷ 0 ∷ 1 ∷ []
+auth_header_of_length payload_len = 17 ∷ payload_len ∷ 0 ∷ 0 ∷ 0 ∷ 0 ∷ 0 ∷ 9 ∷ 0 ∷ 0 ∷ 0 ∷ 1 ∷ []
 
--- a frame whose authentication header has no length
+-- a frame whose authentication header has 0 for its length
 abbrev pub auth_frame : List ℕ
 auth_frame = frame_addresses ++ 8 ∷ 0 ∷ [] ++ ipv4_header_with 32 51 ++ auth_header_of_length 0
 
@@ -139,9 +139,23 @@ auth_frame = frame_addresses ++ 8 ∷ 0 ∷ [] ++ ipv4_header_with 32 51 ++ auth
 abbrev pub short_frame : List ℕ
 short_frame = frame_addresses ++ 8 ∷ 0 ∷ [] ++ ipv4_header ++ 0 ∷ 1 ∷ 0 ∷ 2 ∷ []
 
--- frames that end within a header: of IPv4 after a VLAN tag, of ARP after a MACsec header, of UDP
--- after an authentication header (RFC 4302), of ICMPv6 after hop-by-hop options (RFC 8200), and of
+-- one whose total length of IPv4 counts a byte more than is there
+abbrev pub total_frame : List ℕ
+total_frame = frame_addresses ++ 8 ∷ 0 ∷ [] ++ ipv4_header_with 29 17 ++ udp_message
+
+-- a UDP header with a length of 7, and a frame of it
+abbrev pub low_datagram : List ℕ
+low_datagram = 0 ∷ 1 ∷ 0 ∷ 2 ∷ 0 ∷ 7 ∷ 0 ∷ 0 ∷ []
+
+abbrev pub datagram_frame : List ℕ
+datagram_frame = frame_addresses ++ 8 ∷ 0 ∷ [] ++ ipv4_header ++ low_datagram
+
+-- frames that end within a header: of MACsec, of IPv4 after a VLAN tag, of ARP after a MACsec header, of
+-- UDP after an authentication header (RFC 4302), of ICMPv6 after hop-by-hop options (RFC 8200), and of
 -- TCP within its options (RFC 9293)
+abbrev pub cut_in_macsec : List ℕ
+cut_in_macsec = frame_addresses ++ 0x88 ∷ 0xe5 ∷ 0 ∷ 0 ∷ 0 ∷ 0 ∷ 0 ∷ []
+
 abbrev pub cut_after_tag : List ℕ
 cut_after_tag = frame_addresses ++ 0x81 ∷ 0 ∷ 0 ∷ 5 ∷ 8 ∷ 0 ∷
     0x45 ∷ 0 ∷ 0 ∷ 28 ∷ 0 ∷ 7 ∷ 0 ∷ 0 ∷ 64 ∷ 17 ∷ []

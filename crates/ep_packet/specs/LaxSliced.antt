@@ -50,6 +50,10 @@ use Rattle.ep_tag.specs.declared.link.lax_link_ext_slice.LaxLinkExtSlice.{LaxLin
 use Rattle.ep_tcpudp.specs.UdpFault.{lax_udp_at}
 
 -- faults of IP's headers as those of all layers
+abbrev pub of_ip_header : HeaderSliceError IpHeaderFault → SliceError
+of_ip_header (slice_error.Len e) = fault.Len e
+of_ip_header (slice_error.Content e) = fault.Ip e
+
 abbrev pub of_ipv4_header : HeaderSliceError Ipv4HeaderFault → SliceError
 of_ipv4_header (slice_error.Len e) = fault.Len e
 of_ipv4_header (slice_error.Content e) = fault.Ipv4 e

@@ -1,14 +1,12 @@
 -- Where a packet is refused: the layers that are whole ahead of its first fault, at which reading as far as
 -- the bytes are there stops, too, unless the fault is a length that it passes over.
 use Rattle.std.specs.Prelude.{◌≡◌, ◌<◌, ◌≤◌, ◌||◌, ℕ, Bool, true, false, if◌then◌else◌, ⊤, List, [], ◌++◌, length, map}
-use Rattle.std.specs.Prelude.{Option, Some, None, IfSome, Result, Ok, Err, IsOkAnd}
-use Rattle.std.specs.Option.{option_map}
+use Rattle.std.specs.Prelude.{Option, Some, None, IfSome, Result, Ok, Err, IfOk, IsOkAnd}
 use Rattle.ep_base.specs.LenError.{too_few_bytes}
 use Rattle.ep_base.specs.declared.err.layer.Layer.{Layer}
 use Rattle.ep_base.specs.declared.err.layer.Layer.TheVariants as layer
 use Rattle.ep_base.specs.declared.err.len_error.LenError.{LenError}
 use Rattle.ep_base.specs.declared.err.slice_error.SliceError.{SliceError as HeaderSliceError}
-use Rattle.ep_base.specs.declared.err.slice_error.SliceError.TheVariants as slice_error
 use Rattle.ep_base.specs.declared.len_source.LenSource.{LenSource}
 use Rattle.ep_base.specs.declared.len_source.LenSource.TheVariants as source
 use Rattle.ep_base.specs.declared.link.ether_type.EtherType.{EtherType}
@@ -19,10 +17,12 @@ use Rattle.ep_ip.specs.Ipv4Fault as v4
 use Rattle.ep_ip.specs.Ipv6Fault as v6
 use Rattle.ep_ip.specs.declared.err.ipv4.header_error.HeaderError.{HeaderError as Ipv4HeaderFault}
 use Rattle.ep_ip.specs.declared.err.ipv6.header_error.HeaderError.{HeaderError as Ipv6HeaderFault}
+use Rattle.ep_ipslice.specs.IpSlice as ip_fault
 use Rattle.ep_ipslice.specs.Ipv4Packet.{body_of, ipv4_packet_at, of_auth_fault}
 use Rattle.ep_ipslice.specs.Ipv6Exts.{view_order}
 use Rattle.ep_ipslice.specs.Ipv6Fault.{IsRowFault}
 use Rattle.ep_ipslice.specs.Ipv6Packet.{ipv6_packet_at, ipv6_packet_of}
+use Rattle.ep_ipslice.specs.LaxPackets.{LaxIpv4Packet, LaxIpv6Packet}
 use Rattle.ep_ipslice.specs.Packet.{Ipv4Packet, Ipv6Packet, ipv4_payload}
 use Rattle.ep_ipslice.specs.declared.err.ip.header_error.HeaderError.{HeaderError as IpHeaderFault}
 use Rattle.ep_ipslice.specs.declared.err.ipv6.slice_error.SliceError.{SliceError as Ipv6Fault}
@@ -40,16 +40,17 @@ use Rattle.ep_packet.specs.FrameFault.{IsPayloadFault, IsTagFault}
 use Rattle.ep_packet.specs.IsTagged.{AreTags, IsTagged}
 use Rattle.ep_packet.specs.LaxSliced.{message_layer, of_ipv4_header, of_ipv6_header}
 use Rattle.ep_packet.specs.LaxTags.{Stop, stop_by}
-use Rattle.ep_packet.specs.LaxWhole.{whole_net, whole_tag}
+use Rattle.ep_packet.specs.LaxWhole.{whole_net, whole_packet, whole_tag}
 use Rattle.ep_packet.specs.NetSlice.{of_ip as net_of}
 use Rattle.ep_packet.specs.Parts.{headers_len, tags_len}
 use Rattle.ep_packet.specs.SliceFault.{of_ipv4, of_ipv6, offset_by}
 use Rattle.ep_packet.specs.Sliced.{arp_type, ipv4_type, ipv6_type}
 use Rattle.ep_packet.specs.Tags.{most_tags}
 use Rattle.ep_packet.specs.declared.err.packet.slice_error.SliceError.{SliceError}
-use Rattle.ep_packet.specs.declared.err.packet.slice_error.SliceError.TheVariants.{Ip, Len}
+use Rattle.ep_packet.specs.declared.err.packet.slice_error.SliceError.TheVariants.{Len}
 use Rattle.ep_packet.specs.declared.lax_sliced_packet.LaxSlicedPacket.{LaxSlicedPacket}
 use Rattle.ep_packet.specs.declared.net.lax_net_slice.LaxNetSlice.{LaxNetSlice}
+use Rattle.ep_packet.specs.declared.net.lax_net_slice.LaxNetSlice.TheVariants as lax_net
 use Rattle.ep_packet.specs.declared.net.net_slice.NetSlice.{NetSlice}
 use Rattle.ep_packet.specs.declared.net.net_slice.NetSlice.TheVariants as net
 use Rattle.ep_tag.specs.Ether.{EtherPayload}
@@ -58,22 +59,22 @@ use Rattle.ep_tag.specs.declared.link.lax_link_ext_slice.LaxLinkExtSlice.{LaxLin
 use Rattle.ep_tag.specs.declared.link.link_ext_slice.LinkExtSlice.{LinkExtSlice}
 use Rattle.ep_tcpudp.specs.UdpFault.{udp_at}
 
--- the layers that are as long as a length field says
-abbrev pub has_length_field : Layer → Bool
-has_length_field layer.MacsecPacket = true
-has_length_field layer.Ipv4Packet = true
-has_length_field layer.Ipv6Packet = true
-has_length_field layer.UdpPayload = true
-has_length_field other = false
+-- packets and datagrams whose payload a length field counts
+abbrev pub counts_payload : Layer → Bool
+counts_payload layer.MacsecPacket = true
+counts_payload layer.Ipv4Packet = true
+counts_payload layer.Ipv6Packet = true
+counts_payload layer.UdpPayload = true
+counts_payload other = false
 
 abbrev pub is_udp_length : LenSource → Bool
 is_udp_length source.UdpHeaderLen = true
 is_udp_length other = false
 
--- a length field counts more bytes than are there, or fewer than its own header has: reading as far as the
--- bytes are there goes on after such a fault
+-- such a length counts more bytes than are there, or one of IPv4 or UDP fewer than its own header: reading
+-- as far as the bytes are there goes on after such a fault
 abbrev pub is_passed_over : SliceError → Bool
-is_passed_over (Len e) = has_length_field e.layer || is_udp_length e.len_source
+is_passed_over (Len e) = counts_payload e.layer || is_udp_length e.len_source
 is_passed_over other = false
 
 -- what stopped, if anything did, isn't passed over
@@ -92,8 +93,9 @@ pub record IsAuthFault (bytes header : List ℕ) (fault : HeaderSliceError AuthF
   pub there : total_len_of header ≤ length bytes
   pub auth : auth_after (protocol_of header) (body_of header bytes) ≡ Err fault
 
--- what is whole of an IPv4 packet ahead of a fault after its header, and this fault with its layer: the
--- packet without its authentication header, or all of it, where the fault is in its message
+-- what is whole of an IPv4 packet ahead of a fault after its header that isn't passed over, and this fault
+-- with its layer: the packet without its authentication header, or all of it, where the fault is in its
+-- message
 pub data IsIpv4Ahead (bytes : List ℕ) (ahead : Ipv4Packet) (stop : Stop) : Type 0 where
   InAuth : (header : List ℕ) (fault : HeaderSliceError AuthFault) → IsAuthFault bytes header fault
       → ahead ≡ record { header = header; auth = None; payload = body_of header bytes }
@@ -113,8 +115,8 @@ pub data IsIpv6Ahead (bytes : List ℕ) (ahead : Ipv6Packet) (stop : Stop) : Typ
       → IsPayloadFault udp_at (headers_len (Some (net.Ipv6 ahead))) ahead.payload fault
       → stop ≡ (fault, message_layer ahead.payload.ip_number.0) → IsIpv6Ahead bytes ahead stop
 
--- what is whole of what an ether type names ahead of its first fault: nothing, where the fault is in the
--- header of IP or in ARP
+-- what is whole of what an ether type names ahead of a first fault that isn't passed over: nothing, where
+-- the fault is in the header of IP or in ARP
 pub data IsNetAhead (t : EtherType) (bytes : List ℕ) (ahead : Option NetSlice) (stop : Stop) : Type 0 where
   InIpv4Header : (fault : HeaderSliceError Ipv4HeaderFault) → t.0 ≡ ipv4_type
       → v4.header_at bytes ≡ Err fault → ahead ≡ None
@@ -129,8 +131,8 @@ pub data IsNetAhead (t : EtherType) (bytes : List ℕ) (ahead : Option NetSlice)
   InArp : (fault : LenError) → t.0 ≡ arp_type → arp.packet_at bytes ≡ Err fault → ahead ≡ None
       → stop ≡ (Len fault, layer.Arp) → IsNetAhead t bytes ahead stop
 
--- the layers of what an ether type names ahead of its first fault: the tags ahead of one that has a fault,
--- or all tags and what is whole of what the last of them names
+-- the layers of what an ether type names ahead of a first fault that isn't passed over: the tags ahead of
+-- one that has a fault, or all tags and what is whole of what the last of them names
 pub data AreAhead (p : EtherPayload) (tags : List LinkExtSlice) (ahead : Option NetSlice)
     (stop : Stop) : Type 0 where
   InTag : (q : EtherPayload) (fault : SliceError) → length tags < most_tags → AreTags p tags (Some q)
@@ -143,13 +145,12 @@ pub data AreAhead (p : EtherPayload) (tags : List LinkExtSlice) (ahead : Option 
 -- link header, tags and packet of the network layer, of which nothing is missing, and what stopped after
 -- them
 abbrev pub stopped_packet : Option LinkSlice → List LinkExtSlice → Option NetSlice → Stop → LaxSlicedPacket
-stopped_packet header tags ahead stop = record {
+stopped_packet header tags ahead stop = record (whole_packet (record {
   link = header;
-  link_exts = record { items = map whole_tag tags };
-  net = option_map whole_net ahead;
+  link_exts = record { items = tags };
+  net = ahead;
   transport = None;
-  stop_err = Some stop;
-}
+})) { stop_err = Some stop }
 
 -- after this link header of so many bytes, the packet has exactly the layers ahead of its first fault, and
 -- what stopped is this fault, with its layer
@@ -168,12 +169,8 @@ pub record StopsCooked (bytes : List ℕ) (e : SliceError) (packet : LaxSlicedPa
   pub named : sll.named_payload (sll.payload_of bytes) ≡ Some p
   pub stops : StopsAfter (link.LinuxSll bytes) sll_len p e packet
 
--- the fault of an IP header of either version
-abbrev pub of_ip_header : HeaderSliceError IpHeaderFault → SliceError
-of_ip_header (slice_error.Len e) = Len e
-of_ip_header (slice_error.Content e) = Ip e
-
--- what is whole of an IP packet, of the version in its first byte, ahead of a fault after its header
+-- what is whole of an IP packet, of the version in its first byte, ahead of a fault after its header that
+-- isn't passed over
 pub data IsIpAhead (bytes : List ℕ) (ahead : NetSlice) (stop : Stop) : Type 0 where
   InIpv4 : (packet : Ipv4Packet) → version_of bytes ≡ 4 → IsIpv4Ahead bytes packet stop
       → ahead ≡ net.Ipv4 packet → IsIpAhead bytes ahead stop
@@ -188,11 +185,25 @@ pub record StopsIp (bytes : List ℕ) (e : SliceError) (packet : LaxSlicedPacket
   pub fault : e ≡ stop.0
   pub stopped : packet ≡ stopped_packet None [] (Some ahead) stop
 
+-- the packet of this IPv4 header is there, as far as it goes
+abbrev pub HasIpv4 : List ℕ → Option LaxNetSlice → Type 0
+HasIpv4 header found =
+    (packet : LaxIpv4Packet) × (packet.header ≡ header) × (found ≡ Some (lax_net.Ipv4 packet))
+
+-- the same of IPv6
+abbrev pub HasIpv6 : List ℕ → Option LaxNetSlice → Type 0
+HasIpv6 header found =
+    (packet : LaxIpv6Packet) × (packet.header ≡ header) × (found ≡ Some (lax_net.Ipv6 packet))
+
 -- whether the fault is passed over or not: where it is in the message of a whole packet of the network
--- layer, this packet is there
+-- layer, this packet is there; and where it is in an IP packet whose header has no fault, this header is
 abbrev pub HasNetAhead : (t : EtherType) (bytes : List ℕ) (e : SliceError) → IsLayersFault t bytes e
     → Option LaxNetSlice → Type 0
-HasNetAhead t bytes e (frame_fault.InNet f) found = ⊤
+HasNetAhead t bytes e (frame_fault.InNet (frame_fault.OfIpv4 f named read error)) found =
+    IfOk (v4.header_at bytes) (λ header. HasIpv4 header found)
+HasNetAhead t bytes e (frame_fault.InNet (frame_fault.OfIpv6 f named is error)) found =
+    IfOk (v6.header_at bytes) (λ header. HasIpv6 header found)
+HasNetAhead t bytes e (frame_fault.InNet (frame_fault.OfArp f named read error)) found = ⊤
 HasNetAhead t bytes e (frame_fault.InIpv4 packet named read f) found =
     found ≡ Some (whole_net (net.Ipv4 packet))
 HasNetAhead t bytes e (frame_fault.InIpv6 packet named read f) found =
@@ -224,6 +235,11 @@ HasCookedAhead bytes e (frame_fault.Following p f read named after error) r = Is
 
 abbrev pub HasIpAhead : (bytes : List ℕ) (e : SliceError) → IsIpPacketFault bytes e
     → Result LaxSlicedPacket (HeaderSliceError IpHeaderFault) → Type 0
-HasIpAhead bytes e (frame_fault.InPacket f is error) r = ⊤
+HasIpAhead bytes e (frame_fault.InPacket f (ip_fault.NoBytes none is) error) r = ⊤
+HasIpAhead bytes e (frame_fault.InPacket f (ip_fault.OtherVersion some not4 not6 is) error) r = ⊤
+HasIpAhead bytes e (frame_fault.InPacket f (ip_fault.OfIpv4 x version read is) error) r =
+    IfOk (v4.header_at bytes) (λ header. IsOkAnd r (λ found. HasIpv4 header found.net))
+HasIpAhead bytes e (frame_fault.InPacket f (ip_fault.OfIpv6 x version at is) error) r =
+    IfOk (v6.header_at bytes) (λ header. IsOkAnd r (λ found. HasIpv6 header found.net))
 HasIpAhead bytes e (frame_fault.InMessage packet read f) r =
     IsOkAnd r (λ found. found.net ≡ Some (whole_net (net_of packet)))

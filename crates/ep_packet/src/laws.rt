@@ -22,6 +22,6 @@ pub use lax::{cut_messages_are_found, payloads_of_whole_packets, whole_packets_a
 pub use lax_headers::lax_headers_are_those_of_slices;
 pub use readable::{messages_at_literals, readable_messages};
 pub use stops::{
-    faults_stop_lax_packets, layers_ahead_of_faults_are_kept, lengths_stop_no_lax_packet,
-    stops_at_literals,
+    faults_stop_lax_packets, layers_ahead_of_faults_are_kept, lengths_passed_over_at_literals,
+    lengths_stop_no_lax_packet, stops_at_literals,
 };
