@@ -1,19 +1,22 @@
 -- Tallies by keys, of one packet more.
 use Rattle.std.proofs.Common.{◌≡◌, Bool, true, false, List, [], ◌∷◌, ◌++◌, Option, Some, None, unwrap_or, refl, ap, sym}
-use Rattle.std.proofs.Common.{◌∙◌}
+use Rattle.std.proofs.Common.{◌∙◌, ℕ, cond, option_map, slice_get}
 use Rattle.std.specs.Prelude.{if◌then◌else◌}
 use Rattle.std.specs.List.{list_any}
 use Rattle.std.specs.Map.{keys_of, lookup}
 use Rattle.std.proofs.lemmas.List.Sums.{fold-append}
-use Rattle.indexmap.specs.IndexMap.{insert_entry}
-use Rattle.packets.specs.Table.{CountsKeys, Tallies, is_key, keys_in, no_tally, with_key}
+use Rattle.std.proofs.lemmas.Map.Keys.{any_passes_from_place}
+use Rattle.std.proofs.lemmas.Option.{slice_get-map}
+use Rattle.indexmap.specs.IndexMap.{IndexMap, Updates, get, insert_entry, keys, with_value_at}
+use Rattle.indexmap.proofs.CallerLemmas.{keys-with_value_at}
+use Rattle.packets.specs.Table.{CountsKeys, Tallies, is_key, keys_in, no_tally, tally_at, with_key}
 use Rattle.packets.specs.Tally.{tally_of}
 use Rattle.packets.specs.declared.outline.Outline.{Outline}
 use Rattle.packets.specs.declared.summary.tally.Tally.{Tally}
 use Rattle.packets.proofs.TallyLemmas.{tally_of-other}
 
 -- of each key those are counted that have it, with one packet more, which has this key
-pub keys-more : {K : Type 0} (same : K → K → Bool) (key_of : Outline → Option K) (old new : K
+keys-more : {K : Type 0} (same : K → K → Bool) (key_of : Outline → Option K) (old new : K
     → Tally)
     (packets : List Outline) (packet : Outline) (key : K) (v : Tally)
     → ((a b : K) → same a b ≡ true → a ≡ b) → key_of packet ≡ Some key
@@ -41,7 +44,8 @@ cons-chosen : {X : Type 0} (b : Bool) (x : X) (xs ys : List X)
 cons-chosen true x xs ys = refl
 cons-chosen false x xs ys = refl
 
-keys-inserted : {K : Type 0} (same : K → K → Bool) (entries : List (K × Tally)) (key : K)
+-- the keys where the tally of one is inserted
+pub keys-inserted : {K : Type 0} (same : K → K → Bool) (entries : List (K × Tally)) (key : K)
     (v : Tally)
     → keys_of (insert_entry same entries key v) ≡ with_key same (keys_of entries) (Some key)
 keys-inserted same [] key v = refl
@@ -61,21 +65,45 @@ keys-after {K} same key_of packets packet =
     fold-append (λ (keys : List K) (p : Outline). with_key same keys (key_of p)) [] packets
     (packet ∷ [])
 
--- the keys with one packet more that has this one
-pub keys-counted : {K : Type 0} (same : K → K → Bool) (key_of : Outline → Option K)
-    (old : Tallies K) (entries new : List (K × Tally)) (packets : List Outline) (packet : Outline)
-    (key : K) (v : Tally) → entries ≡ old.entries → new ≡ insert_entry same entries key v
-    → key_of packet ≡ Some key → keys_of old.entries ≡ keys_in same key_of packets
-    → keys_of new ≡ keys_in same key_of (packets ++ packet ∷ [])
-keys-counted {K} same key_of old entries new packets packet key v here inserted keyed before =
-    let now : keys_of new ≡ with_key same (keys_of entries) (Some key) =
-    ap keys_of inserted ∙ keys-inserted same entries key v in
-    let were : keys_of entries ≡ keys_in same key_of packets = ap keys_of here ∙ before in
-    let after : keys_in same key_of (packets ++ packet ∷ [])
-    ≡ with_key same (keys_in same key_of packets) (Some key) =
-    keys-after same key_of packets packet
-    ∙ ap (with_key same (keys_in same key_of packets)) keyed in
-    now ∙ ap (λ (ks : List K). with_key same ks (Some key)) were ∙ sym after
+-- the keys stay where the tally of one of them is written
+pub keys-written : {K S : Type 0} (same : K → K → Bool) (map : IndexMap K Tally S) (i : ℕ) (key : K)
+    (old new : Tally) → same key key ≡ true → slice_get map.entries i ≡ Some (key, old)
+    → keys (with_value_at map i new) ≡ with_key same (keys map) (Some key)
+keys-written {K} same map i key old new itself at =
+    let at_keys : slice_get (keys map) i ≡ Some key =
+    slice_get-map (λ (e : K × Tally). e.0) map.entries i ∙ ap (option_map (λ e. e.0)) at in
+    let there : list_any (same key) (keys map) ≡ true =
+    any_passes_from_place (same key) (keys map) i key at_keys itself in
+    keys-with_value_at map i new
+    ∙ sym (ap (λ (b : Bool). if b then keys map else (keys map ++ key ∷ [])) there)
+
+-- the tallies of keys are those with one packet more that has this key, where its tally is new
+pub keys-updated : {K S : Type 0} {same : K → K → Bool} {key_of : Outline → Option K}
+    (old new : Tallies K) (before after : IndexMap K Tally S) (packets : List Outline)
+    (packet : Outline) (key : K) (v : Tally) → ((a b : K) → same a b ≡ true → a ≡ b)
+    → before.entries ≡ old.entries → new.entries ≡ after.entries
+    → keys after ≡ with_key same (keys before) (Some key)
+    → Updates same before after key (Some v)
+    → ((kind : Outline → Bool) → tally_at same old key ≡ tally_of kind packets
+    → kind packet ≡ true → v ≡ tally_of kind (packets ++ packet ∷ []))
+    → key_of packet ≡ Some key → CountsKeys same key_of old packets
+    → CountsKeys same key_of new (packets ++ packet ∷ [])
+keys-updated {K} {S} {same} {key_of} old new before after packets packet key v exact were are told
+    updated added keyed counted =
+    let tally_in = λ (es : List (K × Tally)) (q : K). unwrap_or (lookup (same q) es) no_tally in
+    let or_none = λ (o : Option Tally). unwrap_or o no_tally in
+    record {
+      keys = ap keys_of are ∙ told
+          ∙ ap (λ (ks : List K). with_key same ks (Some key)) (ap keys_of were ∙ counted.keys)
+          ∙ sym (keys-after same key_of packets packet
+          ∙ ap (with_key same (keys_in same key_of packets)) keyed);
+      tallied = keys-more same key_of (tally_at same old) (tally_at same new) packets packet key v
+          exact keyed counted.tallied added
+          (λ q e. ap (λ es. tally_in es q) are ∙ ap or_none
+          (updated.0 q ∙ ap (λ (b : Bool). cond b (Some v) (get same before q)) e))
+          (λ q e. ap (λ es. tally_in es q) are ∙ ap or_none (updated.2 q e)
+          ∙ ap (λ es. tally_in es q) were);
+    }
 
 -- the tallies of keys are those with one packet more that has no key
 pub keys-same : {K : Type 0} {same : K → K → Bool} {key_of : Outline → Option K} (table : Tallies K)

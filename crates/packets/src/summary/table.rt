@@ -1,6 +1,7 @@
 //! Counts of packets by what they have in common.
-ghost use Rattle.std.specs.Prelude.{◌≡◌, ◌<◌, ◌++◌, ◌∷◌, [], List, Option, Some, true, OnOk, ◌↔◌, IsTrue, length};
+ghost use Rattle.std.specs.Prelude.{◌≡◌, ◌<◌, ◌++◌, ◌∷◌, [], List, Option, Some, true, OnOk, ◌↔◌, IsTrue, IfSome, None, length};
 ghost use Rattle.std.specs.Prelude.{option_map, slice_get};
+ghost use Rattle.std.specs.Map.{lookup};
 ghost use Rattle.std.specs.Map.Iter.{deref_pair};
 
 use crate::Outline;
@@ -14,6 +15,8 @@ use std::marker::Model;
 #[derive(Drop)]
 pub struct Table<K: Eq + Hash, S: BuildHasher> {
     tallies: IndexMap<K, Tally, S>,
+    // The index of the key that was counted last.
+    last: usize,
 }
 
 impl<K: Eq + Hash, S: BuildHasher> Model for Table<K, S> {
@@ -31,6 +34,7 @@ impl<K: Eq + Hash, S: BuildHasher> Model for Table<K, S> {
 impl<K: Eq + Hash + Drop, S: BuildHasher> Table<K, S> {
     ghost use Rattle.packets.specs.Table.{CountsKeys, tally_at};
     ghost use Rattle.packets.specs.declared.outline.Outline.{Outline};
+    ghost use Rattle.packets.specs.declared.summary.tally.Tally.{Tally};
 
     /// No key. It takes no memory.
     pub(crate) fn with_hasher(alloc: Global, state: S) -> Self
@@ -38,6 +42,7 @@ impl<K: Eq + Hash + Drop, S: BuildHasher> Table<K, S> {
     {
         Table {
             tallies: IndexMap::with_hasher(alloc, state),
+            last: 0,
         }
     }
 
@@ -72,10 +77,36 @@ impl<K: Eq + Hash + Drop, S: BuildHasher> Table<K, S> {
             → key_of packet.now ≡ Some key → CountsKeys K.eq key_of self.old packets
             → CountsKeys K.eq key_of self.new (packets ++ packet.now ∷ []) }
     {
-        let mut tally = self.tally_at(&key);
-        tally.add(packet);
-        // The capacity is reserved.
-        self.tallies.insert(key, tally).unwrap();
+        match self.index_of(&key) {
+            Some(index) => {
+                self.last = index;
+                let (_, tally) = self.tallies.pair_mut(index);
+                tally.add(packet);
+            }
+            None => {
+                let mut tally = Tally::NONE;
+                tally.add(packet);
+                self.last = self.tallies.len();
+                // The capacity is reserved.
+                self.tallies.insert(key, tally).unwrap();
+            }
+        }
+    }
+
+    // The key that was counted last is tried first: packets of one sender often follow each other.
+    fn index_of(&self, key: &K) -> Option<usize>
+        requires exact { (a b : K) → K.eq a b ≡ true → a ≡ b }
+        ensures found { IfSome result (λ i. (tally : Tally)
+            × (slice_get self.now.entries i ≡ Some (key.now, tally))) }
+        ensures absent { result ≡ None → lookup (K.eq key.now) self.now.entries ≡ None }
+    {
+        match self.tallies.get_index(self.last) {
+            Some((last, _)) if last == key => Some(self.last),
+            _ => match self.tallies.get_full(key) {
+                Some((index, _, _)) => Some(index),
+                None => None,
+            },
+        }
     }
 
     /// The tally of a key.
