@@ -4,7 +4,9 @@ import dataclasses
 import typing
 
 import routes
+import tshark
 
+MESSAGES = ("Udp", "Tcp", "Icmpv4", "Icmpv6")
 # What depends on the bytes of a message that was joined.
 OF_FRAGMENTS = ("completes a message", "reassembled in", "first fragment received", "length of the message", "bytes of the message")
 
@@ -78,7 +80,7 @@ def of_type_that_is_a_length(d):
 
 
 def of_family_of_linux(d):
-    return d.packet.link in (0, 108) and 10 in (d.packet.data[0], d.packet.data[3]) and not d.theirs
+    return d.packet.link in (0, 108) and 10 in (d.packet.data[0], d.packet.data[3]) and d.theirs in (None, [])
 
 
 def of_fourth_tag(d):
@@ -107,7 +109,7 @@ def of_reserved_bits(d):
     if d.field == "macsec.SL":
         return d.theirs is not None and d.ours == d.theirs & 63
     is_tagged = d.packet.link == 1 and d.packet.data[12:14] == b"\x88\xe5" and d.packet.data[15] & 192
-    return bool(is_tagged) and d.field in ("tags", "network layer", "message") and not d.theirs
+    return bool(is_tagged) and d.field in ("tags", "network layer", "message") and d.theirs in (None, [])
 
 
 def of_contradicting_fragments(d):
@@ -126,19 +128,33 @@ def of_two_interfaces(d):
     return "fragment" in d.it and "section" in d.packet.traits and is_of_fragments(d)
 
 
+def lacks_the_message(d):
+    """Whether the list of headers ends before that of a message, which tshark shows."""
+    return d.field == "headers" and d.theirs[-1:] and d.theirs[-1] in MESSAGES and d.ours == d.theirs[:-1]
+
+
 def of_first_fragment(d):
-    """tshark shows the header of a message, which is the last one, in a fragment at offset 0 that it doesn't put together."""
-    return d.field == "headers" and "fragments" in d.packet.traits and d.ours == d.theirs[:-1]
-
-
-def of_check_value(d):
-    """tshark takes the last 16 bytes for MACsec's check value, and shows no header where fewer follow it."""
-    return d.field == "headers" and "MACsec" in d.packet.traits and ends_early(d) and d.ours[len(d.theirs)] == "Macsec"
+    """tshark shows the header of the message in a first fragment that it doesn't put together."""
+    layers = [d.dissected.net, *d.dissected.extensions]
+    return lacks_the_message(d) and any(layer.numbers(name) == [1] for layer in layers for name in ("flags.mf", "more"))
 
 
 def of_timestamp(d):
-    kind = d.dissected.message.get("icmp.type") if d.dissected.message else None
-    return d.field == "headers" and kind in ("13", "14") and d.ours == d.theirs[:-1]
+    """A timestamp message has 20 bytes."""
+    if not lacks_the_message(d) or d.theirs[-1] != "Icmpv4" or d.dissected.message.length() != 20:
+        return False
+    net = d.dissected.net
+    length = net.numbers("plen")[0] if net.name == "ipv6" else net.numbers("len")[0] - net.length()
+    return length - sum(layer.length() for layer in d.dissected.extensions) != 20
+
+
+def of_check_value(d):
+    """tshark takes 16 bytes at the end for MACsec's check value, and shows no header where no more follow it."""
+    if d.field != "headers" or d.ours[: len(d.theirs) + 1] != [*d.theirs, "Macsec"]:
+        return False
+    tags = d.dissected.tags[: len(d.theirs)]
+    following = d.packet.data[tshark.LINK_LENGTHS[d.it["link_type"]] + sum(tag.length() for tag in tags) :]
+    return len(following) - tshark.macsec_length(bool(following[0] & 0x20), bool(following[0] & 0x0C)) <= 16
 
 
 def of_malformed(d):
@@ -156,7 +172,7 @@ RULES = (
     Rule("`netlines` and source routes", "it takes the destination of the IP header (docs/LINES.md), `packets` the final one", of_netlines),
     Rule("interfaces of a later section", "numbered through all sections (docs/CAPTURES.md); by tshark from 0 in each", of_interface),
     Rule("reserved bits of MACsec's short length", "IEEE 802.1AE, clause 9.7: six bits; tshark shows all eight", of_reserved_bits),
-    Rule("MACsec's check value", "its length isn't in the packet, so that none is cut off; tshark takes 16 bytes at the end", of_check_value),
+    Rule("MACsec's check value", "its length isn't in the packet, so none is taken from the end; tshark takes 16 bytes", of_check_value),
     Rule("fragments that contradict each other", "which bytes count, which fragments are refused: as tools/hostile_frames/answers.py, by RFC 791 and RFC 8200 (docs/LINES.md); tshark shows all of them", of_contradicting_fragments),
     Rule("fragment of no bytes", "a fragment, which may give the end of the message; tshark 4.0 shows an empty message, too", of_empty_fragment),
     Rule("extension header after a fragment header", "read in each fragment (docs/LINES.md); by tshark in the first one", of_extension_header_in_a_fragment),

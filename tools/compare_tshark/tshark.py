@@ -47,6 +47,47 @@ class Layer:
     def all(self, name):
         return self.fields.get(name, [])
 
+    def numbers(self, *names):
+        """The numbers of fields by the ends of their names, None for each that isn't there."""
+        found = [self.get(f"{self.name}.{name}") for name in names]
+        return [None if text is None else int({"True": "1", "False": "0"}.get(text, text), 0) for text in found]
+
+    def length(self):
+        """The bytes of a header by its own fields; None where it ends before they do, or they are wrong."""
+        match self.name:
+            case "vlan" | "ieee8021ad":
+                return 4
+            case "macsec":
+                bits = self.numbers("TCI.SC", "TCI.E", "TCI.C")
+                return None if None in bits else macsec_length(bits[0], bits[1] or bits[2])
+            case "ip" | "tcp":
+                (length,) = self.numbers("hdr_len")
+                return length if length and length >= 20 else None
+            case "ipv6":
+                return 40
+            case "arp":
+                sizes = self.numbers("hw.size", "proto.size")
+                return None if None in sizes else 8 + 2 * sum(sizes)
+            case "ah":
+                (words,) = self.numbers("length")
+                return None if words is None else 4 * (words + 2)
+            case "icmp":
+                kind, code = self.numbers("type", "code")
+                return 20 if kind in TIMESTAMPS and code == 0 else 8
+            case "udp" | "icmpv6" | "ipv6.fraghdr":
+                return 8
+        return self.numbers("len_oct")[0]
+
+
+# Bytes of the header of a link; an Ethernet II header that is made for another link isn't in the packet.
+LINK_LENGTHS = {"Ethernet": 14, "Ip": 0, "Null": 4, "Loop": 4, "Sll": 16, "Sll2": 20}
+TIMESTAMPS = (13, 14)
+
+
+def macsec_length(has_sci, is_changed):
+    """Bytes of a MACsec header (IEEE 802.1AE, clause 9), with the ether type after it where it has one."""
+    return 6 + 8 * has_sci + (0 if is_changed else 2)
+
 
 class Dissected:
     """A packet as tshark dissects it."""

@@ -12,7 +12,8 @@ pub fn ipv4(line: &mut Line<'_>, address: &[u8; 4]) -> Result<(), AllocError> {
     line.text(ipv4_text(*address).as_str())
 }
 
-/// The text of an IPv4 address. Outputs have many of them: so it costs less than by `Display`.
+/// The text of an IPv4 address: outputs have many, and by `Display` each costs more. It has no
+/// contract: tests compare the texts.
 pub(crate) fn ipv4_text(address: [u8; 4]) -> ArrayString<16> {
     // The longest has 15 bytes.
     let mut text = ArrayString::new();
@@ -36,6 +37,7 @@ fn push_decimal(text: &mut ArrayString<16>, byte: u8) {
     push_digit(text, byte % 10);
 }
 
+// The remainder, since any other byte could overflow.
 fn push_digit(text: &mut ArrayString<16>, digit: u8) {
     let _ = text.try_push(char::from(b'0' + digit % 10));
 }
