@@ -157,6 +157,14 @@ def refused_when_complete():
     line += "refused: UDP datagram cut off: 100 bytes needed at byte 0 of the message, 16 there"
     outcome = completes(3, 17, cut, error=fields.cut_off("UdpPayload", 0, 100, 16))
     yield fragment6(cut, 17, 8, 16, 9, line, outcome, "UDP", refused="UDP datagram cut off")
+    brief = udp(b"01234567", len=4)
+    line = "UDP fragment at 0 len 8, more follow (id 0x000a)"
+    yield fragment4(brief, 17, 0, 8, 10, line, waits(5), "UDP")
+    line = "UDP fragment at 8 len 8, last (id 0x000a), "
+    line += "completes a message of 16 bytes begun in packet 5: "
+    line += "refused: UDP length 4 below 8"
+    outcome = completes(5, 17, brief, error=fields.cut_off("UdpHeader", 0, 8, 4, "UdpHeaderLen"))
+    yield fragment4(brief, 17, 8, 16, 10, line, outcome, "UDP", refused="UDP header cut off")
 
 
 def interfaces():

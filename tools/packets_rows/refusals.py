@@ -3,7 +3,7 @@
 import struct
 
 import fields
-from build import A4, A_MAC, ARP_TYPE, B4, IPV4, IPV6
+from build import A4, A6, A_MAC, ARP_TYPE, B4, B6, IPV4, IPV6
 from build import There, frame, icmp, ip_there, link_there, refused, tcp, udp, v4, v6
 from fragments import fragment4, fragment6, refused as refused_fragment, waits
 from scapy.layers.l2 import ARP
@@ -123,7 +123,6 @@ def cut_off(data, name, layer, offset, required, there, source=None, headers=The
         None: "",
         "Ipv4HeaderTotalLen": " by the IPv4 total length",
         "Ipv6HeaderPayloadLen": " by the IPv6 payload length",
-        "UdpHeaderLen": " by the UDP length",
         # These say how many are needed.
         "ArpAddrLengths": "",
     }
@@ -197,6 +196,16 @@ def cut_packets():
     yield cut_off(frame(IPV6, packet), "fragment header", "Ipv6FragHeader", 54, 8, 4, by6, there)
 
 
+def short_length(ip, message):
+    """A UDP length from 1 to 7, which says nothing of the payload."""
+    stated = fields.number(message, 4)
+    offset = 34 if ip.version == 4 else 54
+    error = fields.cut_off("UdpHeader", offset, 8, stated, "UdpHeaderLen")
+    data = frame(IPV4 if ip.version == 4 else IPV6, ip)
+    there = datagram_there(ip, message, "UDP")
+    return refused(data, f"UDP length {stated} below 8", error, "UDP header cut off", there)
+
+
 def cut_messages():
     """Layers of messages that are cut off."""
     by4, by6 = "Ipv4HeaderTotalLen", "Ipv6HeaderPayloadLen"
@@ -211,11 +220,11 @@ def cut_messages():
     packet = v4(17, datagram[:10])
     line = "UDP datagram", "UdpPayload", 34
     yield of(packet, *line, 11, 10, source=by4, headers=datagram_there(packet, datagram))
-    # Such a length says nothing of the payload.
-    message = udp(b"abc", len=7)
-    packet = v4(17, message)
-    there = datagram_there(packet, message, "UDP")
-    yield of(packet, "UDP header", "UdpHeader", 34, 8, 7, source="UdpHeaderLen", headers=there)
+    for stated in range(1, 8):
+        message = udp(b"abc", len=stated)
+        yield short_length(v4(17, message), message)
+    message = udp(b"abc", A6, B6, len=4)
+    yield short_length(v6(17, message), message)
     line = "TCP header", "TcpHeader", 54
     yield of(v6(6, segment[:19]), *line, 20, 19, source=by6, kind="TCP")
     yield of(v6(6, segment[:20]), *line, 32, 20, source=by6, kind="TCP")

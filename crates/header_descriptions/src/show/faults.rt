@@ -11,9 +11,13 @@ use ep_tag::err::macsec;
 use ep_tcpudp::err::tcp;
 use std::alloc::AllocError;
 
-/// The layer with too few bytes, how many it needs, where in what, and how many are there. It has
-/// no contract: tests compare the texts.
+/// The layer with too few bytes, how many it needs, where in what, and how many are there; or a UDP
+/// length that is less than that of the header. It has no contract: tests compare the texts.
 pub fn len(line: &mut Line<'_>, error: &LenError, of: &str) -> Result<(), AllocError> {
+    if error.len_source == LenSource::UdpHeaderLen {
+        line.counted("UDP length ", error.len as u64)?;
+        return line.counted(" below ", error.required_len as u64);
+    }
     line.text(layer_name(error.layer))?;
     line.counted(" cut off: ", error.required_len as u64)?;
     line.counted(" bytes needed at byte ", error.layer_start_offset as u64)?;
@@ -134,14 +138,13 @@ pub fn layer_name(layer: Layer) -> &'static str {
 }
 
 // What says how many bytes are there, where the packet itself does. The address lengths of ARP say
-// how many are needed.
+// how many are needed, and a UDP length has words of its own.
 fn source_name(source: LenSource) -> &'static str {
     match source {
-        LenSource::Slice | LenSource::ArpAddrLengths => "",
+        LenSource::Slice | LenSource::ArpAddrLengths | LenSource::UdpHeaderLen => "",
         LenSource::MacsecShortLength => " by the MACsec short length",
         LenSource::Ipv4HeaderTotalLen => " by the IPv4 total length",
         LenSource::Ipv6HeaderPayloadLen => " by the IPv6 payload length",
-        LenSource::UdpHeaderLen => " by the UDP length",
         LenSource::TcpHeaderLen => " by the TCP data offset",
     }
 }
