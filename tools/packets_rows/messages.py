@@ -252,19 +252,21 @@ def icmp_messages():
     yield packet("echo request id 7 seq 2 len 4", icmp(8, 0, b"\0\7\0\2ping"), echo, b"ping")
     yield packet("echo reply id 7 seq 2 len 4", icmp(0, 0, b"\0\7\0\2ping"), echo, b"ping")
     original = bytes(v4(17, udp(b"")))
-    yield packet("port unreachable len 28", icmp(3, 3, bytes(4) + original), {}, original)
+    about = {"original_datagram": {"net": fields.ipv4(v4(17, udp(b""))), "transport": fields.udp(udp(b""))}}
+    shown = f"({PORTS4} UDP)"
+    yield packet(f"port unreachable {shown}", icmp(3, 3, bytes(4) + original), about, original)
     too_long = icmp(3, 4, b"\0\0\5\x78" + original)
-    yield packet("fragmentation needed, mtu 1400 len 28", too_long, {"next_hop_mtu": 1400}, original)
+    yield packet(f"fragmentation needed, mtu 1400 {shown}", too_long, {"next_hop_mtu": 1400} | about, original)
     to = icmp(5, 1, b"\x0a\0\0\3" + original)
     yield packet(
-        "redirect to 10.0.0.3 for the host len 28",
+        f"redirect to 10.0.0.3 for the host {shown}",
         to,
-        {"gateway_internet_address": "10.0.0.3"},
+        {"gateway_internet_address": "10.0.0.3"} | about,
         original,
     )
-    yield packet("time to live exceeded len 28", icmp(11, 0, bytes(4) + original), {}, original)
+    yield packet(f"time to live exceeded {shown}", icmp(11, 0, bytes(4) + original), about, original)
     at = icmp(12, 0, b"\x14\0\0\0" + original)
-    yield packet("parameter problem at byte 20 len 28", at, {"pointer": 20}, original)
+    yield packet(f"parameter problem at byte 20 {shown}", at, {"pointer": 20} | about, original)
     times = {"originate_timestamp": 1, "receive_timestamp": 2, "transmit_timestamp": 86_400_000}
     request = icmp(13, 0, struct.pack("!HHIII", 7, 3, 1, 2, 86_400_000))
     yield packet("timestamp request id 7 seq 3 len 0", request, {"id": 7, "seq": 3} | times, b"")
@@ -288,14 +290,16 @@ def icmp6_messages():
         "echo request id 1 seq 3 len 5", icmp(128, 0, b"\0\1\0\3hello", A6), echo, b"hello"
     )
     yield packet("echo reply id 1 seq 3 len 5", icmp(129, 0, b"\0\1\0\3hello", A6), echo, b"hello")
-    original = bytes(v6(17, udp(b"", A6, B6)))
-    yield packet(
-        "packet too big, mtu 1280 len 48", icmp(2, 0, b"\0\0\5\0" + original, A6), {"mtu": 1280}, original
-    )
-    yield packet("no route len 48", icmp(1, 0, bytes(4) + original, A6), {}, original)
-    yield packet("hop limit exceeded len 48", icmp(3, 0, bytes(4) + original, A6), {}, original)
+    datagram = udp(b"", A6, B6)
+    original = bytes(v6(17, datagram))
+    about = {"original_datagram": {"net": fields.ipv6(v6(17, datagram)), "transport": fields.udp(datagram)}}
+    shown = f"({PORTS6} UDP)"
+    too_big = icmp(2, 0, b"\0\0\5\0" + original, A6)
+    yield packet(f"packet too big, mtu 1280 {shown}", too_big, {"mtu": 1280} | about, original)
+    yield packet(f"no route {shown}", icmp(1, 0, bytes(4) + original, A6), about, original)
+    yield packet(f"hop limit exceeded {shown}", icmp(3, 0, bytes(4) + original, A6), about, original)
     problem = icmp(4, 1, b"\0\0\0\x28" + original, A6)
-    yield packet("unknown next header at byte 40 len 48", problem, {"pointer": 40}, original)
+    yield packet(f"unknown next header at byte 40 {shown}", problem, {"pointer": 40} | about, original)
     target = bytes.fromhex("20010db8000000000000000000000002")
     yield packet("neighbor solicitation len 16", icmp(135, 0, bytes(4) + target, A6), {}, target)
     yield packet("type 200 code 1 len 2", icmp(200, 1, b"\1\2\3\4xy", A6), {}, b"xy")

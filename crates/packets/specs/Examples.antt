@@ -109,6 +109,24 @@ ipv4_in_part protocol bytes = lax.Ipv4 (record {
   };
 })
 
+-- the IPv6 packet with 12 bytes of UDP, of which these are there
+abbrev pub ipv6_in_part : List ℕ → LaxNetSlice
+ipv6_in_part bytes = lax.Ipv6 (record {
+  header = ipv6_header;
+  exts = record { first_header = None; fragmented = false; slice = [] };
+  incomplete = true;
+  payload = record {
+    ip_number = record { 0 = 17 };
+    fragmented = false;
+    len_source = source.Slice;
+    payload = bytes;
+  };
+})
+
+-- an ICMP message of this type, with code 0 (RFC 792; RFC 4443, section 2.1), by what follows its header
+abbrev pub icmp_with : (kind : ℕ) → List ℕ → List ℕ
+icmp_with kind bytes = kind ∷ 0 ∷ 0 ∷ 0 ∷ 0 ∷ 0 ∷ 0 ∷ 0 ∷ bytes
+
 -- the layers of a packet that is there in part
 abbrev pub in_part : Option LaxNetSlice → Option TransportSlice → LaxSlicedPacket
 in_part layer message = record {

@@ -1,10 +1,9 @@
 -- What is there of a packet that is refused, and which fault is shown of it.
-use Rattle.std.specs.Prelude.{ℕ, ◌+◌, ◌-◌, ◌*◌, ◌==◌, ◌&&◌, nat_le, nat_lt, if◌then◌else◌, Bool, true, false, List, length}
+use Rattle.std.specs.Prelude.{ℕ, ◌+◌, ◌-◌, ◌==◌, ◌&&◌, nat_le, nat_lt, if◌then◌else◌, Bool, true, false, List, length}
 use Rattle.std.specs.Prelude.{Option, Some, None, Result, Ok, Err}
 use Rattle.std.specs.Option.{option_map}
 use Rattle.captures.specs.declared.link.header.Header.{Header}
 use Rattle.ep_base.specs.declared.err.layer.Layer.{Layer}
-use Rattle.ep_base.specs.declared.err.len_error.LenError.{LenError}
 use Rattle.ep_base.specs.declared.len_source.LenSource.{LenSource}
 use Rattle.ep_base.specs.declared.len_source.LenSource.TheVariants as source
 use Rattle.ep_ext.specs.Ipv4Exts.{auth_bytes}
@@ -19,7 +18,7 @@ use Rattle.ep_packet.specs.declared.net.lax_net_slice.LaxNetSlice.{LaxNetSlice}
 use Rattle.ep_packet.specs.declared.net.lax_net_slice.LaxNetSlice.TheVariants as net
 use Rattle.packets.specs.Layers.{after_header}
 
-abbrev pub if_read : Result LaxSlicedPacket LenError → Option LaxSlicedPacket
+abbrev pub if_read : {E : Type 0} → Result LaxSlicedPacket E → Option LaxSlicedPacket
 if_read (Ok packet) = Some packet
 if_read (Err e) = None
 

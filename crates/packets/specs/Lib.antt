@@ -13,6 +13,7 @@ pub mod Layers
 pub mod Lengths
 pub mod Limits
 pub mod Numbers
+pub mod OriginalDatagrams
 pub mod Outlines
 pub mod PacketRuns
 pub mod Period

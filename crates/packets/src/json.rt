@@ -4,6 +4,7 @@
 mod errors;
 mod fragment;
 mod headers;
+mod icmp;
 mod link;
 mod net;
 pub(crate) mod packet;

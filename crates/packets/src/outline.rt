@@ -287,7 +287,8 @@ fn has_lax_macsec(packet: &LaxSlicedPacket<'_>) -> bool
         .any(|tag| matches!(tag, LaxLinkExtSlice::Macsec(_)))
 }
 
-fn lax_net_of(net: &Option<LaxNetSlice<'_>>) -> Option<Net>
+/// What is there of the network layer.
+pub(crate) fn lax_net_of(net: &Option<LaxNetSlice<'_>>) -> Option<Net>
     ensures { result ≡ lax_net_of net.now }
 {
     match net {

@@ -1,8 +1,9 @@
 //! A line for each packet, for people. The functions have no contracts: tests compare the texts.
 
-mod endpoints;
+pub(crate) mod endpoints;
 mod fragment;
 mod fragment_headers;
+mod icmp;
 mod link;
 mod message;
 pub(crate) mod options;

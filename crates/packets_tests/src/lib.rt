@@ -21,6 +21,8 @@ mod memory;
 #[cfg(test)]
 mod names;
 #[cfg(test)]
+mod original_datagrams;
+#[cfg(test)]
 mod outcomes;
 #[cfg(test)]
 mod outputs;

@@ -9,6 +9,15 @@ use std::net::Ipv4Addr;
 /// The header of a message over IPv4, with the fields that its kind has. It has no contract: tests
 /// compare the texts.
 pub fn over_ipv4<S: Serializer>(out: &mut S, message: &Icmpv4Slice<'_>) -> Result<(), S::Error> {
+    begin_over_ipv4(out, message)?;
+    out.end_map()
+}
+
+/// The same, up to where other members may follow. It has no contract: tests compare the texts.
+pub fn begin_over_ipv4<S: Serializer>(
+    out: &mut S,
+    message: &Icmpv4Slice<'_>,
+) -> Result<(), S::Error> {
     begin(out, "Icmpv4")?;
     let members = [
         ("type_u8", message.type_u8().into()),
@@ -17,8 +26,7 @@ pub fn over_ipv4<S: Serializer>(out: &mut S, message: &Icmpv4Slice<'_>) -> Resul
     ];
     numbers(out, &members)?;
     printed(out, "bytes5to8", &Hex(&message.bytes5to8()))?;
-    fields_of_icmpv4(out, message.icmp_type())?;
-    out.end_map()
+    fields_of_icmpv4(out, message.icmp_type())
 }
 
 fn fields_of_icmpv4<S: Serializer>(out: &mut S, icmp_type: Icmpv4Type) -> Result<(), S::Error> {
@@ -45,6 +53,15 @@ fn fields_of_icmpv4<S: Serializer>(out: &mut S, icmp_type: Icmpv4Type) -> Result
 /// The header of a message over IPv6, with the fields that its kind has. It has no contract: tests
 /// compare the texts.
 pub fn over_ipv6<S: Serializer>(out: &mut S, message: &Icmpv6Slice<'_>) -> Result<(), S::Error> {
+    begin_over_ipv6(out, message)?;
+    out.end_map()
+}
+
+/// The same, up to where other members may follow. It has no contract: tests compare the texts.
+pub fn begin_over_ipv6<S: Serializer>(
+    out: &mut S,
+    message: &Icmpv6Slice<'_>,
+) -> Result<(), S::Error> {
     begin(out, "Icmpv6")?;
     let members = [
         ("type_u8", message.type_u8().into()),
@@ -53,8 +70,7 @@ pub fn over_ipv6<S: Serializer>(out: &mut S, message: &Icmpv6Slice<'_>) -> Resul
     ];
     numbers(out, &members)?;
     printed(out, "bytes5to8", &Hex(&message.bytes5to8()))?;
-    fields_of_icmpv6(out, message.icmp_type())?;
-    out.end_map()
+    fields_of_icmpv6(out, message.icmp_type())
 }
 
 fn fields_of_icmpv6<S: Serializer>(out: &mut S, icmp_type: Icmpv6Type) -> Result<(), S::Error> {

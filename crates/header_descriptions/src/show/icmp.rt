@@ -8,16 +8,10 @@ use ep_icmp::icmpv4::{
 use ep_icmp::{IcmpEchoHeader, Icmpv4Slice, Icmpv4Type, Icmpv6Slice, Icmpv6Type, icmpv6};
 use std::alloc::AllocError;
 
-/// The kind of a message over IPv4 (RFC 792) whose payload has so many bytes. It has no contract:
-/// tests compare the texts.
-pub fn over_ipv4(
-    line: &mut Line<'_>,
-    message: &Icmpv4Slice<'_>,
-    payload_len: usize,
-) -> Result<(), AllocError> {
+/// The kind of a message over IPv4 (RFC 792). It has no contract: tests compare the texts.
+pub fn over_ipv4(line: &mut Line<'_>, message: &Icmpv4Slice<'_>) -> Result<(), AllocError> {
     line.text(" ")?;
-    kind_v4(line, message.icmp_type())?;
-    line.counted(" len ", payload_len as u64)
+    kind_v4(line, message.icmp_type())
 }
 
 fn kind_v4(line: &mut Line<'_>, icmp_type: Icmpv4Type) -> Result<(), AllocError> {
@@ -53,16 +47,10 @@ fn kind_v4(line: &mut Line<'_>, icmp_type: Icmpv4Type) -> Result<(), AllocError>
     }
 }
 
-/// The kind of a message over IPv6 (RFC 4443) whose payload has so many bytes. It has no contract:
-/// tests compare the texts.
-pub fn over_ipv6(
-    line: &mut Line<'_>,
-    message: &Icmpv6Slice<'_>,
-    payload_len: usize,
-) -> Result<(), AllocError> {
+/// The kind of a message over IPv6 (RFC 4443). It has no contract: tests compare the texts.
+pub fn over_ipv6(line: &mut Line<'_>, message: &Icmpv6Slice<'_>) -> Result<(), AllocError> {
     line.text(" ")?;
-    kind_v6(line, message.icmp_type())?;
-    line.counted(" len ", payload_len as u64)
+    kind_v6(line, message.icmp_type())
 }
 
 fn kind_v6(line: &mut Line<'_>, icmp_type: Icmpv6Type) -> Result<(), AllocError> {

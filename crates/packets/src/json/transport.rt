@@ -1,10 +1,10 @@
 //! Messages of the transport layer.
 
-use crate::json::errors;
+use crate::json::{errors, icmp};
 use ep_base::IpNumber;
 use ep_packet::{Message, TransportSlice, read_message};
 use header_descriptions::json::fields::{begin, number};
-use header_descriptions::json::icmp;
+use header_descriptions::json::icmp as icmp_header;
 use header_descriptions::json::tcp::tcp;
 use header_descriptions::json::udp::udp;
 use serde::Serializer;
@@ -32,6 +32,22 @@ fn slice<S: Serializer>(out: &mut S, transport: &TransportSlice<'_>) -> Result<(
     }
 }
 
+/// The message of an original datagram: of an ICMP error only its header. It has no contract: tests
+/// compare the texts.
+pub(crate) fn header<S: Serializer>(
+    out: &mut S,
+    transport: &TransportSlice<'_>,
+) -> Result<(), S::Error> {
+    begin(out, "transport")?;
+    match transport {
+        TransportSlice::Icmpv4(message) => icmp_header::over_ipv4(out, message)?,
+        TransportSlice::Icmpv6(message) => icmp_header::over_ipv6(out, message)?,
+        TransportSlice::Udp(datagram) => udp(out, datagram)?,
+        TransportSlice::Tcp(segment) => tcp(out, segment)?,
+    }
+    out.end_map()
+}
+
 /// A reassembled message: its protocol, its length, and its header or why it is refused. It has no
 /// contract: tests compare the texts.
 pub(crate) fn completed<S: Serializer>(
@@ -53,11 +69,11 @@ fn message<S: Serializer>(out: &mut S, message: &Message<'_>) -> Result<(), S::E
         return Ok(());
     }
     begin(out, "transport")?;
-    header(out, message)?;
+    message_header(out, message)?;
     out.end_map()
 }
 
-fn header<S: Serializer>(out: &mut S, message: &Message<'_>) -> Result<(), S::Error> {
+fn message_header<S: Serializer>(out: &mut S, message: &Message<'_>) -> Result<(), S::Error> {
     match message {
         Message::Icmpv4(message) => icmp::over_ipv4(out, message),
         Message::Icmpv6(message) => icmp::over_ipv6(out, message),

@@ -7,6 +7,7 @@ pub mod headers;
 pub mod lax_layers;
 pub mod layers;
 pub mod memory;
+pub mod original_datagrams;
 pub mod outlines;
 pub mod reasons;
 pub mod source_routes;

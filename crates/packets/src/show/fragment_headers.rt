@@ -3,7 +3,7 @@
 use crate::show::endpoints::endpoints;
 use ep_base::IpNumber;
 use ep_ipslice::{Ipv6ExtensionSlice, LaxIpv4Slice, LaxIpv6Slice};
-use ep_packet::{Addresses, IpFragment};
+use ep_packet::{Addresses, IpFragment, LaxNetSlice};
 use header_descriptions::show::{Line, Tone, names};
 use std::alloc::AllocError;
 
@@ -87,9 +87,7 @@ impl FragmentHeaders {
 
     // Its offset and length.
     fn position(&self, line: &mut Line<'_>) -> Result<(), AllocError> {
-        line.begin_tone(Tone::Fragment)?;
-        line.counted("fragment at ", self.offset.into())?;
-        line.end_tone()?;
+        fragment_at(line, self.offset)?;
         line.counted(" len ", self.len as u64)?;
         line.text(if self.more_fragments {
             ", more follow"
@@ -107,6 +105,27 @@ impl FragmentHeaders {
         }
         line.hex(c)?;
         line.hex(d)
+    }
+}
+
+/// That it is a fragment, and its offset in its datagram. It has no contract: tests compare the texts.
+pub(crate) fn fragment_at(line: &mut Line<'_>, offset: u16) -> Result<(), AllocError> {
+    line.begin_tone(Tone::Fragment)?;
+    line.counted("fragment at ", offset.into())?;
+    line.end_tone()
+}
+
+/// The offset of a fragment that is there in part. It has no contract: tests compare the texts.
+pub(crate) fn lax_fragment_offset(net: &Option<LaxNetSlice<'_>>) -> Option<u16> {
+    match net {
+        Some(LaxNetSlice::Ipv4(packet)) if packet.is_payload_fragmented() => {
+            Some(FragmentHeaders::over_ipv4(packet, 0).offset)
+        }
+        Some(LaxNetSlice::Ipv6(packet)) => match FragmentHeaders::over_ipv6(packet, 0) {
+            Some(fragment) => Some(fragment.offset),
+            None => None,
+        },
+        _ => None,
     }
 }
 

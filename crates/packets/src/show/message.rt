@@ -1,12 +1,12 @@
 //! Messages of the transport layer.
 
 use crate::show::endpoints::{Ports, endpoints};
-use crate::show::refusal;
+use crate::show::{icmp, refusal};
 use checksum_verdicts::{Verdict, judge};
 use ep_base::IpNumber;
 use ep_packet::{Addresses, Message, WholeMessage, read_message};
 use ep_tcpudp::{UdpHeader, UdpSlice};
-use header_descriptions::show::{Line, Tone, icmp, names, tcp};
+use header_descriptions::show::{Line, Tone, names, tcp};
 use std::alloc::AllocError;
 
 /// A message that is whole in a packet: where it came from and went to, its protocol, what its
@@ -83,7 +83,8 @@ fn ports_of(message: &Message<'_>) -> Option<Ports> {
     }
 }
 
-// The protocol of a message in so many bytes, what its header says, and the length of its payload.
+// The protocol of a message in so many bytes, what its header says, and the length of its payload; or
+// of an ICMP error the datagram that it is about.
 fn message(
     line: &mut Line<'_>,
     number: IpNumber,
