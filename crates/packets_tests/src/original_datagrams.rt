@@ -41,7 +41,7 @@ fn wanted(len: usize, end: usize) -> Option<bool> {
     if len < end {
         None
     } else {
-        Some(end + 8 <= len)
+        Some(8 <= len - end)
     }
 }
 
