@@ -44,16 +44,15 @@ cons-chosen : {X : Type 0} (b : Bool) (x : X) (xs ys : List X)
 cons-chosen true x xs ys = refl
 cons-chosen false x xs ys = refl
 
--- the keys where the tally of one is inserted
-pub keys-inserted : {K : Type 0} (same : K → K → Bool) (entries : List (K × Tally)) (key : K)
+insert_entry-keys : {K : Type 0} (same : K → K → Bool) (entries : List (K × Tally)) (key : K)
     (v : Tally)
     → keys_of (insert_entry same entries key v) ≡ with_key same (keys_of entries) (Some key)
-keys-inserted same [] key v = refl
-keys-inserted {K} same (e ∷ es) key v =
+insert_entry-keys same [] key v = refl
+insert_entry-keys {K} same (e ∷ es) key v =
     elim (same key e.0) as (λ b. same key e.0 ≡ b → keys_of (insert_entry same (e ∷ es) key v)
     ≡ with_key same (keys_of (e ∷ es)) (Some key)) [
       | true ↦ λ h. rw h refl
-      | false ↦ λ h. rw h (ap (λ (ks : List K). e.0 ∷ ks) (keys-inserted same es key v)
+      | false ↦ λ h. rw h (ap (λ (ks : List K). e.0 ∷ ks) (insert_entry-keys same es key v)
           ∙ cons-chosen (list_any (same key) (keys_of es)) e.0 (keys_of es)
           (keys_of es ++ key ∷ []))
     ] refl
@@ -64,6 +63,13 @@ keys-after : {K : Type 0} (same : K → K → Bool) (key_of : Outline → Option
 keys-after {K} same key_of packets packet =
     fold-append (λ (keys : List K) (p : Outline). with_key same keys (key_of p)) [] packets
     (packet ∷ [])
+
+-- the keys where the tally of one is inserted
+pub keys-inserted : {K S : Type 0} (same : K → K → Bool) (before after : IndexMap K Tally S)
+    (key : K) (v : Tally) → after.entries ≡ insert_entry same before.entries key v
+    → keys after ≡ with_key same (keys before) (Some key)
+keys-inserted same before after key v inserted =
+    ap keys_of inserted ∙ insert_entry-keys same before.entries key v
 
 -- the keys stay where the tally of one of them is written
 pub keys-written : {K S : Type 0} (same : K → K → Bool) (map : IndexMap K Tally S) (i : ℕ) (key : K)
@@ -88,12 +94,12 @@ pub keys-updated : {K S : Type 0} {same : K → K → Bool} {key_of : Outline �
     → kind packet ≡ true → v ≡ tally_of kind (packets ++ packet ∷ []))
     → key_of packet ≡ Some key → CountsKeys same key_of old packets
     → CountsKeys same key_of new (packets ++ packet ∷ [])
-keys-updated {K} {S} {same} {key_of} old new before after packets packet key v exact were are told
+keys-updated {K} {S} {same} {key_of} old new before after packets packet key v exact were are listed
     updated added keyed counted =
     let tally_in = λ (es : List (K × Tally)) (q : K). unwrap_or (lookup (same q) es) no_tally in
     let or_none = λ (o : Option Tally). unwrap_or o no_tally in
     record {
-      keys = ap keys_of are ∙ told
+      keys = ap keys_of are ∙ listed
           ∙ ap (λ (ks : List K). with_key same ks (Some key)) (ap keys_of were ∙ counted.keys)
           ∙ sym (keys-after same key_of packets packet
           ∙ ap (with_key same (keys_in same key_of packets)) keyed);

@@ -1,6 +1,5 @@
 use Rattle.std.proofs.Common.{◌≡◌, ◌∙◌, ap, refl, sym, Option, Some, slice_get, unwrap_or}
-use Rattle.std.proofs.lemmas.Map.Entries.{hash_map_get_place}
-use Rattle.std.specs.Map.{keys_of}
+use Rattle.std.proofs.lemmas.Map.Entries.{lookup_from_place}
 use Rattle.indexmap.specs.IndexMap.{get, with_value_at}
 use Rattle.indexmap.proofs.CallerLemmas.{updates-with_value_at}
 use Rattle.packets.proofs.TableLemmas.{keys-inserted, keys-updated, keys-written}
@@ -22,7 +21,7 @@ returns-in-Some g c = λ key_of packets keyed counted.
     ap (λ (o : Option (g.row.K.Denot × Tally)). (unwrap_or o (c.pair_mut-tally.result.0.now, old)).0)
     (sym e.value ∙ (λ j. slice_get (c.self.view_is j).entries i) ∙ c.in-Some.ensures.found.1) in
     let at : slice_get map.entries i ≡ Some (key, old) = e.value ∙ ap (λ k. Some (k, old)) own in
-    let counts : get same map key ≡ Some old = hash_map_get_place laws map i key old e.unique at in
+    let counts : get same map key ≡ Some old = lookup_from_place laws map.entries i key old e.unique at in
     let was : old ≡ tally_at same c.args.self.now key =
     sym (ap (λ (o : Option Tally). unwrap_or o no_tally) counts)
     ∙ (λ j. tally_at same (c.self.view_is j) key) in
@@ -44,5 +43,5 @@ returns-in-None g c = λ key_of packets keyed counted.
     sym (ap (λ (o : Option Tally). unwrap_or o no_tally) (c.in-None.ensures.absent refl)) in
     keys-updated c.args.self.now _ map c.insert.new.self packets c.args.packet.now key new
     c.requires.exact (λ j. (c.self.view_is j).entries) refl
-    ((λ j. keys_of (inserted j)) ∙ keys-inserted same map.entries key new) updated
+    (keys-inserted same map c.insert.new.self key new inserted) updated
     (λ kind before kept. c.add-in-None.ensures kind packets (was ∙ before) kept) keyed counted
