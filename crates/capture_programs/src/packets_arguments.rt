@@ -7,7 +7,9 @@ use std::alloc::{AllocError, Global};
 pub const PROGRAM: &str = "packets";
 
 const CONDITIONS: &str = "\
-Only packets that meet WHAT, in upper or lower case. Given several times, a packet has to meet all:
+Only packets that meet WHAT, in upper or lower case. Given several times, a packet has to meet all.
+WHAT is one of these, or some of them joined by not, and, or and parentheses. The word not binds
+tighter than and, and and tighter than or; !, && and || mean the same:
   eth, vlan, macsec, arp, ip4, ip6  with such a header; eth was captured as an Ethernet frame
   icmp, icmp6, udp, tcp, sctp ..    of this IP protocol, by the keyword in IANA's registry
   0 to 255                          of this IP protocol, by its number
@@ -16,7 +18,15 @@ Only packets that meet WHAT, in upper or lower case. Given several times, a pack
   fragments                         that are fragments of an IP datagram
   cut                               of which fewer bytes were captured than were on the wire
   host=ADDRESS                      from or to this address, of IPv4 or IPv6
-  port=NUMBER                       from or to this port of TCP or UDP";
+  net=NETWORK                       from or to this network, as 10.0.0.0/8 or 2001:db8::/32
+  src=FROM, dst=TO                  from this address or network, or to it
+  port=N                            from or to this port of TCP or UDP
+  syn, fin, rst                     whose TCP segment has this flag
+  vlan=N                            with a VLAN tag of this identifier
+  len=N                             with so many bytes on the wire
+  frame=N                           with this number in the capture
+N is a number, or a range with both ends, as 1000..2000. With port, vlan, len and frame, >= and <=
+mean at least and at most. A space may replace =";
 
 const EXAMPLES: &str = "\
 Examples:
@@ -27,7 +37,7 @@ Examples:
 const EXAMPLES_OF_SHOW: &str = "\
 Examples:
   packets show --time delta x.pcap                  with the time since the packet before
-  packets show --only udp --only port=53 x.pcap     what goes to or from name servers
+  packets show --only 'udp and port=53' x.pcap      what goes to or from name servers
   tcpdump -U -w - | packets show                    packets as they come";
 
 const EXAMPLES_OF_JSON: &str = "\
@@ -185,7 +195,7 @@ fn only<'a>(alloc: Global) -> Arg<'a> {
         .long("only")
         .value_name("WHAT")
         .help(
-            "Only packets of a protocol, or bad, refused, fragments, cut, host=ADDRESS or port=NUMBER",
+            "Only packets of a protocol, bad, refused, host=ADDRESS, port=N .., with and, or, not, ( )",
         )
         .long_help(CONDITIONS)
         .action(ArgAction::Append)

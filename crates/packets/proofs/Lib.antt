@@ -19,3 +19,4 @@ mod TrackLemmas
 mod WalkLemmas
 mod WithinLemmas
 mod WriteLemmas
+pub mod GrammarLemmas

@@ -15,7 +15,7 @@ use Rattle.captures.specs.declared.translation.run_error.RunError.TheVariants.{R
 use Rattle.captures.specs.declared.unfit.Unfit.{Unfit}
 use Rattle.ep_packet.specs.declared.addresses.Addresses.{Addresses}
 use Rattle.packets.specs.declared.reason.Reason.{Reason}
-use Rattle.packets.specs.Conditions.{lets_through}
+use Rattle.packets.specs.Expressions.{lets_through}
 use Rattle.packets.specs.Courses.{AreDissected, Course, IsDissected, course_after, forgotten, next_course, shown}
 use Rattle.packets.specs.PacketRuns.{AreButLast, AreFirst, EndsBy, Unbroken}
 use Rattle.packets.specs.Counts.{Counts}

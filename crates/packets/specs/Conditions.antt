@@ -1,15 +1,18 @@
--- Which packets meet a condition, and which a filter lets through.
-use Rattle.std.specs.Prelude.{ℕ, ◌==◌, ◌||◌, ◌&&◌, Bool, false, List, Option, Some, None, is_some, Result, Ok, Err}
-use Rattle.std.specs.List.{list_all}
+-- Which packets meet a condition.
+use Rattle.std.specs.Prelude.{ℕ, ◌+◌, ◌-◌, ◌/◌, ◌^◌, ◌==◌, ◌||◌, ◌&&◌, nat_le, nat_lt, bit_and, bit_or, if◌then◌else◌, Bool, false}
+use Rattle.std.specs.Prelude.{List, length, Option, Some, None, is_some, Result, Ok, Err}
+use Rattle.std.specs.Int.{w32, w128, from_be_bytes}
+use Rattle.std.specs.List.{list_any}
 use Rattle.std.specs.Net.Addr.{ipv4_octets, ipv6_octets}
-use Rattle.std.specs.Str.{bytes_eq}
 use Rattle.std.specs.declared.net.ip_addr.IpAddr.{IpAddr}
 use Rattle.std.specs.declared.net.ip_addr.IpAddr.TheVariants.{V4, V6}
 use Rattle.ep_ip.specs.Ipv4 as ipv4
 use Rattle.ep_ip.specs.Ipv6 as ipv6
 use Rattle.ep_link.specs.Arp.{proto_type_of, sender_proto_of, target_proto_of}
+use Rattle.ep_packet.specs.LaxView.{lax_vlan_ids_of}
 use Rattle.ep_packet.specs.Readable.{ReadMessage, message_at}
 use Rattle.ep_packet.specs.Readable.ReadMessage.{Icmpv4, Icmpv6, Raw, Tcp, Udp}
+use Rattle.ep_packet.specs.Tags.{vlan_ids_of}
 use Rattle.ep_packet.specs.declared.err.packet.slice_error.SliceError.{SliceError}
 use Rattle.ep_packet.specs.declared.lax_sliced_packet.LaxSlicedPacket.{LaxSlicedPacket}
 use Rattle.ep_packet.specs.declared.net.lax_net_slice.LaxNetSlice.{LaxNetSlice}
@@ -26,107 +29,202 @@ use Rattle.packets.specs.Headers.{has_header}
 use Rattle.packets.specs.LaxLayers.{lax_layers_of}
 use Rattle.packets.specs.Lengths.{is_cut}
 use Rattle.packets.specs.Outlines.{headers_of, refusal_of}
+use Rattle.packets.specs.declared.condition.Condition.{Condition}
+use Rattle.packets.specs.declared.condition.Condition.TheVariants as condition
+use Rattle.packets.specs.declared.condition.MessageHeader.{MessageHeader}
+use Rattle.packets.specs.declared.condition.Side.{Side}
+use Rattle.packets.specs.declared.condition.Side.TheVariants as side
+use Rattle.packets.specs.declared.condition.TcpFlag.{TcpFlag}
+use Rattle.packets.specs.declared.condition.TcpFlag.TheVariants as tcp_flag
 use Rattle.packets.specs.declared.dissection.Dissection.{Dissection}
 use Rattle.packets.specs.declared.dissection.Fragment.{Fragment}
 use Rattle.packets.specs.declared.dissection.Fragment.TheVariants as fragment
-use Rattle.packets.specs.declared.filter.Condition.{Condition}
-use Rattle.packets.specs.declared.filter.Condition.TheVariants as condition
-use Rattle.packets.specs.declared.filter.Filter.{Filter}
 
--- one of two addresses is this one
-abbrev pub is_either : List ℕ → List ℕ → List ℕ → Bool
-is_either source destination address = bytes_eq source address || bytes_eq destination address
+-- from the first to the last, both included
+abbrev pub is_within : (first last n : ℕ) → Bool
+is_within first last n = nat_le first n && nat_le n last
+
+-- what holds of the source, of the destination, or of one of them
+abbrev pub holds_at : Side → (source destination : Bool) → Bool
+holds_at side.Either source destination = source || destination
+holds_at side.Source source destination = source
+holds_at side.Destination source destination = destination
+
+-- whether the source, the destination, or one of them, is from the first to the last, if they are there
+abbrev pub are_within : Side → (first last : ℕ) → Option (ℕ × ℕ) → Bool
+are_within at first last None = false
+are_within at first last (Some ends) = holds_at at (is_within first last ends.0) (is_within first last ends.1)
+
+-- the bits after a prefix, all set
+abbrev pub ipv4_bits_after : (prefix : ℕ) → ℕ
+ipv4_bits_after prefix = if nat_lt prefix 32 then (2 ^ 32 - 1) / 2 ^ prefix else 0
+
+abbrev pub ipv6_bits_after : (prefix : ℕ) → ℕ
+ipv6_bits_after prefix = if nat_lt prefix 128 then (2 ^ 128 - 1) / 2 ^ prefix else 0
+
+-- the condition of a network: from the address whose bits after the prefix are 0 to that where they
+-- are 1; none of an address where one of them is 1
+abbrev pub ipv4_network : Side → (address prefix : ℕ) → Option Condition
+ipv4_network at address prefix = if bit_and address (ipv4_bits_after prefix) == 0
+    then Some (condition.Ipv4 at address (bit_or address (ipv4_bits_after prefix))) else None
+
+abbrev pub ipv6_network : Side → (address prefix : ℕ) → Option Condition
+ipv6_network at address prefix = if bit_and address (ipv6_bits_after prefix) == 0
+    then Some (condition.Ipv6 at address (bit_or address (ipv6_bits_after prefix))) else None
+
+-- four bytes as an address of IPv4, and an address as a number
+abbrev pub ipv4_number : List ℕ → Option ℕ
+ipv4_number bytes = if length bytes == 4 then Some (from_be_bytes w32 bytes) else None
+
+abbrev pub both_numbers : (source destination : Option ℕ) → Option (ℕ × ℕ)
+both_numbers None destination = None
+both_numbers (Some source) None = None
+both_numbers (Some source) (Some destination) = Some (source, destination)
 
 -- an ARP packet for the addresses of IPv4, which are those of ether type 0x0800, names two
-abbrev pub arp_has_host : List ℕ → List ℕ → Bool
-arp_has_host packet address = ((proto_type_of packet).0 == 2048)
-    && is_either (sender_proto_of packet) (target_proto_of packet) address
+abbrev pub arp_numbers : List ℕ → Option (ℕ × ℕ)
+arp_numbers packet = if (proto_type_of packet).0 == 2048
+    then both_numbers (ipv4_number (sender_proto_of packet)) (ipv4_number (target_proto_of packet)) else None
 
-abbrev pub has_ipv4_host : Option NetSlice → List ℕ → Bool
-has_ipv4_host None address = false
-has_ipv4_host (Some (net.Ipv4 packet)) address =
-    is_either (ipv4.source_of packet.header) (ipv4.destination_of packet.header) address
-has_ipv4_host (Some (net.Ipv6 packet)) address = false
-has_ipv4_host (Some (net.Arp packet)) address = arp_has_host packet address
+-- the source and the destination of a header, as numbers
+abbrev pub ipv4_header_numbers : List ℕ → Option (ℕ × ℕ)
+ipv4_header_numbers header =
+    Some (from_be_bytes w32 (ipv4.source_of header), from_be_bytes w32 (ipv4.destination_of header))
 
-abbrev pub has_ipv6_host : Option NetSlice → List ℕ → Bool
-has_ipv6_host None address = false
-has_ipv6_host (Some (net.Ipv4 packet)) address = false
-has_ipv6_host (Some (net.Ipv6 packet)) address =
-    is_either (ipv6.source_of packet.header) (ipv6.destination_of packet.header) address
-has_ipv6_host (Some (net.Arp packet)) address = false
+abbrev pub ipv6_header_numbers : List ℕ → Option (ℕ × ℕ)
+ipv6_header_numbers header =
+    Some (from_be_bytes w128 (ipv6.source_of header), from_be_bytes w128 (ipv6.destination_of header))
 
-abbrev pub net_has_host : Option NetSlice → IpAddr → Bool
-net_has_host header (V4 address) = has_ipv4_host header (ipv4_octets address)
-net_has_host header (V6 address) = has_ipv6_host header (ipv6_octets address)
+abbrev pub net_ipv4_numbers : Option NetSlice → Option (ℕ × ℕ)
+net_ipv4_numbers None = None
+net_ipv4_numbers (Some (net.Ipv4 packet)) = ipv4_header_numbers packet.header
+net_ipv4_numbers (Some (net.Ipv6 packet)) = None
+net_ipv4_numbers (Some (net.Arp packet)) = arp_numbers packet
+
+abbrev pub net_ipv6_numbers : Option NetSlice → Option (ℕ × ℕ)
+net_ipv6_numbers None = None
+net_ipv6_numbers (Some (net.Ipv4 packet)) = None
+net_ipv6_numbers (Some (net.Ipv6 packet)) = ipv6_header_numbers packet.header
+net_ipv6_numbers (Some (net.Arp packet)) = None
 
 -- the same of what is there of a packet that is refused
-abbrev pub has_lax_ipv4_host : Option LaxNetSlice → List ℕ → Bool
-has_lax_ipv4_host None address = false
-has_lax_ipv4_host (Some (lax.Ipv4 packet)) address =
-    is_either (ipv4.source_of packet.header) (ipv4.destination_of packet.header) address
-has_lax_ipv4_host (Some (lax.Ipv6 packet)) address = false
-has_lax_ipv4_host (Some (lax.Arp packet)) address = arp_has_host packet address
+abbrev pub lax_net_ipv4_numbers : Option LaxNetSlice → Option (ℕ × ℕ)
+lax_net_ipv4_numbers None = None
+lax_net_ipv4_numbers (Some (lax.Ipv4 packet)) = ipv4_header_numbers packet.header
+lax_net_ipv4_numbers (Some (lax.Ipv6 packet)) = None
+lax_net_ipv4_numbers (Some (lax.Arp packet)) = arp_numbers packet
 
-abbrev pub has_lax_ipv6_host : Option LaxNetSlice → List ℕ → Bool
-has_lax_ipv6_host None address = false
-has_lax_ipv6_host (Some (lax.Ipv4 packet)) address = false
-has_lax_ipv6_host (Some (lax.Ipv6 packet)) address =
-    is_either (ipv6.source_of packet.header) (ipv6.destination_of packet.header) address
-has_lax_ipv6_host (Some (lax.Arp packet)) address = false
+abbrev pub lax_net_ipv6_numbers : Option LaxNetSlice → Option (ℕ × ℕ)
+lax_net_ipv6_numbers None = None
+lax_net_ipv6_numbers (Some (lax.Ipv4 packet)) = None
+lax_net_ipv6_numbers (Some (lax.Ipv6 packet)) = ipv6_header_numbers packet.header
+lax_net_ipv6_numbers (Some (lax.Arp packet)) = None
 
-abbrev pub lax_has_host : Option LaxSlicedPacket → IpAddr → Bool
-lax_has_host None address = false
-lax_has_host (Some packet) (V4 address) = has_lax_ipv4_host packet.net (ipv4_octets address)
-lax_has_host (Some packet) (V6 address) = has_lax_ipv6_host packet.net (ipv6_octets address)
+abbrev pub lax_ipv4_numbers : Option LaxSlicedPacket → Option (ℕ × ℕ)
+lax_ipv4_numbers None = None
+lax_ipv4_numbers (Some packet) = lax_net_ipv4_numbers packet.net
 
--- whether a packet comes from an address or goes to it, by its headers; of one that is refused by
--- those that are there
+abbrev pub lax_ipv6_numbers : Option LaxSlicedPacket → Option (ℕ × ℕ)
+lax_ipv6_numbers None = None
+lax_ipv6_numbers (Some packet) = lax_net_ipv6_numbers packet.net
+
+-- the addresses that a packet comes from and goes to, by its headers; of one that is refused by those
+-- that are there
+abbrev pub ipv4_numbers : Result SlicedPacket SliceError → Option LaxSlicedPacket → Option (ℕ × ℕ)
+ipv4_numbers (Ok packet) lax_layers = net_ipv4_numbers packet.net
+ipv4_numbers (Err e) lax_layers = lax_ipv4_numbers lax_layers
+
+abbrev pub ipv6_numbers : Result SlicedPacket SliceError → Option LaxSlicedPacket → Option (ℕ × ℕ)
+ipv6_numbers (Ok packet) lax_layers = net_ipv6_numbers packet.net
+ipv6_numbers (Err e) lax_layers = lax_ipv6_numbers lax_layers
+
+-- what conditions read of the header of a segment or a datagram
+abbrev pub segment_header : List ℕ → MessageHeader
+segment_header segment = record {
+  source_port = tcp.source_port_of segment;
+  destination_port = tcp.destination_port_of segment;
+  fin = tcp.fin_of segment;
+  syn = tcp.syn_of segment;
+  rst = tcp.rst_of segment;
+}
+
+abbrev pub datagram_header : List ℕ → MessageHeader
+datagram_header datagram = record {
+  source_port = udp.source_port_of datagram;
+  destination_port = udp.destination_port_of datagram;
+  fin = false;
+  syn = false;
+  rst = false;
+}
+
+abbrev pub transport_header : Option TransportSlice → Option MessageHeader
+transport_header None = None
+transport_header (Some (transport.Udp datagram)) = Some (datagram_header datagram)
+transport_header (Some (transport.Tcp segment)) = Some (segment_header segment)
+transport_header (Some (transport.Icmpv4 message)) = None
+transport_header (Some (transport.Icmpv6 message)) = None
+
+-- the header of a reassembled message, if it can be read
+abbrev pub completed_header : Result ReadMessage SliceError → Option MessageHeader
+completed_header (Ok (Icmpv4 message)) = None
+completed_header (Ok (Tcp segment)) = Some (segment_header segment)
+completed_header (Ok (Udp datagram)) = Some (datagram_header datagram)
+completed_header (Ok (Icmpv6 message)) = None
+completed_header (Ok (Raw bytes)) = None
+completed_header (Err e) = None
+
+abbrev pub lax_transport_header : Option LaxSlicedPacket → Option MessageHeader
+lax_transport_header None = None
+lax_transport_header (Some packet) = transport_header packet.transport
+
+abbrev pub packet_header : Result SlicedPacket SliceError → Option LaxSlicedPacket → Option MessageHeader
+packet_header (Ok packet) lax_layers = transport_header packet.transport
+packet_header (Err e) lax_layers = lax_transport_header lax_layers
+
+-- the header of the message of a packet, or of the one that it completes; of a packet that is refused
+-- the header that is there
+abbrev pub message_header : Result SlicedPacket SliceError → Option LaxSlicedPacket → Option Fragment
+    → Option MessageHeader
+message_header layers lax_layers None = packet_header layers lax_layers
+message_header layers lax_layers (Some (fragment.Waits started)) = packet_header layers lax_layers
+message_header layers lax_layers (Some (fragment.Completes started message)) =
+    completed_header (message_at message.ip_number.0 message.payload.items)
+message_header layers lax_layers (Some (fragment.Refused started error)) = packet_header layers lax_layers
+
+abbrev pub ports_of : Option MessageHeader → Option (ℕ × ℕ)
+ports_of None = None
+ports_of (Some header) = Some (header.source_port, header.destination_port)
+
+abbrev pub has_flag : TcpFlag → Option MessageHeader → Bool
+has_flag flag None = false
+has_flag tcp_flag.Fin (Some header) = header.fin
+has_flag tcp_flag.Syn (Some header) = header.syn
+has_flag tcp_flag.Rst (Some header) = header.rst
+
+-- whether one of the VLAN tags has an identifier from the first to the last
+abbrev pub lax_has_vlan_id : Option LaxSlicedPacket → (first last : ℕ) → Bool
+lax_has_vlan_id None first last = false
+lax_has_vlan_id (Some packet) first last =
+    list_any (λ id. is_within first last id) (lax_vlan_ids_of packet.link_exts.items)
+
+abbrev pub has_vlan_id : Result SlicedPacket SliceError → Option LaxSlicedPacket → (first last : ℕ) → Bool
+has_vlan_id (Ok packet) lax_layers first last =
+    list_any (λ id. is_within first last id) (vlan_ids_of packet.link_exts.items)
+has_vlan_id (Err e) lax_layers first last = lax_has_vlan_id lax_layers first last
+
+-- whether a packet comes from an address or goes to it
 abbrev pub has_host : Result SlicedPacket SliceError → Option LaxSlicedPacket → IpAddr → Bool
-has_host (Ok packet) lax_layers address = net_has_host packet.net address
-has_host (Err e) lax_layers address = lax_has_host lax_layers address
+has_host layers lax_layers (V4 address) = are_within side.Either (from_be_bytes w32 (ipv4_octets address))
+    (from_be_bytes w32 (ipv4_octets address)) (ipv4_numbers layers lax_layers)
+has_host layers lax_layers (V6 address) = are_within side.Either (from_be_bytes w128 (ipv6_octets address))
+    (from_be_bytes w128 (ipv6_octets address)) (ipv6_numbers layers lax_layers)
 
--- whether a segment or a datagram comes from a port or goes to it
-abbrev pub segment_has_port : List ℕ → ℕ → Bool
-segment_has_port segment port =
-    (tcp.source_port_of segment == port) || (tcp.destination_port_of segment == port)
-
-abbrev pub datagram_has_port : List ℕ → ℕ → Bool
-datagram_has_port datagram port =
-    (udp.source_port_of datagram == port) || (udp.destination_port_of datagram == port)
-
-abbrev pub transport_has_port : Option TransportSlice → ℕ → Bool
-transport_has_port None port = false
-transport_has_port (Some (transport.Udp datagram)) port = datagram_has_port datagram port
-transport_has_port (Some (transport.Tcp segment)) port = segment_has_port segment port
-transport_has_port (Some (transport.Icmpv4 message)) port = false
-transport_has_port (Some (transport.Icmpv6 message)) port = false
-
--- whether a reassembled message, if it can be read, comes from a port or goes to it
-abbrev pub message_has_port : Result ReadMessage SliceError → ℕ → Bool
-message_has_port (Ok (Icmpv4 message)) port = false
-message_has_port (Ok (Tcp segment)) port = segment_has_port segment port
-message_has_port (Ok (Udp datagram)) port = datagram_has_port datagram port
-message_has_port (Ok (Icmpv6 message)) port = false
-message_has_port (Ok (Raw bytes)) port = false
-message_has_port (Err e) port = false
-
-abbrev pub lax_has_port : Option LaxSlicedPacket → ℕ → Bool
-lax_has_port None port = false
-lax_has_port (Some packet) port = transport_has_port packet.transport port
-
-abbrev pub packet_has_port : Result SlicedPacket SliceError → Option LaxSlicedPacket → ℕ → Bool
-packet_has_port (Ok packet) lax_layers port = transport_has_port packet.transport port
-packet_has_port (Err e) lax_layers port = lax_has_port lax_layers port
-
--- whether the message of a packet, or the one that it completes, comes from a port or goes to it; of
--- a packet that is refused by the headers that are there
-abbrev pub has_port : Result SlicedPacket SliceError → Option LaxSlicedPacket → Option Fragment → ℕ → Bool
-has_port layers lax_layers None port = packet_has_port layers lax_layers port
-has_port layers lax_layers (Some (fragment.Waits started)) port = packet_has_port layers lax_layers port
-has_port layers lax_layers (Some (fragment.Completes started message)) port =
-    message_has_port (message_at message.ip_number.0 message.payload.items) port
-has_port layers lax_layers (Some (fragment.Refused started error)) port = packet_has_port layers lax_layers port
+-- whether the message of a packet, or the one that it completes, comes from one of these ports or goes
+-- to one
+abbrev pub has_port : Result SlicedPacket SliceError → Option LaxSlicedPacket → Option Fragment
+    → (first last : ℕ) → Bool
+has_port layers lax_layers fragment first last =
+    are_within side.Either first last (ports_of (message_header layers lax_layers fragment))
 
 abbrev pub holds : Condition → Dissection → Bool
 holds (condition.Protocol protocol) packet =
@@ -137,12 +235,17 @@ holds condition.Fragment packet = is_some packet.fragment
 holds condition.Cut packet = is_cut packet.captured_len packet.wire_len
 holds (condition.Host address) packet =
     has_host packet.layers (lax_layers_of packet.header packet.bytes) address
+holds (condition.Ipv4 at first last) packet = are_within at first last
+    (ipv4_numbers packet.layers (lax_layers_of packet.header packet.bytes))
+holds (condition.Ipv6 at first last) packet = are_within at first last
+    (ipv6_numbers packet.layers (lax_layers_of packet.header packet.bytes))
 holds (condition.Port port) packet =
-    has_port packet.layers (lax_layers_of packet.header packet.bytes) packet.fragment port
-
--- the conditions that a packet has to meet
-abbrev pub conditions_of : Filter → List Condition
-conditions_of filter = filter.conditions.items
-
-abbrev pub lets_through : Filter → Dissection → Bool
-lets_through filter packet = list_all (λ condition. holds condition packet) (conditions_of filter)
+    has_port packet.layers (lax_layers_of packet.header packet.bytes) packet.fragment port port
+holds (condition.Ports first last) packet =
+    has_port packet.layers (lax_layers_of packet.header packet.bytes) packet.fragment first last
+holds (condition.Flag flag) packet = has_flag flag
+    (message_header packet.layers (lax_layers_of packet.header packet.bytes) packet.fragment)
+holds (condition.VlanId first last) packet =
+    has_vlan_id packet.layers (lax_layers_of packet.header packet.bytes) first last
+holds (condition.WireLen first last) packet = is_within first last packet.wire_len
+holds (condition.Number first last) packet = is_within first last packet.number

@@ -11,7 +11,7 @@ use Rattle.ep_packet.specs.Class.{Class, sliced_class}
 use Rattle.packets.specs.ReassemblyMemory.{Order, ShowsOrder, dropped_within, lists_within, order_of_waiting, order_with}
 use Rattle.packets.specs.ReassemblyMemory.{order_within}
 use Rattle.packets.specs.Started.{Started, ShowsStarted, ShowsFragments, ReportsStarted, started_with, none_started}
-use Rattle.packets.specs.Conditions.{lets_through}
+use Rattle.packets.specs.Expressions.{lets_through}
 use Rattle.packets.specs.Dissected.{fragment_result, packet_result, verdict_on, verification_of}
 use Rattle.packets.specs.Layers.{layers_of}
 use Rattle.packets.specs.declared.dissection.Dissection.{Dissection}

@@ -1,6 +1,7 @@
 pub mod SourceRoute
 pub mod Started
 pub mod Conditions
+pub mod Expressions
 pub mod Counts
 pub mod Courses
 pub mod Dissected

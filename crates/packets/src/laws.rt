@@ -11,7 +11,8 @@ ghost use Rattle.etherparse.specs.Fragments.{Fragment};
 ghost use Rattle.ep_packet.specs.Class.{FragmentName};
 ghost use Rattle.ep_packet.specs.LaxWhole.{whole_packet};
 ghost use Rattle.ep_packet.specs.declared.sliced_packet.SlicedPacket.{SlicedPacket};
-ghost use Rattle.packets.specs.Conditions.{has_host, lax_has_host, lax_has_port, packet_has_port};
+ghost use Rattle.packets.specs.Conditions.{has_vlan_id, ipv4_numbers, ipv6_numbers, lax_has_vlan_id, lax_ipv4_numbers};
+ghost use Rattle.packets.specs.Conditions.{lax_ipv6_numbers, lax_transport_header, packet_header};
 ghost use Rattle.packets.specs.Courses.{Course, course_after, lists_at, next_course, no_course};
 ghost use Rattle.packets.specs.LaxLayers.{lax_layers_of};
 ghost use Rattle.packets.specs.ReassemblyMemory.{Tracks, taken};
@@ -23,14 +24,14 @@ ghost use Rattle.packets.specs.Tally.{tally_of};
 ghost use Rattle.packets.specs.declared.outline.Outline.{Outline};
 ghost use Rattle.packets.specs.declared.reason.Reason.TheVariants as reason;
 ghost use Rattle.packets.specs.declared.summary.verified.Verified.TheVariants as verified;
-ghost use Rattle.std.specs.declared.net.ip_addr.IpAddr.{IpAddr};
 
 pub mod examples;
 
 use crate::program::{Coloring, SizeError};
 use crate::{
-    ChecksumTallies, Condition, Ending, FragmentState, FragmentTallies, Headers, Lengths, Net,
-    NoProgress, Omitted, Outline, Period, Reason, ShowOptions, Sizes, Tally, Verified, WordError,
+    ChecksumTallies, Condition, Ending, FragmentState, FragmentTallies, GrammarError, Headers,
+    Lengths, Net, NoProgress, Omitted, Outline, Period, Reason, ShowOptions, Side, Sizes, Tally,
+    TcpFlag, Verified, Word, WordError,
 };
 use ep_base::err::Layer;
 use ep_base::laws::traits::Value;
@@ -39,8 +40,12 @@ use std::hash::Hash;
 /// A copy is the value and takes no memory. Equal are the values that are the same.
 pub fn types_are_plain_data()
     ensures coloring { IsPlainData ⟦<Coloring as Value>⟧ }
+    ensures side { IsPlainData ⟦<Side as Value>⟧ }
+    ensures tcp_flag { IsPlainData ⟦<TcpFlag as Value>⟧ }
     ensures condition { IsPlainData ⟦<Condition as Value>⟧ }
+    ensures word { IsPlainData ⟦<Word as Value>⟧ }
     ensures word_error { IsPlainData ⟦<WordError as Value>⟧ }
+    ensures grammar_error { IsPlainData ⟦<GrammarError as Value>⟧ }
     ensures size_error { IsPlainData ⟦<SizeError as Value>⟧ }
     ensures net { IsPlainData ⟦<Net as Value>⟧ }
     ensures fragment_state { IsPlainData ⟦<FragmentState as Value>⟧ }
@@ -181,18 +186,24 @@ pub fn held_within()
     etherparse::laws::defrag::names::equal_names::<u32>();
 }
 
-/// A packet has the headers, the hosts and the ports of the headers that are there. Of one that isn't
-/// refused all are, with what they hold.
+/// A packet has the headers, the addresses, the ports, the flags and the VLANs of the headers that are
+/// there. Of one that isn't refused all are, with what they hold.
 pub fn headers_are_lax_headers()
     ensures headers { (link : Link) (header : Option Header) (bytes : List ℕ)
         → headers_of link (layers_of header bytes) (lax_layers_of header bytes)
         ≡ lax_headers_of link (lax_layers_of header bytes) }
-    ensures host { (header : Option Header) (bytes : List ℕ) (address : IpAddr)
-        → has_host (layers_of header bytes) (lax_layers_of header bytes) address
-        ≡ lax_has_host (lax_layers_of header bytes) address }
-    ensures port { (header : Option Header) (bytes : List ℕ) (port : ℕ)
-        → packet_has_port (layers_of header bytes) (lax_layers_of header bytes) port
-        ≡ lax_has_port (lax_layers_of header bytes) port }
+    ensures ipv4 { (header : Option Header) (bytes : List ℕ)
+        → ipv4_numbers (layers_of header bytes) (lax_layers_of header bytes)
+        ≡ lax_ipv4_numbers (lax_layers_of header bytes) }
+    ensures ipv6 { (header : Option Header) (bytes : List ℕ)
+        → ipv6_numbers (layers_of header bytes) (lax_layers_of header bytes)
+        ≡ lax_ipv6_numbers (lax_layers_of header bytes) }
+    ensures message { (header : Option Header) (bytes : List ℕ)
+        → packet_header (layers_of header bytes) (lax_layers_of header bytes)
+        ≡ lax_transport_header (lax_layers_of header bytes) }
+    ensures vlans { (header : Option Header) (bytes : List ℕ) (first last : ℕ)
+        → has_vlan_id (layers_of header bytes) (lax_layers_of header bytes) first last
+        ≡ lax_has_vlan_id (lax_layers_of header bytes) first last }
     ensures whole { (header : Option Header) (bytes : List ℕ) (packet : SlicedPacket)
         → layers_of header bytes ≡ Ok packet → lax_layers_of header bytes ≡ Some (whole_packet packet) }
 {

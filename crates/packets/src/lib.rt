@@ -2,9 +2,12 @@
 //! each, or as a summary.
 #![tactic(auto)]
 
+mod condition;
 mod datagrams;
 mod dissection;
 mod dissector;
+mod expression;
+mod expression_words;
 mod filter;
 mod json;
 pub mod laws;
@@ -21,9 +24,12 @@ mod summary;
 mod verification;
 
 pub use captures::{Frame, Header, Link, Packet};
+pub use condition::{Condition, Side, TcpFlag};
 pub use dissection::{Dissection, Fragment};
 pub use dissector::Dissector;
-pub use filter::{Condition, Filter, WordError};
+pub use expression::{Expression, GrammarError, LEVELS, Word};
+pub use expression_words::{ExpressionError, ExpressionFault, WordError, Words};
+pub use filter::Filter;
 pub use header_descriptions::show::{Style, TimeForm};
 pub use header_descriptions::{Protocol, ip_number_name, ip_number_named};
 pub use json::packet::JsonLines;

@@ -11,6 +11,8 @@ mod classic_captures;
 #[cfg(test)]
 mod dropped_messages;
 #[cfg(test)]
+mod expressions;
+#[cfg(test)]
 mod faults;
 #[cfg(test)]
 mod frames;

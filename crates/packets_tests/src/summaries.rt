@@ -8,9 +8,9 @@ use captures::{Packets, Skipped, Unfit};
 use etherparse::err::Layer;
 use etherparse::{Addresses, IpNumber};
 use packets::{
-    Condition, Dissection, Dissector, Ending, Fragment, FragmentState, Headers, Lengths, Net,
-    NoProgress, Outline, Period, Protocol, Rate, Reason, Report, Sizes, Summary, Tally, Verified,
-    summarize,
+    Condition, Dissection, Dissector, Ending, Filter, Fragment, FragmentState, Headers, Lengths,
+    Net, NoProgress, Outline, Period, Protocol, Rate, Reason, Report, Sizes, Summary, Tally,
+    Verified, Words, summarize,
 };
 use std::alloc::Global;
 use std::hash::{BuildHasher, BuildHasherDefault, RandomState};
@@ -94,6 +94,41 @@ fn headers(rt: HostRuntime) {
     is_icmpv6(rt, &dissection);
     let rules = packets_of(rt, rt.alloc(), "vlan");
     holds(rt, rules.filter.matches(&dissection));
+}
+
+// Whether a packet meets the expression that a text is.
+fn meets(rt: impl Abort + Copy, alloc: Global, text: &str, packet: &Dissection<'_>) -> bool {
+    let Ok(words) = Words::of(alloc, text) else {
+        fail(rt, "no words");
+    };
+    let Ok(expression) = words.expression(alloc) else {
+        fail(rt, "no expression");
+    };
+    let met = expression.holds(packet);
+    let mut filter = Filter::new(alloc);
+    holds(rt, filter.add_expression(expression).is_ok());
+    equal(rt, filter.matches(packet), met);
+    met
+}
+
+// Of the same packet, from 2001:db8::1 to 2001:db8::2, with 74 bytes.
+const EXPRESSIONS: &[(&str, bool)] = &[
+    ("vlan=5 and not bad", true),
+    ("bad or cut or arp", false),
+    ("src=2001:db8::/32 and dst=2001:db8::2", true),
+    ("dst=2001:db8::1 or src=2001:db8::2", false),
+    ("len>=74 and len<=74", true),
+    ("len=73", false),
+];
+
+#[test]
+fn expressions_of_a_packet(rt: HostRuntime) {
+    let capture = captured(rt, rt.alloc(), 1, &[ICMPV6]);
+    let packet = first(rt, capture.as_slice());
+    let dissection = dissected(rt, &mut Dissector::new(rt.alloc()), &packet);
+    for (text, wanted) in EXPRESSIONS {
+        equal(rt, meets(rt, rt.alloc(), *text, &dissection), *wanted);
+    }
 }
 
 fn tally_of(packets: u64, bytes: u64, first: u64) -> Tally {

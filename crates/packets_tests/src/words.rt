@@ -34,6 +34,8 @@ const OUTPUTS: &[(&[&str], &str)] = &[
     (&["packets", "summary", "--forget", "0"], ""),
     (&["packets", "show", "--no-checksums", "--only", "udp"], "Show(SinceFirst, None, Auto)"),
     (&["packets", "show", "--no-checksums", "--only", "bad"], ""),
+    (&["packets", "show", "--no-checksums", "--only", "tcp or not bad"], ""),
+    (&["packets", "show", "--only", "tcp or not bad"], "Show(SinceFirst, None, Auto)"),
     (&["packets", "show", "--count", "0"], ""),
     (&["packets", "json", "--count", "4294967296"], ""),
     (&["packets", "summary", "--count", "1", "--count", "2"], ""),

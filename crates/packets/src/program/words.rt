@@ -1,5 +1,5 @@
 //! What the words of the command line request.
-use crate::{Condition, Filter, Rules, TimeForm, WordError};
+use crate::{Condition, Expression, ExpressionError, Filter, Rules, TimeForm, Words};
 use captures::Unfit;
 use clap::ArgMatches;
 use std::alloc::{AllocError, Global};
@@ -21,16 +21,16 @@ pub struct Requested<'m> {
 /// Why words request nothing.
 #[derive(Debug, Drop, Error)]
 pub enum RequestError {
-    /// This word is no condition.
-    #[error("invalid value '{word}' for '--only <WHAT>': {error}")]
-    Word { word: String, error: WordError },
+    /// This text is no expression of conditions.
+    #[error("invalid value '{text}' for '--only <WHAT>': {reason}")]
+    Expression { text: String, reason: String },
     /// This word is no size.
     #[error("invalid value '{word}' for '--reassembly-memory <SIZE>': {error}")]
     Size { word: String, error: SizeError },
     /// Packets with a wrong checksum, where none is verified.
     #[error("the argument '--only bad' cannot be used with '--no-checksums'")]
     Unverified,
-    /// There is no memory for the conditions, or for a word that is none.
+    /// There is no memory for the conditions, or for a text that is refused.
     #[error("out of memory")]
     Memory(#[from(alloc)] AllocError),
 }
@@ -125,19 +125,40 @@ fn show(words: &ArgMatches) -> Output {
     Output::Show(time_form(words), width(words), when_colored(words))
 }
 
-fn filter_of(alloc: Global, words: &[&str], checksums: bool) -> Result<Filter, RequestError> {
+fn filter_of(alloc: Global, texts: &[&str], checksums: bool) -> Result<Filter, RequestError> {
     let mut filter = Filter::new(alloc);
-    for word in words {
-        match word.parse::<Condition>() {
-            Ok(Condition::Bad) if !checksums => return Err(RequestError::Unverified),
-            Ok(condition) => filter.add(condition)?,
-            Err(error) => {
-                let word = String::from_str(alloc, word)?;
-                return Err(RequestError::Word { word, error });
-            }
-        }
+    for text in texts {
+        filter.add_expression(expression_of(alloc, *text, checksums)?)?;
     }
     Ok(filter)
+}
+
+fn expression_of(alloc: Global, text: &str, checksums: bool) -> Result<Expression, RequestError> {
+    let words = match Words::of(alloc, text) {
+        Ok(words) => words,
+        Err(error) => return Err(refused(alloc, text, error)),
+    };
+    if !checksums && words.have(Condition::Bad) {
+        return Err(RequestError::Unverified);
+    }
+    match words.expression(alloc) {
+        Ok(expression) => Ok(expression),
+        Err(error) => Err(refused(alloc, text, error)),
+    }
+}
+
+// Why a text is refused that is no expression.
+fn refused(alloc: Global, text: &str, error: ExpressionError<'_>) -> RequestError {
+    let ExpressionError::Fault(column, fault) = error else {
+        return RequestError::Memory(AllocError);
+    };
+    match (
+        String::from_str(alloc, text),
+        format!(in alloc; "at {column}: {fault}"),
+    ) {
+        (Ok(text), Ok(reason)) => RequestError::Expression { text, reason },
+        _ => RequestError::Memory(AllocError),
+    }
 }
 
 fn reassembly_memory(alloc: Global, words: &ArgMatches) -> Result<u64, RequestError> {

@@ -6,7 +6,7 @@ ghost use Rattle.captures.specs.declared.packet.Packet.{Packet};
 ghost use Rattle.captures.specs.declared.unfit.Unfit.{Unfit};
 ghost use Rattle.etherparse.specs.PoolCalls.{no_lists};
 ghost use Rattle.packets.specs.Started.{ShowsStarted, ShowsFragments, none_started};
-ghost use Rattle.packets.specs.Conditions.{lets_through};
+ghost use Rattle.packets.specs.Expressions.{lets_through};
 ghost use Rattle.packets.specs.Courses.{AreDissected, Course, HasCourse, IsDissected, course_after, forgotten};
 ghost use Rattle.packets.specs.Courses.{next_course, no_course, shown};
 ghost use Rattle.packets.specs.ReassemblyMemory.{ShowsOrder};

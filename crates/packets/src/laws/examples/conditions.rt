@@ -1,34 +1,46 @@
 //! Which packets meet a condition, by the table of docs/PACKETS.md.
 
-ghost use Rattle.std.specs.Prelude.{◌≡◌, ℕ, List, [], ◌∷◌, true, false, None, Some, Ok, Err, take};
+ghost use Rattle.std.specs.Prelude.{◌≡◌, ◌==◌, ◌++◌, ℕ, List, [], ◌∷◌, true, false, None, Some, Ok, Err, replicate, take};
 ghost use Rattle.captures.specs.declared.link.kind.Link.TheVariants as link;
 ghost use Rattle.etherparse.specs.declared.defrag.ip_defrag_payload_vec.IpDefragPayloadVec.{IpDefragPayloadVec};
 ghost use Rattle.ep_ipslice.specs.LaxPackets.{LaxIpv6Packet};
 ghost use Rattle.ep_ipslice.specs.Packet.{Ipv6Packet};
 ghost use Rattle.ep_packet.specs.Readable.{message_at};
 ghost use Rattle.ep_packet.specs.declared.err.packet.slice_error.SliceError.TheVariants as fault;
+ghost use Rattle.ep_packet.specs.declared.lax_sliced_packet.LaxSlicedPacket.{LaxSlicedPacket};
 ghost use Rattle.ep_packet.specs.declared.net.lax_net_slice.LaxNetSlice.TheVariants as lax;
 ghost use Rattle.ep_packet.specs.declared.net.net_slice.NetSlice.TheVariants as slice;
 ghost use Rattle.ep_packet.specs.declared.sliced_packet.SlicedPacket.{SlicedPacket};
 ghost use Rattle.ep_packet.specs.declared.transport.transport_slice.TransportSlice.TheVariants as transport;
 ghost use Rattle.etherparse.specs.declared.defrag.ip_defrag_error.IpDefragError.TheVariants as fragment_error;
+ghost use Rattle.ep_tag.specs.declared.link.lax_link_ext_slice.LaxLinkExtSlice.TheVariants as lax_tag;
+ghost use Rattle.ep_tag.specs.declared.link.link_ext_slice.LinkExtSlice.TheVariants as tag;
 ghost use Rattle.ep_tcpudp.specs.declared.err.tcp.header_error.HeaderError.TheVariants as tcp;
 ghost use Rattle.header_descriptions.specs.declared.protocol.Protocol.TheVariants as protocol;
-ghost use Rattle.packets.specs.Conditions.{arp_has_host, conditions_of, has_host, has_ipv4_host, has_ipv6_host};
-ghost use Rattle.packets.specs.Conditions.{has_lax_ipv4_host, has_lax_ipv6_host, has_port, holds};
-ghost use Rattle.packets.specs.Conditions.{lets_through, message_has_port, net_has_host};
-ghost use Rattle.packets.specs.Conditions.{packet_has_port, transport_has_port};
+ghost use Rattle.packets.specs.Conditions.{are_within, arp_numbers, completed_header, has_flag, has_host, has_port};
+ghost use Rattle.packets.specs.Conditions.{has_vlan_id, holds};
+ghost use Rattle.packets.specs.Conditions.{ipv4_network, ipv4_number, ipv4_numbers, ipv6_network, ipv6_numbers};
+ghost use Rattle.packets.specs.Conditions.{is_within, lax_net_ipv4_numbers, lax_net_ipv6_numbers, message_header};
+ghost use Rattle.packets.specs.Conditions.{net_ipv4_numbers, net_ipv6_numbers, packet_header, ports_of};
+ghost use Rattle.packets.specs.Conditions.{segment_header, transport_header};
 ghost use Rattle.packets.specs.Dissected.{verdict_on};
+ghost use Rattle.packets.specs.Expressions.{IsWritten, expressions_of, formula_of, lets_through, meets};
+ghost use Rattle.packets.specs.Expressions.Formula.{And, Not, Or, Test};
+ghost use Rattle.packets.specs.Expressions.Part.{Alternatives};
 ghost use Rattle.packets.specs.Examples.{arp_for_another_protocol, arp_of_arcnet, arp_of_ieee_802, arp_request};
 ghost use Rattle.packets.specs.Examples.{datagram_with, eighth, in_part, ipv4_ends, ipv4_header, ipv4_in_part};
-ghost use Rattle.packets.specs.Examples.{ipv6_address, ipv6_header, segment_with};
+ghost use Rattle.packets.specs.Examples.{ipv6_header, segment_with};
 ghost use Rattle.packets.specs.LaxLayers.{lax_layers_of};
 ghost use Rattle.etherparse.specs.PoolCalls.CallResult.{Delivered, Nothing};
 ghost use Rattle.ep_base.specs.declared.len_source.LenSource.TheVariants as source;
 ghost use Rattle.ep_packet.specs.Class.Class.{Cut};
 ghost use Rattle.packets.specs.declared.dissection.Dissection.{Dissection};
 ghost use Rattle.packets.specs.declared.dissection.Fragment.TheVariants as fragment;
-ghost use Rattle.packets.specs.declared.filter.Condition.TheVariants as condition;
+ghost use Rattle.packets.specs.declared.condition.Condition.TheVariants as condition;
+ghost use Rattle.packets.specs.declared.condition.Side.TheVariants as side;
+ghost use Rattle.packets.specs.declared.condition.TcpFlag.TheVariants as tcp_flag;
+ghost use Rattle.packets.specs.declared.expression.Expression.{Expression};
+ghost use Rattle.packets.specs.declared.expression.Word.TheVariants as word;
 ghost use Rattle.packets.specs.declared.filter.Filter.{Filter};
 ghost use Rattle.packets.specs.declared.verification.Verification.TheVariants.{Over};
 ghost use Rattle.std.specs.declared.net.ip_addr.IpAddr.TheVariants as ip_addr;
@@ -58,52 +70,58 @@ pub fn headers_of_packets()
         × (holds (condition.Protocol protocol.Ipv4) packet ≡ false) }
 {}
 
-/// `host` of ARP packets (RFC 826): those for the addresses of IPv4, whatever the hardware type and
-/// the length of its addresses.
-pub fn hosts_of_arp_packets()
-    ensures sender { arp_has_host arp_request (10 ∷ 0 ∷ 0 ∷ 1 ∷ []) ≡ true }
-    ensures target { arp_has_host arp_request (10 ∷ 0 ∷ 0 ∷ 2 ∷ []) ≡ true }
-    ensures another { (arp_has_host arp_request (10 ∷ 0 ∷ 0 ∷ 3 ∷ []) ≡ false)
-        × (arp_has_host arp_request (0 ∷ 0 ∷ 0 ∷ 0 ∷ []) ≡ false)
-        × (arp_has_host arp_request (2 ∷ 0 ∷ 0 ∷ 0 ∷ []) ≡ false) }
-    ensures ieee_802 { (arp_has_host arp_of_ieee_802 (10 ∷ 0 ∷ 0 ∷ 1 ∷ []) ≡ true)
-        × (arp_has_host arp_of_ieee_802 (10 ∷ 0 ∷ 0 ∷ 2 ∷ []) ≡ true) }
-    ensures arcnet { (arp_has_host arp_of_arcnet (10 ∷ 0 ∷ 0 ∷ 1 ∷ []) ≡ true)
-        × (arp_has_host arp_of_arcnet (10 ∷ 0 ∷ 0 ∷ 2 ∷ []) ≡ true) }
-    ensures protocol { (arp_has_host arp_for_another_protocol (10 ∷ 0 ∷ 0 ∷ 1 ∷ []) ≡ false)
-        × (arp_has_host arp_for_another_protocol (10 ∷ 0 ∷ 0 ∷ 2 ∷ []) ≡ false) }
+/// The addresses of ARP packets (RFC 826), as numbers: of those for the addresses of IPv4, whatever the
+/// hardware type and the length of its addresses.
+pub fn addresses_of_arp_packets()
+    ensures ethernet { arp_numbers arp_request ≡ Some (0x0a000001, 0x0a000002) }
+    ensures ieee_802 { arp_numbers arp_of_ieee_802 ≡ Some (0x0a000001, 0x0a000002) }
+    ensures arcnet { arp_numbers arp_of_arcnet ≡ Some (0x0a000001, 0x0a000002) }
+    ensures protocol { arp_numbers arp_for_another_protocol ≡ None }
+    ensures short { ipv4_number (10 ∷ 0 ∷ 1 ∷ []) ≡ None }
+    ensures long { ipv4_number (10 ∷ 0 ∷ 0 ∷ 1 ∷ 0 ∷ []) ≡ None }
 {}
 
-/// `host` of IP packets: an address of the header, of its own version.
-pub fn hosts_of_ip_packets()
-    ensures ipv4 { (payload : List ℕ) → (has_ipv4_host (Some (slice.Ipv4 (record {
+/// The addresses of IP packets, as numbers: those of the header, of its own version.
+pub fn addresses_of_ip_packets()
+    ensures ipv4 { (payload : List ℕ) → (net_ipv4_numbers (Some (slice.Ipv4 (record {
       header = ipv4_header 17;
       auth = None;
       payload = payload;
-    }))) (10 ∷ 0 ∷ 0 ∷ 1 ∷ []) ≡ true)
-        × (has_ipv4_host (Some (slice.Ipv4 (record {
+    }))) ≡ Some (0x0a000001, 0x0a000002))
+        × (net_ipv6_numbers (Some (slice.Ipv4 (record {
           header = ipv4_header 17;
           auth = None;
           payload = payload;
-        }))) (10 ∷ 0 ∷ 0 ∷ 2 ∷ []) ≡ true)
-        × (has_ipv4_host (Some (slice.Ipv4 (record {
-          header = ipv4_header 17;
-          auth = None;
-          payload = payload;
-        }))) (0x66 ∷ 0xca ∷ 10 ∷ 0 ∷ []) ≡ false) }
+        }))) ≡ None) }
     ensures ipv6 { (packet : Ipv6Packet) → packet.header ≡ ipv6_header
-        → (net_has_host (Some (slice.Ipv6 packet)) (ip_addr.V6 (record {
-          segments = 0x2001 ∷ 0x0db8 ∷ 0 ∷ 0 ∷ 0 ∷ 0 ∷ 0 ∷ 2 ∷ [];
-        })) ≡ true)
-        × (net_has_host (Some (slice.Ipv6 packet)) (ip_addr.V6 (record {
-          segments = 0x2001 ∷ 0x0db8 ∷ 0 ∷ 0 ∷ 0 ∷ 0 ∷ 0 ∷ 3 ∷ [];
-        })) ≡ false)
-        × (net_has_host (Some (slice.Ipv6 packet))
-        (ip_addr.V4 (record { octets = 0x20 ∷ 1 ∷ 0x0d ∷ 0xb8 ∷ [] })) ≡ false) }
-    ensures arp { net_has_host (Some (slice.Arp arp_request))
-        (ip_addr.V4 (record { octets = 10 ∷ 0 ∷ 0 ∷ 1 ∷ [] })) ≡ true }
-    ensures none { (net_has_host None (ip_addr.V4 (record { octets = 0 ∷ 0 ∷ 0 ∷ 0 ∷ [] })) ≡ false)
-        × (has_ipv6_host (Some (slice.Arp arp_request)) (10 ∷ 0 ∷ 0 ∷ 1 ∷ []) ≡ false) }
+        → (net_ipv6_numbers (Some (slice.Ipv6 packet)) ≡ Some (
+          0x20010db8000000000000000000000001,
+          0x20010db8000000000000000000000002,
+        ))
+        × (net_ipv4_numbers (Some (slice.Ipv6 packet)) ≡ None) }
+    ensures arp { (net_ipv4_numbers (Some (slice.Arp arp_request)) ≡ Some (0x0a000001, 0x0a000002))
+        × (net_ipv6_numbers (Some (slice.Arp arp_request)) ≡ None) }
+    ensures none { (net_ipv4_numbers None ≡ None) × (net_ipv6_numbers None ≡ None) }
+    ensures refused { (ipv4_numbers (Err (fault.Tcp (tcp.DataOffsetTooSmall 4)))
+        (Some (in_part (Some (ipv4_in_part 6 [])) None)) ≡ Some (0x0a000001, 0x0a000002))
+        × (ipv6_numbers (Err (fault.Tcp (tcp.DataOffsetTooSmall 4)))
+        (Some (in_part (Some (ipv4_in_part 6 [])) None)) ≡ None)
+        × (ipv4_numbers (Err (fault.Tcp (tcp.DataOffsetTooSmall 4))) None ≡ None) }
+    ensures in_part { (packet : LaxIpv6Packet) → packet.header ≡ ipv6_header
+        → (lax_net_ipv6_numbers (Some (lax.Ipv6 packet)) ≡ Some (
+          0x20010db8000000000000000000000001,
+          0x20010db8000000000000000000000002,
+        ))
+        × (lax_net_ipv4_numbers (Some (lax.Ipv6 packet)) ≡ None) }
+    ensures arp_in_part { (lax_net_ipv4_numbers (Some (lax.Arp arp_request))
+        ≡ Some (0x0a000001, 0x0a000002))
+        × (lax_net_ipv6_numbers (Some (lax.Arp arp_request)) ≡ None)
+        × (lax_net_ipv4_numbers None ≡ None) }
+{}
+
+/// `host` by the addresses of a packet, each of its own version, also of one that is refused, and `port`
+/// by its ports: of a segment from 443 to 51234.
+pub fn hosts_and_ports_of_packets()
     ensures refused { (has_host (Err (fault.Tcp (tcp.DataOffsetTooSmall 4)))
         (Some (in_part (Some (ipv4_in_part 6 [])) None))
         (ip_addr.V4 (record { octets = 10 ∷ 0 ∷ 0 ∷ 1 ∷ [] })) ≡ true)
@@ -112,59 +130,142 @@ pub fn hosts_of_ip_packets()
         (ip_addr.V4 (record { octets = 10 ∷ 0 ∷ 0 ∷ 2 ∷ [] })) ≡ true)
         × (has_host (Err (fault.Tcp (tcp.DataOffsetTooSmall 4)))
         (Some (in_part (Some (ipv4_in_part 6 [])) None))
-        (ip_addr.V4 (record { octets = 10 ∷ 0 ∷ 0 ∷ 3 ∷ [] })) ≡ false)
-        × (has_host (Err (fault.Tcp (tcp.DataOffsetTooSmall 4))) None
-        (ip_addr.V4 (record { octets = 10 ∷ 0 ∷ 0 ∷ 1 ∷ [] })) ≡ false) }
-    ensures in_part { (packet : LaxIpv6Packet) → packet.header ≡ ipv6_header
-        → (has_lax_ipv6_host (Some (lax.Ipv6 packet)) (ipv6_address 2) ≡ true)
-        × (has_lax_ipv6_host (Some (lax.Ipv6 packet)) (ipv6_address 3) ≡ false)
-        × (has_lax_ipv4_host (Some (lax.Ipv6 packet)) (0x20 ∷ 1 ∷ 0x0d ∷ 0xb8 ∷ []) ≡ false) }
-    ensures arp_in_part { (has_lax_ipv4_host (Some (lax.Arp arp_request)) (10 ∷ 0 ∷ 0 ∷ 2 ∷ []) ≡ true)
-        × (has_lax_ipv6_host (Some (lax.Arp arp_request)) (10 ∷ 0 ∷ 0 ∷ 2 ∷ []) ≡ false)
-        × (has_lax_ipv4_host None (0 ∷ 0 ∷ 0 ∷ 0 ∷ []) ≡ false) }
+        (ip_addr.V4 (record { octets = 10 ∷ 0 ∷ 0 ∷ 3 ∷ [] })) ≡ false) }
+    ensures ipv6 { (packet : Ipv6Packet) (layers : SlicedPacket) → packet.header ≡ ipv6_header
+        → layers.net ≡ Some (slice.Ipv6 packet) → (has_host (Ok layers) None (ip_addr.V6 (record {
+          segments = 0x2001 ∷ 0x0db8 ∷ 0 ∷ 0 ∷ 0 ∷ 0 ∷ 0 ∷ 2 ∷ [];
+        })) ≡ true)
+        × (has_host (Ok layers) None (ip_addr.V6 (record {
+          segments = 0x2001 ∷ 0x0db8 ∷ 0 ∷ 0 ∷ 0 ∷ 0 ∷ 0 ∷ 3 ∷ [];
+        })) ≡ false)
+        × (has_host (Ok layers) None
+        (ip_addr.V4 (record { octets = 0x20 ∷ 1 ∷ 0x0d ∷ 0xb8 ∷ [] })) ≡ false) }
+    ensures ports { (packet : SlicedPacket) → packet.transport ≡ Some (transport.Tcp (segment_with 5))
+        → (has_port (Ok packet) None None 443 443 ≡ true)
+        × (has_port (Ok packet) None None 51234 51234 ≡ true)
+        × (has_port (Ok packet) None None 444 51233 ≡ false) }
 {}
 
-/// `port` of a message that is whole in a packet: of TCP from 443 to 51234, and of UDP from 53 to
-/// 5353. ICMP has none.
-pub fn ports_of_messages()
-    ensures tcp { (transport_has_port (Some (transport.Tcp (segment_with 5))) 443 ≡ true)
-        × (transport_has_port (Some (transport.Tcp (segment_with 5))) 51234 ≡ true)
-        × (transport_has_port (Some (transport.Tcp (segment_with 5))) 0 ≡ false)
-        × (transport_has_port (Some (transport.Tcp (segment_with 5))) 17 ≡ false) }
-    ensures udp { (transport_has_port (Some (transport.Udp (datagram_with 0x11 0xef))) 53 ≡ true)
-        × (transport_has_port (Some (transport.Udp (datagram_with 0x11 0xef))) 5353 ≡ true)
-        × (transport_has_port (Some (transport.Udp (datagram_with 0x11 0xef))) 12 ≡ false) }
-    ensures icmp { (transport_has_port (Some (transport.Icmpv4 (0 ∷ 53 ∷ 0x14 ∷ 0xe9 ∷ []))) 53
-        ≡ false)
-        × (transport_has_port (Some (transport.Icmpv6 (0 ∷ 53 ∷ 0x14 ∷ 0xe9 ∷ []))) 53 ≡ false) }
-    ensures none { transport_has_port None 0 ≡ false }
-    ensures refused { (packet_has_port (Err (fault.Tcp (tcp.DataOffsetTooSmall 4)))
-        (Some (in_part (Some (ipv4_in_part 6 (segment_with 4))) None)) 443 ≡ false)
-        × (packet_has_port (Err (fault.Tcp (tcp.DataOffsetTooSmall 4))) None 443 ≡ false)
-        × (packet_has_port (Err (fault.Tcp (tcp.DataOffsetTooSmall 4))) (Some (in_part
+/// A range has both of its ends, and `src` and `dst` mean one of two addresses, as in `tcpdump`.
+pub fn ranges_of_ends()
+    ensures range { (are_within side.Source 1000 2000 (Some (1000, 0)) ≡ true)
+        × (are_within side.Source 1000 2000 (Some (2000, 0)) ≡ true)
+        × (are_within side.Source 1000 2000 (Some (999, 0)) ≡ false)
+        × (are_within side.Source 1000 2000 (Some (2001, 0)) ≡ false) }
+    ensures either { (are_within side.Either 1 1 (Some (1, 2)) ≡ true)
+        × (are_within side.Either 2 2 (Some (1, 2)) ≡ true)
+        × (are_within side.Either 3 3 (Some (1, 2)) ≡ false) }
+    ensures source { (are_within side.Source 1 1 (Some (1, 2)) ≡ true)
+        × (are_within side.Source 2 2 (Some (1, 2)) ≡ false) }
+    ensures destination { (are_within side.Destination 2 2 (Some (1, 2)) ≡ true)
+        × (are_within side.Destination 1 1 (Some (1, 2)) ≡ false) }
+    ensures none { are_within side.Either 0 65535 None ≡ false }
+    ensures alone { (number other : ℕ) → is_within number number other ≡ (number == other) }
+{}
+
+/// The networks 10.0.0.0/8, 192.168.4.0/22, 0.0.0.0/0 and 10.0.0.1/32, and none of 10.0.0.1/8; those
+/// of 2001:db8::/32, ::/0 and ::1/128 (RFC 4632, section 3.1; RFC 4291, section 2.3).
+pub fn networks()
+    ensures ten { ipv4_network side.Either 0x0a000000 8
+        ≡ Some (condition.Ipv4 side.Either 0x0a000000 0x0affffff) }
+    ensures twenty_two { ipv4_network side.Source 0xc0a80400 22
+        ≡ Some (condition.Ipv4 side.Source 0xc0a80400 0xc0a807ff) }
+    ensures all { ipv4_network side.Either 0 0 ≡ Some (condition.Ipv4 side.Either 0 0xffffffff) }
+    ensures one { ipv4_network side.Either 0x0a000001 32
+        ≡ Some (condition.Ipv4 side.Either 0x0a000001 0x0a000001) }
+    ensures bits { ipv4_network side.Either 0x0a000001 8 ≡ None }
+    ensures documentation { ipv6_network side.Either 0x20010db8000000000000000000000000 32
+        ≡ Some (condition.Ipv6 side.Either 0x20010db8000000000000000000000000
+        0x20010db8ffffffffffffffffffffffff) }
+    ensures all_of_ipv6 { ipv6_network side.Either 0 0
+        ≡ Some (condition.Ipv6 side.Either 0 0xffffffffffffffffffffffffffffffff) }
+    ensures loopback { ipv6_network side.Either 1 128 ≡ Some (condition.Ipv6 side.Either 1 1) }
+    ensures bits_of_ipv6 { ipv6_network side.Either 1 127 ≡ None }
+{}
+
+/// The ports and flags of a message that is whole in a packet: of TCP from 443 to 51234, with `syn`,
+/// and of UDP from 53 to 5353. ICMP has none.
+pub fn headers_of_messages()
+    ensures tcp { transport_header (Some (transport.Tcp (segment_with 5))) ≡ Some (record {
+      source_port = 443;
+      destination_port = 51234;
+      fin = false;
+      syn = true;
+      rst = false;
+    }) }
+    ensures udp { transport_header (Some (transport.Udp (datagram_with 0x11 0xef))) ≡ Some (record {
+      source_port = 53;
+      destination_port = 5353;
+      fin = false;
+      syn = false;
+      rst = false;
+    }) }
+    ensures icmp { (transport_header (Some (transport.Icmpv4 (0 ∷ 53 ∷ 0x14 ∷ 0xe9 ∷ []))) ≡ None)
+        × (transport_header (Some (transport.Icmpv6 (0 ∷ 53 ∷ 0x14 ∷ 0xe9 ∷ []))) ≡ None) }
+    ensures none { transport_header None ≡ None }
+    ensures refused { (packet_header (Err (fault.Tcp (tcp.DataOffsetTooSmall 4)))
+        (Some (in_part (Some (ipv4_in_part 6 (segment_with 4))) None)) ≡ None)
+        × (packet_header (Err (fault.Tcp (tcp.DataOffsetTooSmall 4))) None ≡ None)
+        × (ports_of (packet_header (Err (fault.Tcp (tcp.DataOffsetTooSmall 4))) (Some (in_part
         (Some (ipv4_in_part 17 (take 8 (datagram_with 0x11 0xef))))
-        (Some (transport.Udp (take 8 (datagram_with 0x11 0xef)))))) 5353 ≡ true) }
+        (Some (transport.Udp (take 8 (datagram_with 0x11 0xef))))))) ≡ Some (53, 5353)) }
 {}
 
 /// Also of the message that a fragment completes, where that can be read, and of no other fragment.
-pub fn ports_of_completed_messages()
-    ensures read { (message_has_port (message_at 6 (segment_with 5)) 443 ≡ true)
-        × (message_has_port (message_at 17 (datagram_with 0x11 0xef)) 5353 ≡ true)
-        × (message_has_port (message_at 1 (0 ∷ 53 ∷ 0 ∷ 53 ∷ 0 ∷ 53 ∷ 0 ∷ 53 ∷ [])) 53 ≡ false)
-        × (message_has_port (message_at 58 (0 ∷ 53 ∷ 0 ∷ 53 ∷ 0 ∷ 53 ∷ 0 ∷ 53 ∷ [])) 53 ≡ false)
-        × (message_has_port (message_at 132 (0 ∷ 53 ∷ 0 ∷ 53 ∷ [])) 53 ≡ false) }
-    ensures refused { message_has_port (message_at 6 (segment_with 4)) 443 ≡ false }
+pub fn headers_of_completed_messages()
+    ensures read { (ports_of (completed_header (message_at 6 (segment_with 5))) ≡ Some (443, 51234))
+        × (ports_of (completed_header (message_at 17 (datagram_with 0x11 0xef))) ≡ Some (53, 5353))
+        × (completed_header (message_at 1 (0 ∷ 53 ∷ 0 ∷ 53 ∷ 0 ∷ 53 ∷ 0 ∷ 53 ∷ [])) ≡ None)
+        × (completed_header (message_at 58 (0 ∷ 53 ∷ 0 ∷ 53 ∷ 0 ∷ 53 ∷ 0 ∷ 53 ∷ [])) ≡ None)
+        × (completed_header (message_at 132 (0 ∷ 53 ∷ 0 ∷ 53 ∷ [])) ≡ None) }
+    ensures refused { completed_header (message_at 6 (segment_with 4)) ≡ None }
     ensures completing { (message : IpDefragPayloadVec) → message.ip_number ≡ record { 0 = 17 }
-        → message.payload.items ≡ datagram_with 0x11 0xef → has_port (Ok (record {
+        → message.payload.items ≡ datagram_with 0x11 0xef → ports_of (message_header (Ok (record {
           link = None;
           link_exts = record { items = [] };
           net = None;
           transport = None;
-        })) None (Some (fragment.Completes 5 message)) 5353 ≡ true }
+        })) None (Some (fragment.Completes 5 message))) ≡ Some (53, 5353) }
     ensures others { (packet : SlicedPacket) → packet.transport ≡ None
-        → (has_port (Ok packet) None (Some (fragment.Waits 5)) 53 ≡ false)
-        × (has_port (Ok packet) None
-        (Some (fragment.Refused None (fragment_error.ConflictingEnd 24 32))) 53 ≡ false) }
+        → (message_header (Ok packet) None (Some (fragment.Waits 5)) ≡ None)
+        × (message_header (Ok packet) None
+        (Some (fragment.Refused None (fragment_error.ConflictingEnd 24 32))) ≡ None) }
+{}
+
+/// `syn`, `fin` and `rst` are bits 1, 0 and 2 of the flags (RFC 9293, section 3.1).
+pub fn flags_of_segments()
+    ensures synchronizing { (has_flag tcp_flag.Syn (transport_header (Some (transport.Tcp (segment_with 5)))) ≡ true)
+        × (has_flag tcp_flag.Fin (transport_header (Some (transport.Tcp (segment_with 5)))) ≡ false)
+        × (has_flag tcp_flag.Rst (transport_header (Some (transport.Tcp (segment_with 5)))) ≡ false) }
+    ensures others { (has_flag tcp_flag.Fin (Some (segment_header (replicate 13 0 ++ 1 ∷ []))) ≡ true)
+        × (has_flag tcp_flag.Rst (Some (segment_header (replicate 13 0 ++ 4 ∷ []))) ≡ true)
+        × (has_flag tcp_flag.Syn (Some (segment_header (replicate 13 0 ++ 5 ∷ []))) ≡ false) }
+    ensures none { has_flag tcp_flag.Syn None ≡ false }
+{}
+
+/// `vlan=5` by any of the tags, of which two are VLANs 5 and 9 (IEEE 802.1Q, section 9.6).
+pub fn identifiers_of_vlans()
+    ensures outer { (packet : SlicedPacket)
+        → packet.link_exts.items ≡ tag.Vlan (0 ∷ 5 ∷ 0x81 ∷ 0 ∷ []) ∷ tag.Vlan (0xe0 ∷ 9 ∷ 8 ∷ 0 ∷ []) ∷ []
+        → (has_vlan_id (Ok packet) None 5 5 ≡ true) × (has_vlan_id (Ok packet) None 9 9 ≡ true)
+        × (has_vlan_id (Ok packet) None 6 8 ≡ false) }
+    ensures none { (packet : SlicedPacket) → packet.link_exts.items ≡ []
+        → has_vlan_id (Ok packet) None 0 4095 ≡ false }
+    ensures refused { (packet : LaxSlicedPacket)
+        → packet.link_exts.items ≡ lax_tag.Vlan (0 ∷ 5 ∷ 8 ∷ 0 ∷ []) ∷ []
+        → (has_vlan_id (Err (fault.Tcp (tcp.DataOffsetTooSmall 4))) (Some packet) 5 5 ≡ true)
+        × (has_vlan_id (Err (fault.Tcp (tcp.DataOffsetTooSmall 4))) (Some packet) 4 4 ≡ false)
+        × (has_vlan_id (Err (fault.Tcp (tcp.DataOffsetTooSmall 4))) None 0 4095 ≡ false) }
+{}
+
+/// Lengths on the wire and numbers of packets: of the eighth packet, of 54 bytes.
+pub fn lengths_and_numbers()
+    ensures at_least { (holds (condition.WireLen 54 4294967295) eighth ≡ true)
+        × (holds (condition.WireLen 55 4294967295) eighth ≡ false) }
+    ensures at_most { (holds (condition.WireLen 0 54) eighth ≡ true)
+        × (holds (condition.WireLen 0 53) eighth ≡ false) }
+    ensures numbers { (holds (condition.Number 8 8) eighth ≡ true)
+        × (holds (condition.Number 1 7) eighth ≡ false) × (holds (condition.Number 9 20) eighth ≡ false) }
 {}
 
 /// `bad` by the checksum of a packet's message, and by that of the message which it completes.
@@ -246,21 +347,44 @@ pub fn packets_that_were_cut()
         → holds condition.Cut packet ≡ false }
 {}
 
-/// All conditions have to hold, and no condition lets everything through: of a fragment that is
-/// refused, whose message has no checksum that was read.
+/// All expressions have to hold, and none lets everything through: of a fragment that waits and of one
+/// whose checksum is bad.
 pub fn filters()
-    ensures none { (filter : Filter) (packet : Dissection) → conditions_of filter ≡ []
+    ensures none { (filter : Filter) (packet : Dissection) → expressions_of filter ≡ []
         → lets_through filter packet ≡ true }
-    ensures all { (filter : Filter) (packet : Dissection)
+    ensures all { (filter : Filter) (packet : Dissection) (one other : Expression)
         → packet.fragment ≡ Some (fragment.Waits 5) → packet.verdict ≡ Some verdict.Bad
-        → conditions_of filter ≡ condition.Fragment ∷ condition.Bad ∷ []
-        → lets_through filter packet ≡ true }
-    ensures first { (filter : Filter) (packet : Dissection)
+        → formula_of one ≡ Test condition.Fragment → formula_of other ≡ Test condition.Bad
+        → expressions_of filter ≡ one ∷ other ∷ [] → lets_through filter packet ≡ true }
+    ensures first { (filter : Filter) (packet : Dissection) (one other : Expression)
         → packet.fragment ≡ Some (fragment.Waits 5) → packet.verdict ≡ None
-        → conditions_of filter ≡ condition.Fragment ∷ condition.Bad ∷ []
-        → lets_through filter packet ≡ false }
-    ensures last { (filter : Filter) (packet : Dissection) → packet.fragment ≡ None
-        → packet.verdict ≡ Some verdict.Bad
-        → conditions_of filter ≡ condition.Fragment ∷ condition.Bad ∷ []
-        → lets_through filter packet ≡ false }
+        → formula_of one ≡ Test condition.Fragment → formula_of other ≡ Test condition.Bad
+        → expressions_of filter ≡ one ∷ other ∷ [] → lets_through filter packet ≡ false }
+    ensures last { (filter : Filter) (packet : Dissection) (one other : Expression)
+        → packet.fragment ≡ None → packet.verdict ≡ Some verdict.Bad
+        → formula_of one ≡ Test condition.Fragment → formula_of other ≡ Test condition.Bad
+        → expressions_of filter ≡ one ∷ other ∷ [] → lets_through filter packet ≡ false }
+{}
+
+/// What `not`, `and` and `or` mean, of a fragment without a verdict.
+pub fn formulas()
+    ensures negated { (packet : Dissection) → packet.fragment ≡ Some (fragment.Waits 5)
+        → packet.verdict ≡ None → (meets (Not (Test condition.Bad)) packet ≡ true)
+        × (meets (Not (Test condition.Fragment)) packet ≡ false) }
+    ensures joint { (packet : Dissection) → packet.fragment ≡ Some (fragment.Waits 5)
+        → packet.verdict ≡ None
+        → (meets (And (Test condition.Fragment) (Test condition.Bad)) packet ≡ false)
+        × (meets (And (Test condition.Fragment) (Test condition.Fragment)) packet ≡ true) }
+    ensures alternatives { (packet : Dissection) → packet.fragment ≡ Some (fragment.Waits 5)
+        → packet.verdict ≡ None
+        → (meets (Or (Test condition.Bad) (Test condition.Fragment)) packet ≡ true)
+        × (meets (Or (Test condition.Bad) (Test condition.Bad)) packet ≡ false) }
+{}
+
+/// `bad or not cut and refused` means `bad or ((not cut) and refused)`: `not` binds tighter than `and`,
+/// and `and` tighter than `or`.
+pub fn precedence()
+    ensures { IsWritten Alternatives (word.Test condition.Bad ∷ word.Or ∷ word.Not ∷ word.Test condition.Cut
+        ∷ word.And ∷ word.Test condition.Refused ∷ [])
+        (Or (Test condition.Bad) (And (Not (Test condition.Cut)) (Test condition.Refused))) }
 {}

@@ -3,7 +3,7 @@ use Rattle.captures.specs.Numbers.{capped}
 use Rattle.etherparse.specs.PoolCalls.{lists_with_frame}
 use Rattle.ep_packet.specs.Class.{sliced_class}
 use Rattle.packets.specs.Started.{ShowsStarted, ShowsFragments, started_with}
-use Rattle.packets.specs.Conditions.{lets_through}
+use Rattle.packets.specs.Expressions.{lets_through}
 use Rattle.packets.specs.Courses.{begin_at, class_of, first_at, lists_at, order_at}
 use Rattle.packets.specs.ReassemblyMemory.{ShowsOrder, dropped_within, lists_within, order_with, order_within}
 use Rattle.packets.proofs.run.walk.take.Goals.{then-matches+in_default-visit, else-matches}

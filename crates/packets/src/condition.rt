@@ -1,0 +1,506 @@
+//! Conditions that packets meet or don't.
+ghost use Rattle.std.specs.Prelude.{◌≡◌};
+ghost use Rattle.std.specs.Int.{w32, from_be_bytes};
+ghost use Rattle.std.specs.List.{list_any};
+ghost use Rattle.ep_packet.specs.Readable.{message_at};
+ghost use Rattle.packets.specs.Conditions.{are_within, arp_numbers, both_numbers, completed_header, datagram_header};
+ghost use Rattle.packets.specs.Conditions.{has_flag, has_host, has_port, has_vlan_id, holds_at, ipv4_bits_after, ipv4_numbers, ipv4_number};
+ghost use Rattle.packets.specs.Conditions.{ipv6_bits_after, ipv6_numbers, is_within, lax_has_vlan_id, lax_ipv4_numbers};
+ghost use Rattle.packets.specs.Conditions.{lax_ipv6_numbers, lax_net_ipv4_numbers, lax_net_ipv6_numbers, lax_transport_header};
+ghost use Rattle.packets.specs.Conditions.{message_header, net_ipv4_numbers, net_ipv6_numbers, packet_header, ports_of};
+ghost use Rattle.packets.specs.Conditions.{segment_header, transport_header};
+ghost use Rattle.packets.specs.Counts.{is_bad};
+ghost use Rattle.packets.specs.LaxLayers.{lax_layers_of};
+
+use crate::outline::refusal_of;
+use crate::{Dissection, Fragment, Headers, Protocol};
+use checksum_verdicts::Verdict;
+use ep_base::EtherType;
+use ep_link::ArpPacketSlice;
+use ep_packet::{LaxNetSlice, LaxSlicedPacket, Message, NetSlice, TransportSlice, read_message};
+use ep_tag::VlanId;
+use ep_tcpudp::{TcpSlice, UdpSlice};
+use etherparse::defrag::IpDefragPayloadVec;
+use std::net::IpAddr;
+
+/// A condition on a packet. Numbers go from a first to a last, both included.
+#[derive(Clone, Copy, Debug, PartialEq, Eq)]
+pub enum Condition {
+    /// It has a header of this protocol, or its IP header names it, as in a fragment.
+    Protocol(Protocol),
+    /// The checksum of its message, or of that which it completes, is wrong.
+    Bad,
+    /// It is refused, by its headers or as a fragment, or the message that it completes can't be
+    /// read.
+    Refused,
+    /// It is a fragment.
+    Fragment,
+    /// Fewer of its bytes were captured than were on the wire.
+    Cut,
+    /// It comes from this address or goes to it, by its IP header or as an ARP packet for IPv4, if
+    /// that header is there.
+    Host(IpAddr),
+    /// The same of one of these addresses of IPv4, as numbers, on this side.
+    Ipv4(Side, u32, u32),
+    /// The same of IPv6.
+    Ipv6(Side, u128, u128),
+    /// Its TCP or UDP message, or the one that it completes, comes from this port or goes to it, if
+    /// that header is there.
+    Port(u16),
+    /// The same of one of these ports.
+    Ports(u16, u16),
+    /// Its TCP segment, or the one that it completes, has this flag, if that header is there.
+    Flag(TcpFlag),
+    /// One of its VLAN tags has one of these identifiers.
+    VlanId(u16, u16),
+    /// It had one of these numbers of bytes on the wire.
+    WireLen(u32, u32),
+    /// It has one of these numbers in its capture.
+    Number(u64, u64),
+}
+
+/// Which addresses of a packet are meant.
+#[derive(Clone, Copy, Debug, PartialEq, Eq)]
+pub enum Side {
+    /// The source or the destination.
+    Either,
+    /// The source.
+    Source,
+    /// The destination.
+    Destination,
+}
+
+/// A flag of a TCP segment.
+#[derive(Clone, Copy, Debug, PartialEq, Eq)]
+pub enum TcpFlag {
+    /// The sender has no more data.
+    Fin,
+    /// Sequence numbers are agreed on.
+    Syn,
+    /// The connection is reset.
+    Rst,
+}
+
+/// What conditions read of the header of a TCP or UDP message.
+#[derive(Clone, Copy)]
+pub(crate) struct MessageHeader {
+    source_port: u16,
+    destination_port: u16,
+    fin: bool,
+    syn: bool,
+    rst: bool,
+}
+
+impl Condition {
+    ghost use Rattle.packets.specs.Conditions.{holds, ipv4_network, ipv6_network};
+
+    /// The condition of a network of IPv4, by its first address as a number, and the length of its
+    /// prefix. There is none where a bit after the prefix is set.
+    pub fn ipv4_network(side: Side, address: u32, prefix: u32) -> Option<Condition>
+        ensures { result ≡ ipv4_network side address prefix }
+    {
+        let bits = ipv4_bits_after(prefix);
+        if address & bits == 0 {
+            Some(Condition::Ipv4(side, address, address | bits))
+        } else {
+            None
+        }
+    }
+
+    /// The same of IPv6.
+    pub fn ipv6_network(side: Side, address: u128, prefix: u32) -> Option<Condition>
+        ensures { result ≡ ipv6_network side address prefix }
+    {
+        let bits = ipv6_bits_after(prefix);
+        if address & bits == 0 {
+            Some(Condition::Ipv6(side, address, address | bits))
+        } else {
+            None
+        }
+    }
+
+    /// Whether a packet meets it.
+    pub fn holds(&self, dissection: &Dissection<'_>) -> bool
+        ensures { result ≡ holds self.now dissection.now }
+    {
+        match self {
+            Condition::Protocol(protocol) => Headers::of(dissection).has(*protocol),
+            Condition::Bad => is_bad(dissection.verdict),
+            Condition::Refused => refusal_of(dissection).is_some(),
+            Condition::Fragment => dissection.fragment.is_some(),
+            Condition::Cut => dissection.is_cut(),
+            Condition::Host(address) => has_host(dissection, *address),
+            Condition::Ipv4(side, first, last) => are_within(
+                *side,
+                u128::from(*first),
+                u128::from(*last),
+                ipv4_numbers(dissection),
+            ),
+            Condition::Ipv6(side, first, last) => {
+                are_within(*side, *first, *last, ipv6_numbers(dissection))
+            }
+            Condition::Port(port) => has_port(dissection, *port, *port),
+            Condition::Ports(first, last) => has_port(dissection, *first, *last),
+            Condition::Flag(flag) => has_flag(*flag, message_header(dissection)),
+            Condition::VlanId(first, last) => has_vlan_id(dissection, *first, *last),
+            Condition::WireLen(first, last) => {
+                *first <= dissection.wire_len && dissection.wire_len <= *last
+            }
+            Condition::Number(first, last) => {
+                *first <= dissection.number && dissection.number <= *last
+            }
+        }
+    }
+}
+
+fn ipv4_bits_after(prefix: u32) -> u32
+    ensures { result ≡ ipv4_bits_after prefix }
+{
+    match u32::MAX.checked_shr(prefix) {
+        Some(bits) => bits,
+        None => 0,
+    }
+}
+
+fn ipv6_bits_after(prefix: u32) -> u128
+    ensures { result ≡ ipv6_bits_after prefix }
+{
+    match u128::MAX.checked_shr(prefix) {
+        Some(bits) => bits,
+        None => 0,
+    }
+}
+
+fn has_host(dissection: &Dissection<'_>, address: IpAddr) -> bool
+    ensures { result ≡ has_host dissection.now.layers
+        (lax_layers_of dissection.now.header dissection.now.bytes) address }
+{
+    match address {
+        IpAddr::V4(address) => {
+            let number = ipv4_address(address.octets());
+            are_within(Side::Either, number, number, ipv4_numbers(dissection))
+        }
+        IpAddr::V6(address) => {
+            let number = u128::from_be_bytes(address.octets());
+            are_within(Side::Either, number, number, ipv6_numbers(dissection))
+        }
+    }
+}
+
+fn has_port(dissection: &Dissection<'_>, first: u16, last: u16) -> bool
+    ensures { result ≡ has_port dissection.now.layers
+        (lax_layers_of dissection.now.header dissection.now.bytes) dissection.now.fragment first last }
+{
+    are_within(
+        Side::Either,
+        u128::from(first),
+        u128::from(last),
+        ports_of(message_header(dissection)),
+    )
+}
+
+fn is_bad(verdict: Option<Verdict>) -> bool
+    ensures { result ≡ is_bad verdict }
+{
+    matches!(verdict, Some(Verdict::Bad))
+}
+
+fn are_within(side: Side, first: u128, last: u128, ends: Option<(u128, u128)>) -> bool
+    ensures { result ≡ are_within side first last ends }
+{
+    match ends {
+        Some((source, destination)) => holds_at(
+            side,
+            is_within(first, last, source),
+            is_within(first, last, destination),
+        ),
+        None => false,
+    }
+}
+
+fn is_within(first: u128, last: u128, number: u128) -> bool
+    ensures { result ≡ is_within first last number }
+{
+    first <= number && number <= last
+}
+
+fn holds_at(side: Side, source: bool, destination: bool) -> bool
+    ensures { result ≡ holds_at side source destination }
+{
+    match side {
+        Side::Either => source || destination,
+        Side::Source => source,
+        Side::Destination => destination,
+    }
+}
+
+fn ipv4_numbers(dissection: &Dissection<'_>) -> Option<(u128, u128)>
+    ensures { result ≡ ipv4_numbers dissection.now.layers
+        (lax_layers_of dissection.now.header dissection.now.bytes) }
+{
+    match &dissection.layers {
+        Ok(packet) => net_ipv4_numbers(&packet.net),
+        Err(_) => lax_ipv4_numbers(&dissection.lax_layers()),
+    }
+}
+
+fn ipv6_numbers(dissection: &Dissection<'_>) -> Option<(u128, u128)>
+    ensures { result ≡ ipv6_numbers dissection.now.layers
+        (lax_layers_of dissection.now.header dissection.now.bytes) }
+{
+    match &dissection.layers {
+        Ok(packet) => net_ipv6_numbers(&packet.net),
+        Err(_) => lax_ipv6_numbers(&dissection.lax_layers()),
+    }
+}
+
+fn lax_ipv4_numbers(layers: &Option<LaxSlicedPacket<'_>>) -> Option<(u128, u128)>
+    ensures { result ≡ lax_ipv4_numbers layers.now }
+{
+    match layers {
+        Some(packet) => lax_net_ipv4_numbers(&packet.net),
+        None => None,
+    }
+}
+
+fn lax_ipv6_numbers(layers: &Option<LaxSlicedPacket<'_>>) -> Option<(u128, u128)>
+    ensures { result ≡ lax_ipv6_numbers layers.now }
+{
+    match layers {
+        Some(packet) => lax_net_ipv6_numbers(&packet.net),
+        None => None,
+    }
+}
+
+fn net_ipv4_numbers(net: &Option<NetSlice<'_>>) -> Option<(u128, u128)>
+    ensures { result ≡ net_ipv4_numbers net.now }
+{
+    match net {
+        Some(NetSlice::Ipv4(packet)) => {
+            let header = packet.header();
+            Some((
+                ipv4_address(header.source()),
+                ipv4_address(header.destination()),
+            ))
+        }
+        Some(NetSlice::Arp(packet)) => arp_numbers(packet),
+        _ => None,
+    }
+}
+
+fn lax_net_ipv4_numbers(net: &Option<LaxNetSlice<'_>>) -> Option<(u128, u128)>
+    ensures { result ≡ lax_net_ipv4_numbers net.now }
+{
+    match net {
+        Some(LaxNetSlice::Ipv4(packet)) => {
+            let header = packet.header();
+            Some((
+                ipv4_address(header.source()),
+                ipv4_address(header.destination()),
+            ))
+        }
+        Some(LaxNetSlice::Arp(packet)) => arp_numbers(packet),
+        _ => None,
+    }
+}
+
+fn net_ipv6_numbers(net: &Option<NetSlice<'_>>) -> Option<(u128, u128)>
+    ensures { result ≡ net_ipv6_numbers net.now }
+{
+    match net {
+        Some(NetSlice::Ipv6(packet)) => {
+            let header = packet.header();
+            Some((
+                u128::from_be_bytes(header.source()),
+                u128::from_be_bytes(header.destination()),
+            ))
+        }
+        _ => None,
+    }
+}
+
+fn lax_net_ipv6_numbers(net: &Option<LaxNetSlice<'_>>) -> Option<(u128, u128)>
+    ensures { result ≡ lax_net_ipv6_numbers net.now }
+{
+    match net {
+        Some(LaxNetSlice::Ipv6(packet)) => {
+            let header = packet.header();
+            Some((
+                u128::from_be_bytes(header.source()),
+                u128::from_be_bytes(header.destination()),
+            ))
+        }
+        _ => None,
+    }
+}
+
+fn arp_numbers(packet: &ArpPacketSlice<'_>) -> Option<(u128, u128)>
+    ensures { result ≡ arp_numbers packet.now }
+{
+    if packet.proto_addr_type() == EtherType::IPV4 {
+        both_numbers(
+            ipv4_number(packet.sender_protocol_addr()),
+            ipv4_number(packet.target_protocol_addr()),
+        )
+    } else {
+        None
+    }
+}
+
+fn both_numbers(source: Option<u128>, destination: Option<u128>) -> Option<(u128, u128)>
+    ensures { result ≡ both_numbers source destination }
+{
+    match (source, destination) {
+        (Some(source), Some(destination)) => Some((source, destination)),
+        _ => None,
+    }
+}
+
+fn ipv4_number(bytes: &[u8]) -> Option<u128>
+    ensures { result ≡ ipv4_number bytes.now }
+{
+    if bytes.len() == 4 {
+        Some(ipv4_address([bytes[0], bytes[1], bytes[2], bytes[3]]))
+    } else {
+        None
+    }
+}
+
+fn ipv4_address(bytes: [u8; 4]) -> u128
+    ensures { result ≡ from_be_bytes w32 bytes }
+{
+    u128::from(u32::from_be_bytes(bytes))
+}
+
+fn message_header(dissection: &Dissection<'_>) -> Option<MessageHeader>
+    ensures { result ≡ message_header dissection.now.layers
+        (lax_layers_of dissection.now.header dissection.now.bytes) dissection.now.fragment }
+{
+    match &dissection.fragment {
+        Some(Fragment::Completes { message, .. }) => completed_header(message),
+        _ => packet_header(dissection),
+    }
+}
+
+fn completed_header(message: &IpDefragPayloadVec) -> Option<MessageHeader>
+    ensures { result ≡ completed_header
+        (message_at message.now.ip_number.0 message.now.payload.items) }
+{
+    match read_message(message.ip_number, message.payload.as_slice()) {
+        Ok(Message::Tcp(segment)) => Some(segment_header(&segment)),
+        Ok(Message::Udp(datagram)) => Some(datagram_header(&datagram)),
+        _ => None,
+    }
+}
+
+fn packet_header(dissection: &Dissection<'_>) -> Option<MessageHeader>
+    ensures { result ≡ packet_header dissection.now.layers
+        (lax_layers_of dissection.now.header dissection.now.bytes) }
+{
+    match &dissection.layers {
+        Ok(packet) => transport_header(&packet.transport),
+        Err(_) => lax_transport_header(&dissection.lax_layers()),
+    }
+}
+
+fn lax_transport_header(layers: &Option<LaxSlicedPacket<'_>>) -> Option<MessageHeader>
+    ensures { result ≡ lax_transport_header layers.now }
+{
+    match layers {
+        Some(packet) => transport_header(&packet.transport),
+        None => None,
+    }
+}
+
+fn transport_header(transport: &Option<TransportSlice<'_>>) -> Option<MessageHeader>
+    ensures { result ≡ transport_header transport.now }
+{
+    match transport {
+        Some(TransportSlice::Tcp(segment)) => Some(segment_header(segment)),
+        Some(TransportSlice::Udp(datagram)) => Some(datagram_header(datagram)),
+        _ => None,
+    }
+}
+
+fn segment_header(segment: &TcpSlice<'_>) -> MessageHeader
+    ensures { result ≡ segment_header segment.now }
+{
+    MessageHeader {
+        source_port: segment.source_port(),
+        destination_port: segment.destination_port(),
+        fin: segment.fin(),
+        syn: segment.syn(),
+        rst: segment.rst(),
+    }
+}
+
+fn datagram_header(datagram: &UdpSlice<'_>) -> MessageHeader
+    ensures { result ≡ datagram_header datagram.now }
+{
+    MessageHeader {
+        source_port: datagram.source_port(),
+        destination_port: datagram.destination_port(),
+        fin: false,
+        syn: false,
+        rst: false,
+    }
+}
+
+fn ports_of(header: Option<MessageHeader>) -> Option<(u128, u128)>
+    ensures { result ≡ ports_of header }
+{
+    match header {
+        Some(header) => Some((
+            u128::from(header.source_port),
+            u128::from(header.destination_port),
+        )),
+        None => None,
+    }
+}
+
+fn has_flag(flag: TcpFlag, header: Option<MessageHeader>) -> bool
+    ensures { result ≡ has_flag flag header }
+{
+    match (flag, header) {
+        (TcpFlag::Fin, Some(header)) => header.fin,
+        (TcpFlag::Syn, Some(header)) => header.syn,
+        (TcpFlag::Rst, Some(header)) => header.rst,
+        (_, None) => false,
+    }
+}
+
+fn is_any_within(ids: &[VlanId], first: u16, last: u16) -> bool
+    ensures { result ≡ list_any (λ id. is_within first last id) ids.now }
+{
+    for id in ids {
+        if first <= id.value() && id.value() <= last {
+            return true;
+        }
+    }
+    false
+}
+
+fn has_vlan_id(dissection: &Dissection<'_>, first: u16, last: u16) -> bool
+    ensures { result ≡ has_vlan_id dissection.now.layers
+        (lax_layers_of dissection.now.header dissection.now.bytes) first last }
+{
+    match &dissection.layers {
+        Ok(packet) => {
+            let ids = packet.vlan_ids();
+            is_any_within(ids.as_slice(), first, last)
+        }
+        Err(_) => lax_has_vlan_id(&dissection.lax_layers(), first, last),
+    }
+}
+
+fn lax_has_vlan_id(layers: &Option<LaxSlicedPacket<'_>>, first: u16, last: u16) -> bool
+    ensures { result ≡ lax_has_vlan_id layers.now first last }
+{
+    match layers {
+        Some(packet) => {
+            let ids = packet.vlan_ids();
+            is_any_within(ids.as_slice(), first, last)
+        }
+        None => false,
+    }
+}
