@@ -1,10 +1,9 @@
 //! ICMP messages.
 
-use crate::json::fields::{Hex, begin, number, numbers, printed};
+use crate::json::fields::{Hex, begin, ipv4_address, number, numbers, printed};
 use ep_icmp::icmpv4::{DestUnreachableHeader, ParameterProblemHeader, TimestampMessage};
 use ep_icmp::{IcmpEchoHeader, Icmpv4Slice, Icmpv4Type, Icmpv6Slice, Icmpv6Type};
 use serde::Serializer;
-use std::net::Ipv4Addr;
 
 /// The header of a message over IPv4, with the fields that its kind has. It has no contract: tests
 /// compare the texts.
@@ -35,10 +34,10 @@ fn fields_of_icmpv4<S: Serializer>(out: &mut S, icmp_type: Icmpv4Type) -> Result
         Icmpv4Type::DestinationUnreachable(
             DestUnreachableHeader::FragmentationNeeded { next_hop_mtu },
         ) => number(out, "next_hop_mtu", next_hop_mtu.into()),
-        Icmpv4Type::Redirect(header) => printed(
+        Icmpv4Type::Redirect(header) => ipv4_address(
             out,
             "gateway_internet_address",
-            &Ipv4Addr::from(header.gateway_internet_address),
+            header.gateway_internet_address,
         ),
         Icmpv4Type::ParameterProblem(ParameterProblemHeader::PointerIndicatesError(pointer)) => {
             number(out, "pointer", pointer.into())

@@ -3,10 +3,10 @@
 use crate::source_route::summed_addresses;
 use ep_packet::{Addresses, LaxNetSlice, LaxSlicedPacket, NetSlice, SlicedPacket};
 use header_descriptions::json::arp::arp;
-use header_descriptions::json::fields::{begin, printed, text};
+use header_descriptions::json::fields::{begin, ipv4_address, printed, text};
 use header_descriptions::json::ip::{ipv4, ipv6};
 use serde::Serializer;
-use std::net::{Ipv4Addr, Ipv6Addr};
+use std::net::Ipv6Addr;
 
 /// The packet of the network layer, if there is one. It has no contract: tests compare the texts.
 pub(crate) fn member<S: Serializer>(
@@ -53,7 +53,7 @@ pub(crate) fn final_destination<S: Serializer>(
     match (&layers.net, end) {
         (Some(NetSlice::Ipv4(packet)), Some(Addresses::V4 { destination, .. }))
             if destination != packet.header().destination() => {
-            printed(out, name, &Ipv4Addr::from(destination))
+            ipv4_address(out, name, destination)
         }
         (Some(NetSlice::Ipv6(packet)), Some(Addresses::V6 { destination, .. }))
             if destination != packet.header().destination() => {
