@@ -195,6 +195,26 @@ OF_FLAGS = (
     ("rst", "tcp[tcpflags] & tcp-rst != 0", (5, 6)),
     ("not (syn or fin or rst)", "tcp[tcpflags] & (tcp-syn|tcp-fin|tcp-rst) == 0", (3,)),
 )
+# Conditions are about an error itself, and not about the datagram in it: that went from 10.0.0.2 or 2001:db8::2 and port 5353 or
+# 443 to 192.0.2.9 or 2001:db8:9::9 and port 53 or 51234. In the 43rd packet the error's own checksum is bad, in the 44th that of the
+# datagram.
+OF_ICMP_ERRORS = (
+    (("host=192.0.2.9",), ()),
+    (("host=2001:db8::2",), ()),
+    (("port=53",), ()),
+    (("port=5353",), ()),
+    (("port=443",), ()),
+    (("udp",), ()),
+    (("ip6",), ()),
+    (("fragments",), ()),
+    (("bad",), (43,)),
+    (("icmp", "host=10.0.0.2"), tuple(range(1, 46))),
+)
+# Of captures of scapy's packets.
+OF_MADE = {"icmp_errors": OF_ICMP_ERRORS}
+UNKNOWN = (
+    "no protocol, and not `bad`, `refused`, `fragments`, `cut`, `host=ADDRESS` or `port=NUMBER`"
+)
 ADDRESS = "no IP address behind `host`"
 PORT = "no number up to 65535, and no range, behind `port`"
 DEEP = 257

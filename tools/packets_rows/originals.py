@@ -15,6 +15,7 @@ from scapy.layers.inet import TCP
 C4, C6 = "192.0.2.9", "2001:db8:9::9"
 ENDS4, ENDS6 = f"{B4} > {C4}", f"{B6} > {C6}"
 PORTS4, PORTS6 = f"{B4}.5353 > {C4}.53", f"{B6}.5353 > {C6}.53"
+TCP4 = f"{B4}.443 > {C4}.51234 TCP"
 # Type and code, bytes 4 to 7, the words, and what the kind has.
 OVER_IPV4 = (
     (3, 3, bytes(4), "port unreachable", {}),
@@ -34,6 +35,8 @@ OVER_IPV6 = (
 # No errors, though a datagram follows.
 OTHERS_OVER_IPV4 = ((0, 1, bytes(4), "echo reply code 1", {}), (6, 0, bytes(4), "type 6", {}), (10, 0, bytes(4), "router solicitation", {}))
 OTHERS_OVER_IPV6 = ((5, 0, bytes(4), "type 5", {}), (129, 1, bytes(4), "echo reply code 1", {}), (137, 0, bytes(4), "redirect", {}))
+
+VERDICTS = {"good": "good", "bad": "bad checksum"}
 
 
 @dataclasses.dataclass
@@ -69,14 +72,16 @@ def udp6(payload=b"abc"):
     return udp(payload, B6, C6, (5353, 53))
 
 
-def error4(row, it):
+def error4(row, it, check="good"):
     """An error over IPv4, from a host between the two."""
     kind, code, rest, words, more = row
     message = icmp(kind, code, rest + it.data)
+    if check == "bad":
+        message = flipped(message, 3)
     about = f"({it.words})" if it.words else f"len {len(it.data)}"
     more = more | ({"original_datagram": it.members} if it.members else {})
-    line = f"{A4} > {B4} ICMP {words} {about}  good"
-    return ip_packet(v4(1, message), line, ("ICMP",), "good", None, fields.icmp("Icmpv4", message, more), it.data)
+    line = f"{A4} > {B4} ICMP {words} {about}  {VERDICTS[check]}"
+    return ip_packet(v4(1, message), line, ("ICMP",), check, None, fields.icmp("Icmpv4", message, more), it.data)
 
 
 def error6(row, it):
@@ -88,53 +93,82 @@ def error6(row, it):
     return ip_packet(v6(58, message), line, ("ICMPv6",), "good", None, fields.icmp("Icmpv6", message, more), it.data)
 
 
+def flipped(message, at):
+    """The message with the lowest bit of this byte changed."""
+    return message[:at] + bytes([message[at] ^ 1]) + message[at + 1 :]
+
+
 def segment(ends):
     return tcp(b"abc", *ends, flags="S", seq=7, window=1)
 
 
+def whole4():
+    datagram = udp4()
+    return original(from4(17, datagram), f"{PORTS4} UDP", fields.udp(datagram))
+
+
 def over_ipv4():
     """Each kind of error, about UDP, TCP and an echo request; then what is there in part."""
-    datagram, stream, echo = udp4(), segment((B4, C4)), icmp(8, 0, b"\0\7\0\2ping")
-    whole = original(from4(17, datagram), f"{PORTS4} UDP", fields.udp(datagram))
-    ports = f"{B4}.443 > {C4}.51234 TCP"
+    whole, stream, echo = whole4(), segment((B4, C4)), icmp(8, 0, b"\0\7\0\2ping")
     for row in OVER_IPV4:
         yield error4(row, whole)
-        yield error4(row, original(from4(6, stream), ports, fields.tcp(TCP(stream))))
+        yield error4(row, original(from4(6, stream), TCP4, fields.tcp(TCP(stream))))
         yield error4(row, original(from4(1, echo), f"{ENDS4} ICMP", fields.icmp("Icmpv4", echo, {"id": 7, "seq": 2})))
     for row in OTHERS_OVER_IPV4:
         yield error4(row, Original(whole.data))
-    row = OVER_IPV4[0]
-    # The least that RFC 792 has: the IP header and 8 bytes. Of TCP the ports are among them.
-    yield error4(row, original(from4(17, datagram), f"{PORTS4} UDP", fields.udp(datagram), size=28))
-    yield error4(row, original(from4(6, stream), ports, None, (443, 51234), 28))
-    yield error4(row, original(from4(6, stream), ports, None, (443, 51234), 39))
-    # Options, an authentication header (RFC 4302), and a protocol that isn't read.
-    ip = from4(17, datagram, options=bytes.fromhex("9404000000000000"))
-    yield error4(row, original(ip, f"{PORTS4} UDP", fields.udp(datagram)))
-    ip = from4(51, struct.pack("!BBHII", 17, 4, 0, 0x1001, 7) + b"0123456789ab" + datagram)
-    net = fields.ipv4(ip, fields.auth(17, 0x1001, 7, b"0123456789ab"))
-    yield error4(row, original(ip, f"{PORTS4} UDP", fields.udp(datagram), net=net))
-    yield error4(row, original(ip, f"{ENDS4} AH", size=40))
-    yield error4(row, original(from4(132, bytes.fromhex("01bbc82200000000")), f"{ENDS4} SCTP"))
-    # Fragments, the first one with a UDP header, have their offset.
-    ip = from4(17, datagram, flags="MF", id=9)
-    yield error4(row, original(ip, f"{ENDS4} UDP fragment at 0"))
-    yield error4(row, original(from4(17, datagram, frag=185), f"{ENDS4} UDP fragment at 1480"))
-    # An error about an error: no more than that it is one.
-    inner = icmp(3, 3, bytes(4) + whole.data)
-    yield error4(row, original(from4(1, inner), f"{ENDS4} ICMP", fields.icmp("Icmpv4", inner, {})))
+    for it in (*parts_over_ipv4(stream), *headers_over_ipv4(), *fragments_over_ipv4()):
+        yield error4(OVER_IPV4[0], it)
     # The length attribute of RFC 4884: 128 bytes, then an extension.
     extended = whole.data.ljust(128, b"\0") + bytes.fromhex("2000dfff00080f0100000001")
     yield error4((11, 0, b"\0\x20\0\0", "time to live exceeded", {}), dataclasses.replace(whole, data=extended))
-    # A length of UDP and of IP that is wrong, a TCP header of 4 words.
-    short = udp4(len=4)
-    yield error4(row, original(from4(17, short), f"{PORTS4} UDP", fields.udp(short)))
-    yield error4(row, original(from4(17, datagram, len=19), f"{PORTS4} UDP", fields.udp(datagram)))
+    for it in faults_over_ipv4():
+        yield error4(OVER_IPV4[0], it)
+    # The verdict is that of the error: a bad one, and a good one about a datagram with a bad checksum.
+    yield error4(OVER_IPV4[0], whole, "bad")
+    datagram = flipped(udp4(), 7)
+    yield error4(OVER_IPV4[0], original(from4(17, datagram), f"{PORTS4} UDP", fields.udp(datagram)))
+    # The other IP version.
+    yield error4(OVER_IPV4[0], whole6())
+
+
+def parts_over_ipv4(stream):
+    """The least that RFC 792 has: the IP header and 8 bytes. Of TCP the ports are among them."""
+    datagram = udp4()
+    yield original(from4(17, datagram), f"{PORTS4} UDP", fields.udp(datagram), size=28)
+    yield original(from4(6, stream), TCP4, None, (443, 51234), 28)
+    yield original(from4(6, stream), TCP4, None, (443, 51234), 39)
+
+
+def headers_over_ipv4():
+    """Options, an authentication header (RFC 4302), a protocol that isn't read; an error about an error: no more than that it is one."""
+    datagram = udp4()
+    ip = from4(17, datagram, options=bytes.fromhex("9404000000000000"))
+    yield original(ip, f"{PORTS4} UDP", fields.udp(datagram))
+    ip = from4(51, struct.pack("!BBHII", 17, 4, 0, 0x1001, 7) + b"0123456789ab" + datagram)
+    net = fields.ipv4(ip, fields.auth(17, 0x1001, 7, b"0123456789ab"))
+    yield original(ip, f"{PORTS4} UDP", fields.udp(datagram), net=net)
+    yield original(ip, f"{ENDS4} AH", size=40)
+    yield original(from4(132, bytes.fromhex("01bbc82200000000")), f"{ENDS4} SCTP")
+    inner = icmp(3, 3, bytes(4) + whole4().data)
+    yield original(from4(1, inner), f"{ENDS4} ICMP", fields.icmp("Icmpv4", inner, {}))
+
+
+def fragments_over_ipv4():
+    """Fragments, the first one with a UDP header, have their offset."""
+    datagram = udp4()
+    yield original(from4(17, datagram, flags="MF", id=9), f"{ENDS4} UDP fragment at 0")
+    yield original(from4(17, datagram, frag=185), f"{ENDS4} UDP fragment at 1480")
+
+
+def faults_over_ipv4():
+    """A length of UDP and of IP that is wrong, a TCP header of 4 words; and no IP header: another version, a header of 16 bytes."""
+    datagram, short = udp4(), udp4(len=4)
+    yield original(from4(17, short), f"{PORTS4} UDP", fields.udp(short))
+    yield original(from4(17, datagram, len=19), f"{PORTS4} UDP", fields.udp(datagram))
     broken = tcp(b"", B4, C4, flags="S", dataofs=4)
-    yield error4(row, original(from4(6, broken), ports, None, (443, 51234)))
-    # No IP header: another version, a header of 16 bytes.
+    yield original(from4(6, broken), TCP4, None, (443, 51234))
     for data in (b"\xff" * 28, bytes(28), bytes(from4(17, datagram, version=5)), bytes(from4(17, datagram, ihl=4))):
-        yield error4(row, Original(data))
+        yield Original(data)
 
 
 def cut_over_ipv4():
@@ -150,9 +184,14 @@ def cut_over_ipv4():
         yield error4(OVER_IPV4[0], it)
 
 
+def whole6():
+    datagram = udp6()
+    return original(from6(17, datagram), f"{PORTS6} UDP", fields.udp(datagram))
+
+
 def over_ipv6():
     datagram, stream, echo = udp6(), segment((B6, C6)), icmp(128, 0, b"\0\7\0\2ping", B6, C6)
-    whole = original(from6(17, datagram), f"{PORTS6} UDP", fields.udp(datagram))
+    whole = whole6()
     ports = f"{B6}.443 > {C6}.51234 TCP"
     for row in OVER_IPV6:
         yield error6(row, whole)
@@ -182,6 +221,8 @@ def over_ipv6():
     yield error6(row, original(from6(58, inner), f"{ENDS6} ICMPv6", fields.icmp("Icmpv6", inner, {})))
     for data in (b"\xff" * 48, bytes(48)):
         yield error6(row, Original(data))
+    # The other IP version.
+    yield error6(row, whole4())
 
 
 def cut_over_ipv6():
