@@ -22,7 +22,8 @@ is_icmpv4_error kind = (kind == 3) || (kind == 4) || (kind == 5) || (kind == 11)
 abbrev pub is_icmpv6_error : ℕ → Bool
 is_icmpv6_error kind = (kind == 1) || (kind == 2) || (kind == 3) || (kind == 4)
 
--- the headers that are there of the datagram after the 8 bytes of an ICMP header, if its IP header is
+-- the headers that are there of the datagram after the 8 bytes of an ICMP header, if its IP header is.
+-- It is of either IP version, over both
 abbrev pub datagram_after_header : List ℕ → Option LaxSlicedPacket
 datagram_after_header message = if_read (lax_sliced_ip (drop 8 message))
 

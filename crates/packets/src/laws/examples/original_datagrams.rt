@@ -22,8 +22,9 @@ pub fn types_of_errors()
         × (is_icmpv6_error 128 ≡ false) × (is_icmpv6_error 137 ≡ false) }
 {}
 
-/// An error over IPv4 about a UDP datagram of 12 bytes, of which 8 are there, and one of which the IP
-/// header ends a byte early; and an echo request that carries the same.
+/// Errors over IPv4 about a UDP datagram of 12 bytes, of which 8 are there, and about a packet of SCTP
+/// of which only the IP header is there; errors of which the IP header ends a byte early, or isn't
+/// there at all; an echo request that carries the same datagram; and an error about one over IPv6.
 pub fn errors_over_ipv4()
     ensures unreachable { original_in_icmpv4
         (icmp_with 3 (ipv4_header 17 ++ take 8 (datagram_with 0x11 0xef)))
@@ -31,17 +32,25 @@ pub fn errors_over_ipv4()
         (Some (transport.Udp (take 8 (datagram_with 0x11 0xef))))) }
     ensures without_message { original_in_icmpv4 (icmp_with 11 (ipv4_header 132))
         ≡ Some (in_part (Some (ipv4_in_part 132 [])) None) }
+    ensures other_version { original_in_icmpv4
+        (icmp_with 3 (ipv6_header ++ take 8 (datagram_with 0x11 0xef)))
+        ≡ Some (in_part (Some (ipv6_in_part (take 8 (datagram_with 0x11 0xef))))
+        (Some (transport.Udp (take 8 (datagram_with 0x11 0xef))))) }
     ensures in_header { original_in_icmpv4 (icmp_with 3 (take 19 (ipv4_header 17))) ≡ None }
     ensures nothing { original_in_icmpv4 (icmp_with 3 []) ≡ None }
     ensures echo { original_in_icmpv4
         (icmp_with 8 (ipv4_header 17 ++ take 8 (datagram_with 0x11 0xef))) ≡ None }
 {}
 
-/// The same over IPv6.
+/// The same over IPv6, and an error about a datagram over IPv4.
 pub fn errors_over_ipv6()
     ensures too_big { original_in_icmpv6
         (icmp_with 2 (ipv6_header ++ take 8 (datagram_with 0x11 0xef)))
         ≡ Some (in_part (Some (ipv6_in_part (take 8 (datagram_with 0x11 0xef))))
+        (Some (transport.Udp (take 8 (datagram_with 0x11 0xef))))) }
+    ensures other_version { original_in_icmpv6
+        (icmp_with 2 (ipv4_header 17 ++ take 8 (datagram_with 0x11 0xef)))
+        ≡ Some (in_part (Some (ipv4_in_part 17 (take 8 (datagram_with 0x11 0xef))))
         (Some (transport.Udp (take 8 (datagram_with 0x11 0xef))))) }
     ensures in_header { original_in_icmpv6 (icmp_with 2 (take 39 ipv6_header)) ≡ None }
     ensures echo { original_in_icmpv6
