@@ -438,18 +438,23 @@ typedef struct {
 /* The fields of a packet as far as it is there, also where it was cut off or a header breaks its
    format. */
 typedef struct {
-    /* The layers that are there. Where a length field says more than is there, the payload ends with
-       the bytes that were passed. Its `refusal` says why not even the first header can be read: the
-       link header, or the IP header of a packet without one. */
+    /* The layers that are there. Its `refusal` says why not even the first header can be read: the
+       link header, or the IP header of a packet without one. Where a length field says more than is
+       there, the payload ends with the bytes that were passed. Also where the total length of IPv4
+       is less than its header, the payload is all that follows. A UDP length that doesn't fit isn't
+       a fault here. So a packet without a stop of which nothing is missing may still be refused by
+       `ep_slice_ethernet`. Where an extension header stopped the reading, the IP payload starts with
+       it, and `payload_number` is its number. */
     ep_packet packet;
     /* Why the reading stopped before the end: the refusal of the first layer after these. All fields
        are 0 where it didn't stop. */
     ep_refusal stop;
-    /* The layer that was being read when it stopped, numbered as the layer of a refusal; 0 where it
-       didn't stop. */
+    /* The layer that was being read when it stopped, numbered as the layer of a refusal: it says
+       which extension header, where `stop.layer` is EP_LAYER_IPV6_EXT_HEADER. 0 where it didn't
+       stop. */
     uint32_t stop_layer;
     /* Whether bytes are missing that the length field of IPv4, IPv6 or MACsec counts: bytes of the
-       payload of `ipv4` or `ipv6`, or where neither is there, of `ether_payload`. */
+       payload of `ipv4` or `ipv6`, or where neither is there, of what follows the tags. */
     bool incomplete;
 } ep_lax_packet;
 
@@ -566,8 +571,9 @@ uint32_t ep_pool_new(ep_pool *pool);
    the pool isn't open or keeps a message: then nothing is changed. */
 ep_added ep_pool_add(ep_pool *pool, const uint8_t *frame, size_t frame_len, uint64_t time, uint32_t channel, uint8_t *output, size_t output_len);
 
-/* Takes a packet of a Linux cooked capture, as `ep_pool_add` takes a frame. All frames of a pool
-   may come from captures of different kinds. */
+/* Takes a packet of a Linux cooked capture, as `ep_pool_add` takes a frame. One pool may take
+   frames, cooked captures and IP packets. Fragments belong together whatever they came in, if
+   channel and VLAN identifiers are the same; an IP packet has none. */
 ep_added ep_pool_add_linux_sll(ep_pool *pool, const uint8_t *packet, size_t packet_len, uint64_t time, uint32_t channel, uint8_t *output, size_t output_len);
 
 /* Takes an IP packet of either version, as `ep_pool_add` takes a frame. */

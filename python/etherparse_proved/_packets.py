@@ -164,11 +164,17 @@ def _stop(_: bytes, raw: bytes, at: int) -> Optional[Refused]:
 class LaxPacket(Packet):
     """A packet as far as it is there, also where it was cut off or a header breaks its format.
 
-    Where a length field says more than is there, the payload ends with the packet's bytes. `stop` says why the reading
-    stopped before the end, if it did: the refusal of the first layer that isn't there. `stop_layer` is then the number that
-    the layer that was being read has in etherparse.h, else 0. `incomplete` says whether bytes are missing that the length
-    field of IPv4, IPv6 or MACsec counts: of the payload of the IP packet, or where there is none, of what the last ether
-    type names.
+    Where a length field says more than is there, the payload ends with the packet's bytes. Also where the total length of
+    IPv4 is less than its header, the payload is all that follows. A UDP length that doesn't fit isn't a fault here. So a
+    packet without a stop of which nothing is missing may still be refused by the strict calls.
+
+    `stop` says why the reading stopped before the end, if it did: the refusal of the first layer that isn't there.
+    `stop_layer` is then the number that the layer that was being read has in etherparse.h, else 0: it says which extension
+    header, where the refusal's layer is that of any of IPv6. Where an extension header stopped the reading, the IP payload
+    starts with it, and `payload_number` is its number.
+
+    `incomplete` says whether bytes are missing that the length field of IPv4, IPv6 or MACsec counts: of the payload of the
+    IP packet, or where there is none, of what follows the tags.
     """
 
     stop: Optional[Refused]
@@ -208,12 +214,18 @@ def slice_ethernet_lax(frame: Buffer) -> LaxPacket:
 
 
 def slice_linux_sll_lax(packet: Buffer) -> LaxPacket:
-    """The same of a packet of a Linux cooked capture; raises Refused where its link header isn't whole or breaks its format."""
+    """Slices a packet of a Linux cooked capture as far as it is there.
+
+    Raises Refused where its link header isn't whole or breaks its format.
+    """
     return _sliced(etherparse.ep_slice_linux_sll_lax, LaxPacket, "packet", packet)
 
 
 def slice_ip_lax(packet: Buffer) -> LaxPacket:
-    """The same of an IP packet of either version; raises Refused where its IP header isn't whole or breaks its format."""
+    """Slices an IP packet of either version as far as it is there.
+
+    Raises Refused where its IP header isn't whole or breaks its format.
+    """
     return _sliced(etherparse.ep_slice_ip_lax, LaxPacket, "packet", packet)
 
 

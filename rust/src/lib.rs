@@ -48,12 +48,13 @@ pub fn slice_ethernet_lax(frame: &[u8]) -> Result<LaxPacket<'_>, Refusal> {
     LaxPacket::from_raw(frame, unsafe { raw::ep_slice_ethernet_lax(frame.as_ptr(), frame.len()) })
 }
 
-/// The same of a packet of a Linux cooked capture. Refused is one whose link header isn't whole or breaks its format.
+/// Slices a packet of a Linux cooked capture as far as it is there. Refused is one whose link header isn't whole or breaks its
+/// format.
 pub fn slice_linux_sll_lax(packet: &[u8]) -> Result<LaxPacket<'_>, Refusal> {
     LaxPacket::from_raw(packet, unsafe { raw::ep_slice_linux_sll_lax(packet.as_ptr(), packet.len()) })
 }
 
-/// The same of an IP packet of either version. Refused is one whose IP header isn't whole or breaks its format.
+/// Slices an IP packet of either version as far as it is there. Refused is one whose IP header isn't whole or breaks its format.
 pub fn slice_ip_lax(packet: &[u8]) -> Result<LaxPacket<'_>, Refusal> {
     LaxPacket::from_raw(packet, unsafe { raw::ep_slice_ip_lax(packet.as_ptr(), packet.len()) })
 }

@@ -12,6 +12,9 @@ pub struct Packet<'a> {
 }
 
 /// A packet as far as it is there, also where it was cut off or a header breaks its format.
+///
+/// Also where the total length of IPv4 is less than its header, the payload is all that follows. A UDP length that doesn't
+/// fit isn't a fault here. So a packet without a stop of which nothing is missing may still be refused by the strict calls.
 #[derive(Clone, Debug)]
 pub struct LaxPacket<'a> {
     packet: Packet<'a>,
@@ -24,7 +27,7 @@ pub struct LaxPacket<'a> {
 pub struct Stop {
     /// The refusal of the first layer that isn't there.
     pub refusal: Refusal,
-    /// The layer that was being read.
+    /// The layer that was being read: it says which extension header, where the refusal's layer is that of any of IPv6.
     pub layer: Layer,
 }
 
@@ -36,6 +39,7 @@ impl<'a> LaxPacket<'a> {
     }
 
     /// The layers that are there. Where a length field says more than is there, the payload ends with the packet's bytes.
+    /// Where an extension header stopped the reading, the IP payload starts with it, and `payload_number` is its number.
     #[must_use]
     pub fn packet(&self) -> &Packet<'a> {
         &self.packet
@@ -48,7 +52,7 @@ impl<'a> LaxPacket<'a> {
     }
 
     /// Whether bytes are missing that the length field of IPv4, IPv6 or MACsec counts: of the payload of the IP packet, or
-    /// where there is none, of what the last ether type names.
+    /// where there is none, of what follows the tags.
     #[must_use]
     pub fn is_incomplete(&self) -> bool {
         self.incomplete

@@ -532,18 +532,23 @@ pub struct EpPacket {
 #[repr(C)]
 #[derive(Clone, Copy, Debug, PartialEq, Eq)]
 pub struct EpLaxPacket {
-    /// The layers that are there. Where a length field says more than is there, the payload ends
-    /// with the bytes that were passed. Its `refusal` says why not even the first header can be
-    /// read: the link header, or the IP header of a packet without one.
+    /// The layers that are there. Its `refusal` says why not even the first header can be read: the
+    /// link header, or the IP header of a packet without one. Where a length field says more than is
+    /// there, the payload ends with the bytes that were passed. Also where the total length of IPv4
+    /// is less than its header, the payload is all that follows. A UDP length that doesn't fit isn't
+    /// a fault here. So a packet without a stop of which nothing is missing may still be refused by
+    /// `ep_slice_ethernet`. Where an extension header stopped the reading, the IP payload starts with
+    /// it, and `payload_number` is its number.
     pub packet: EpPacket,
     /// Why the reading stopped before the end: the refusal of the first layer after these. All
     /// fields are 0 where it didn't stop.
     pub stop: EpRefusal,
-    /// The layer that was being read when it stopped, numbered as the layer of a refusal; 0 where
-    /// it didn't stop.
+    /// The layer that was being read when it stopped, numbered as the layer of a refusal: it says
+    /// which extension header, where `stop.layer` is EP_LAYER_IPV6_EXT_HEADER. 0 where it didn't
+    /// stop.
     pub stop_layer: u32,
     /// Whether bytes are missing that the length field of IPv4, IPv6 or MACsec counts: bytes of the
-    /// payload of `ipv4` or `ipv6`, or where neither is there, of `ether_payload`.
+    /// payload of `ipv4` or `ipv6`, or where neither is there, of what follows the tags.
     pub incomplete: bool,
 }
 

@@ -65,8 +65,9 @@ pub extern "C" fn ep_pool_add(
     )
 }
 
-/// Takes a packet of a Linux cooked capture, as `ep_pool_add` takes a frame. All frames of a pool
-/// may come from captures of different kinds.
+/// Takes a packet of a Linux cooked capture, as `ep_pool_add` takes a frame. One pool may take
+/// frames, cooked captures and IP packets. Fragments belong together whatever they came in, if
+/// channel and VLAN identifiers are the same; an IP packet has none.
 #[unsafe(no_mangle)]
 pub extern "C" fn ep_pool_add_linux_sll(
     alloc: Global,

@@ -1,8 +1,13 @@
 -- The parts of a packet as far as it is there, in its bytes.
-use Rattle.std.proofs.Common.{◌≡◌, sym, subst, refl, ℕ, zero, suc, ◌+◌, ◌≤◌, ◌==◌, List, []}
+use Rattle.std.proofs.Common.{◌≡◌, ◌∙◌, ap, sym, subst, refl, ℕ, zero, suc, ◌+◌, ◌-◌, ◌≤◌, ◌==◌, Bool, false, List, []}
 use Rattle.std.proofs.Common.{◌∷◌, length, take, drop, Option, Some, None, Result, Ok, Err, IfOk, IfSome, arith}
 use Rattle.std.proofs.lemmas.Bool.{ltb-false}
+use Rattle.std.specs.List.{slice_get}
+use Rattle.std.specs.Option.{option_map}
 use Rattle.etherparse.specs.base.declared.err.layer.Layer.{Layer}
+use Rattle.etherparse.specs.base.declared.len_source.LenSource.{LenSource}
+use Rattle.etherparse.specs.base.declared.len_source.LenSource.TheVariants.{Slice}
+use Rattle.etherparse.specs.packet.LaxView.{bound_after, bounded, lax_named_by}
 use Rattle.etherparse.specs.base.declared.err.layer.Layer.TheVariants.{VlanHeader}
 use Rattle.etherparse.specs.base.declared.err.len_error.LenError.{LenError}
 use Rattle.etherparse.specs.base.declared.err.slice_error.SliceError.{SliceError as HeaderSliceError}
@@ -196,10 +201,16 @@ tag_of p =
     (chosen P (is_macsec_type p.ether_type) _ _
     (macsec_after p.payload (header_at p.payload) refl) tt)
 
--- tags, and what the last of them names
-record TagsAt (bytes : List ℕ) (t : LaxTagged) : Type 0 where
+-- what the last of tags names, or without one this
+abbrev named_last : Option LaxEtherPayload → List LaxLinkExtSlice → Option LaxEtherPayload
+named_last o [] = o
+named_last o (t ∷ tags) = named_last (lax_payload_after t) tags
+
+-- tags after this payload, what the last of them names, and what is read after them
+record TagsAt (bytes : List ℕ) (o : Option LaxEtherPayload) (t : LaxTagged) : Type 0 where
   tags_at : AreLaxTagsAt bytes 0 t.tags
   size : t.len ≡ lax_tags_len t.tags
+  named_at : IfSome (named_last o t.tags) (λ q. IsAt bytes t.len q.payload)
   last_at : IfSome t.last (λ q. IsAt bytes t.len q.payload)
 
 tag_later : (frame bytes : List ℕ) (position p q : ℕ) (t : LaxLinkExtSlice) → position + p ≡ q
@@ -228,11 +239,18 @@ last_later frame bytes position p q (Some next) sum at here =
     at_later frame bytes next.payload position p q sum at here
 
 further : (read : LaxEtherPayload → LaxTagged) (bytes : List ℕ) (t : LaxLinkExtSlice)
-    (next : Option LaxEtherPayload) → ((q : LaxEtherPayload) → TagsAt q.payload (read q))
+    (o next : Option LaxEtherPayload) → lax_payload_after t ≡ next
+    → ((q : LaxEtherPayload) → TagsAt q.payload (Some q) (read q))
     → IsLaxTagAt bytes 0 t → IfSome next (λ q. IsAt bytes (lax_tag_len t) q.payload)
-    → TagsAt bytes (joined (t ∷ []) (lax_tag_len t) (lax_read_further read next))
-further read bytes t None each at named = record { tags_at = (at, tt); size = refl; last_at = tt }
-further read bytes t (Some q) each at named =
+    → TagsAt bytes o (joined (t ∷ []) (lax_tag_len t) (lax_read_further read next))
+further read bytes t o None is each at named = record {
+  tags_at = (at, tt);
+  size = refl;
+  named_at = subst (λ (n : Option LaxEtherPayload). IfSome n (λ q. IsAt bytes (lax_tag_len t + 0) q.payload))
+      (sym is) tt;
+  last_at = tt;
+}
+further read bytes t o (Some q) is each at named =
     let more = each q in
     record {
       tags_at = (
@@ -241,22 +259,28 @@ further read bytes t (Some q) each at named =
             named more.tags_at,
       );
       size = omega (arith, more.size);
+      named_at = subst (λ (n : Option LaxEtherPayload). IfSome (named_last n (read q).tags)
+          (λ next. IsAt bytes (lax_tag_len t + (read q).len) next.payload)) (sym is)
+          (last_later bytes q.payload (lax_tag_len t) (read q).len (lax_tag_len t + (read q).len)
+          (named_last (Some q) (read q).tags) refl named more.named_at);
       last_at = last_later bytes q.payload (lax_tag_len t) (read q).len (lax_tag_len t + (read q).len)
           (read q).last refl named more.last_at;
     }
 
 from_tag : (read : LaxEtherPayload → LaxTagged) (p : LaxEtherPayload)
     (found : Result (Option LaxLinkExtSlice) Stop)
-    → ((q : LaxEtherPayload) → TagsAt q.payload (read q))
-    → IfOk found (λ o. IfSome o (TagAt p.payload)) → TagsAt p.payload (lax_from_tag read p found)
-from_tag read p (Err stop) each here = record { tags_at = tt; size = refl; last_at = tt }
-from_tag read p (Ok None) each here = record { tags_at = tt; size = refl; last_at = at_whole p.payload }
+    → ((q : LaxEtherPayload) → TagsAt q.payload (Some q) (read q))
+    → IfOk found (λ o. IfSome o (TagAt p.payload)) → TagsAt p.payload (Some p) (lax_from_tag read p found)
+from_tag read p (Err stop) each here =
+    record { tags_at = tt; size = refl; named_at = at_whole p.payload; last_at = tt }
+from_tag read p (Ok None) each here =
+    record { tags_at = tt; size = refl; named_at = at_whole p.payload; last_at = at_whole p.payload }
 from_tag read p (Ok (Some t)) each here =
-    further read p.payload t (lax_payload_after t) each here.tag_at here.next
+    further read p.payload t (Some p) (lax_payload_after t) refl each here.tag_at here.next
 
-tags_at : (n : ℕ) (p : LaxEtherPayload) → TagsAt p.payload (lax_tags_in n p)
+tags_at : (n : ℕ) (p : LaxEtherPayload) → TagsAt p.payload (Some p) (lax_tags_in n p)
 unfolding lax_tags_in
-tags_at zero p = record { tags_at = tt; size = refl; last_at = at_whole p.payload }
+tags_at zero p = record { tags_at = tt; size = refl; named_at = at_whole p.payload; last_at = at_whole p.payload }
 tags_at (suc n) p = from_tag (lax_tags_in n) p (lax_tag_at p) (tags_at n) (tag_of p)
 
 -- the layers after the tags
@@ -267,11 +291,31 @@ layers_in bytes position None at = no_layer bytes position
 layers_in bytes position (Some q) at =
     layers_later bytes q.payload position (lax_layers_of q).net (lax_layers_of q).transport at (layers_at q)
 
+-- what the last ether type names, by the tag of the last index
+named_of : (header : Option LinkSlice) (t : LaxLinkExtSlice) (tags : List LaxLinkExtSlice)
+    → lax_named_by header (slice_get (t ∷ tags) (length tags)) ≡ named_last (lax_payload_after t) tags
+named_of header t [] = refl
+named_of header t (u ∷ tags) = named_of header u tags
+
+is_named : (header : Option LinkSlice) (o : Option LaxEtherPayload) → lax_named_by header None ≡ o
+    → (tags : List LaxLinkExtSlice)
+    → lax_named_by header (slice_get tags (length tags - 1)) ≡ named_last o tags
+is_named header o of [] = of
+is_named header o of (t ∷ tags) =
+    let before : length (t ∷ tags) - 1 ≡ length tags = omega arith in
+    ap (λ (n : ℕ). lax_named_by header (slice_get (t ∷ tags) n)) before ∙ named_of header t tags
+
+with_bound : (P : List ℕ → Type 0) (bound : Bool × LenSource) (o : Option LaxEtherPayload)
+    → IfSome o (λ q. P q.payload) → IfSome (option_map (bounded bound) o) (λ q. P q.payload)
+with_bound P bound None here = tt
+with_bound P bound (Some q) here = here
+
 -- what follows a link header of this length
 pub parts_after : (frame payload : List ℕ) (link_len n : ℕ) (header : Option LinkSlice)
-    (p : LaxEtherPayload) → p.payload ≡ payload → IsAt frame link_len payload
+    (p : LaxEtherPayload) → lax_named_by header None ≡ Some p → p.payload ≡ payload
+    → IsAt frame link_len payload
     → AreLaxPartsOf frame link_len (lax_packet_tagged link_len header (lax_tags_in n p))
-parts_after frame payload link_len n header p is at =
+parts_after frame payload link_len n header p of is at =
     let t = lax_tags_in n p in
     let inside : IsAt frame link_len p.payload = subst (IsAt frame link_len) (sym is) at in
     let tagged = tags_at n p in
@@ -280,6 +324,11 @@ parts_after frame payload link_len n header p is at =
     let layers = layers_in frame (link_len + lax_tags_len t.tags) t.last last in
     record {
       tags = tags_later frame p.payload link_len 0 link_len t.tags (omega arith) inside tagged.tags_at;
+      ether = with_bound (IsAt frame (link_len + lax_tags_len t.tags)) (bound_after (false, Slice) t.tags) _
+          (subst (λ (o : Option LaxEtherPayload). IfSome o
+          (λ q. IsAt frame (link_len + lax_tags_len t.tags) q.payload)) (sym (is_named header (Some p) of t.tags))
+          (last_later frame p.payload link_len t.len (link_len + lax_tags_len t.tags)
+          (named_last (Some p) t.tags) (omega (arith, tagged.size)) inside tagged.named_at));
       net = layers.net;
       transport = layers.transport;
     }

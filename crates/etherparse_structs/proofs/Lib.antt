@@ -1,3 +1,4 @@
+mod CutTags
 mod ExtensionLemmas
 mod HeldValues
 mod LaxFrameParts

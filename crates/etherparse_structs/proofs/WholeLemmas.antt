@@ -1,10 +1,12 @@
 -- A whole packet as far as it is there.
-use Rattle.std.proofs.Common.{◌≡◌, ◌∙◌, ap, refl, ℕ, false, List, map, Option, Some, None, Result, Ok}
+use Rattle.std.proofs.Common.{◌≡◌, ◌∙◌, ap, refl, ℕ, Bool, false, List, [], ◌∷◌, map, Option, Some, None, Result, Ok, arith}
 use Rattle.std.proofs.lemmas.List.{length-map}
 use Rattle.std.proofs.lemmas.Option.{slice_get-map}
 use Rattle.std.specs.Option.{option_map}
+use Rattle.etherparse.specs.base.declared.len_source.LenSource.{LenSource}
+use Rattle.etherparse.specs.base.declared.len_source.LenSource.TheVariants.{Slice}
 use Rattle.etherparse.specs.packet.LaxNetSlice.{lax_ip_payload_of}
-use Rattle.etherparse.specs.packet.LaxView.{lax_ether_payload_in}
+use Rattle.etherparse.specs.packet.LaxView.{bound_after, bound_by, lax_ether_payload_in}
 use Rattle.etherparse.specs.packet.LaxWhole.{whole_net, whole_packet, whole_tag}
 use Rattle.etherparse.specs.packet.PacketView.{ether_payload_in}
 use Rattle.etherparse.specs.packet.declared.err.packet.slice_error.SliceError.{SliceError}
@@ -43,15 +45,24 @@ same_part : (place : ℕ) (o : Option EtherPayload)
 same_part place None = refl
 same_part place (Some p) = refl
 
-nothing_missing : (packet : Option NetSlice) (o : Option EtherPayload)
-    → incomplete_of (lax_ip_payload_of (option_map whole_net packet)) (option_map complete_ether o)
-    ≡ false
-nothing_missing None None = refl
-nothing_missing None (Some p) = refl
-nothing_missing (Some (net.Ipv4 packet)) o = refl
-nothing_missing (Some (net.Ipv6 packet)) o = refl
-nothing_missing (Some (net.Arp bytes)) None = refl
-nothing_missing (Some (net.Arp bytes)) (Some p) = refl
+none_cut : (source : LenSource) (t : LinkExtSlice)
+    → (bound_by (false, source) (whole_tag t)).0 ≡ false
+none_cut source t = grind arith
+
+nothing_after : (source : LenSource) (tags : List LinkExtSlice)
+    → (bound_after (false, source) (map whole_tag tags)).0 ≡ false
+nothing_after source [] = refl
+nothing_after source (t ∷ tags) =
+    let source_then : LenSource = (bound_by (false, source) (whole_tag t)).1 in
+    ap (λ (is_cut : Bool). (bound_after (is_cut, source_then) (map whole_tag tags)).0) (none_cut source t)
+    ∙ nothing_after source_then tags
+
+nothing_missing : (packet : Option NetSlice) (tags : List LinkExtSlice)
+    → incomplete_of (lax_ip_payload_of (option_map whole_net packet)) (map whole_tag tags) ≡ false
+nothing_missing None tags = nothing_after Slice tags
+nothing_missing (Some (net.Ipv4 packet)) tags = refl
+nothing_missing (Some (net.Ipv6 packet)) tags = refl
+nothing_missing (Some (net.Arp bytes)) tags = nothing_after Slice tags
 
 -- the struct of a whole packet
 abbrev pub whole_struct : ℕ → SlicedPacket → EpLaxPacket
@@ -79,8 +90,7 @@ whole_is : (link_len : ℕ) (packet : SlicedPacket) → IsNamed packet
     → lax_packet_struct link_len (whole_packet packet) ≡ whole_struct link_len packet
 whole_is link_len packet named =
     let missing : is_incomplete (whole_packet packet) ≡ false =
-    (λ i. incomplete_of (lax_ip_payload_of (option_map whole_net packet.net)) (named i))
-    ∙ nothing_missing packet.net (ether_payload_in packet) in
+    nothing_missing packet.net packet.link_exts.items in
     let layers = whole_layers link_len packet named in
     λ i. record { packet = layers i; stop = no_refusal; stop_layer = 0; incomplete = missing i }
 

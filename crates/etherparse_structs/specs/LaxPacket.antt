@@ -1,20 +1,22 @@
 -- The struct of a packet as far as it is there: its parts, what stopped the reading, and whether bytes of
 -- the payload are missing.
-use Rattle.std.specs.Prelude.{ℕ, Bool, false, length, Option, Some, None, Result, Ok, Err}
+use Rattle.std.specs.Prelude.{ℕ, Bool, false, List, length, Option, Some, None, Result, Ok, Err}
 use Rattle.std.specs.List.{slice_get}
 use Rattle.std.specs.Option.{option_map}
 use Rattle.etherparse.specs.base.declared.err.layer.Layer.{Layer}
 use Rattle.etherparse.specs.base.declared.err.len_error.LenError.{LenError}
 use Rattle.etherparse.specs.base.declared.err.slice_error.SliceError.{SliceError as HeaderSliceError}
 use Rattle.etherparse.specs.base.declared.err.slice_error.SliceError.TheVariants.{Content, Len}
+use Rattle.etherparse.specs.base.declared.len_source.LenSource.TheVariants.{Slice}
 use Rattle.etherparse.specs.ipslice.Packet.{IpPayload}
 use Rattle.etherparse.specs.ipslice.declared.err.ip.header_error.HeaderError.{HeaderError as IpHeaderError}
 use Rattle.etherparse.specs.packet.LaxNetSlice.{lax_ip_payload_of}
-use Rattle.etherparse.specs.packet.LaxView.{lax_ether_payload_in}
+use Rattle.etherparse.specs.packet.LaxView.{bound_after, lax_ether_payload_in}
 use Rattle.etherparse.specs.packet.declared.err.packet.slice_error.SliceError.{SliceError}
 use Rattle.etherparse.specs.packet.declared.err.packet.slice_error.SliceError.TheVariants as error
 use Rattle.etherparse.specs.packet.declared.lax_sliced_packet.LaxSlicedPacket.{LaxSlicedPacket}
-use Rattle.etherparse.specs.tag.Ether.{LaxEtherPayload, present_ether}
+use Rattle.etherparse.specs.tag.Ether.{present_ether}
+use Rattle.etherparse.specs.tag.declared.link.lax_link_ext_slice.LaxLinkExtSlice.{LaxLinkExtSlice}
 use Rattle.etherparse_structs.specs.Link.{tags_end, tags_struct}
 use Rattle.etherparse_structs.specs.Net.{net_fields}
 use Rattle.etherparse_structs.specs.Packet.{ether_part, layers_struct, refused}
@@ -45,14 +47,13 @@ abbrev pub stop_layer_of : Option (SliceError × Layer) → ℕ
 stop_layer_of None = 0
 stop_layer_of (Some stop) = layer_number stop.1
 
--- whether bytes are missing of the payload of an IP packet, or else of what the last ether type names
-abbrev pub incomplete_of : Option (Bool × IpPayload) → Option LaxEtherPayload → Bool
-incomplete_of (Some p) ether = p.0
-incomplete_of None (Some p) = p.incomplete
-incomplete_of None None = false
+-- whether bytes are missing of the payload of an IP packet, or else of what follows the tags
+abbrev pub incomplete_of : Option (Bool × IpPayload) → List LaxLinkExtSlice → Bool
+incomplete_of (Some p) tags = p.0
+incomplete_of None tags = (bound_after (false, Slice) tags).0
 
 abbrev pub is_incomplete : LaxSlicedPacket → Bool
-is_incomplete packet = incomplete_of (lax_ip_payload_of packet.net) (lax_ether_payload_in packet)
+is_incomplete packet = incomplete_of (lax_ip_payload_of packet.net) packet.link_exts.items
 
 -- a packet as far as it is there
 abbrev pub lax_packet_struct : ℕ → LaxSlicedPacket → EpLaxPacket

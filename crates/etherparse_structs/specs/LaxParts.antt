@@ -1,6 +1,7 @@
 -- The offsets, in the bytes of a packet as far as it is there, of its tags, headers and payloads.
 use Rattle.std.specs.Prelude.{ℕ, ◌+◌, ⊤, List, [], ◌∷◌, length, IfSome}
 use Rattle.etherparse.specs.ext.Ipv4Exts.{auth_bytes}
+use Rattle.etherparse.specs.packet.LaxView.{lax_ether_payload_in}
 use Rattle.etherparse.specs.packet.Parts.{IsAt, StandAt, transport_bytes}
 use Rattle.etherparse.specs.packet.declared.lax_sliced_packet.LaxSlicedPacket.{LaxSlicedPacket}
 use Rattle.etherparse.specs.packet.declared.net.lax_net_slice.LaxNetSlice.{LaxNetSlice}
@@ -41,6 +42,8 @@ IsLaxNetAt frame position (net.Arp packet) = IsAt frame position packet
 -- every part of a packet is at its offset in the bytes; the tags start at this one
 pub record AreLaxPartsOf (frame : List ℕ) (position : ℕ) (packet : LaxSlicedPacket) : Type 0 where
   pub tags : AreLaxTagsAt frame position packet.link_exts.items
+  pub ether : IfSome (lax_ether_payload_in packet) (λ p. IsAt frame
+      (position + lax_tags_len packet.link_exts.items) p.payload)
   pub net : IfSome packet.net (IsLaxNetAt frame (position + lax_tags_len packet.link_exts.items))
   pub transport : IfSome packet.transport (λ message. IsAt frame
       (message_offset_in (position + lax_tags_len packet.link_exts.items) packet.net)

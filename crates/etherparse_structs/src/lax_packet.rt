@@ -1,8 +1,10 @@
 //! A packet as far as it is there, as fields and numbers.
-ghost use Rattle.std.specs.Prelude.{◌≡◌, ◌≤◌};
+ghost use Rattle.std.specs.Prelude.{◌≡◌, ◌≤◌, false};
 ghost use Rattle.std.specs.Option.{option_map};
+ghost use Rattle.etherparse.specs.base.declared.len_source.LenSource.{LenSource};
+ghost use Rattle.etherparse.specs.base.declared.len_source.LenSource.TheVariants.{Slice};
 ghost use Rattle.etherparse.specs.packet.LaxSliced.{lax_sliced_ethernet, lax_sliced_ip, lax_sliced_linux_sll};
-ghost use Rattle.etherparse.specs.packet.LaxView.{lax_ether_payload_in};
+ghost use Rattle.etherparse.specs.packet.LaxView.{bound_after, bound_by, lax_ether_payload_in};
 ghost use Rattle.etherparse.specs.packet.SliceFault.{of_linux_sll};
 ghost use Rattle.etherparse.specs.link.Ethernet.{ethernet_len};
 ghost use Rattle.etherparse.specs.link.Sll.{sll_len};
@@ -16,27 +18,32 @@ use crate::net::lax_net_fields;
 use crate::packet::{layers_struct, refused};
 use crate::refusal::{layer_number, no_refusal, refusal};
 use crate::{EpPacket, EpPart, EpRefusal};
-use etherparse::LaxSlicedPacket;
 use etherparse::err::packet::SliceError;
 use etherparse::err::{Layer, ip, linux_sll};
+use etherparse::{LaxLinkExtSlice, LaxMacsecPayloadSlice, LaxSlicedPacket};
 
 /// The fields of a packet as far as it is there, also where it was cut off or a header breaks its
 /// format.
 #[repr(C)]
 #[derive(Drop)]
 pub struct EpLaxPacket {
-    /// The layers that are there. Where a length field says more than is there, the payload ends
-    /// with the bytes that were passed. Its `refusal` says why not even the first header can be
-    /// read: the link header, or the IP header of a packet without one.
+    /// The layers that are there. Its `refusal` says why not even the first header can be read: the
+    /// link header, or the IP header of a packet without one. Where a length field says more than is
+    /// there, the payload ends with the bytes that were passed. Also where the total length of IPv4
+    /// is less than its header, the payload is all that follows. A UDP length that doesn't fit isn't
+    /// a fault here. So a packet without a stop of which nothing is missing may still be refused by
+    /// `ep_slice_ethernet`. Where an extension header stopped the reading, the IP payload starts with
+    /// it, and `payload_number` is its number.
     pub packet: EpPacket,
     /// Why the reading stopped before the end: the refusal of the first layer after these. All
     /// fields are 0 where it didn't stop.
     pub stop: EpRefusal,
-    /// The layer that was being read when it stopped, numbered as the layer of a refusal; 0 where
-    /// it didn't stop.
+    /// The layer that was being read when it stopped, numbered as the layer of a refusal: it says
+    /// which extension header, where `stop.layer` is EP_LAYER_IPV6_EXT_HEADER. 0 where it didn't
+    /// stop.
     pub stop_layer: u32,
     /// Whether bytes are missing that the length field of IPv4, IPv6 or MACsec counts: bytes of the
-    /// payload of `ipv4` or `ipv6`, or where neither is there, of `ether_payload`.
+    /// payload of `ipv4` or `ipv6`, or where neither is there, of what follows the tags.
     pub incomplete: bool,
 }
 
@@ -145,9 +152,31 @@ fn is_incomplete(packet: &LaxSlicedPacket<'_>) -> bool
 {
     match packet.ip_payload() {
         Some(ip) => ip.incomplete,
-        None => match packet.ether_payload() {
-            Some(ether) => ether.incomplete,
-            None => false,
+        None => is_cut_after(packet.link_exts.as_slice()),
+    }
+}
+
+// Whether bytes are missing of what follows these tags.
+fn is_cut_after(tags: &[LaxLinkExtSlice<'_>]) -> bool
+    ensures { result ≡ (bound_after (false, Slice) tags.now).0 }
+{
+    let mut is_cut = false;
+    for tag in tags {
+        is_cut = is_cut_by(is_cut, tag);
+    }
+    is_cut
+}
+
+// The same after one more.
+fn is_cut_by(is_cut: bool, tag: &LaxLinkExtSlice<'_>) -> bool
+    ensures { (source : LenSource) → result ≡ (bound_by (is_cut, source) tag.now).0 }
+{
+    match tag {
+        LaxLinkExtSlice::Vlan(_) => is_cut,
+        LaxLinkExtSlice::Macsec(macsec) if macsec.header.short_len().value() == 0 => is_cut,
+        LaxLinkExtSlice::Macsec(macsec) => match &macsec.payload {
+            LaxMacsecPayloadSlice::Unmodified(payload) => payload.incomplete,
+            LaxMacsecPayloadSlice::Modified { incomplete, .. } => *incomplete,
         },
     }
 }

@@ -1,5 +1,5 @@
 //! What is reported of whole packets, and of packets as far as they are there.
-ghost use Rattle.std.specs.Prelude.{◌≡◌, ◌≤◌, ◌+◌, ℕ, Bool, List, length, false, Some, None, Ok, IfOk};
+ghost use Rattle.std.specs.Prelude.{◌≡◌, ◌≤◌, ◌+◌, ℕ, Bool, List, [], ◌∷◌, length, false, Some, None, Ok, IfOk, IfSome};
 ghost use Rattle.std.specs.List.{slice_get};
 ghost use Rattle.etherparse.specs.base.declared.err.layer.Layer.TheVariants as layer;
 ghost use Rattle.etherparse.specs.base.declared.err.len_error.LenError.{LenError};
@@ -10,14 +10,17 @@ ghost use Rattle.etherparse.specs.ipslice.declared.err.ip.header_error.HeaderErr
 ghost use Rattle.etherparse.specs.link.Ethernet.{ethernet_len};
 ghost use Rattle.etherparse.specs.link.Sll.{sll_len};
 ghost use Rattle.etherparse.specs.packet.LaxSliced.{lax_sliced_ethernet, lax_sliced_ip, lax_sliced_linux_sll};
+ghost use Rattle.etherparse.specs.packet.LaxView.{lax_ether_payload_in};
 ghost use Rattle.etherparse.specs.packet.Parts.{tags_len};
 ghost use Rattle.etherparse.specs.packet.SliceFault.{of_linux_sll};
 ghost use Rattle.etherparse.specs.packet.Sliced.{sliced_ethernet, sliced_ip, sliced_linux_sll};
 ghost use Rattle.etherparse.specs.packet.declared.err.packet.slice_error.SliceError.{SliceError};
 ghost use Rattle.etherparse.specs.packet.declared.err.packet.slice_error.SliceError.TheVariants as error;
+ghost use Rattle.etherparse.specs.packet.declared.lax_sliced_packet.LaxSlicedPacket.{LaxSlicedPacket};
 ghost use Rattle.etherparse.specs.packet.declared.sliced_packet.SlicedPacket.{SlicedPacket};
-ghost use Rattle.etherparse.specs.tag.Ether.{LaxEtherPayload};
+ghost use Rattle.etherparse.specs.tag.MacsecLax.{LaxModified};
 ghost use Rattle.etherparse.specs.tag.declared.link.lax_link_ext_slice.LaxLinkExtSlice.{LaxLinkExtSlice};
+ghost use Rattle.etherparse.specs.tag.declared.link.lax_link_ext_slice.LaxLinkExtSlice.TheVariants as tag;
 ghost use Rattle.etherparse.specs.tag.declared.link.link_ext_slice.LinkExtSlice.{LinkExtSlice};
 ghost use Rattle.etherparse_structs.specs.LaxPacket.{incomplete_of, lax_refused, lax_reported, of_ip_header, of_len};
 ghost use Rattle.etherparse_structs.specs.LaxPacket.{stop_layer_of, stop_refusal};
@@ -37,8 +40,8 @@ pub fn offsets_after_tags()
         → tags_end place (slice_get tags) ≡ place + lax_tags_len tags }
 {}
 
-/// A packet that is there is the same as far as it is there, nothing stopped the reading, and nothing
-/// is missing.
+/// A packet that the strict call slices has the same layers by the lax one, no stop, and nothing
+/// missing.
 pub fn whole_packets_are_there()
     ensures ethernet { (bytes : List ℕ) (packet : SlicedPacket) → sliced_ethernet bytes ≡ Ok packet
         → lax_reported ethernet_len of_len (lax_sliced_ethernet bytes) ≡ record {
@@ -103,14 +106,19 @@ pub fn stops()
         × (stop_layer_of (Some (e, layer.Ipv6HopByHopHeader)) ≡ 14) }
 {}
 
-/// Whether bytes are missing: of the payload of an IP packet, whatever is missing after it, and
-/// without one of what the last ether type names.
+/// Whether bytes are missing: of the payload of an IP packet, whatever is missing after the tags, and
+/// without one of what follows them. That is what the last ether type names, where one does; a
+/// MACsec payload that is encrypted or changed names none.
 pub fn missing_bytes()
-    ensures ip { (missing : Bool) (p : IpPayload) (ether : LaxEtherPayload)
-        → (incomplete_of (Some (missing, p)) (Some ether) ≡ missing)
-        × (incomplete_of (Some (missing, p)) None ≡ missing) }
-    ensures ether { (ether : LaxEtherPayload) → incomplete_of None (Some ether) ≡ ether.incomplete }
-    ensures none { incomplete_of None None ≡ false }
+    ensures ip { (missing : Bool) (p : IpPayload) (tags : List LaxLinkExtSlice)
+        → incomplete_of (Some (missing, p)) tags ≡ missing }
+    ensures ether { (packet : LaxSlicedPacket) → IfSome (lax_ether_payload_in packet)
+        (λ p. incomplete_of None packet.link_exts.items ≡ p.incomplete) }
+    ensures modified { (missing : Bool) (bytes : List ℕ) → incomplete_of None (tag.Macsec (record {
+      header = 12 ∷ 40 ∷ 0 ∷ 0 ∷ 0 ∷ 9 ∷ [];
+      payload = LaxModified missing bytes;
+    }) ∷ []) ≡ missing }
+    ensures none { incomplete_of None [] ≡ false }
 {}
 
 /// A packet whose first header can't be read is refused, as where it is read as a whole, and nothing
