@@ -4,11 +4,9 @@ use Rattle.std.proofs.Common.{Option, Some, None, Result, Ok, Err, IfOk, IfSome,
 use Rattle.std.specs.Option.{option_map}
 use Rattle.etherparse.specs.base.declared.err.layer.Layer.TheVariants.{Ethernet2Header}
 use Rattle.etherparse.specs.base.declared.err.len_error.LenError.{LenError}
+use Rattle.etherparse.specs.base.declared.err.slice_error.SliceError.{SliceError as HeaderSliceError}
 use Rattle.etherparse.specs.base.declared.len_source.LenSource.{LenSource}
 use Rattle.etherparse.specs.base.declared.len_source.LenSource.TheVariants.{Slice}
-use Rattle.etherparse.specs.packet.LaxView.{bounded, lax_named_by}
-use Rattle.etherparse.specs.packet.Parts.{IsAt}
-use Rattle.etherparse.specs.base.declared.err.slice_error.SliceError.{SliceError as HeaderSliceError}
 use Rattle.etherparse.specs.ip.Ipv4.{version_of}
 use Rattle.etherparse.specs.ip.declared.err.ipv4.header_error.HeaderError.{HeaderError as Ipv4HeaderFault}
 use Rattle.etherparse.specs.ip.declared.err.ipv6.header_error.HeaderError.{HeaderError as Ipv6HeaderFault}
@@ -25,6 +23,8 @@ use Rattle.etherparse.specs.link.declared.link.link_slice.LinkSlice.TheVariants 
 use Rattle.etherparse.specs.packet.LaxSliced.{in_lax_cooked, in_lax_frame, in_lax_linux_sll, in_lax_version}
 use Rattle.etherparse.specs.packet.LaxSliced.{lax_packet_of, lax_sliced_ethernet, lax_sliced_ip}
 use Rattle.etherparse.specs.packet.LaxSliced.{lax_sliced_linux_sll, no_layers}
+use Rattle.etherparse.specs.packet.LaxView.{bounded, lax_named_by}
+use Rattle.etherparse.specs.packet.Parts.{IsAt}
 use Rattle.etherparse.specs.packet.Tags.{most_tags}
 use Rattle.etherparse.specs.packet.declared.lax_sliced_packet.LaxSlicedPacket.{LaxSlicedPacket}
 use Rattle.etherparse.specs.tag.Ether.{EtherPayload, LaxEtherPayload, complete_ether}

@@ -5,12 +5,11 @@ use Rattle.std.proofs.lemmas.Bool.{ltb-false}
 use Rattle.std.specs.List.{slice_get}
 use Rattle.std.specs.Option.{option_map}
 use Rattle.etherparse.specs.base.declared.err.layer.Layer.{Layer}
-use Rattle.etherparse.specs.base.declared.len_source.LenSource.{LenSource}
-use Rattle.etherparse.specs.base.declared.len_source.LenSource.TheVariants.{Slice}
-use Rattle.etherparse.specs.packet.LaxView.{bound_after, bounded, lax_named_by}
 use Rattle.etherparse.specs.base.declared.err.layer.Layer.TheVariants.{VlanHeader}
 use Rattle.etherparse.specs.base.declared.err.len_error.LenError.{LenError}
 use Rattle.etherparse.specs.base.declared.err.slice_error.SliceError.{SliceError as HeaderSliceError}
+use Rattle.etherparse.specs.base.declared.len_source.LenSource.{LenSource}
+use Rattle.etherparse.specs.base.declared.len_source.LenSource.TheVariants.{Slice}
 use Rattle.etherparse.specs.ext.Ipv4Exts.{auth_bytes}
 use Rattle.etherparse.specs.ip.declared.err.ipv4.header_error.HeaderError.{HeaderError as Ipv4HeaderFault}
 use Rattle.etherparse.specs.ip.declared.err.ipv6.header_error.HeaderError.{HeaderError as Ipv6HeaderFault}
@@ -21,6 +20,7 @@ use Rattle.etherparse.specs.packet.LaxSliced.{LaxLayers, in_lax_ipv4, in_lax_ipv
 use Rattle.etherparse.specs.packet.LaxSliced.{lax_layers_in, lax_layers_of, lax_packet_tagged, lax_transport_in}
 use Rattle.etherparse.specs.packet.LaxTags.{LaxTagged, Stop, joined, lax_from_tag, lax_macsec_tag, lax_read_further}
 use Rattle.etherparse.specs.packet.LaxTags.{lax_tag_at, lax_tags_in, lax_vlan_tag}
+use Rattle.etherparse.specs.packet.LaxView.{bound_after, bounded, lax_named_by}
 use Rattle.etherparse.specs.packet.Parts.{IsAt, StandAt, transport_bytes}
 use Rattle.etherparse.specs.packet.Sliced.{arp_type, ipv4_type, ipv6_type}
 use Rattle.etherparse.specs.packet.Tags.{is_macsec_type}

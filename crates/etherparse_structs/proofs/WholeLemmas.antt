@@ -2,6 +2,7 @@
 use Rattle.std.proofs.Common.{◌≡◌, ◌∙◌, ap, refl, ℕ, Bool, false, List, [], ◌∷◌, map, Option, Some, None, Result, Ok, arith}
 use Rattle.std.proofs.lemmas.List.{length-map}
 use Rattle.std.proofs.lemmas.Option.{slice_get-map}
+use Rattle.std.specs.List.{slice_get}
 use Rattle.std.specs.Option.{option_map}
 use Rattle.etherparse.specs.base.declared.len_source.LenSource.{LenSource}
 use Rattle.etherparse.specs.base.declared.len_source.LenSource.TheVariants.{Slice}
@@ -23,7 +24,6 @@ use Rattle.etherparse_structs.specs.Net.{net_fields}
 use Rattle.etherparse_structs.specs.Packet.{ether_part, layers_struct, net_offset, packet_struct}
 use Rattle.etherparse_structs.specs.Refusal.{no_refusal}
 use Rattle.etherparse_structs.specs.declared.lax_packet.EpLaxPacket.{EpLaxPacket}
-use Rattle.std.specs.List.{slice_get}
 
 -- what the last ether type names, of which nothing is missing
 abbrev IsNamed : SlicedPacket → Type 0
