@@ -6,7 +6,8 @@ enum { MOST_FIELDS = 64 };
 static ep_lax_packet lax(const char *call, const uint8_t *bytes, size_t len) {
     if (!strcmp(call, "ethernet")) return ep_slice_ethernet_lax(bytes, len);
     if (!strcmp(call, "linux_sll")) return ep_slice_linux_sll_lax(bytes, len);
-    return ep_slice_ip_lax(bytes, len);
+    if (!strcmp(call, "ip")) return ep_slice_ip_lax(bytes, len);
+    exit(2);
 }
 
 /* The value of a field as the table writes it. */

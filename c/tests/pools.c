@@ -19,6 +19,12 @@ static const struct call calls[] = {
     {"add_ip", ep_pool_add_ip, ep_slice_ip},
 };
 
+static const struct call *call_of(const char *name) {
+    for (size_t i = 0; i < sizeof calls / sizeof *calls; i++)
+        if (!strcmp(name, calls[i].name)) return &calls[i];
+    exit(2);
+}
+
 static int same_refusal(ep_refusal a, ep_refusal b) {
     return a.kind == b.kind && a.layer == b.layer && a.needed == b.needed && a.there == b.there && a.place == b.place &&
            a.source == b.source && a.value == b.value;
@@ -148,13 +154,12 @@ static void rows(FILE *table, enum room kind) {
         if (!strcmp(call, "pool")) {
             ep_pool_free(&pool);
             check(ep_pool_new(&pool) == EP_DONE, "a new pool");
-        } else if (!strncmp(call, "add", 3)) {
-            for (size_t i = 0; i < sizeof calls / sizeof *calls; i++)
-                if (!strcmp(call, calls[i].name)) add(&calls[i], &pool, kind);
         } else if (!strcmp(call, "forget")) {
             check(ep_pool_forget_before(&pool, strtoull(strtok(NULL, " \n"), NULL, 10)) == EP_DONE, "forget");
         } else if (!strcmp(call, "open")) {
             check(ep_pool_open(&pool) == strtoul(strtok(NULL, " \n"), NULL, 10), "how many are on their way");
+        } else if (*call != '#') {
+            add(call_of(call), &pool, kind);
         }
     }
     ep_pool_free(&pool);

@@ -1,7 +1,8 @@
 //! What the wrapper returns for the first bytes of packets: c/tests/cut_packets.txt says how its lines read.
 
 use etherparse_proved::{
-    slice_ethernet, slice_ethernet_lax, slice_ip_lax, slice_linux_sll_lax, Fault, LaxPacket, Layer, Net, Refusal, Stop, Transport,
+    slice_ethernet, slice_ethernet_lax, slice_ip_lax, slice_linux_sll_lax, Fault, LaxPacket, Layer, LenSource, Net, Refusal, Stop,
+    Transport,
 };
 use std::fs;
 
@@ -24,17 +25,33 @@ fn lax<'a>(call: &str, bytes: &'a [u8]) -> Result<LaxPacket<'a>, Refusal> {
     match call {
         "ethernet" => slice_ethernet_lax(bytes),
         "linux_sll" => slice_linux_sll_lax(bytes),
-        _ => slice_ip_lax(bytes),
+        "ip" => slice_ip_lax(bytes),
+        _ => panic!("{call}"),
     }
 }
 
-/// The fields of a refusal by the names of the table, those of the other kind left out.
+/// The number of a source of a length in the table.
+fn source_number(source: LenSource) -> usize {
+    let sources = [
+        LenSource::Slice,
+        LenSource::MacsecShortLength,
+        LenSource::Ipv4HeaderTotalLen,
+        LenSource::Ipv6HeaderPayloadLen,
+        LenSource::UdpHeaderLen,
+        LenSource::TcpHeaderLen,
+        LenSource::ArpAddrLengths,
+    ];
+    1 + sources.iter().position(|found| *found == source).unwrap()
+}
+
+/// The fields of a refusal by the names of the table, without those of the other kind, which are 0 there.
 fn refusal_field(refusal: Refusal, name: &str) -> Option<usize> {
     match (refusal, name) {
         (Refusal::TooFewBytes { layer, .. } | Refusal::Header { layer, .. }, "layer") => Some(layer.0 as usize),
         (Refusal::TooFewBytes { needed, .. }, "needed") => Some(needed),
         (Refusal::TooFewBytes { there, .. }, "there") => Some(there),
         (Refusal::TooFewBytes { place, .. }, "place") => Some(place),
+        (Refusal::TooFewBytes { source, .. }, "source") => Some(source_number(source)),
         (Refusal::Header { value, .. }, "value") => Some(value as usize),
         _ => None,
     }
@@ -49,7 +66,8 @@ fn kind(refusal: Option<Refusal>) -> String {
     }
 }
 
-/// How many of the table's fields are those of the first n bytes; of the layers those that a packet's calls have.
+/// How many of the table's fields are there for the first n bytes, which have the table's values; of the layers those that a
+/// packet's calls have.
 fn compared(call: &str, bytes: &[u8], n: usize, fields: &[(&str, &str)]) -> usize {
     let found = lax(call, &bytes[..n]);
     let refusal = found.as_ref().err().copied();
@@ -57,17 +75,25 @@ fn compared(call: &str, bytes: &[u8], n: usize, fields: &[(&str, &str)]) -> usiz
     let mut count = 0;
     for &(path, value) in fields {
         let of = |refusal: Option<Refusal>, name: &str| match name {
-            "kind" => assert_eq!(kind(refusal), value.replace('_', ""), "{call}, {n} bytes"),
+            "kind" => {
+                assert_eq!(kind(refusal), value.replace('_', ""), "{call}, {n} bytes");
+                true
+            }
             _ => {
-                if let Some(field) = refusal.and_then(|refusal| refusal_field(refusal, name)) {
-                    assert_eq!(field, number(value, n), "{call}, {n} bytes: {path}");
-                }
+                let field = refusal.and_then(|refusal| refusal_field(refusal, name));
+                assert_eq!(field.unwrap_or(0), number(value, n), "{call}, {n} bytes: {path}");
+                field.is_some()
             }
         };
-        count += 1;
-        match (path, &found) {
-            ("stop_layer", _) => assert_eq!(stop.map_or(0, |stop| stop.layer.0 as usize), number(value, n)),
-            ("incomplete", _) => assert_eq!(found.as_ref().map_or(false, LaxPacket::is_incomplete), value == "1", "{call}, {n} bytes"),
+        let is_there = match (path, &found) {
+            ("stop_layer", _) => {
+                assert_eq!(stop.map_or(0, |stop| stop.layer.0 as usize), number(value, n), "{call}, {n} bytes");
+                stop.is_some()
+            }
+            ("incomplete", _) => {
+                assert_eq!(found.as_ref().map_or(false, LaxPacket::is_incomplete), value == "1", "{call}, {n} bytes");
+                found.is_ok()
+            }
             ("transport", Ok(packet)) => {
                 let wanted = match packet.packet().transport() {
                     None => "0",
@@ -77,18 +103,21 @@ fn compared(call: &str, bytes: &[u8], n: usize, fields: &[(&str, &str)]) -> usiz
                     Some(Transport::Icmpv6(_)) => "58",
                 };
                 assert_eq!(wanted, value, "{call}, {n} bytes");
+                true
             }
             ("udp.payload" | "tcp.payload", Ok(packet)) => {
                 let (offset, len) = value.split_once('+').unwrap();
                 let (offset, len) = (number(offset, n), number(len, n));
                 assert_eq!(packet.packet().payload(), &bytes[offset..][..len], "{call}, {n} bytes");
+                true
             }
             _ => match path.split_once('.') {
                 Some(("refusal", name)) => of(refusal, name),
                 Some(("stop", name)) => of(stop.map(|stop| stop.refusal), name),
-                _ => count -= 1,
+                _ => false,
             },
-        }
+        };
+        count += usize::from(is_there);
     }
     count
 }

@@ -42,7 +42,8 @@ fn table() {
         let (found, verdict) = match call.as_str() {
             "ethernet" => (slice_ethernet(&frame), verdict_ethernet(&frame)),
             "linux_sll" => (slice_linux_sll(&frame), verdict_linux_sll(&frame)),
-            _ => (slice_ip(&frame), verdict_ip(&frame)),
+            "ip" => (slice_ip(&frame), verdict_ip(&frame)),
+            _ => panic!("{call}"),
         };
         let wanted = [Some(Verdict::None), Some(Verdict::Good), Some(Verdict::Bad), None];
         assert_eq!(verdict, wanted[number(&fields, "verdict").unwrap_or(3)]);

@@ -23,7 +23,8 @@ fn refusal(call: &str, frame: &[u8]) -> Refusal {
     let sliced = match call {
         "add" => slice_ethernet(frame),
         "add_linux_sll" => slice_linux_sll(frame),
-        _ => slice_ip(frame),
+        "add_ip" => slice_ip(frame),
+        _ => panic!("{call}"),
     };
     sliced.unwrap_err()
 }
