@@ -140,7 +140,7 @@ fn table() {
             count += compared(call, &frame, n, &fields);
         }
     }
-    assert!(count > 3000, "{count}");
+    assert!(count > 4500, "{count}");
 }
 
 #[test]
@@ -157,6 +157,22 @@ fn layers_that_are_there() {
     assert_eq!(cut.packet().payload().len(), 7);
     let stop = cut.stop().unwrap();
     assert_eq!((stop.layer.to_string(), stop.refusal.to_string()), ("udp header".into(), "udp header at byte 34 needs 8 bytes, and 7 are there".into()));
+}
+
+#[test]
+fn lengths_that_only_the_strict_call_refuses() {
+    // Total lengths of 0 and 19, and UDP lengths of 7 and 17, of which one byte isn't there.
+    for (total_len, udp_len) in [("0000", "0010"), ("0013", "0010"), ("0024", "0007"), ("0024", "0011")] {
+        let frame = bytes(&format!(
+            "0200000000020200000000010800\
+             4500{total_len}00070000401166c00a0000010a000002\
+             00010002{udp_len}dbb40102030405060708"
+        ));
+        assert!(slice_ethernet(&frame).is_err(), "{total_len} {udp_len}");
+        let found = slice_ethernet_lax(&frame).unwrap();
+        assert_eq!((found.stop(), found.is_incomplete()), (None, false));
+        assert_eq!(found.packet().payload(), [1, 2, 3, 4, 5, 6, 7, 8]);
+    }
 }
 
 #[test]
