@@ -613,7 +613,8 @@ ep_lax_packet ep_slice_ethernet_lax(const uint8_t *bytes, size_t bytes_len);
 ep_lax_packet ep_slice_linux_sll_lax(const uint8_t *bytes, size_t bytes_len);
 
 /* Gives the parts of an IP packet of either version as far as they are there, and what stopped
-   the reading. Only a packet without a whole IP header of a right version and length is refused. */
+   the reading. Only a packet without a whole IP header of a right version and header length is
+   refused. */
 ep_lax_packet ep_slice_ip_lax(const uint8_t *bytes, size_t bytes_len);
 
 /* The verdict on the message in an Ethernet II frame: 0 no checksum, 1 a right one, 2 a wrong

@@ -75,7 +75,8 @@ pub extern "C" fn ep_slice_linux_sll_lax(bytes: &[u8]) -> EpLaxPacket
 }
 
 /// Gives the parts of an IP packet of either version as far as they are there, and what stopped the
-/// reading. Only a packet without a whole IP header of a right version and length is refused.
+/// reading. Only a packet without a whole IP header of a right version and header length is
+/// refused.
 #[unsafe(no_mangle)]
 pub extern "C" fn ep_slice_ip_lax(bytes: &[u8]) -> EpLaxPacket
     ensures exact { result ≡ lax_reported 0 of_ip_header (lax_sliced_ip bytes.now) }
