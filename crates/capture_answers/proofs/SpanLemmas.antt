@@ -32,6 +32,7 @@ use Rattle.capture_answers.specs.PacketAnswers.{Ledger, lists_since, lists_with_
 use Rattle.capture_answers.specs.PacketAnswers.{spanned_from, kept}
 use Rattle.capture_answers.proofs.LineLemmas.{line_listed, line_answered}
 use Rattle.capture_answers.proofs.PlainLemmas.{no_lines, packet_listed, packet_answered, text_of}
+use Rattle.captures.proofs.ForgetLemmas.{at}
 
 -- ---- what is held of one datagram
 
@@ -148,10 +149,6 @@ class_alike lists own line first n number all Other channel = refl
 class_alike lists own line first n number all Refused channel = refl
 
 -- ---- the ledger after some lines, where spans are counted
-
-abbrev at : ℕ → (lines begin line : ℕ) → Ledger
-at seconds lines begin line =
-    record { extra = Forget seconds; lines = lines; begin = begin; line = line }
 
 module _ (seconds lines begin line time : ℕ) (some : 0 < lines) (few : lines + 2 < 2 ^ 64) where
   none : (lines == 0) ≡ false

@@ -13,7 +13,7 @@ use Rattle.captures.specs.declared.extra.Extra.TheVariants.{Forget}
 use Rattle.captures.specs.declared.text.ledger.Ledger.{Ledger}
 
 -- the ledger after some lines, where spans are counted
-abbrev at : ℕ → (lines begin line : ℕ) → Ledger
+abbrev pub at : ℕ → (lines begin line : ℕ) → Ledger
 at seconds lines begin line =
     record { extra = Forget seconds; lines = lines; begin = begin; line = line }
 

@@ -1,6 +1,6 @@
 -- Blocks that are too short for what they say.
-use Rattle.std.proofs.Common.{◌≡◌, ◌≢◌, ℕ, ◌+◌, ◌<◌, arith, Bool, true, false, List, length}
-use Rattle.std.specs.Prelude.{◌⊎◌, ◌&&◌}
+use Rattle.std.proofs.Common.{◌≡◌, ◌≢◌, ℕ, ◌+◌, ◌<◌, arith, true, false, List, length}
+use Rattle.std.specs.Prelude.{◌⊎◌}
 use Rattle.captures.specs.Numbers.{word}
 use Rattle.captures.specs.Pcapng.{Content, RefusesBlock, Says, is_read_version, section_header, interface_description}
 use Rattle.captures.specs.Pcapng.{enhanced_packet, obsolete_packet}
@@ -8,13 +8,11 @@ use Rattle.captures.specs.declared.byte_order.ByteOrder.{ByteOrder}
 use Rattle.captures.specs.declared.capture_error.CaptureError.TheVariants.{BadBlock, FrameTooLong, InterfaceLimit}
 use Rattle.captures.specs.declared.capture_error.CaptureError.TheVariants.{LinkType}
 use Rattle.captures.specs.declared.pcapng.section.Section.{Section}
+use Rattle.std.proofs.Math.Bool.{and-false}
 
 pub read_version : (major minor : ℕ) → major ≡ 1 → (minor ≡ 0) ⊎ (minor ≡ 2)
     → is_read_version major minor ≡ true
 read_version major minor one h = grind arith
-
-and_false : (b : Bool) → (b && false) ≡ false
-and_false b = grind arith
 
 pub other_version : (major minor : ℕ) → (major ≢ 1) ⊎ ((minor ≢ 0) × (minor ≢ 2))
     → is_read_version major minor ≡ false

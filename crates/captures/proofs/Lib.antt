@@ -7,7 +7,7 @@ mod CapturedLemmas
 mod ClockLemmas
 mod ComeBackLemmas
 mod CountLemmas
-mod ForgetLemmas
+pub mod ForgetLemmas
 mod ExampleBlocks
 mod ExampleRecords
 mod FrameLengthLemmas

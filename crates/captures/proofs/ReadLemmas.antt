@@ -85,10 +85,6 @@ module _ {R : Type 0} (unfit : Unfit) (old : PacketReader R) (read : List ℕ)
 
 -- ---- known bytes
 
-pub consumes_none : (known : Option (List ℕ)) → Consumes known known []
-consumes_none None = tt
-consumes_none (Some bytes) = refl
-
 pub consumes_more : (a b c : Option (List ℕ)) (xs ys : List ℕ) → Consumes a b xs
     → Consumes b c ys → Consumes a c (xs ++ ys)
 consumes_more None b c xs ys p q = tt

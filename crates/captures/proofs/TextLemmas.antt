@@ -5,7 +5,6 @@ use Rattle.std.proofs.Common.{arith, eqb-true}
 use Rattle.std.specs.Prelude.{position, nat_lt}
 use Rattle.std.specs.List.{flat_map, position_or_len, before_first, after_first}
 use Rattle.std.proofs.lemmas.Bool.{lt-ltb}
-use Rattle.std.proofs.lemmas.List.{take_rest, drop-drop}
 use Rattle.std.proofs.lemmas.List.Sums.{split_at_first, passes_at_first}
 use Rattle.std.proofs.lemmas.List.Concat.{flat_map-append}
 use Rattle.line_grammar.specs.TimedLines.{timed_frame_of, TimedFrame}
@@ -58,11 +57,6 @@ found_line xs end some =
     let split = split_at_first is_newline xs 0 at.1
     ∙ ap (λ n. before_first is_newline xs ++ n ∷ after_first is_newline xs) newline in
     grind (arith, none_before)
-
--- what follows a line, as the code takes it
-pub after_line : (rest : List ℕ) (n : ℕ) → n < length rest
-    → take (length (drop n rest) - 1) (drop 1 (drop n rest)) ≡ drop (n + 1) rest
-after_line rest n lt = take_rest (drop n rest) 1 ∙ drop-drop 1 n rest
 
 -- ---- lines in a row
 

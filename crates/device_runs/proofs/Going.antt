@@ -1,7 +1,6 @@
 -- A run, call by call.
 use Rattle.std.proofs.Common.{◌≡◌, refl, subst, ℕ, ◌+◌, ◌<◌, ◌≤◌, arith, [], Bool, true, false, List, ◌∷◌, ◌++◌, length}
 use Rattle.std.proofs.Common.{Option, Some, None, append_assoc, append-nil}
-use Rattle.std.specs.Prelude.{◌||◌}
 use Rattle.std.proofs.lemmas.List.Concat.{flat_map-append}
 use Rattle.std.proofs.lemmas.List.Elements.{filter_map-append}
 use Rattle.std.proofs.lemmas.List.Folds.{list_any-append}
@@ -14,9 +13,7 @@ use Rattle.device_runs.specs.Runs.{Task, IsOutcome, MayRead, Follows, EachFollow
 use Rattle.device_runs.specs.Writes.{Written, Stops}
 use Rattle.device_runs.proofs.CallLemmas.{Makes-append, read_count-append, EachFollows-append, writes_faults}
 use Rattle.device_runs.proofs.CallLemmas.{writes_report, writes_count, writes_read, writes_follow}
-
-or_false : (b : Bool) → (b || false) ≡ b
-or_false b = grind arith
+use Rattle.std.proofs.Math.Bool.{or-false}
 
 -- a call that is a fault gives no byte,
 fault_gives : (call : Call) (fault : Fault) → fault_of call ≡ Some fault → bytes_given call ≡ []
@@ -88,7 +85,7 @@ module _ {R : Type 0} (task : Task R) where
           each = EachFollows-append task [] g.calls last g.each
               ((may_read read written count old mid g due, size), tt);
           faults = grind (arith, filter_map-append);
-          reports = grind (arith, list_any-append, or_false);
+          reports = grind (arith, list_any-append, or-false);
           reads = grind (arith, read_count-append);
           gave = grind (arith, flat_map-append, append-nil);
           took = grind (arith, flat_map-append, append-nil);
@@ -126,7 +123,7 @@ module _ {R : Type 0} (task : Task R) where
       each = EachFollows-append task [] g.calls w.calls g.each
           (writes_follow task g.calls w.calls g.faults w.each);
       faults = grind (arith, filter_map-append, writes_faults);
-      reports = grind (arith, list_any-append, writes_report, or_false);
+      reports = grind (arith, list_any-append, writes_report, or-false);
       reads = grind (arith, read_count-append, writes_count);
       gave = grind (arith, flat_map-append, writes_read, append-nil);
       took = grind (arith, flat_map-append);
@@ -157,7 +154,7 @@ module _ {R : Type 0} (task : Task R) where
         let took : bytes_written calls ≡ written =
         grind (arith, flat_map-append, fault_takes, append-nil) in
         let reports : is_end_reported calls ≡ end_reported =
-        grind (arith, list_any-append, fault_reports, or_false) in
+        grind (arith, list_any-append, fault_reports, or-false) in
         record {
           calls = calls;
           made = Makes-append transition old mid new g.calls last g.made (new, made, refl);

@@ -1,13 +1,10 @@
 -- The sum of a message with a checksum in it.
-use Rattle.std.proofs.Common.{◌≡◌, refl, ℕ, ◌+◌, ◌-◌, ◌%◌, ◌<◌, ◌≤◌, Bool, true, IsTrue, not, ◌&&◌, eqb, List, ◌++◌}
+use Rattle.std.proofs.Common.{◌≡◌, ℕ, ◌+◌, ◌-◌, ◌%◌, ◌<◌, ◌≤◌, IsTrue, not, ◌&&◌, eqb, List, ◌++◌}
 use Rattle.std.proofs.Common.{length, arith}
 use Rattle.ep_base.specs.Sum.{fold, no_zero, total}
 use Rattle.ep_base.specs.MessageSum.{with_word, ChecksumSumsToAllOnes, NoZeroSumsToAllOnes}
 use Rattle.ep_base.proofs.Totals.{total-append}
-
--- a total that isn't 0 and that 65535 divides
-both_of : (a b : Bool) → a ≡ true → b ≡ true → IsTrue (a && b)
-both_of a b p q = rw (p, q) refl
+use Rattle.ep_base.proofs.Numbers.{both_hold}
 
 divided : (t : ℕ) → 0 < t → t % 65535 ≡ 0 → IsTrue (not (eqb t 0) && eqb (t % 65535) 0)
 divided t positive rest = grind arith

@@ -1,5 +1,5 @@
 -- Numbers against the bytes that encode them, high byte first.
-use Rattle.std.proofs.Common.{◌≡◌, ℕ, ◌+◌, ◌*◌, ◌/◌, ◌%◌, ◌^◌, ◌<◌, arith}
+use Rattle.std.proofs.Common.{◌≡◌, ℕ, Bool, true, false, IsTrue, ◌&&◌, eqb, ◌+◌, ◌*◌, ◌/◌, ◌%◌, ◌^◌, ◌<◌, arith, refl}
 
 pub high_of : (a b : ℕ) → a < 256 → b < 256 → (256 * a + b) / 256 % 256 ≡ a
 high_of a b h k = omega arith
@@ -19,3 +19,11 @@ two_again n h = omega arith
 pub four_again : (n : ℕ) → n < 2 ^ 32 →
     256 * (256 * (256 * (n / 2 ^ 24 % 256) + n / 2 ^ 16 % 256) + n / 2 ^ 8 % 256) + n % 256 ≡ n
 four_again n h = omega arith
+
+-- a number that isn't 0
+pub some_bytes : (n : ℕ) → eqb n 0 ≡ false → 0 < n
+some_bytes n none = grind arith
+
+-- two tests that both hold
+pub both_hold : (a b : Bool) → a ≡ true → b ≡ true → IsTrue (a && b)
+both_hold a b p q = rw (p, q) refl

@@ -17,6 +17,9 @@ two_parts {s = s} {t = t} first second make parts = (
   λ whole. and_from s t (first.1 (parts whole).0) (second.1 (parts whole).1),
 )
 
+pub both : {P Q : Type 0} {s t : Bool} → Decides s P → Decides t Q → Decides (s && t) (P × Q)
+both first second = two_parts first second (λ x y. (x, y)) (λ p. p)
+
 pub options_same : {A : Type 0} {eq : A → A → Bool} → EqualIsSame eq → EqualIsSame (option_eq eq)
 options_same same None None = (λ is. refl, λ is. refl)
 options_same same None (Some y) = search rules

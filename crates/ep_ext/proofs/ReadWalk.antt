@@ -1,6 +1,6 @@
 -- The walk over headers in a row that a reader gives.
 use Rattle.std.proofs.lemmas.Bool.Decides.{nat_tests}
-use Rattle.std.proofs.Common.{◌≡◌, ℕ, ◌+◌, ◌<◌, ◌≤◌, List, ◌∷◌, ◌++◌, length, Option, Some, [], None, get_or, arith}
+use Rattle.std.proofs.Common.{◌≡◌, ℕ, ◌+◌, ◌<◌, ◌≤◌, List, ◌∷◌, ◌++◌, length, Option, Some, [], get_or, arith}
 use Rattle.std.proofs.Common.{refl, sym, ◌∙◌, subst}
 use Rattle.std.proofs.KnownBytes.{Consumes-trans}
 use Rattle.std.proofs.lemmas.List.{length-append}
@@ -98,10 +98,6 @@ pub consumes_more : (old between new : Option (List ℕ)) (slot : Ipv6ExtSlot) (
 consumes_more old between new slot header more pieces kept =
     subst (Consumes old new) (sym (bytes_more pieces slot header))
     (Consumes-trans old between new (bytes_of pieces) header kept more)
-
-pub consumes_none : (known : Option (List ℕ)) → Consumes known known []
-consumes_none None = tt
-consumes_none (Some bytes) = refl
 
 -- one more header that was taken within the limit
 pub takes_row_more : {T : Type 0} (remaining : T → Option (List ℕ)) (old between new : Limited T)

@@ -26,9 +26,9 @@ use Rattle.ep_ext.specs.declared.net.ipv6_extensions.Ipv6Extensions.{Ipv6Extensi
 use Rattle.ep_ext.proofs.Prefixes.{same_prefix, same_rest}
 use Rattle.ep_ext.proofs.Reading.{consumed_some, raw_refused, auth_refused_within}
 use Rattle.ep_ext.proofs.ReadOnly.{alone, auth_end, read_same}
-use Rattle.ep_ext.proofs.ReadWalk.{consumes_none}
 use Rattle.std.proofs.lemmas.Option.{none-some, same_Some}
 use Rattle.ep_ext.proofs.Rows.{end_closed}
+use Rattle.ep_base.proofs.Reads.{consumes_none}
 
 -- headers that were taken were consumed, and the limit went down by them
 pub taken : {T : Type 0} (remaining : T → Option (List ℕ)) (old new : Limited T)

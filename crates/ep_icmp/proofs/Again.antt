@@ -1,5 +1,5 @@
 -- Fields that are parsed again from the bytes that encode them.
-use Rattle.std.proofs.Common.{◌≡◌, refl, ℕ, ◌+◌, ◌*◌, ◌/◌, ◌%◌, ◌^◌, ◌<◌, Bool, false, None, List, [], ◌∷◌, ◌++◌, find}
+use Rattle.std.proofs.Common.{◌≡◌, refl, ℕ, ◌+◌, Bool, false, None, List, [], ◌∷◌, ◌++◌, find}
 use Rattle.std.proofs.Common.{length, slice_range, arith}
 use Rattle.std.proofs.lemmas.List.{append-nil, take_at}
 use Rattle.std.specs.List.{list_any}
@@ -8,13 +8,6 @@ use Rattle.ep_icmp.proofs.Outcomes.{neither}
 use Rattle.ep_icmp.specs.Layout.{used_bytes, bytes_of_fields}
 use Rattle.ep_icmp.specs.declared.transport.icmp_echo_header.IcmpEchoHeader.{IcmpEchoHeader}
 use Rattle.ep_icmp.specs.declared.transport.icmpv4.timestamp_message.TimestampMessage.{TimestampMessage}
-
-pub two_again : (n : ℕ) → n < 2 ^ 16 → 256 * (n / 256 % 256) + n % 256 ≡ n
-two_again n h = omega arith
-
-pub four_again : (n : ℕ) → n < 2 ^ 32
-    → 256 * (256 * (256 * (n / 2 ^ 24 % 256) + n / 2 ^ 16 % 256) + n / 2 ^ 8 % 256) + n % 256 ≡ n
-four_again n h = omega arith
 
 pub echo_again : (echo : IcmpEchoHeader) (a b c d : ℕ) (rest : List ℕ) → EchoFits echo
     → echo_in (a ∷ b ∷ c ∷ d ∷ (echo_bytes echo ++ rest)) 4 ≡ echo

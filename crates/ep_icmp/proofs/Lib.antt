@@ -11,7 +11,6 @@ pub mod Icmpv6Kinds
 pub mod Layouts
 pub mod Outcomes
 pub mod Sums
-pub mod Flags
 pub mod NdpHeaders
 pub mod NdpItems
 pub mod NdpAgain

@@ -7,11 +7,11 @@ use Rattle.std.proofs.lemmas.List.{length-append, append-nil, drop_all, take_at,
 use Rattle.std.proofs.lemmas.List.{drop-append-le}
 use Rattle.std.proofs.lemmas.List.Folds.{drop_split}
 use Rattle.std.specs.Int.{w16, w32, to_be_bytes}
-use Rattle.ep_base.specs.Bytes.{IsBytes, num}
+use Rattle.ep_base.specs.Bytes.{IsBytes, num, flag}
 use Rattle.ep_base.proofs.Prefixes.{prefix_fits}
 use Rattle.ep_base.proofs.Cells.{cells, drop-cells}
 use Rattle.ep_base.proofs.Numbers.{two_again, four_again, digits_of, high_of, low_of}
-use Rattle.ep_icmp.specs.Ndp.{FieldsFit, Fits, IsNdp, IsNdpHeader, IsRead, encoding, fields_bytes, flag, len_of_type}
+use Rattle.ep_icmp.specs.Ndp.{FieldsFit, Fits, IsNdp, IsNdpHeader, IsRead, encoding, fields_bytes, len_of_type}
 use Rattle.ep_icmp.specs.Ndp.{message_of, message_of_type, ndp_header_of, options_bytes_of, type_u8, with_reserved_bits_zero, reserved_zero}
 use Rattle.ep_icmp.specs.declared.transport.icmpv6.ndp.ndp_header.NdpHeader.{NdpHeader}
 use Rattle.ep_icmp.specs.declared.transport.icmpv6.ndp.ndp_message.NdpMessage.{NdpMessage}
@@ -20,6 +20,7 @@ use Rattle.ep_icmp.specs.declared.transport.icmpv6.ndp.ndp_message.NdpMessage.Th
 use Rattle.ep_icmp.specs.declared.transport.icmpv6.ndp.ndp_message.NdpMessage.TheVariants.{NeighborSolicitation}
 use Rattle.ep_icmp.specs.declared.transport.icmpv6.ndp.ndp_message.NdpMessage.TheVariants.{NeighborAdvertisement}
 use Rattle.ep_icmp.specs.declared.transport.icmpv6.ndp.ndp_message.NdpMessage.TheVariants.{Redirect}
+use Rattle.ep_base.proofs.Bits.{flag_worth}
 
 -- ---- the fields that were encoded are read again
 
@@ -141,9 +142,6 @@ word_is p bytes fits =
     let d = digits_of (num bytes p 1) (num bytes (p + 1) 1) (num bytes (p + 2) 1) (num bytes (p + 3) 1)
     (fits p) (fits (p + 1)) (fits (p + 2)) (fits (p + 3)) in
     grind arith
-
-flag_worth : (q w : ℕ) → q < 2 → flag (eqb q 1) w ≡ q * w
-flag_worth q w h = grind arith
 
 two_worth : (n : ℕ) → n < 256
     → flag (eqb (n / 2 ^ 7 % 2) 1) 128 + flag (eqb (n / 2 ^ 6 % 2) 1) 64 ≡ n / 64 * 64

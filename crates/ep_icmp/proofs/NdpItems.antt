@@ -6,7 +6,7 @@ use Rattle.std.specs.Iterator.{item_count, MakesProgress}
 use Rattle.std.specs.List.{All, concat}
 use Rattle.std.proofs.lemmas.Bool.Decides.{nat_tests}
 use Rattle.std.proofs.lemmas.Bool.{cases_Bool}
-use Rattle.std.proofs.lemmas.List.{append-nil, drop_all, length-drop, take_rest, length-take-le, take-append-drop, get_or-take}
+use Rattle.std.proofs.lemmas.List.{append-nil, length-drop, length-take-le, take-append-drop, get_or-take}
 use Rattle.std.proofs.lemmas.List.{take_at, drop_at, get_or_append_left, length-append}
 use Rattle.std.proofs.lemmas.List.Elements.{All-cons, All-head, All-nil, All-tail}
 use Rattle.ep_base.specs.Bytes.{num}
@@ -103,10 +103,6 @@ step_err end f bytes goes sized =
 pub progress : (s t : Left) (item : Item) → items_of s ≡ item ∷ items_of t
     → MakesProgress (λ (left : Left). ⊤) (item_count items_of) s (Some item) t
 progress s t item e = grind arith
-
--- what a slice has after its last byte
-pub nothing_after : (xs : List ℕ) → take (length xs - length xs) (drop (length xs) xs) ≡ []
-nothing_after xs = take_rest xs (length xs) ∙ drop_all (length xs) xs (omega arith)
 
 -- ---- each list is encoded
 

@@ -1,11 +1,10 @@
 -- Messages of neighbor discovery that a test of equality finds equal.
-use Rattle.std.proofs.Common.{◌&&◌, Bool, ap, refl}
+use Rattle.std.proofs.Common.{ap, refl}
 use Rattle.std.proofs.lemmas.Bool.Decides.{Decides-eqb}
-use Rattle.std.specs.Bool.{Decides}
 use Rattle.std.specs.Cmp.{booleans_Decides}
 use Rattle.std.specs.Cmp.Lexicographic.{pointwise_decides}
 use Rattle.ep_base.specs.Traits.{EqualIsSame}
-use Rattle.ep_base.proofs.Same.{field, last_field, one_part, record_same, two_parts}
+use Rattle.ep_base.proofs.Same.{field, last_field, one_part, record_same, two_parts, both}
 use Rattle.ep_icmp.specs.contracts.transport.icmpv6.ndp.ndp_header.NdpHeaderPartialEq.TheImpl as headers
 use Rattle.ep_icmp.specs.contracts.transport.icmpv6.ndp.ndp_message.NdpMessagePartialEq.TheImpl as messages
 use Rattle.ep_icmp.specs.declared.transport.icmpv6.ndp.ndp_message.NdpMessage.TheVariants.{RouterSolicitation}
@@ -13,9 +12,6 @@ use Rattle.ep_icmp.specs.declared.transport.icmpv6.ndp.ndp_message.NdpMessage.Th
 use Rattle.ep_icmp.specs.declared.transport.icmpv6.ndp.ndp_message.NdpMessage.TheVariants.{NeighborSolicitation}
 use Rattle.ep_icmp.specs.declared.transport.icmpv6.ndp.ndp_message.NdpMessage.TheVariants.{NeighborAdvertisement}
 use Rattle.ep_icmp.specs.declared.transport.icmpv6.ndp.ndp_message.NdpMessage.TheVariants.{Redirect}
-
-both : {P Q : Type 0} {s t : Bool} → Decides s P → Decides t Q → Decides (s && t) (P × Q)
-both first second = two_parts first second (λ x y. (x, y)) (λ p. p)
 
 pub same_message : EqualIsSame messages.ghosts.eq
 same_message RouterSolicitation RouterSolicitation = (λ is. refl, λ is. refl)

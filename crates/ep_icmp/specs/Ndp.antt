@@ -4,7 +4,7 @@ use Rattle.std.specs.Prelude.{◌≡◌, ℕ, ◌+◌, ◌*◌, ◌/◌, ◌%◌
 use Rattle.std.specs.Prelude.{length, slice_range, drop, replicate, if◌then◌else◌}
 use Rattle.std.specs.Prelude.{Option, Some, None, Result, Ok, Err}
 use Rattle.std.specs.Int.{w16, w32, to_be_bytes}
-use Rattle.ep_base.specs.Bytes.{num}
+use Rattle.ep_base.specs.Bytes.{num, flag}
 use Rattle.ep_base.specs.LenError.{too_few_bytes}
 use Rattle.ep_base.specs.Prefixes.{IsReadAs}
 use Rattle.ep_base.specs.declared.err.layer.Layer.TheVariants.{Icmpv6}
@@ -37,10 +37,6 @@ len_of_type t = if t == 133 then 8 else (
 
 abbrev pub header_len : NdpMessage → ℕ
 header_len message = len_of_type (type_u8 message)
-
--- a flag at its bit
-abbrev pub flag : Bool → ℕ → ℕ
-flag set worth = if set then worth else 0
 
 -- the fields of a message, from byte 4 on, counted from 0; reserved bits are 0
 abbrev pub fields_bytes : NdpMessage → List ℕ

@@ -5,9 +5,9 @@ use Rattle.std.specs.Prelude.{not, Bool, true, IsTrue, List, [], ◌∷◌, ◌+
 use Rattle.std.specs.Prelude.{if◌then◌else◌, Option, Some, None, Result, Ok, Err}
 use Rattle.std.specs.List.{All, concat}
 use Rattle.std.specs.Int.{w32, to_be_bytes}
-use Rattle.ep_base.specs.Bytes.{num}
+use Rattle.ep_base.specs.Bytes.{num, flag}
 use Rattle.ep_base.specs.Refusals.{unless_refused}
-use Rattle.ep_icmp.specs.Ndp.{bit_of, flag}
+use Rattle.ep_icmp.specs.Ndp.{bit_of}
 use Rattle.ep_icmp.specs.declared.transport.icmpv6.ndp.ndp_option.NdpOption.{NdpOption}
 use Rattle.ep_icmp.specs.declared.transport.icmpv6.ndp.ndp_option.NdpOption.TheVariants as option
 use Rattle.ep_icmp.specs.declared.transport.icmpv6.ndp.ndp_option_error.NdpOptionError.{NdpOptionError}

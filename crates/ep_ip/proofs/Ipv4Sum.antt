@@ -1,11 +1,12 @@
 -- The sum of a header's words, and the checksum in it.
-use Rattle.std.proofs.Common.{◌≡◌, ℕ, suc, ◌+◌, ◌-◌, ◌%◌, ◌^◌, ◌<◌, Bool, true, IsTrue, not, ◌&&◌, eqb, ◌⊎◌, arith, ap}
+use Rattle.std.proofs.Common.{◌≡◌, ℕ, suc, ◌+◌, ◌-◌, ◌%◌, ◌^◌, ◌<◌, true, IsTrue, not, ◌&&◌, eqb, ◌⊎◌, arith, ap}
 use Rattle.std.proofs.Common.{◌↔◌}
 use Rattle.std.proofs.lemmas.Bool.{ne_eqb}
 use Rattle.ep_base.specs.Sum.{total, fold, all_ones}
 use Rattle.ep_ip.specs.Ipv4.{encoding}
 use Rattle.ep_ip.specs.Ipv4Checksum.{right_checksum, HasRightChecksum}
 use Rattle.ep_ip.specs.declared.net.ipv4_header.Ipv4Header.{Ipv4Header}
+use Rattle.ep_base.proofs.Numbers.{both_hold}
 
 -- the checksum is one word of the sum
 total-encoding : (h : Ipv4Header) → h.header_checksum < 2 ^ 16 →
@@ -20,9 +21,6 @@ positive n h = (n - 1, omega arith)
 encoding_not_zero : (h : Ipv4Header) → (n : ℕ) × (total (encoding h) ≡ suc n)
 unfolding total
 encoding_not_zero h = positive (total (encoding h)) (omega arith)
-
-both_of : (a b : Bool) → a ≡ true → b ≡ true → IsTrue (a && b)
-both_of a b p q = grind arith
 
 not_zero : (n : ℕ) → 0 < n → not (eqb n 0) ≡ true
 not_zero n h = ap not (ne_eqb n 0 (λ e. omega arith))

@@ -1,7 +1,7 @@
 -- The offset of a fault lies within the bytes, so that the length of what comes before them can be
 -- added to it.
-use Rattle.std.proofs.Common.{◌≡◌, ◌∙◌, sym, ap, subst, ℕ, ◌+◌, ◌-◌, ◌<◌, ◌≤◌, ◌^◌, List, length, take, drop, Some}
-use Rattle.std.proofs.Common.{Result, Err, IfErr, length-append, take-append-drop, arith}
+use Rattle.std.proofs.Common.{◌≡◌, ◌∙◌, sym, ap, subst, ℕ, ◌+◌, ◌-◌, ◌<◌, ◌≤◌, ◌^◌, List, length, drop, Some}
+use Rattle.std.proofs.Common.{Result, Err, IfErr, arith}
 use Rattle.std.proofs.lemmas.List.{length-drop}
 use Rattle.ep_ip.specs.Ipv6Fault as v6
 use Rattle.ep_base.specs.declared.err.slice_error.SliceError.{SliceError as HeaderSliceError}
@@ -25,6 +25,7 @@ use Rattle.ep_ipslice.specs.Packet.{body_len}
 use Rattle.ep_ipslice.specs.declared.err.ip.slice_error.SliceError.{SliceError}
 use Rattle.ep_ipslice.specs.declared.err.ipv4.slice_error.SliceError.{SliceError as Ipv4Fault}
 use Rattle.ep_ipslice.specs.declared.err.ipv6.slice_error.SliceError.{SliceError as Ipv6Fault}
+use Rattle.ep_base.proofs.Cells.{take_fits}
 
 -- laws of faults of extension headers, as they are called
 abbrev pub AuthMoves : Type 0
@@ -39,10 +40,6 @@ RowMoves = (order : Order) (first : ℕ) (bytes : List ℕ) (pieces : List Piece
 
 of_err : {A E : Type 0} (P : E → Type 0) (r : Result A E) (e : E) → r ≡ Err e → IfErr r P → P e
 of_err P r e is each = subst (λ (x : Result _ _). IfErr x P) is each
-
-pub take_fits : (n : ℕ) (xs : List ℕ) → length (take n xs) ≤ length xs
-take_fits n xs =
-    omega (arith, ap length (take-append-drop n xs), length-append (take n xs) (drop n xs))
 
 -- the body of a packet lies within the bytes after the header
 pub body_fits : (bytes header : List ℕ) → length (body_of bytes header) ≤ length bytes - 40

@@ -1,5 +1,5 @@
 -- The fault that is found of an IP packet is the first one.
-use Rattle.std.proofs.Common.{◌≡◌, ◌∙◌, sym, ap, subst, refl, ℕ, ◌-◌, ◌<◌, ◌==◌, Bool, true, false, List, [], ◌++◌}
+use Rattle.std.proofs.Common.{◌≡◌, ◌∙◌, sym, ap, subst, refl, ℕ, ◌-◌, ◌==◌, Bool, true, false, List, [], ◌++◌}
 use Rattle.std.proofs.Common.{length, ◌≤◌, drop, Option, Some, None, Result, Ok, Err, arith}
 use Rattle.std.specs.Prelude.{nat_lt, if◌then◌else◌}
 use Rattle.std.proofs.lemmas.Bool.{eqb-true, ltb-false, ltb-true}
@@ -157,9 +157,6 @@ ipv6_case law bytes (Ok packet) e version at is = cc
 ipv6_case law bytes (Err fault) e version at is =
     OfIpv6 fault version (ipv6_fault_found law bytes fault at)
     (sym (err_same {A = IpSlice} _ _ is))
-
-some_bytes : (n : ℕ) → (n == 0) ≡ false → 0 < n
-some_bytes n none = grind arith
 
 by_version : RowEnds → (none four six : Bool) (bytes : List ℕ) (e : IpFault)
     → (length bytes == 0) ≡ none → (version_of bytes == 4) ≡ four → (version_of bytes == 6) ≡ six

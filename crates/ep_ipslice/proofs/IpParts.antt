@@ -11,7 +11,7 @@ use Rattle.ep_ipslice.specs.declared.net.ip_slice.IpSlice.{IpSlice}
 use Rattle.ep_ipslice.specs.declared.net.ip_slice.IpSlice.TheVariants.{Ipv4, Ipv6}
 use Rattle.ep_ipslice.proofs.Ipv6Parts.{packet_parts}
 
-first_byte : (bytes header rest : List ℕ) → bytes ≡ header ++ rest → 0 < length header
+pub first_byte : (bytes header rest : List ℕ) → bytes ≡ header ++ rest → 0 < length header
     → get_or bytes 0 0 ≡ get_or header 0 0
 first_byte bytes header rest parts some = grind (arith, get_or_append_left)
 

@@ -37,7 +37,7 @@ prefix_within : (bytes prefix rest : List ℕ) → bytes ≡ prefix ++ rest → 
 prefix_within bytes prefix rest parts = omega (arith, ap length parts, length-append prefix rest)
 
 -- a fault m bytes further on can be counted from n bytes earlier
-within_moves : {C : Type 0} (source : LenSource) (m n : ℕ) (e : SliceError C) → CanMove e (m + n)
+pub within_moves : {C : Type 0} (source : LenSource) (m n : ℕ) (e : SliceError C) → CanMove e (m + n)
     → CanMove (fault_within source m e) n
 within_moves source m n (Len e) moves = omega (arith, moves)
 within_moves source m n (Content e) moves = tt

@@ -5,17 +5,17 @@ mod Faults
 mod FirstFault
 mod Found
 mod Prefixes
-mod IpParts
+pub mod IpParts
 mod Ipv4Parts
 mod Ipv6At
 mod Ipv6Parts
 mod LaxIpv4
 mod LaxIpv6
 mod LaxLaws
-mod LaxOffsets
+pub mod LaxOffsets
 mod Left
 mod MoreBytes
-mod InSlots
+pub mod InSlots
 mod SamePayloads
 mod SameViews
 mod ViewWalk

@@ -1,5 +1,5 @@
 -- The walk of a view over extension headers in a row.
-use Rattle.std.proofs.Common.{◌≡◌, ℕ, ◌-◌, Bool, true, false, ◌||◌, List, ◌∷◌, ◌++◌, length, [], take, Option, Some}
+use Rattle.std.proofs.Common.{◌≡◌, ℕ, ◌-◌, Bool, true, ◌||◌, List, ◌∷◌, ◌++◌, length, [], take, Option, Some}
 use Rattle.std.proofs.Common.{None, Err, Bor, arith, refl, sym, ap, ◌∙◌, length-append, append_assoc}
 use Rattle.std.proofs.lemmas.List.{take_at}
 use Rattle.std.proofs.lemmas.List.Folds.{list_any-append}
@@ -15,6 +15,7 @@ use Rattle.ep_ext.specs.declared.err.ipv6_exts.header_error.HeaderError.{HeaderE
 use Rattle.ep_ext.specs.declared.net.ipv6_ext_slot.Ipv6ExtSlot.{Ipv6ExtSlot}
 use Rattle.ep_ipslice.specs.Ipv6Exts.{Ipv6Exts, IsViewOf, Stops, exts_of, is_any_fragmenting, is_started}
 use Rattle.ep_ipslice.specs.Ipv6Exts.{is_fragmenting_piece, slot_after, view_order}
+use Rattle.std.proofs.Math.Bool.{or-false}
 
 -- what the walk keeps: so far the bytes are headers in a row and the rest
 pub record Kept (first : ℕ) (bytes : List ℕ) (has_header fragmented : Bool) (number : ℕ)
@@ -52,13 +53,10 @@ started_more : (pieces : List Piece) (piece : Piece) → true ≡ is_started (pi
 started_more [] piece = refl
 started_more (first ∷ pieces) piece = refl
 
-or_false : (b : Bool) → (b || false) ≡ b
-or_false b = grind arith
-
 parted_more : (pieces : List Piece) (piece : Piece)
     → is_any_fragmenting (pieces ++ piece ∷ [])
     ≡ (is_any_fragmenting pieces || is_fragmenting_piece piece)
-parted_more pieces piece = grind (arith, list_any-append, or_false)
+parted_more pieces piece = grind (arith, list_any-append, or-false)
 
 pub kept_more : RowGrows → BytesGrow
     → (first : ℕ) (bytes : List ℕ) (has_header fragmented : Bool) (number : ℕ) (rest : List ℕ) →

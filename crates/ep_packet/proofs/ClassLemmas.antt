@@ -44,7 +44,7 @@ IsOwn bytes (Tcp m) = ⊤
 IsOwn bytes (Udp m) = ⊤
 IsOwn bytes (Icmpv6 m) = ⊤
 
-chosen : {A : Type 0} (P : A → Type 0) (b : Bool) (x y : A) → P x → P y → P (cond b x y)
+pub chosen : {A : Type 0} (P : A → Type 0) (b : Bool) (x y : A) → P x → P y → P (cond b x y)
 chosen P true x y left right = left
 chosen P false x y left right = right
 

@@ -1,5 +1,5 @@
 -- The fault at which a frame is refused is the first one.
-use Rattle.std.proofs.Common.{◌≡◌, ◌∙◌, ℕ, ◌-◌, ◌≤◌, ◌<◌, ◌==◌, Bool, true, false, List, length, [], arith, IfErr}
+use Rattle.std.proofs.Common.{◌≡◌, ◌∙◌, ℕ, ◌-◌, ◌≤◌, ◌==◌, Bool, true, false, List, length, [], arith, IfErr}
 use Rattle.std.proofs.Common.{Option, Some, None, Result, Ok, Err, refl, sym, ap, subst}
 use Rattle.std.specs.Prelude.{nat_lt, if◌then◌else◌}
 use Rattle.std.proofs.lemmas.Bool.{eqb-true, ltb-false, ltb-true}
@@ -335,9 +335,6 @@ v6_version law bytes (Err x) e version read is = (
   OfIpv6 x version (ipv6_in_slots law bytes x read) refl,
   sym (err_same {A = Parts} _ _ is),
 )
-
-some_bytes : (n : ℕ) → (n == 0) ≡ false → 0 < n
-some_bytes n none = grind arith
 
 headers_by : FaultsAreFirst → (none four six : Bool) (bytes : List ℕ) (e : HeadersSliceError)
     → (length bytes == 0) ≡ none → (version_of bytes == 4) ≡ four → (version_of bytes == 6) ≡ six

@@ -1,6 +1,6 @@
 -- The headers of the network and the transport layer and the payload after them agree with their
 -- slices.
-use Rattle.std.proofs.Common.{◌≡◌, ◌∙◌, ℕ, ◌+◌, ◌-◌, ◌==◌, ◌||◌, Bool, true, false, cond, [], if◌then◌else◌, List, ◌++◌}
+use Rattle.std.proofs.Common.{◌≡◌, ◌∙◌, ℕ, ◌+◌, ◌-◌, ◌==◌, Bool, true, false, [], if◌then◌else◌, List, ◌++◌}
 use Rattle.std.proofs.Common.{length, Option, Some, None, Result, Ok, Err, refl, sym, ap, append_assoc, length-append}
 use Rattle.std.proofs.Common.{arith}
 use Rattle.std.proofs.lemmas.List.{append-nil}
@@ -98,11 +98,6 @@ rows_same found order first p q last end row other same =
     sym (found order first (bytes_of p) p last [] (alone order first p last row))
     ∙ ap (λ (xs : List ℕ). pieces_within (length xs) order [] first xs) same
     ∙ found order first (bytes_of q) q end [] (alone order first q end other)
-
-no_slot : (a b c d e : Bool) (h r g u o : Option Ipv6ExtSlot)
-    → (a || (b || (c || (d || (e || false))))) ≡ false →
-    (cond a h (cond b r (cond c g (cond d u (cond e o None)))) ≡ None) × (a ≡ false)
-no_slot a b c d e h r g u o is = grind arith
 
 no_slot_taken : (passed : List Ipv6ExtSlot) (last : ℕ) → has_slot last ≡ false
     → (slot_of passed last ≡ None) × ((last == 0) ≡ false)

@@ -4,7 +4,7 @@ use Rattle.std.proofs.Common.{◌∷◌, length, take, drop, Option, Some, None,
 use Rattle.std.specs.Option.{option_map}
 use Rattle.std.proofs.lemmas.Bool.{ltb-false}
 use Rattle.std.proofs.lemmas.List.{length-drop, length-take-le}
-use Rattle.std.proofs.Common.{◌++◌, length-append, take-append-drop}
+use Rattle.std.proofs.Common.{◌++◌}
 use Rattle.ep_base.specs.declared.err.layer.Layer.{Layer}
 use Rattle.ep_base.specs.declared.err.slice_error.SliceError.{SliceError as HeaderSliceError}
 use Rattle.ep_packet.specs.LaxFits.{StopFits, TagFits, TagsFit}
@@ -27,6 +27,7 @@ use Rattle.ep_tag.specs.Prefix.{whole_at}
 use Rattle.ep_tag.specs.Vlan.{is_vlan_type, vlan_len}
 use Rattle.ep_tag.specs.declared.link.lax_link_ext_slice.LaxLinkExtSlice.{LaxLinkExtSlice}
 use Rattle.ep_tag.specs.declared.link.lax_link_ext_slice.LaxLinkExtSlice.TheVariants as tag
+use Rattle.ep_base.proofs.Cells.{take_fits}
 
 pub tag_fault_at_start : (p : LaxEtherPayload) → IfErr (lax_tag_at p) (λ s. fault_offset s.0 ≡ 0)
 tag_fault_at_start p = grind arith
@@ -52,10 +53,6 @@ header_fits bytes header same =
       is.1,
       length-drop (length header) bytes,
     )
-
-take_fits : (n : ℕ) (xs : List ℕ) → length (take n xs) ≤ length xs
-take_fits n xs =
-    omega (arith, ap length (take-append-drop n xs), length-append (take n xs) (drop n xs))
 
 under_fits : (header rest : List ℕ) → length (bytes_under header rest) ≤ length rest
 under_fits header rest = grind (arith, take_fits)

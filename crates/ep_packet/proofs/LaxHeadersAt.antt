@@ -5,7 +5,6 @@ use Rattle.std.proofs.Common.{IfSome, Result, Ok, arith, length-append}
 use Rattle.std.specs.Option.{option_map, option_map_or}
 use Rattle.ep_base.specs.SliceError.{CanMove}
 use Rattle.ep_base.specs.declared.err.slice_error.SliceError.{SliceError}
-use Rattle.ep_base.specs.declared.err.slice_error.SliceError.TheVariants.{Len, Content}
 use Rattle.ep_base.specs.declared.len_source.LenSource.{LenSource}
 use Rattle.ep_base.specs.declared.net.ip_number.IpNumber.{IpNumber}
 use Rattle.ep_ext.specs.Chain.{Chain, Fault, fault_of}
@@ -21,7 +20,7 @@ use Rattle.ep_ip.specs.declared.err.ipv6.header_error.HeaderError.{HeaderError a
 use Rattle.ep_ip.specs.declared.net.ipv6_header.Ipv6Header.{Ipv6Header}
 use Rattle.ep_ipslice.specs.Ipv6Packet.{body_of}
 use Rattle.ep_ipslice.specs.Compared.{lax_value}
-use Rattle.ep_ipslice.specs.LaxPackets.{LaxIpv4Packet, StoppedIpv4, fault_within, is_ipv6_cut, lax_ipv4_packet_at}
+use Rattle.ep_ipslice.specs.LaxPackets.{LaxIpv4Packet, StoppedIpv4, is_ipv6_cut, lax_ipv4_packet_at}
 use Rattle.ep_ipslice.specs.LaxPackets.{lax_ipv6_source, row_fault_within}
 use Rattle.ep_ipslice.specs.declared.err.ip.header_error.HeaderError.{HeaderError}
 use Rattle.ep_ipslice.specs.declared.net.lax_ip_payload_slice.LaxIpPayloadSlice.{LaxIpPayloadSlice}
@@ -30,6 +29,7 @@ use Rattle.ep_packet.specs.LaxIpHeadersAt.{lax_ipv6_headers_at, with_lax_ipv4_he
 use Rattle.ep_packet.specs.declared.net.ip_headers.IpHeaders.{IpHeaders}
 use Rattle.ep_packet.specs.declared.net.ip_headers.IpHeaders.TheVariants.{Ipv6}
 use Rattle.ep_packet.proofs.HeadersAt.{RowsFound, fault_is, row_in}
+use Rattle.ep_ipslice.proofs.LaxOffsets.{within_moves}
 
 -- that the offset of a fault in a row lies within the bytes
 abbrev pub RowMoves : Type 0
@@ -46,12 +46,6 @@ pub faults_move : RowMoves → (m : ℕ) (body : List ℕ) (first : ℕ) (pieces
 faults_move moves m body first pieces last rest None most chain is = tt
 faults_move moves m body first pieces last rest (Some f) most chain is =
     moves slot_of first body pieces last rest f m chain (sym is) most
-
--- a fault m bytes further on can be counted from n bytes earlier
-within_moves : {C : Type 0} (source : LenSource) (m n : ℕ) (e : SliceError C) → CanMove e (m + n)
-    → CanMove (fault_within source m e) n
-within_moves source m n (Len e) moves = omega (arith, moves)
-within_moves source m n (Content e) moves = tt
 
 pub stop_moves : (source : LenSource) (n : ℕ) (found : Option Fault)
     → IfSome found (λ f. CanMove f.0 (40 + n))

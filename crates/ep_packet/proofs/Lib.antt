@@ -30,7 +30,7 @@ mod LaxWholeLemmas
 mod MessageFaults
 mod MoreBytes
 mod PacketViewLemmas
-mod PartsLemmas
+pub mod PartsLemmas
 mod ReadHeaders
 mod SameClasses
 mod SameHeaderParts

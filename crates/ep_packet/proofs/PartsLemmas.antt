@@ -37,6 +37,7 @@ use Rattle.ep_tcpudp.specs.Tcp.{data_offset_of}
 use Rattle.ep_tcpudp.specs.TcpFault.{segment_at}
 use Rattle.ep_tcpudp.specs.Udp.{length_of}
 use Rattle.ep_tcpudp.specs.UdpFault.{udp_at}
+use Rattle.ep_packet.proofs.ClassLemmas.{chosen}
 
 -- a part of a part is a part of the whole
 pub at_in : (bytes part sub : List ℕ) (p q : ℕ) → IsAt bytes p part → IsAt part q sub
@@ -48,10 +49,10 @@ at_in bytes part sub p q outer inner = record {
   parts = grind (arith, append_assoc);
 }
 
-at_whole : (bytes : List ℕ) → IsAt bytes 0 bytes
+pub at_whole : (bytes : List ℕ) → IsAt bytes 0 bytes
 at_whole bytes = record { before = []; after = []; here = refl; parts = sym (append-nil bytes) }
 
-at_take : (n : ℕ) (bytes : List ℕ) → IsAt bytes 0 (take n bytes)
+pub at_take : (n : ℕ) (bytes : List ℕ) → IsAt bytes 0 (take n bytes)
 at_take n bytes =
     record {
       before = [];
@@ -78,17 +79,13 @@ at_prefix bytes part sub p outer inner = let sum : p + 0 ≡ p = omega arith in
     grind (arith, at_in)
 
 -- a part after so many of the bytes
-at_parts : (bytes before part after : List ℕ) (position : ℕ) → length before ≡ position
+pub at_parts : (bytes before part after : List ℕ) (position : ℕ) → length before ≡ position
     → bytes ≡ before ++ part ++ after → IsAt bytes position part
 at_parts bytes before part after position here parts = grind arith
 
 -- the same offset, as another sum
 pub at_same_position : (bytes part : List ℕ) (p q : ℕ) → p ≡ q → IsAt bytes p part → IsAt bytes q part
 at_same_position bytes part p q same at = subst (λ (n : ℕ). IsAt bytes n part) same at
-
-chosen : {A : Type 0} (P : A → Type 0) (b : Bool) (x y : A) → P x → P y → P (cond b x y)
-chosen P true x y left right = left
-chosen P false x y left right = right
 
 -- all bytes are taken, of which there are enough
 pub whole_is : (layer : Layer) (n : ℕ) (bytes taken : List ℕ) → Ok taken ≡ whole_at layer n bytes
@@ -129,7 +126,7 @@ macsec_in bytes macsec is =
     }
 
 -- IP packets
-stand_in : (bytes header exts payload padding : List ℕ)
+pub stand_in : (bytes header exts payload padding : List ℕ)
     → bytes ≡ header ++ exts ++ payload ++ padding → StandAt bytes 0 header exts payload
 stand_in bytes header exts payload padding parts = (
   at_parts bytes [] header (exts ++ payload ++ padding) 0 refl

@@ -1,7 +1,6 @@
 -- The headers of the IP packet at the start of bytes.
-use Rattle.std.proofs.Common.{◌≡◌, ℕ, ◌<◌, ◌==◌, Bool, false, List, ◌++◌, length, get_or, Option, Some, None, Result}
+use Rattle.std.proofs.Common.{◌≡◌, ℕ, ◌<◌, ◌==◌, Bool, false, List, length, Option, Some, None, Result}
 use Rattle.std.proofs.Common.{Ok, Err, sym, ap, ◌∙◌, arith}
-use Rattle.std.proofs.lemmas.List.{get_or_append_left}
 use Rattle.std.specs.Option.{option_map_or}
 use Rattle.ep_base.specs.declared.len_source.LenSource.{LenSource}
 use Rattle.ep_base.specs.declared.net.ip_number.IpNumber.{IpNumber}
@@ -139,10 +138,6 @@ ipv6_only bytes headers payload is h header exts number fragmented source rest f
     grind arith in
     λ i. Ok (value i, returned i)
 
-first_byte : (bytes header rest : List ℕ) → bytes ≡ header ++ rest → 0 < length header
-    → get_or bytes 0 0 ≡ get_or header 0 0
-first_byte bytes header rest parts some = grind (arith, get_or_append_left)
-
 ipv4_version : (bytes : List ℕ) (headers : IpHeaders) (payload : IpPayload)
     → IsIpv4Headers bytes headers payload → v4.version_of bytes ≡ 4
 ipv4_version bytes headers payload is = grind arith
@@ -150,9 +145,6 @@ ipv4_version bytes headers payload is = grind arith
 ipv6_version : (bytes : List ℕ) (headers : IpHeaders) (payload : IpPayload)
     → IsIpv6Headers bytes headers payload → v4.version_of bytes ≡ 6
 ipv6_version bytes headers payload is = grind arith
-
-four_six : (n : ℕ) → n ≡ 4 → n ≡ 6 → ⊥
-four_six n four six = omega (arith, four, six)
 
 -- the version decides whose headers are there
 pub of_four : (bytes : List ℕ) (headers : IpHeaders) (payload : IpPayload) → v4.version_of bytes ≡ 4

@@ -1,7 +1,6 @@
 pub mod ElementFaults
 pub mod ElementsItems
 pub mod ElementsRead
-pub mod Flags
 pub mod Guards
 pub mod OptionsAgain
 pub mod OptionsBytes

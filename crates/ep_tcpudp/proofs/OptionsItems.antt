@@ -5,11 +5,12 @@ use Rattle.std.proofs.Common.{take, drop, Result, Ok, Err, Some, arith, sym, ref
 use Rattle.std.specs.Prelude.{⊤}
 use Rattle.std.specs.Iterator.{item_count, MakesProgress}
 use Rattle.std.proofs.lemmas.Bool.{cases_Bool}
-use Rattle.std.proofs.lemmas.List.{drop_all, length-drop, take_rest}
+use Rattle.std.proofs.lemmas.List.{length-drop, take_rest}
 use Rattle.ep_base.specs.Bytes.{num}
 use Rattle.ep_tcpudp.specs.Options.{kind_at, size_at, element_at, is_end, rest_after, items_within, items_of, rest_at}
 use Rattle.ep_tcpudp.specs.declared.transport.tcp_option_element.TcpOptionElement.{TcpOptionElement}
 use Rattle.ep_tcpudp.specs.declared.transport.tcp_option_read_error.TcpOptionReadError.{TcpOptionReadError}
+use Rattle.ep_base.proofs.Cells.{nothing_after}
 
 size_of : (bytes : List ℕ) → eqb (kind_at bytes) 1 ≡ false → 0 < num bytes 1 1 → 0 < size_at bytes
 size_of bytes no_noop positive = rw no_noop positive
@@ -73,10 +74,6 @@ items-step bytes goes = grind (arith, nat_tests, some_left, within_step)
 
 pub items-none : items_of [] ≡ []
 items-none = items-end [] refl
-
--- what a slice has after its last byte
-pub nothing_after : (xs : List ℕ) → take (length xs - length xs) (drop (length xs) xs) ≡ []
-nothing_after xs = take_rest xs (length xs) ∙ drop_all (length xs) xs (omega arith)
 
 pub none_after : (xs : List ℕ) → items_of (take (length xs - length xs) (drop (length xs) xs)) ≡ []
 none_after xs = ap items_of (nothing_after xs) ∙ items-none

@@ -5,7 +5,7 @@ use Rattle.std.specs.Int.{w16, w32, to_be_bytes}
 use Rattle.std.proofs.lemmas.List.{length-take-le}
 use Rattle.ep_base.specs.MessageSum.{ChecksumSumsToAllOnes, NoZeroSumsToAllOnes}
 use Rattle.ep_tcpudp.specs.Tcp as tcp
-use Rattle.ep_tcpudp.specs.Tcp.{data_offset, flag, flags}
+use Rattle.ep_tcpudp.specs.Tcp.{data_offset, flags}
 use Rattle.ep_tcpudp.specs.TcpChecksum as tcp_checksum
 use Rattle.ep_tcpudp.specs.TcpChecksum.{SealedTcpSumsToAllOnes, SealedSegmentSumsToAllOnes, segment_checksum}
 use Rattle.ep_tcpudp.specs.declared.transport.tcp_header.TcpHeader.{TcpHeader}
@@ -13,6 +13,7 @@ use Rattle.ep_tcpudp.specs.Udp.{encoding}
 use Rattle.ep_tcpudp.proofs.TcpSums.{segment_around}
 use Rattle.ep_tcpudp.specs.UdpChecksum.{SealedUdpSumsToAllOnes, right_checksum}
 use Rattle.ep_tcpudp.specs.declared.transport.udp_header.UdpHeader.{UdpHeader}
+use Rattle.ep_base.specs.Bytes.{flag}
 
 -- the six bytes before the checksum
 prefix_of : List ℕ → UdpHeader → List ℕ

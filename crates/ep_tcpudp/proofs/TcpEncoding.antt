@@ -1,13 +1,14 @@
 -- The bytes of a TCP header against its fields.
 use Rattle.std.proofs.Common.{◌≡◌, ℕ, ◌+◌, ◌*◌, ◌/◌, ◌%◌, ◌^◌, ◌<◌, ◌≤◌, Bool, true, false, eqb, List, length, get_or}
 use Rattle.std.proofs.Common.{arith, refl}
-use Rattle.ep_base.specs.Bytes.{IsBytes}
-use Rattle.ep_tcpudp.specs.Tcp.{IsTcpHeader, tcp_header_of, encoding, with_reserved_bits_zero, flag, flags, data_offset}
+use Rattle.ep_base.specs.Bytes.{IsBytes, flag}
+use Rattle.ep_tcpudp.specs.Tcp.{IsTcpHeader, tcp_header_of, encoding, with_reserved_bits_zero, flags, data_offset}
 use Rattle.ep_tcpudp.specs.Tcp.{data_offset_of, options_of, Fits}
 use Rattle.ep_tcpudp.specs.declared.transport.tcp_header.TcpHeader.{TcpHeader}
 use Rattle.ep_tcpudp.proofs.TcpPrefix.{options_rest, options_offset, readable_header}
 use Rattle.ep_base.proofs.Numbers.{two_again, four_again}
 use Rattle.ep_tcpudp.proofs.Words.{half_cells, word_cells}
+use Rattle.ep_base.proofs.Bits.{flag_worth}
 
 -- a flag as a number
 bit : Bool → ℕ
@@ -25,10 +26,6 @@ eqb_bit b = grind arith
 flag-bit : (b : Bool) (w : ℕ) → flag b w ≡ bit b * w
 unfolding bit
 flag-bit b w = grind arith
-
--- a bit with its value
-flag_worth : (q w : ℕ) → q < 2 → flag (eqb q 1) w ≡ q * w
-flag_worth q w h = grind arith
 
 -- the flags of a byte make up the byte
 flags_are : (n : ℕ) → n < 256 →

@@ -1,9 +1,9 @@
 -- The TCP header (RFC 9293, section 3.1): its bytes, and each field by its offset in them. The flag
 -- ns is that of RFC 3540, ece and cwr those of RFC 3168, section 6.1.
-use Rattle.std.specs.Prelude.{◌≡◌, ◌<◌, ◌≤◌, ℕ, ◌+◌, ◌*◌, ◌/◌, ◌%◌, ◌^◌, Bool, false, ◌==◌, if◌then◌else◌, List, []}
+use Rattle.std.specs.Prelude.{◌≡◌, ◌<◌, ◌≤◌, ℕ, ◌+◌, ◌*◌, ◌/◌, ◌%◌, ◌^◌, Bool, false, ◌==◌, List, []}
 use Rattle.std.specs.Prelude.{◌∷◌, ◌++◌, length, slice_index, slice_range, slice_set, take, drop}
 use Rattle.std.specs.Int.{w16, w32, to_be_bytes, bit_at}
-use Rattle.ep_base.specs.Bytes.{num}
+use Rattle.ep_base.specs.Bytes.{num, flag}
 use Rattle.ep_base.specs.Prefixes.{IsReadAs}
 use Rattle.ep_tcpudp.specs.TcpOptions.{IsTcpOptions}
 use Rattle.ep_tcpudp.specs.declared.transport.tcp_header.TcpHeader.{TcpHeader}
@@ -132,10 +132,6 @@ data_offset h = 5 + length h.options / 4
 
 abbrev pub header_len : TcpHeader → ℕ
 header_len h = 20 + length h.options
-
--- a flag at its bit
-abbrev pub flag : Bool → ℕ → ℕ
-flag set worth = if set then worth else 0
 
 -- byte 13: eight flags
 abbrev pub flags : TcpHeader → ℕ

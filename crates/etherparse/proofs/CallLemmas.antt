@@ -108,7 +108,7 @@ memory_error_stays : (f : Fragment) (o : Outcome) (e : IpDefragError) → memory
 memory_error_stays f o e is = grind arith
 
 -- the rule of a name is that of its addresses
-rule_named : (addresses : Addresses) (identification : ℕ)
+pub rule_named : (addresses : Addresses) (identification : ℕ)
     → overlap_rule_of (spec_id addresses identification) ≡ rule_over addresses
 rule_named addresses identification = grind arith
 
@@ -121,7 +121,7 @@ by_rule : (name : FragmentName) (channel : ℕ) (P : OverlapRule → Type 0)
     → P (overlap_rule_of (id_named name channel).ip) → P (rule_over name.addresses)
 by_rule name channel P h = subst P (rule_named name.addresses name.identification) h
 
-either_way : {X : Type 0} (b : Bool) (x : X) → cond b x x ≡ x
+pub either_way : {X : Type 0} (b : Bool) (x : X) → cond b x x ≡ x
 either_way true x = refl
 either_way false x = refl
 

@@ -20,7 +20,7 @@ mod BuiltFrames
 mod BuiltPackets
 mod BuiltSums
 mod CallAnswers
-mod CallLemmas
+pub mod CallLemmas
 mod FrameClass
 mod FramedIpv4
 mod FramedIpv6

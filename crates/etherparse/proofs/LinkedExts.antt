@@ -20,6 +20,7 @@ use Rattle.ep_ext.specs.declared.net.ipv6_extensions.Ipv6Extensions.{Ipv6Extensi
 use Rattle.ep_ext.specs.declared.net.ipv6_fragment_header.Ipv6FragmentHeader.{Ipv6FragmentHeader}
 use Rattle.ep_ext.specs.declared.net.ipv6_raw_ext_header.Ipv6RawExtHeader.{Ipv6RawExtHeader}
 use Rattle.ep_ext.specs.declared.net.ipv6_routing_extensions.Ipv6RoutingExtensions.{Ipv6RoutingExtensions}
+use Rattle.ep_ext.proofs.Linking.{final_of}
 
 some_same : {A : Type 0} (x y : A) → ◌≡◌ {A = Option A} (Some x) (Some y) → x ≡ y
 some_same x y h = cc
@@ -82,9 +83,6 @@ routing_shape : (n last : ℕ) (o : Option Ipv6RoutingExtensions)
     (option_map {T = Ipv6RoutingExtensions} (λ r. raw_encoding r.routing) o)
 routing_shape n last None = refl
 routing_shape n last (Some r) = refl
-
-abbrev final_of : Ipv6RoutingExtensions → Option (List ℕ)
-final_of r = option_map raw_encoding r.final_destination_options
 
 final_shape : (n last : ℕ) (o : Option Ipv6RoutingExtensions)
     → Shape (option_and_then final_of (option_map (naming n last) o)) (option_and_then final_of o)

@@ -1,5 +1,5 @@
 -- The linked extension headers of a value, as a view reads them.
-use Rattle.std.proofs.Common.{arith, ◌≡◌, ◌∙◌, ℕ, ◌||◌, Bool, true, false, cond, List, [], ◌∷◌, ◌++◌, Option, Some}
+use Rattle.std.proofs.Common.{arith, ◌≡◌, ◌∙◌, ℕ, ◌||◌, Bool, true, false, List, [], ◌∷◌, ◌++◌, Option, Some}
 use Rattle.std.proofs.Common.{None, refl, ap, subst}
 use Rattle.std.specs.Option.{option_map_or}
 use Rattle.ep_base.specs.Bytes.{num}
@@ -44,10 +44,6 @@ viewed_more : (passed : List Ipv6ExtSlot) (slot : Ipv6ExtSlot)
     → viewed_slots (passed ++ slot ∷ []) ≡ viewed_slots passed ++ viewed_at slot ∷ []
 viewed_more [] slot = refl
 viewed_more (p ∷ ps) slot = grind (arith, viewed_more ps slot)
-
-once_is : (taken : Bool) (slot found : Ipv6ExtSlot)
-    → cond taken None (Some slot) ≡ Some found → slot ≡ found
-once_is taken slot found is = grind arith
 
 prefix_is : (passed : List Ipv6ExtSlot) (found : Ipv6ExtSlot) → at_start passed ≡ Some found
     → at_start (viewed_slots passed) ≡ Some (viewed_at found)

@@ -32,7 +32,8 @@ use Rattle.etherparse.specs.tag.Prefix.{whole_at}
 use Rattle.etherparse_structs.specs.LaxParts.{AreLaxPartsOf}
 use Rattle.etherparse_structs.proofs.LaxNetParts.{ipv4_stands, ipv6_stands}
 use Rattle.etherparse_structs.proofs.LaxPartsLemmas.{in_ipv4, in_ipv6, parts_after, whole_is}
-use Rattle.etherparse_structs.proofs.PartOffsets.{at_drop, chosen}
+use Rattle.ep_packet.proofs.ClassLemmas.{chosen}
+use Rattle.ep_packet.proofs.PartsLemmas.{at_drop}
 
 abbrev IsPart : {E : Type 0} → List ℕ → ℕ → Result LaxSlicedPacket E → Type 0
 IsPart bytes link_len r = IfOk r (AreLaxPartsOf bytes link_len)

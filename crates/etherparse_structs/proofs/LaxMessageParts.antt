@@ -21,7 +21,8 @@ use Rattle.etherparse.specs.tcpudp.TcpFault.{segment_at}
 use Rattle.etherparse.specs.tcpudp.Udp.{length_of}
 use Rattle.etherparse.specs.tcpudp.UdpFault.{lax_udp_at, udp_at}
 use Rattle.etherparse_structs.specs.LaxPacket.{of_len}
-use Rattle.etherparse_structs.proofs.PartOffsets.{at_take, at_whole, chosen}
+use Rattle.ep_packet.proofs.ClassLemmas.{chosen}
+use Rattle.ep_packet.proofs.PartsLemmas.{at_whole, at_take}
 
 abbrev Reads : {E : Type 0} → List ℕ → Result (List ℕ) E → Type 0
 Reads bytes r = IfOk r (IsAt bytes 0)

@@ -33,7 +33,8 @@ use Rattle.etherparse.specs.ipslice.LaxPackets.{lax_ipv6_with}
 use Rattle.etherparse.specs.ipslice.Packet.{body_len}
 use Rattle.etherparse.specs.link.Arp as arp
 use Rattle.etherparse.specs.packet.Parts.{IsAt, StandAt}
-use Rattle.etherparse_structs.proofs.PartOffsets.{at_take, prefix_is, stand_in}
+use Rattle.etherparse_structs.proofs.PartOffsets.{prefix_is}
+use Rattle.ep_packet.proofs.PartsLemmas.{at_take, stand_in}
 
 -- each header is a prefix of the bytes
 ipv4_header_is : (bytes header : List ℕ) → v4.header_at bytes ≡ Ok header

@@ -42,8 +42,9 @@ use Rattle.etherparse_structs.specs.LaxParts.{AreLaxPartsOf, AreLaxTagsAt, IsLax
 use Rattle.etherparse_structs.specs.Net.{message_offset_in}
 use Rattle.etherparse_structs.proofs.LaxMessageParts.{transport_at}
 use Rattle.etherparse_structs.proofs.LaxNetParts.{arp_stands, ipv4_stands, ipv6_stands}
-use Rattle.etherparse_structs.proofs.PartOffsets.{at_drop, at_later, at_same_position, at_take, at_whole, chosen}
 use Rattle.etherparse_structs.proofs.PartOffsets.{prefix_is, stand_later}
+use Rattle.ep_packet.proofs.ClassLemmas.{chosen}
+use Rattle.ep_packet.proofs.PartsLemmas.{at_whole, at_take, at_drop, at_same_position, at_later}
 
 -- network layer and transport layer from this offset on
 pub record LayersAt (frame : List ℕ) (position : ℕ) (packet : Option LaxNetSlice)

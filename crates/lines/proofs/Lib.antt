@@ -2,7 +2,7 @@
 pub mod Going
 pub mod SplitLemmas
 mod AnswersLemmas
-mod Feeding
+pub mod Feeding
 mod LineLemmas
 mod MemoryLemmas
 mod SessionLemmas

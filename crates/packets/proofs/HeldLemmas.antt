@@ -29,7 +29,8 @@ use Rattle.packets.specs.declared.datagrams.Received.{Received}
 use Rattle.etherparse.specs.StartedBytes.{bytes_if}
 use Rattle.etherparse.specs.Starts.{ForgetsOldest, change_of, names_after}
 use Rattle.packets.proofs.OrderLemmas.{accepted_there, by_fragment, shown_bytes, shown_waits}
-use Rattle.packets.proofs.StartedLemmas.{last, rule_named, same}
+use Rattle.packets.proofs.StartedLemmas.{last, same}
+use Rattle.etherparse.proofs.CallLemmas.{rule_named}
 
 some_mapped : {X Y : Type 0} (f : X → Y) (o : Option X) → is_some (option_map f o) ≡ is_some o
 some_mapped f None = refl

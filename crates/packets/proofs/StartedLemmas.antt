@@ -1,11 +1,11 @@
 -- In which packets the datagrams that are not complete started, with one packet more.
-use Rattle.std.proofs.Common.{arith, ◌≡◌, ◌∙◌, refl, sym, ap, subst, ℕ, ◌==◌, ◌&&◌, nat_eq, Bool, true, false, List}
+use Rattle.std.proofs.Common.{arith, ◌≡◌, ◌∙◌, sym, ap, subst, ℕ, ◌==◌, ◌&&◌, nat_eq, Bool, List}
 use Rattle.std.proofs.Common.{Option, None, Some, Result, Ok, Err, cond, inl, inr}
 use Rattle.std.proofs.lemmas.Bool.{and_parts, cases_Bool, eqb-true}
 use Rattle.std.specs.Option.{IsSomeAnd, option_map}
 use Rattle.std.specs.Prelude.{◌↔◌, IsTrue, IfErr, IfOk, IfSome, MatchResult, unwrap_or}
 use Rattle.etherparse.specs.IpDefragPool.{Accepts, same_id}
-use Rattle.etherparse.specs.IpFragId.{id_named, overlap_rule_of, rule_over, same_name, spec_id}
+use Rattle.etherparse.specs.IpFragId.{id_named, overlap_rule_of, rule_over, same_name}
 use Rattle.etherparse.specs.PoolCalls.{HasMemory, Lists, ShowsHeld, as_call_result}
 use Rattle.etherparse.specs.declared.defrag.ip_defrag_payload_vec.IpDefragPayloadVec.{IpDefragPayloadVec}
 use Rattle.etherparse.specs.declared.defrag.ip_frag_id.IpFragId.{IpFragId}
@@ -17,7 +17,6 @@ use Rattle.etherparse.specs.declared.defrag.ip_defrag_error.IpDefragError.{IpDef
 use Rattle.etherparse.specs.declared.defrag.overlap_rule.OverlapRule.{OverlapRule}
 use Rattle.ep_packet.specs.Class.{FragmentName}
 use Rattle.ep_packet.specs.Class.Class.{Cut}
-use Rattle.ep_packet.specs.declared.addresses.Addresses.{Addresses}
 use Rattle.etherparse.specs.ReassemblyTable.{Becomes, IsLeft, OthersStay, Pool, Retained, ShowsReassembly, Stays}
 use Rattle.etherparse.specs.ReassemblyTable.{reassembly_at}
 use Rattle.etherparse.specs.Timestamps.{pool_by, timestamp_at}
@@ -28,6 +27,7 @@ use Rattle.packets.specs.Dissected.{IsFound}
 use Rattle.packets.specs.declared.datagrams.Finding.{Finding}
 use Rattle.packets.specs.declared.datagrams.Datagrams.{Datagrams}
 use Rattle.packets.specs.declared.datagrams.Received.{Received}
+use Rattle.etherparse.proofs.CallLemmas.{rule_named, either_way}
 
 abbrev pub same : IpFragId ℕ → IpFragId ℕ → Bool
 same = same_id nat_eq
@@ -47,10 +47,6 @@ known_started : (rule : OverlapRule) (s : Option (Reassembly ℕ)) (h : Held) (b
     → option_map timestamp s ≡ option_map last before
     → IfSome before (λ r. r.first ≡ number) → option_map first before ≡ started_if h.fragments number
 known_started rule s h before number shows is kept = grind arith
-
-either_way : {X : Type 0} (b : Bool) (x : X) → cond b x x ≡ x
-either_way true x = refl
-either_way false x = refl
 
 -- with a fragment that is accepted
 pub accepted_now : {X : Type 0} (rule : OverlapRule) (whole : List ℕ → X) (o : Outcome)
@@ -162,11 +158,6 @@ module _ {S H : Type 0} (parts : (a b : FragmentName) (x y : ℕ)
         if_refused (Ok None) lacks stays = absurd (lacks tt)
         if_refused (Ok (Some payload)) lacks stays = absurd (lacks tt)
         if_refused (Err e) lacks stays = refused_started e stays
-
--- the rule of a name is that of its addresses
-pub rule_named : (addresses : Addresses) (identification : ℕ)
-    → overlap_rule_of (spec_id addresses identification) ≡ rule_over addresses
-rule_named addresses identification = grind arith
 
 -- the same by the clauses of the pool
 module _ {S H : Type 0} (parts : (a b : FragmentName) (x y : ℕ)

@@ -35,7 +35,7 @@ impl<'a, P: ViewKind> Model for TcpView<'a, P> {
     ghost invariant = { λ tcp. ReadableTcp tcp.slice.now × P.holds tcp.slice.now };
 }
 
-#[tactic(auto, using(crate::proofs::Flags::flag_tests))]
+#[tactic(auto, using(ep_base::proofs::Bits::flag_tests))]
 impl<'a, P: ViewKind> TcpView<'a, P> {
     #[inline(always)]
     pub(super) fn of(slice: &'a [u8]) -> TcpView<'a, P>

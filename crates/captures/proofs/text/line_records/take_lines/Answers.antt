@@ -2,8 +2,9 @@ use Rattle.std.proofs.Common.{rules, arith, ◌≡◌, ◌∙◌, ◌+◌, ◌-�
 use Rattle.std.proofs.Common.{Some, None}
 use Rattle.std.proofs.lemmas.List.{length-drop}
 use Rattle.line_grammar.specs.TimedLines.{timed_frame_of}
-use Rattle.captures.proofs.TextLemmas.{taking_line, found_line, none_found, left_line, left_bad, after_line}
+use Rattle.captures.proofs.TextLemmas.{taking_line, found_line, none_found, left_line, left_bad}
 use Rattle.captures.proofs.text.line_records.take_lines.Goals as goal
+use Rattle.lines.proofs.Feeding.{after_line}
 
 pub returns-in_default-append_record-clause-takes : goal.returns-in_default-append_record-clause-takes
 returns-in_default-append_record-clause-takes c =

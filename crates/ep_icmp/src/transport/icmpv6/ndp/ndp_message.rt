@@ -1,6 +1,7 @@
 //! The messages of neighbor discovery.
 ghost use Rattle.std.specs.Prelude.{◌≡◌, ◌+◌, ◌≤◌, ◌++◌, length};
 ghost use Rattle.ep_base.specs.Refusals.{first_refusal};
+ghost use Rattle.ep_base.specs.Bytes.{flag};
 ghost use Rattle.ep_icmp.specs.Ndp as ndp;
 ghost use Rattle.ep_icmp.specs.NdpValid as valid;
 
@@ -219,7 +220,7 @@ fn is_solicited_node(address: &[u8; 16]) -> bool
 
 // A flag at its bit.
 pub(super) fn flag(set: bool, worth: u8) -> u8
-    ensures { result ≡ ndp.flag set worth }
+    ensures { result ≡ flag set worth }
 {
     if set { worth } else { 0 }
 }

@@ -30,7 +30,7 @@ impl<'a> Model for NdpSlice<'a> {
     ghost invariant = { λ message. ndp.IsNdp message.slice.now };
 }
 
-#[tactic(auto, using(ep_base::proofs::Bits::masks, crate::proofs::Flags::flag_tests))]
+#[tactic(auto, using(ep_base::proofs::Bits::masks, ep_base::proofs::Bits::flag_tests))]
 impl<'a> NdpSlice<'a> {
     /// The message of neighbor discovery that an ICMPv6 message is. `None` where it is of another
     /// type than 133 to 137; too few bytes for its type are refused (layer `Icmpv6`).

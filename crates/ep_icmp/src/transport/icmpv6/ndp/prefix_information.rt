@@ -21,7 +21,7 @@ pub struct PrefixInformation {
     pub prefix: [u8; 16],
 }
 
-#[tactic(auto, using(ep_base::proofs::Bits::masks, crate::proofs::Flags::flag_tests))]
+#[tactic(auto, using(ep_base::proofs::Bits::masks, ep_base::proofs::Bits::flag_tests))]
 impl PrefixInformation {
     // The fields that the 32 bytes of an option encode.
     pub(super) fn of_bytes(bytes: &[u8]) -> PrefixInformation

@@ -1,12 +1,7 @@
-use Rattle.std.proofs.Common.{Bool, ◌&&◌}
-use Rattle.std.specs.Bool.{Decides}
 use Rattle.std.specs.Cmp.{booleans_Decides}
 use Rattle.std.specs.Cmp.Lexicographic.{bytes_decides}
-use Rattle.ep_base.proofs.Same.{one_part, two_parts}
+use Rattle.ep_base.proofs.Same.{one_part, both}
 use Rattle.ep_ipslice.proofs.laws.traits.lax_payloads_are_equal_by_value.Goals as goal
-
-both : {P Q : Type 0} {s t : Bool} → Decides s P → Decides t Q → Decides (s && t) (P × Q)
-both p q = two_parts p q (λ x y. (x, y)) (λ r. r)
 
 pub returns : goal.returns
 returns c = λ a b.
