@@ -21,7 +21,7 @@ use Rattle.ep_packet.specs.declared.err.packet.slice_error.SliceError.TheVariant
 use Rattle.ep_packet.specs.declared.net.net_slice.NetSlice.{NetSlice}
 use Rattle.ep_packet.specs.declared.transport.transport_slice.TransportSlice.{TransportSlice}
 use Rattle.ep_tcpudp.specs.Udp.{lax_summed_udp, length_of, summed_udp}
-use Rattle.ep_tcpudp.specs.UdpFault.{lax_udp_at, no_header, udp_at}
+use Rattle.ep_tcpudp.specs.UdpFault.{lax_udp_at, udp_at}
 
 -- where a fault is counted from doesn't matter, nor what bounds it from outside
 pub passed_moved : (n : ℕ) (e : SliceError) → is_passed_over (offset_by n e) ≡ is_passed_over e
@@ -67,7 +67,8 @@ udp_stops : (bytes : List ℕ) (e : SliceError)
     → read_as (λ b. Udp b) (λ e. Len e) (lax_udp_at bytes) ≡ Err e
 udp_stops bytes e is over = udp_tests (nat_lt (length bytes) 8) (nat_lt (length bytes) (length_of bytes))
     (not (length_of bytes == 0) && nat_lt (length_of bytes) 8) (too_few_bytes UdpHeader 8 (length bytes))
-    (too_few_bytes UdpPayload (length_of bytes) (length bytes)) (no_header (length_of bytes))
+    (too_few_bytes UdpPayload (length_of bytes) (length bytes))
+    (record (too_few_bytes UdpHeader 8 (length_of bytes)) { len_source = source.UdpHeaderLen })
     (summed_udp bytes) (lax_summed_udp bytes) e refl refl is over
 
 message_by : (b : Bool) (number : ℕ) (bytes : List ℕ) (e : SliceError) → (number == udp) ≡ b

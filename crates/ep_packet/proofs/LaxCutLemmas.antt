@@ -8,6 +8,7 @@ use Rattle.ep_base.specs.LenError.{too_few_bytes}
 use Rattle.ep_base.specs.declared.err.layer.Layer.TheVariants.{Icmpv4, Icmpv4Timestamp, Icmpv4TimestampReply}
 use Rattle.ep_base.specs.declared.err.layer.Layer.TheVariants.{TcpHeader, UdpHeader, UdpPayload}
 use Rattle.ep_base.specs.declared.err.len_error.LenError.{LenError}
+use Rattle.ep_base.specs.declared.len_source.LenSource.TheVariants.{UdpHeaderLen}
 use Rattle.ep_base.specs.declared.err.slice_error.SliceError.TheVariants.{Len, Content}
 use Rattle.ep_base.specs.declared.err.slice_error.SliceError.{SliceError as HeaderSliceError}
 use Rattle.ep_icmp.specs.Icmpv4.{is_timestamp, is_timestamp_reply, is_timestamp_request}
@@ -22,7 +23,7 @@ use Rattle.ep_packet.specs.declared.err.packet.slice_error.SliceError.TheVariant
 use Rattle.ep_tcpudp.specs.Tcp.{data_offset_of}
 use Rattle.ep_tcpudp.specs.TcpFault.{segment_at}
 use Rattle.ep_tcpudp.specs.Udp.{lax_summed_udp, length_of, summed_udp}
-use Rattle.ep_tcpudp.specs.UdpFault.{lax_udp_at, no_header, udp_at}
+use Rattle.ep_tcpudp.specs.UdpFault.{lax_udp_at, udp_at}
 use Rattle.ep_tcpudp.specs.declared.err.tcp.header_error.HeaderError.TheVariants.{DataOffsetTooSmall}
 use Rattle.ep_tcpudp.specs.declared.err.tcp.header_error.HeaderError.{HeaderError as TcpFault}
 
@@ -153,7 +154,8 @@ udp_taken : (bytes m : List ℕ) → udp_at bytes ≡ Ok m → (nat_lt (length b
 udp_taken bytes m is = passed (nat_lt (length bytes) 8) (nat_lt (length bytes) (length_of bytes))
     (not (length_of bytes == 0) && nat_lt (length_of bytes) 8)
     (too_few_bytes UdpHeader 8 (length bytes))
-    (too_few_bytes UdpPayload (length_of bytes) (length bytes)) (no_header (length_of bytes))
+    (too_few_bytes UdpPayload (length_of bytes) (length bytes))
+    (record (too_few_bytes UdpHeader 8 (length_of bytes)) { len_source = UdpHeaderLen })
     (summed_udp bytes) m is
 
 udp_case : (none small : Bool) (stated n : ℕ) (bytes : List ℕ) → (stated == 0) ≡ none

@@ -1,14 +1,14 @@
 -- The TCP header at the start of bytes.
-use Rattle.std.proofs.Common.{◌≡◌, ℕ, ◌+◌, ◌*◌, ◌/◌, ◌≤◌, ◌↔◌, List, ◌++◌, length, take, drop, Result, Ok, IfOk, IsOk}
-use Rattle.std.proofs.Common.{arith, sym, refl}
+use Rattle.std.proofs.Common.{◌≡◌, ℕ, ◌+◌, ◌*◌, ◌/◌, ◌≤◌, ◌↔◌, List, ◌++◌, length, take, drop, Result, Ok, Err, IfOk}
+use Rattle.std.proofs.Common.{IsOk, ap, arith, refl, sym, ◌∙◌}
 use Rattle.std.proofs.lemmas.Bool.{le-ltb, ltb-false}
 use Rattle.std.proofs.lemmas.List.{get_or-take, length-take-le, take-append-drop, take_at, take_rest}
 use Rattle.std.proofs.lemmas.List.{get_or_append_left, length-append, length-drop}
 use Rattle.ep_base.specs.Bytes.{num}
 use Rattle.ep_base.specs.Prefixes.{TakesPrefix}
 use Rattle.ep_base.proofs.Prefixes.{guard_ok, ok_same, takes}
-use Rattle.ep_tcpudp.specs.Tcp.{IsTcpHeader, ReadableTcp, data_offset_of, options_of}
-use Rattle.ep_tcpudp.specs.TcpFault.{header_at, segment_at, with_header_at}
+use Rattle.ep_tcpudp.specs.Tcp.{IsTcpHeader, ReadableTcp, data_offset_of, header_bytes, options_of}
+use Rattle.ep_tcpudp.specs.TcpFault.{header_at, header_of_segment, segment_at}
 use Rattle.ep_tcpudp.specs.TcpOptions.{IsTcpOptions}
 use Rattle.ep_base.specs.declared.err.slice_error.SliceError.{SliceError}
 use Rattle.ep_tcpudp.specs.declared.err.tcp.header_error.HeaderError.{HeaderError}
@@ -16,9 +16,8 @@ use Rattle.ep_tcpudp.specs.declared.err.tcp.header_error.HeaderError.{HeaderErro
 twenty : (n : ℕ) → 5 ≤ n → 20 ≤ 4 * n
 twenty n h = omega arith
 
-with_header-ok : {A : Type 0} (bytes : List ℕ) (value : A) → ReadableTcp bytes
-    → with_header_at bytes value ≡ Ok value
-with_header-ok bytes value readable =
+segment-ok : (bytes : List ℕ) → ReadableTcp bytes → segment_at bytes ≡ Ok bytes
+segment-ok bytes readable =
     let least : 20 ≤ length bytes = omega (arith, readable.minimum, readable.header) in
     rw (
       le-ltb (length bytes) 20 least,
@@ -28,9 +27,9 @@ with_header-ok bytes value readable =
     ) refl
 
 -- what is taken is taken of readable bytes
-taken : {A : Type 0} (bytes : List ℕ) (value x : A) → with_header_at bytes value ≡ Ok x
-    → ReadableTcp bytes × (value ≡ x)
-taken bytes value x e =
+taken : (bytes segment : List ℕ) → segment_at bytes ≡ Ok segment
+    → ReadableTcp bytes × (bytes ≡ segment)
+taken bytes segment e =
     let least = guard_ok _ _ _ _ e in
     let minimum = guard_ok _ _ _ _ least.1 in
     let whole = guard_ok _ _ _ _ minimum.1 in (
@@ -49,12 +48,21 @@ header_is bytes readable =
     grind (arith, get_or-take, twenty) in
     grind (arith, length-take-le)
 
+-- the segment whose header was taken
+segment_of : (r : Result (List ℕ) (SliceError HeaderError)) (prefix : List ℕ)
+    → header_of_segment r ≡ Ok prefix
+    → (segment : List ℕ) × (r ≡ Ok segment) × (header_bytes segment ≡ prefix)
+segment_of (Ok segment) prefix e = (segment, refl, ok_same _ _ e)
+segment_of (Err fault) prefix e = cc
+
 prefix_takes : (bytes prefix : List ℕ) → header_at bytes ≡ Ok prefix
     → IsTcpHeader prefix × ((rest : List ℕ) × (bytes ≡ prefix ++ rest))
 prefix_takes bytes prefix e =
     let size = 4 * data_offset_of bytes in
-    let is = taken bytes (take size bytes) prefix e in
-    rw (← is.1) (header_is bytes is.0, (drop size bytes, sym (take-append-drop size bytes)))
+    let of = segment_of (segment_at bytes) prefix e in
+    let is = taken bytes of.0 of.1 in
+    let same : take size bytes ≡ prefix = ap header_bytes is.1 ∙ of.2 in
+    rw (← same) (header_is bytes is.0, (drop size bytes, sym (take-append-drop size bytes)))
 
 -- a header is taken, whatever follows it
 prefix_again : (prefix rest : List ℕ) → IsTcpHeader prefix → header_at (prefix ++ rest) ≡ Ok prefix
@@ -62,7 +70,7 @@ prefix_again prefix rest header =
     let first : num (prefix ++ rest) 12 1 ≡ num prefix 12 1 =
     get_or_append_left prefix rest 0 12 (omega (arith, header.minimum, header.whole)) in
     let len = length-append prefix rest in
-    grind (arith, with_header-ok, take_at)
+    grind (arith, segment-ok, take_at)
 
 pub takes_header : (bytes : List ℕ) (taken : Result (List ℕ) (SliceError HeaderError))
     → taken ≡ header_at bytes → TakesPrefix IsTcpHeader bytes taken

@@ -5,10 +5,12 @@ ghost use Rattle.std.specs.Cmp.Lexicographic.{slice_cmp};
 ghost use Rattle.std.specs.Hash as fed;
 ghost use Rattle.std.specs.Ordering.{nat_cmp};
 ghost use Rattle.ep_base.specs.Bytes.{IsBytes};
+ghost use Rattle.ep_base.specs.Prefixes.{TakesPrefix};
 ghost use Rattle.ep_tcpudp.specs.Elements.{ItemsAreEncoded, NoOtherItems};
 ghost use Rattle.ep_tcpudp.specs.Options.{ElementsComeBack};
 ghost use Rattle.ep_tcpudp.specs.Tcp.{IsTcpHeader, tcp_header_of, encoding, with_reserved_bits_zero};
 ghost use Rattle.ep_tcpudp.specs.TcpChecksum.{SealedTcpSumsToAllOnes, SealedSegmentSumsToAllOnes};
+ghost use Rattle.ep_tcpudp.specs.TcpFault.{header_at};
 
 use crate::err::tcp::HeaderSliceError;
 use crate::{TcpHeader, TcpOptions};
@@ -35,6 +37,12 @@ pub fn headers_are_their_bytes(header: &TcpHeader)
 {
     let _bytes = header.to_bytes();
 }
+
+/// What is found at the start of bytes is a header, and a prefix of the bytes; a prefix that is a
+/// header is found.
+pub fn headers_are_found()
+    ensures { (bytes : List ℕ) → TakesPrefix IsTcpHeader bytes (header_at bytes) }
+{}
 
 /// What `to_bytes` gives is read again, whatever follows it.
 pub fn header_is_read_again<'a>(

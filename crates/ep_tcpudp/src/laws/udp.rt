@@ -2,9 +2,10 @@
 
 ghost use Rattle.std.specs.Prelude.{◌≡◌, ◌↔◌, ◌≤◌, ◌<◌, ℕ, List, ◌++◌, length, IsOkAnd, Ok};
 ghost use Rattle.ep_base.specs.Bytes.{IsBytes};
+ghost use Rattle.ep_base.specs.Prefixes.{TakesPrefix};
 ghost use Rattle.ep_tcpudp.specs.Udp.{IsLaxUdp, IsUdpHeader, encoding, length_of, udp_header_of};
 ghost use Rattle.ep_tcpudp.specs.UdpChecksum.{SealedUdpSumsToAllOnes};
-ghost use Rattle.ep_tcpudp.specs.UdpFault.{lax_udp_at, udp_at};
+ghost use Rattle.ep_tcpudp.specs.UdpFault.{header_at, lax_udp_at, udp_at};
 
 use crate::UdpHeader;
 use ep_base::err::LenError;
@@ -34,6 +35,12 @@ pub fn headers_are_their_bytes(header: &UdpHeader)
 {
     let _bytes = header.to_bytes();
 }
+
+/// What is found at the start of bytes is a header, and a prefix of the bytes; a prefix that is a
+/// header is found.
+pub fn headers_are_found()
+    ensures { (bytes : List ℕ) → TakesPrefix IsUdpHeader bytes (header_at bytes) }
+{}
 
 /// What `to_bytes` gives is read again, whatever follows it.
 pub fn header_is_read_again<'a>(

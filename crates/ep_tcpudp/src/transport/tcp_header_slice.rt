@@ -1,6 +1,6 @@
 //! The TCP header as a view of its bytes.
 
-ghost use Rattle.std.specs.Prelude.{◌≡◌, ◌≤◌, ℕ, ◌-◌, List, ◌++◌, length, IfOk, Ok};
+ghost use Rattle.std.specs.Prelude.{◌≡◌, ◌≤◌, ℕ, ◌-◌, List, ◌++◌, length};
 ghost use Rattle.ep_base.specs.MessageSum.{SumsWords};
 ghost use Rattle.ep_base.specs.Sum.{fold, total};
 ghost use Rattle.ep_ip.specs.Ipv4.{source_of as ipv4_source, destination_of as ipv4_destination};
@@ -38,20 +38,8 @@ impl<'a> TcpHeaderSlice<'a> {
     /// Tested in this order: 20 bytes are there (`Len`), the data offset is at least 5
     /// (`DataOffsetTooSmall`), and as many words of 4 bytes are there as it says (`Len`).
     pub fn from_slice(slice: &'a [u8]) -> Result<TcpHeaderSlice<'a>, HeaderSliceError>
-        // What is taken is a header, and a prefix of the slice.
-        ensures found { IfOk result (λ header. IsTcpHeader header
-            × ((rest : List ℕ) × (slice.now ≡ header ++ rest))) }
-        // A prefix that is a header is taken.
-        ensures only { (header rest : List ℕ) → IsTcpHeader header
-            → slice.now ≡ header ++ rest → result ≡ Ok header }
-        // Else it is the first fault.
+        // The prefix that is a header, or the first fault: law `tcp::headers_are_found`.
         ensures exact { result ≡ header_at slice.now }
-    {
-        Self::tested(slice)
-    }
-
-    fn tested(slice: &'a [u8]) -> Result<TcpHeaderSlice<'a>, HeaderSliceError>
-        ensures { result ≡ header_at slice.now }
     {
         if slice.len() < TcpHeader::MIN_LEN {
             return Err(LenError::too_few_bytes(

@@ -1,6 +1,6 @@
 //! The UDP header as a view of its bytes.
 
-ghost use Rattle.std.specs.Prelude.{◌≡◌, ℕ, List, ◌++◌, IfOk, Ok};
+ghost use Rattle.std.specs.Prelude.{◌≡◌};
 ghost use Rattle.ep_tcpudp.specs.Udp.{IsUdpHeader};
 ghost use Rattle.ep_tcpudp.specs.UdpFault.{header_at};
 
@@ -22,20 +22,8 @@ impl<'a> UdpHeaderSlice<'a> {
     /// The header at the start of the slice. A slice of fewer than 8 bytes is refused. The length
     /// field is ignored, and so is what follows the header.
     pub fn from_slice(slice: &'a [u8]) -> Result<UdpHeaderSlice<'a>, LenError>
-        // What is taken is a header, and a prefix of the slice.
-        ensures found { IfOk result (λ header. IsUdpHeader header
-            × ((rest : List ℕ) × (slice.now ≡ header ++ rest))) }
-        // A prefix that is a header is taken.
-        ensures only { (header rest : List ℕ) → IsUdpHeader header → slice.now ≡ header ++ rest
-            → result ≡ Ok header }
-        // Else bytes are missing.
+        // The prefix that is a header, or that bytes are missing: law `udp::headers_are_found`.
         ensures exact { result ≡ header_at slice.now }
-    {
-        Self::tested(slice)
-    }
-
-    fn tested(slice: &'a [u8]) -> Result<UdpHeaderSlice<'a>, LenError>
-        ensures { result ≡ header_at slice.now }
     {
         if slice.len() < UdpHeader::LEN {
             return Err(LenError::too_few_bytes(Layer::UdpHeader, UdpHeader::LEN, slice.len()));

@@ -1,0 +1,7 @@
+use Rattle.std.proofs.Common.{refl}
+use Rattle.ep_tcpudp.specs.TcpFault.{header_at}
+use Rattle.ep_tcpudp.proofs.TcpPrefix.{takes_header}
+use Rattle.ep_tcpudp.proofs.laws.tcp.headers_are_found.Goals as goal
+
+pub returns : goal.returns
+returns c = λ bytes. takes_header bytes (header_at bytes) refl

@@ -1,8 +1,0 @@
-use Rattle.ep_tcpudp.proofs.TcpPrefix.{takes_header}
-use Rattle.ep_tcpudp.proofs.transport.tcp_header_slice.TcpHeaderSlice.from_slice.Goals as goal
-
-pub returns-clause-found : goal.returns-clause-found
-returns-clause-found c = (takes_header c.args.slice.now c.tested.result c.tested.ensures).found
-
-pub returns-clause-only : goal.returns-clause-only
-returns-clause-only c = (takes_header c.args.slice.now c.tested.result c.tested.ensures).only
