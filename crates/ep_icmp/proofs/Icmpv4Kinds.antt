@@ -1,16 +1,18 @@
 -- The kind that the table of ICMPv4 kinds gives a type and a code.
-use Rattle.std.proofs.Common.{◌≡◌, ℕ, ◌≤◌, Bool, false, arith, not, ◌||◌, ◌==◌, if◌then◌else◌, List, slice_range, refl}
+use Rattle.std.proofs.Common.{◌≡◌, ℕ, ◌≤◌, Bool, false, arith, not, ◌||◌, ◌==◌, if◌then◌else◌, List, slice_range}
+use Rattle.std.proofs.Common.{refl, sym}
 use Rattle.std.proofs.lemmas.Bool.Decides.{nat_tests}
 use Rattle.ep_icmp.proofs.Again.{none_passes}
 use Rattle.ep_base.specs.Bytes.{num}
 use Rattle.ep_icmp.specs.Fields.{echo_in, timestamp_in}
 use Rattle.ep_icmp.specs.Icmpv4.{HasNextHopMtu, HasPointer, has_numbers, header_len, is_listed, is_timestamp, kind_at}
-use Rattle.ep_icmp.specs.Icmpv4.{kinds, layout_of, type_of, problem_code, redirect_code, time_exceeded_code}
-use Rattle.ep_icmp.specs.Icmpv4.{unreachable_code}
+use Rattle.ep_icmp.specs.Icmpv4.{is_timestamp_reply, is_timestamp_request, kinds, layout_of, type_of, problem_code}
+use Rattle.ep_icmp.specs.Icmpv4.{redirect_code, time_exceeded_code, unreachable_code}
 use Rattle.ep_icmp.specs.declared.transport.icmpv4.dest_unreachable_header.DestUnreachableHeader.{DestUnreachableHeader}
 use Rattle.ep_icmp.specs.declared.transport.icmpv4.parameter_problem_header.ParameterProblemHeader.{ParameterProblemHeader}
 use Rattle.ep_icmp.specs.declared.transport.icmpv4.redirect_code.RedirectCode.{RedirectCode}
 use Rattle.ep_icmp.specs.declared.transport.icmpv4.time_exceeded_code.TimeExceededCode.{TimeExceededCode}
+use Rattle.ep_icmp.specs.declared.transport.icmpv4.timestamp_message.TimestampMessage.{TimestampMessage}
 use Rattle.ep_icmp.specs.declared.transport.icmpv4_type.Icmpv4Type.{Icmpv4Type}
 use Rattle.ep_icmp.specs.declared.transport.icmpv4_type.Icmpv4Type.TheVariants.{Unknown, EchoReply}
 use Rattle.ep_icmp.specs.declared.transport.icmpv4_type.Icmpv4Type.TheVariants.{DestinationUnreachable, Redirect}
@@ -99,5 +101,13 @@ len_at : (m : List ℕ) (t c : ℕ) (request reply : Bool)
 unfolding kind_at
 len_at m t c request reply p q = grind (arith, nat_tests)
 
+-- the table gives timestamp messages their types and code
+pub timestamps_listed : (m : List ℕ) (message : TimestampMessage)
+    → (is_timestamp_request m ≡ has_numbers (num m 0 1) (num m 1 1) (TimestampRequest message))
+    × (is_timestamp_reply m ≡ has_numbers (num m 0 1) (num m 1 1) (TimestampReply message))
+timestamps_listed m message = (grind (arith, nat_tests), grind (arith, nat_tests))
+
 pub header_len_at : (m : List ℕ) → header_len (type_of m) ≡ (if is_timestamp m then 20 else 8)
-header_len_at m = len_at m (num m 0 1) (num m 1 1) _ _ refl refl
+header_len_at m =
+    let listed = timestamps_listed m (timestamp_in m 4) in
+    len_at m (num m 0 1) (num m 1 1) _ _ (sym listed.0) (sym listed.1)

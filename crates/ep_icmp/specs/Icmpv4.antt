@@ -219,14 +219,13 @@ encoding h = bytes_of_layout (layout_of h.icmp_type) h.checksum
 abbrev pub right_checksum : Icmpv4Type → List ℕ → ℕ
 right_checksum kind payload = checksum (bytes_of_layout (layout_of kind) 0 ++ payload)
 
--- the type and code are those of a timestamp request, and those of its reply
+-- type and code are those of a timestamp request, and those of its reply (RFC 792, "Timestamp or
+-- Timestamp Reply Message")
 abbrev pub is_timestamp_request : List ℕ → Bool
-is_timestamp_request bytes = has_numbers (num bytes 0 1) (num bytes 1 1)
-    (TimestampRequest (timestamp_in bytes 4))
+is_timestamp_request bytes = num bytes 0 1 == 13 && (num bytes 1 1 == 0)
 
 abbrev pub is_timestamp_reply : List ℕ → Bool
-is_timestamp_reply bytes = has_numbers (num bytes 0 1) (num bytes 1 1)
-    (TimestampReply (timestamp_in bytes 4))
+is_timestamp_reply bytes = num bytes 0 1 == 14 && (num bytes 1 1 == 0)
 
 abbrev pub is_timestamp : List ℕ → Bool
 is_timestamp bytes = is_timestamp_request bytes || is_timestamp_reply bytes

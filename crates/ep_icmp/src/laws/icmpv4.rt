@@ -1,11 +1,13 @@
 //! Laws of ICMPv4 messages (RFC 792).
-ghost use Rattle.std.specs.Prelude.{◌≡◌, ℕ, List, [], ◌∷◌, ◌++◌, IsOkAnd, IsTrue};
-ghost use Rattle.ep_base.specs.Bytes.{IsBytes};
+ghost use Rattle.std.specs.Prelude.{◌≡◌, ℕ, List, [], ◌∷◌, ◌++◌, IfOk, IsOkAnd, IsTrue, Ok};
+ghost use Rattle.ep_base.specs.Bytes.{IsBytes, num};
 ghost use Rattle.ep_base.specs.Sum.{all_ones};
 ghost use Rattle.ep_icmp.specs.Icmpv4.{IsPayload, IsCanonical, ReadableIcmpv4, icmpv4_with_checksum, icmpv4_header_of};
-ghost use Rattle.ep_icmp.specs.Icmpv4.{layout_of, encoding, type_of};
+ghost use Rattle.ep_icmp.specs.Icmpv4.{has_numbers, is_timestamp_reply, is_timestamp_request, layout_of, encoding, type_of};
+ghost use Rattle.ep_icmp.specs.Icmpv4Fault.{message_at};
 ghost use Rattle.ep_icmp.specs.Layout.{with_unused_bytes_zero};
 ghost use Rattle.ep_icmp.specs.declared.transport.icmpv4_type.Icmpv4Type.{Icmpv4Type};
+ghost use Rattle.ep_icmp.specs.declared.transport.icmpv4_type.Icmpv4Type.TheVariants.{TimestampRequest, TimestampReply};
 
 use crate::icmpv4::TimestampMessage;
 use crate::{IcmpEchoHeader, Icmpv4Header};
@@ -23,6 +25,22 @@ pub fn lengths() -> [usize; 4]
         IcmpEchoHeader::LEN,
     ]
 }
+
+/// What is found is a message, and all of the bytes; bytes that are a message are found.
+pub fn messages_are_found()
+    ensures found { (bytes : List ℕ) → IfOk (message_at bytes)
+        (λ message. ReadableIcmpv4 message × (message ≡ bytes)) }
+    ensures only { (bytes : List ℕ) → ReadableIcmpv4 bytes → message_at bytes ≡ Ok bytes }
+{}
+
+/// A message is a timestamp request, or its reply, exactly where the table of kinds gives these its
+/// type and code.
+pub fn timestamps_are_listed()
+    ensures request { (bytes : List ℕ) (message : TimestampMessage) → is_timestamp_request bytes
+        ≡ has_numbers (num bytes 0 1) (num bytes 1 1) (TimestampRequest message) }
+    ensures reply { (bytes : List ℕ) (message : TimestampMessage) → is_timestamp_reply bytes
+        ≡ has_numbers (num bytes 0 1) (num bytes 1 1) (TimestampReply message) }
+{}
 
 /// What `to_bytes` gives is read again, whatever payload of the kind follows it, but for an
 /// `Unknown` of a type and code that another variant has.

@@ -1,9 +1,10 @@
 //! Laws of ICMPv6 messages (RFC 4443).
-ghost use Rattle.std.specs.Prelude.{◌≡◌, ◌+◌, ℕ, List, [], ◌∷◌, ◌++◌, IsOkAnd, IsTrue, length};
+ghost use Rattle.std.specs.Prelude.{◌≡◌, ◌+◌, ℕ, List, [], ◌∷◌, ◌++◌, IfOk, IsOkAnd, IsTrue, Ok, length};
 ghost use Rattle.ep_base.specs.Bytes.{IsBytes};
 ghost use Rattle.ep_base.specs.Sum.{all_ones};
 ghost use Rattle.ep_icmp.specs.Icmpv6.{IsCanonical, ReadableIcmpv6, icmpv6_with_checksum, icmpv6_header_of, layout_of};
 ghost use Rattle.ep_icmp.specs.Icmpv6.{pseudo, encoding, type_of};
+ghost use Rattle.ep_icmp.specs.Icmpv6Fault.{message_at};
 ghost use Rattle.ep_icmp.specs.Layout.{with_unused_bytes_zero};
 ghost use Rattle.ep_icmp.specs.declared.transport.icmpv6_type.Icmpv6Type.{Icmpv6Type};
 
@@ -16,6 +17,13 @@ pub fn lengths() -> [usize; 2]
 {
     [Icmpv6Header::MIN_LEN, Icmpv6Header::MAX_LEN]
 }
+
+/// What is found is a message, and all of the bytes; bytes that are a message are found.
+pub fn messages_are_found()
+    ensures found { (bytes : List ℕ) → IfOk (message_at bytes)
+        (λ message. ReadableIcmpv6 message × (message ≡ bytes)) }
+    ensures only { (bytes : List ℕ) → ReadableIcmpv6 bytes → message_at bytes ≡ Ok bytes }
+{}
 
 /// What `to_bytes` gives is read again, whatever follows it, but for an `Unknown` of a type and
 /// code that another variant has.

@@ -1,7 +1,7 @@
 //! Laws of neighbor discovery (RFC 4861).
-ghost use Rattle.std.specs.Prelude.{◌≡◌, ℕ, List, [], ◌∷◌, ◌++◌, IsOkAnd, IsSomeAnd};
+ghost use Rattle.std.specs.Prelude.{◌≡◌, ℕ, List, [], ◌∷◌, ◌++◌, IfOk, IfSome, IsOkAnd, IsSomeAnd, Ok, Some};
 ghost use Rattle.ep_base.specs.Bytes.{IsBytes};
-ghost use Rattle.ep_icmp.specs.Ndp.{IsNdpHeader, encoding, ndp_header_of, with_reserved_bits_zero};
+ghost use Rattle.ep_icmp.specs.Ndp.{IsNdp, IsNdpHeader, encoding, message_at, ndp_header_of, with_reserved_bits_zero};
 ghost use Rattle.ep_icmp.specs.NdpOptions.{ItemsAreEncoded, NoOtherItems, OptionsComeBack};
 
 use crate::icmpv6::ndp::{NdpError, NdpHeader};
@@ -12,6 +12,13 @@ pub fn lengths() -> [usize; 2]
 {
     [NdpHeader::MIN_LEN, NdpHeader::MAX_LEN]
 }
+
+/// What is found is a message, and all of the bytes; bytes that are a message are found.
+pub fn messages_are_found()
+    ensures found { (bytes : List ℕ) → IfSome (message_at bytes)
+        (λ r. IfOk r (λ message. IsNdp message × (message ≡ bytes))) }
+    ensures only { (bytes : List ℕ) → IsNdp bytes → message_at bytes ≡ Some (Ok bytes) }
+{}
 
 /// The bytes of a header are a header, and encode its fields. Fields that were read are encoded as
 /// the bytes that they were read from, but for the code and the reserved bits, which are 0.

@@ -1,5 +1,5 @@
 //! An ICMPv4 message, borrowed.
-ghost use Rattle.std.specs.Prelude.{◌≡◌, ◌≤◌, ℕ, false, List, ◌++◌, length, drop, slice_range, IfOk, IsTrue, Ok};
+ghost use Rattle.std.specs.Prelude.{◌≡◌, ◌≤◌, ℕ, false, List, ◌++◌, length, drop, slice_range, IsTrue};
 ghost use Rattle.std.specs.Prelude.{nat_eq};
 ghost use Rattle.std.specs.Cmp.Lexicographic.{pointwise};
 ghost use Rattle.std.specs.Cmp.Rules.{comparing};
@@ -39,18 +39,9 @@ impl<'a> Icmpv4Slice<'a> {
     /// (layer `Icmpv4`), and a timestamp request or reply, which carries no data, of other than 20
     /// bytes (layers `Icmpv4Timestamp` and `Icmpv4TimestampReply`).
     pub fn from_slice(slice: &'a [u8]) -> Result<Icmpv4Slice<'a>, LenError>
-        // What is taken is a message, and all of the slice.
-        ensures found { IfOk result (λ message. ReadableIcmpv4 message × (message ≡ slice.now)) }
-        // A message is taken.
-        ensures only { ReadableIcmpv4 slice.now → result ≡ Ok slice.now }
-        // Else it is the first fault.
+        // All of the slice, where it is a message, or the first fault: law
+        // `icmpv4::messages_are_found`.
         ensures exact { result ≡ message_at slice.now }
-    {
-        Self::tested(slice)
-    }
-
-    fn tested(slice: &'a [u8]) -> Result<Icmpv4Slice<'a>, LenError>
-        ensures { result ≡ message_at slice.now }
     {
         if slice.len() < Icmpv4Header::MIN_LEN {
             return Err(LenError::too_few_bytes(Layer::Icmpv4, Icmpv4Header::MIN_LEN, slice.len()));

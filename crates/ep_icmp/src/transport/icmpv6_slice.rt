@@ -1,5 +1,5 @@
 //! An ICMPv6 message, borrowed.
-ghost use Rattle.std.specs.Prelude.{◌≡◌, ◌≤◌, ℕ, false, List, ◌++◌, length, drop, slice_range, IfOk, Ok, nat_eq};
+ghost use Rattle.std.specs.Prelude.{◌≡◌, ◌≤◌, ℕ, false, List, ◌++◌, length, drop, slice_range, nat_eq};
 ghost use Rattle.std.specs.Cmp.Lexicographic.{pointwise};
 ghost use Rattle.std.specs.Cmp.Rules.{comparing};
 ghost use Rattle.std.proofs.Common.{rules};
@@ -39,18 +39,9 @@ impl<'a> Model for Icmpv6Slice<'a> {
 impl<'a> Icmpv6Slice<'a> {
     /// The message that is this slice. A slice of fewer than 8 bytes is refused (layer `Icmpv6`).
     pub fn from_slice(slice: &'a [u8]) -> Result<Icmpv6Slice<'a>, LenError>
-        // What is taken is a message, and all of the slice.
-        ensures found { IfOk result (λ message. ReadableIcmpv6 message × (message ≡ slice.now)) }
-        // A message is taken.
-        ensures only { ReadableIcmpv6 slice.now → result ≡ Ok slice.now }
-        // Else bytes are missing.
+        // All of the slice, where it is a message, or that bytes are missing: law
+        // `icmpv6::messages_are_found`.
         ensures exact { result ≡ message_at slice.now }
-    {
-        Self::tested(slice)
-    }
-
-    fn tested(slice: &'a [u8]) -> Result<Icmpv6Slice<'a>, LenError>
-        ensures { result ≡ message_at slice.now }
     {
         if slice.len() < Icmpv6Header::MIN_LEN {
             return Err(LenError::too_few_bytes(Layer::Icmpv6, Icmpv6Header::MIN_LEN, slice.len()));

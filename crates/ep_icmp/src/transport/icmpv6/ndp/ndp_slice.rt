@@ -1,5 +1,5 @@
 //! A message of neighbor discovery, borrowed.
-ghost use Rattle.std.specs.Prelude.{◌≡◌, ◌≤◌, ℕ, List, length, drop, IfSome, IfOk, Some, Ok, nat_eq};
+ghost use Rattle.std.specs.Prelude.{◌≡◌, ◌≤◌, ℕ, List, length, nat_eq};
 ghost use Rattle.std.specs.Cmp.Lexicographic.{pointwise};
 ghost use Rattle.std.specs.Cmp.Rules.{comparing};
 ghost use Rattle.std.proofs.Common.{rules};
@@ -35,8 +35,6 @@ impl<'a> NdpSlice<'a> {
     /// The message of neighbor discovery that an ICMPv6 message is. `None` where it is of another
     /// type than 133 to 137; too few bytes for its type are refused (layer `Icmpv6`).
     pub fn from_icmpv6(message: &Icmpv6Slice<'a>) -> Option<Result<NdpSlice<'a>, NdpError>>
-        ensures found { IfSome result (λ r. IfOk r (λ m. ndp.IsNdp m × (m ≡ message.now))) }
-        ensures only { ndp.IsNdp message.now → result ≡ Some (Ok message.now) }
         ensures exact { result ≡ ndp.message_at message.now }
     {
         NdpSlice::from_slice(message.slice())
@@ -45,18 +43,9 @@ impl<'a> NdpSlice<'a> {
     /// The message that is this slice. `None` where the first byte is no type of one; too few bytes
     /// for that type are refused (layer `Icmpv6`).
     pub fn from_slice(slice: &'a [u8]) -> Option<Result<NdpSlice<'a>, NdpError>>
-        // What is taken is a message, and all of the slice.
-        ensures found { IfSome result (λ r. IfOk r (λ m. ndp.IsNdp m × (m ≡ slice.now))) }
-        // A message is taken.
-        ensures only { ndp.IsNdp slice.now → result ≡ Some (Ok slice.now) }
-        // Else it is of another type, or bytes are missing.
+        // All of the slice, where it is a message; `None`, or that bytes are missing: law
+        // `ndp::messages_are_found`.
         ensures exact { result ≡ ndp.message_at slice.now }
-    {
-        NdpSlice::tested(slice)
-    }
-
-    fn tested(slice: &'a [u8]) -> Option<Result<NdpSlice<'a>, NdpError>>
-        ensures { result ≡ ndp.message_at slice.now }
     {
         if slice.is_empty() {
             return None;
