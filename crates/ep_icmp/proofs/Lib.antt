@@ -9,7 +9,6 @@ pub mod Icmpv6Again
 pub mod Icmpv6Back
 pub mod Icmpv6Kinds
 pub mod Layouts
-pub mod Messages
 pub mod Outcomes
 pub mod Sums
 pub mod NdpHeaders

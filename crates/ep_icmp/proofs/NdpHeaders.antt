@@ -1,6 +1,6 @@
 -- The header of a message of neighbor discovery, in bytes and back.
 use Rattle.std.proofs.Common.{◌≡◌, ℕ, zero, suc, ◌+◌, ◌-◌, ◌*◌, ◌/◌, ◌%◌, ◌^◌, ◌<◌, ◌≤◌, Bool, eqb, List, ◌∷◌, ◌++◌}
-use Rattle.std.proofs.Common.{length, take, drop, slice_range, subst, refl, sym, ap, ◌∙◌, arith}
+use Rattle.std.proofs.Common.{length, take, drop, slice_range, Some, Ok, subst, refl, sym, ap, ◌∙◌, arith}
 use Rattle.std.proofs.lemmas.Bool.Decides.{nat_tests}
 use Rattle.std.proofs.lemmas.List.{get_or_append_left, get_or-take, length-take-le, take-append-drop, drop_at}
 use Rattle.std.proofs.lemmas.List.{length-append, append-nil, drop_all, take_at, take_all, length-drop, take-append-le}
@@ -12,7 +12,8 @@ use Rattle.ep_base.proofs.Prefixes.{prefix_fits}
 use Rattle.ep_base.proofs.Cells.{cells, drop-cells}
 use Rattle.ep_base.proofs.Numbers.{two_again, four_again, digits_of, high_of, low_of}
 use Rattle.ep_icmp.specs.Ndp.{FieldsFit, Fits, IsNdp, IsNdpHeader, IsRead, encoding, fields_bytes, len_of_type}
-use Rattle.ep_icmp.specs.Ndp.{message_of, message_of_type, ndp_header_of, options_bytes_of, type_u8, with_reserved_bits_zero, reserved_zero}
+use Rattle.ep_icmp.specs.Ndp.{message_at, message_of, message_of_type, ndp_header_of, options_bytes_of, reserved_zero}
+use Rattle.ep_icmp.specs.Ndp.{type_u8, with_reserved_bits_zero}
 use Rattle.ep_icmp.specs.declared.transport.icmpv6.ndp.ndp_header.NdpHeader.{NdpHeader}
 use Rattle.ep_icmp.specs.declared.transport.icmpv6.ndp.ndp_message.NdpMessage.{NdpMessage}
 use Rattle.ep_icmp.specs.declared.transport.icmpv6.ndp.ndp_message.NdpMessage.TheVariants.{RouterSolicitation}
@@ -197,6 +198,10 @@ encoding_is bytes is fits =
     λ i. type i ∷ 0 ∷ (half i ++ fields i)
 
 -- ---- a message is read
+
+pub found_at : (bytes message : List ℕ) → message_at bytes ≡ Some (Ok message)
+    → IsNdp message × (message ≡ bytes)
+found_at bytes message is = grind (arith, nat_tests)
 
 pub read_at : (bytes : List ℕ) → IsNdp bytes → IsBytes bytes
     → IsRead bytes (ndp_header_of bytes) (options_bytes_of bytes)
