@@ -52,7 +52,7 @@ use Rattle.ep_tag.specs.Ether.{EtherPayload, complete_ether}
 use Rattle.ep_tag.specs.LinkExt.{payload_after, tag_len}
 use Rattle.ep_tag.specs.MacsecFault as macsec_fault
 use Rattle.ep_tag.specs.MacsecLax.{lax_macsec_after, lax_macsec_at}
-use Rattle.ep_tag.specs.MacsecPayload.{Macsec, bytes_under, macsec_after, macsec_at, payload_len_of, payload_under}
+use Rattle.ep_tag.specs.MacsecPayload.{Macsec, bytes_under, macsec_at, payload_len_of, payload_under}
 use Rattle.ep_tag.specs.Vlan.{vlan_len}
 use Rattle.ep_tag.specs.declared.err.macsec.header_error.HeaderError.{HeaderError as MacsecFault}
 use Rattle.ep_tag.specs.declared.link.link_ext_slice.LinkExtSlice.{LinkExtSlice}
@@ -67,18 +67,20 @@ macsec_tests true required found m e is over =
 macsec_tests false required found m e is over = cc
 
 macsec_by : (bytes : List ℕ) (r : Result (List ℕ) (HeaderSliceError MacsecFault))
-    (e : HeaderSliceError MacsecFault) → macsec_after bytes r ≡ Err e
+    (e : HeaderSliceError MacsecFault) → macsec_fault.header_at bytes ≡ r → macsec_at bytes ≡ Err e
     → is_passed_over (of_macsec e) ≡ false → lax_macsec_after bytes r ≡ Err e
-macsec_by bytes (Err x) e is over = ap Err (err_same {A = Macsec} _ _ is)
-macsec_by bytes (Ok header) e is over =
+macsec_by bytes (Err x) e begins fails over =
+    let is = rw begins at fails in ap Err (err_same {A = Macsec} _ _ is)
+macsec_by bytes (Ok header) e begins fails over =
     let rest : List ℕ = drop (length header) bytes in
+    let is = rw begins at fails in
     absurd (macsec_tests (nat_lt (length rest) (payload_len_of header))
     (length header + payload_len_of header) (length header + length rest)
     (record { header = header; payload = payload_under header (bytes_under header rest) }) e is over)
 
 macsec_stops : (bytes : List ℕ) (e : HeaderSliceError MacsecFault) → macsec_at bytes ≡ Err e
     → is_passed_over (of_macsec e) ≡ false → lax_macsec_at bytes ≡ Err e
-macsec_stops bytes e is over = macsec_by bytes (macsec_fault.header_at bytes) e is over
+macsec_stops bytes e is over = macsec_by bytes (macsec_fault.header_at bytes) e refl is over
 
 -- a tag that has a fault
 tag_stops : (p : EtherPayload) (e : SliceError) → IsTagFault p e → is_passed_over e ≡ false

@@ -1,9 +1,10 @@
+-- for the crates above
+pub mod MacsecRead
 mod Bits
 mod CutTags
 mod Prefix
 mod DoubleVlanPrefix
 mod MacsecPrefix
-mod MacsecRead
 mod MacsecEncoding
 mod MoreTags
 mod Numbers

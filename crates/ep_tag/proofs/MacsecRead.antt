@@ -8,8 +8,7 @@ use Rattle.ep_base.specs.declared.err.slice_error.SliceError.{SliceError}
 use Rattle.ep_tag.specs.declared.err.macsec.header_error.HeaderError.{HeaderError}
 use Rattle.ep_tag.specs.Macsec.{header_len_of, short_len_of}
 use Rattle.ep_tag.specs.MacsecFault.{header_at}
-use Rattle.ep_tag.specs.MacsecPayload.{IsMacsec, Macsec, bytes_under, macsec_at, macsec_after, macsec_with}
-use Rattle.ep_tag.specs.MacsecPayload.{payload_len_of, payload_under}
+use Rattle.ep_tag.specs.MacsecPayload.{IsMacsec, Macsec, bytes_under, macsec_at, payload_len_of, payload_under}
 use Rattle.ep_base.proofs.Prefixes.{guard_ok, guard_through, ok_same}
 use Rattle.ep_tag.proofs.MacsecPrefix.{header_again, header_takes}
 
@@ -32,11 +31,12 @@ cut_found header rest false zero_is fits = (
 )
 
 with_found : (bytes header : List ℕ) (m : Macsec) → header_at bytes ≡ Ok header
-    → macsec_with header (drop (length header) bytes) ≡ Ok m → IsMacsec bytes m
+    → macsec_at bytes ≡ Ok m → IsMacsec bytes m
 with_found bytes header m e f =
     let rest = drop (length header) bytes in
     let prefix = header_takes bytes header e in
-    let enough = guard_ok (nat_lt (length rest) (payload_len_of header)) _ _ _ f in
+    let read = rw e at f in
+    let enough = guard_ok (nat_lt (length rest) (payload_len_of header)) _ _ _ read in
     let fits : payload_len_of header ≤ length rest =
     ltb-false (length rest) (payload_len_of header) enough.0 in
     let cut = cut_found header rest (short_len_of header == 0) refl fits in
@@ -49,13 +49,13 @@ with_found bytes header m e f =
     grind (arith, append_assoc) in
     subst (IsMacsec bytes) (ok_same _ _ enough.1) inside
 
-macsec_after_found : (bytes : List ℕ) (r : Result (List ℕ) (SliceError HeaderError)) (m : Macsec)
-    → header_at bytes ≡ r → macsec_after bytes r ≡ Ok m → IsMacsec bytes m
-macsec_after_found bytes (Ok header) m e f = with_found bytes header m e f
-macsec_after_found bytes (Err x) m e f = cc
+by_header : (bytes : List ℕ) (r : Result (List ℕ) (SliceError HeaderError)) (m : Macsec)
+    → header_at bytes ≡ r → macsec_at bytes ≡ Ok m → IsMacsec bytes m
+by_header bytes (Ok header) m e f = with_found bytes header m e f
+by_header bytes (Err x) m e f = let none = rw e at f in cc
 
 pub macsec_takes : (bytes : List ℕ) (m : Macsec) → macsec_at bytes ≡ Ok m → IsMacsec bytes m
-macsec_takes bytes m e = macsec_after_found bytes (header_at bytes) m refl e
+macsec_takes bytes m e = by_header bytes (header_at bytes) m refl e
 
 pub macsec_found : (bytes : List ℕ) (r : Result Macsec (SliceError HeaderError))
     → r ≡ macsec_at bytes → IfOk r (λ m. IsMacsec bytes m)

@@ -11,7 +11,7 @@ use Rattle.ep_tag.specs.Ether.{ether_type_at}
 use Rattle.ep_tag.specs.MacsecLen.{short_len_for}
 use Rattle.ep_base.specs.Prefixes.{IsReadAs}
 
--- bit k of the first byte, the lowest being bit 0
+-- bit k of the first byte, the lowest being bit 0: from bit 7 down the version, and ES, SC, SCB, E and C
 abbrev pub bit_of : List ℕ → ℕ → Bool
 bit_of header k = bit_at (num header 0 1) k == 1
 
@@ -39,9 +39,9 @@ is_encrypted header = bit_of header 3
 abbrev pub is_changed : List ℕ → Bool
 is_changed header = bit_of header 2
 
--- neither encrypted nor changed: an ether type ends the header, and what it names follows
+-- neither encrypted nor changed (bits E and C): an ether type ends the header, and what it names follows
 abbrev pub is_unmodified : List ℕ → Bool
-is_unmodified header = not (is_encrypted header) && not (is_changed header)
+is_unmodified header = not (bit_of header 3) && not (bit_of header 2)
 
 -- the association number, the lower 2 bits of the first byte
 abbrev pub an_of : List ℕ → ℕ
@@ -59,16 +59,13 @@ packet_nr_of header = num header 2 4
 abbrev pub sci_of : List ℕ → Option ℕ
 sci_of header = if has_sci header then Some (num header 6 8) else None
 
--- how many bytes the ether type takes
-abbrev pub type_len : List ℕ → ℕ
-type_len header = if is_unmodified header then 2 else 0
-
+-- how many bytes the secure channel identifier takes (bit SC)
 abbrev pub sci_len : List ℕ → ℕ
-sci_len header = if has_sci header then 8 else 0
+sci_len header = if bit_of header 5 then 8 else 0
 
--- the header's length, as its first byte says
+-- the header's length, as its first byte says: an ether type takes 2 bytes
 abbrev pub header_len_of : List ℕ → ℕ
-header_len_of header = 6 + sci_len header + type_len header
+header_len_of header = 6 + sci_len header + (if is_unmodified header then 2 else 0)
 
 -- the ether type, where it is there: the last two bytes
 abbrev pub next_type_of : List ℕ → Option EtherType

@@ -1,15 +1,15 @@
 -- What a MACsec header makes of the bytes after it (IEEE 802.1AE, clause 9).
 use Rattle.std.specs.Prelude.{◌≡◌, ◌<◌, ℕ, ◌+◌, ◌-◌, ◌==◌, nat_lt, if◌then◌else◌, List, [], ◌++◌, length, take, drop}
 use Rattle.std.specs.Prelude.{Option, Some, None, Result, Ok, Err}
+use Rattle.std.specs.Result.{result_flatten, result_map_both}
 use Rattle.ep_base.specs.declared.err.layer.Layer.TheVariants.{MacsecPacket}
-use Rattle.ep_base.specs.declared.len_source.LenSource.{LenSource}
 use Rattle.ep_base.specs.declared.len_source.LenSource.TheVariants.{Slice, MacsecShortLength}
 use Rattle.ep_base.specs.declared.err.slice_error.SliceError.{SliceError}
 use Rattle.ep_base.specs.declared.err.slice_error.SliceError.TheVariants.{Len}
 use Rattle.ep_tag.specs.declared.err.macsec.header_error.HeaderError.{HeaderError}
 use Rattle.ep_tag.specs.Ether.{EtherPayload, ether_type_at}
 use Rattle.ep_base.specs.LenError.{too_few_bytes}
-use Rattle.ep_tag.specs.Macsec.{IsMacsecHeader, is_unmodified, sci_len, short_len_of, type_len}
+use Rattle.ep_tag.specs.Macsec.{IsMacsecHeader, is_unmodified, sci_len, short_len_of}
 use Rattle.ep_tag.specs.MacsecFault.{header_at}
 
 -- what follows the header: bytes that an ether type names, or bytes that were changed
@@ -24,19 +24,15 @@ pub record Macsec : Type 0 where
 
 -- how many bytes the short length leaves for the payload
 abbrev pub payload_len_of : List ℕ → ℕ
-payload_len_of header = short_len_of header - type_len header
+payload_len_of header = short_len_of header - (if is_unmodified header then 2 else 0)
 
--- what bounds the payload
-abbrev pub source_of : List ℕ → LenSource
-source_of header = if short_len_of header == 0 then Slice else MacsecShortLength
-
--- bytes as the payload of a header
+-- bytes as the payload of a header, which a short length above 0 bounds
 abbrev pub payload_under : List ℕ → List ℕ → MacsecPayload
 payload_under header bytes =
     if is_unmodified header then Unmodified
     (record {
       ether_type = ether_type_at header (6 + sci_len header);
-      len_source = source_of header;
+      len_source = if short_len_of header == 0 then Slice else MacsecShortLength;
       payload = bytes;
     })
     else Modified bytes
@@ -57,22 +53,16 @@ abbrev pub bytes_under : List ℕ → List ℕ → List ℕ
 bytes_under header rest = if short_len_of header == 0 then rest
     else take (payload_len_of header) rest
 
--- a header and what it makes of the bytes after it, or an error of too few bytes
-abbrev pub macsec_with : List ℕ → List ℕ → Result Macsec (SliceError HeaderError)
-macsec_with header rest =
+-- header and payload at the start of the bytes, or the first fault: that of the header, then too few
+-- bytes after it
+abbrev pub macsec_at : List ℕ → Result Macsec (SliceError HeaderError)
+macsec_at bytes = result_flatten (result_map_both (λ (header : List ℕ).
+    let rest = drop (length header) bytes in
     if nat_lt (length rest) (payload_len_of header)
     then Err (Len (too_few_bytes MacsecPacket (length header + payload_len_of header)
     (length header + length rest)))
-    else Ok (record { header = header; payload = payload_under header (bytes_under header rest) })
-
-abbrev pub macsec_after : List ℕ → Result (List ℕ) (SliceError HeaderError)
-    → Result Macsec (SliceError HeaderError)
-macsec_after bytes (Ok header) = macsec_with header (drop (length header) bytes)
-macsec_after bytes (Err e) = Err e
-
--- header and payload at the start of the bytes, or the first fault
-abbrev pub macsec_at : List ℕ → Result Macsec (SliceError HeaderError)
-macsec_at bytes = macsec_after bytes (header_at bytes)
+    else Ok (record { header = header; payload = payload_under header (bytes_under header rest) }))
+    (λ e. e) (header_at bytes))
 
 -- what the header's ether type names, where it has one
 abbrev pub named_payload : MacsecPayload → Option EtherPayload

@@ -6,7 +6,7 @@ ghost use Rattle.std.proofs.Common.{rules};
 ghost use Rattle.ep_base.specs.Prefixes.{TakesPrefix};
 ghost use Rattle.ep_tag.specs.Macsec.{IsMacsecHeader, version_of, endstation_id_of, has_sci, scb_of, is_encrypted};
 ghost use Rattle.ep_tag.specs.Macsec.{is_changed, is_unmodified, an_of, short_len_of, packet_nr_of, sci_of, sci_len};
-ghost use Rattle.ep_tag.specs.Macsec.{type_len, header_len_of, next_type_of, ptype_of, has_no_room, macsec_header_of};
+ghost use Rattle.ep_tag.specs.Macsec.{header_len_of, next_type_of, ptype_of, has_no_room, macsec_header_of};
 ghost use Rattle.ep_base.specs.Bytes.{num};
 ghost use Rattle.ep_base.specs.SliceError.{content_offset};
 ghost use Rattle.ep_tag.specs.Ether.{ether_type_at};
@@ -307,7 +307,7 @@ fn sci_len_of(bytes: &[u8]) -> usize
 
 fn type_len_of(bytes: &[u8]) -> usize
     requires { 0 < length bytes.now }
-    ensures len { result ≡ type_len bytes.now }
+    ensures len { result ≡ (if is_unmodified bytes.now then 2 else 0) }
     ensures most { result ≤ 2 }
 {
     if is_unmodified(bytes) { 2 } else { 0 }

@@ -1,4 +1,4 @@
-ghost use Rattle.std.specs.Prelude.{◌≡◌, ◌&&◌, ℕ, List, length, nat_eq, IfOk, IfErr, Ok, option_map};
+ghost use Rattle.std.specs.Prelude.{◌≡◌, ◌&&◌, length, nat_eq, IfErr, option_map};
 ghost use Rattle.std.specs.Cmp.Lexicographic.{pointwise};
 ghost use Rattle.std.specs.Cmp.Rules.{comparing};
 ghost use Rattle.std.specs.Ordering.{on};
@@ -6,7 +6,7 @@ ghost use Rattle.std.proofs.Common.{rules};
 ghost use Rattle.ep_base.specs.SliceError.{content_offset};
 ghost use Rattle.ep_tag.specs.Macsec.{macsec_header_of};
 ghost use Rattle.ep_tag.specs.MacsecOrder.{compared_as};
-ghost use Rattle.ep_tag.specs.MacsecPayload.{Macsec, IsMacsec, macsec_at, named_payload};
+ghost use Rattle.ep_tag.specs.MacsecPayload.{Macsec, macsec_at, named_payload};
 ghost use Rattle.ep_tag.specs.MacsecView.{payload_parsed};
 
 use super::{
@@ -38,18 +38,8 @@ impl<'a> MacsecSlice<'a> {
     /// shorter than the header, and one shorter than header and payload, where the short length
     /// states the payload's length.
     pub fn from_slice(slice: &'a [u8]) -> Result<MacsecSlice<'a>, HeaderSliceError>
-        // What is taken is at the start of the slice.
-        ensures found { IfOk result (λ macsec. IsMacsec slice.now macsec) }
-        // A header and payload that are there are taken.
-        ensures only { (macsec : Macsec) → IsMacsec slice.now macsec → result ≡ Ok macsec }
-        // Else it is the first fault.
-        ensures exact { result ≡ macsec_at slice.now }
-        ensures offset { IfErr result (λ e. content_offset e ≡ 0) }
-    {
-        Self::tested(slice)
-    }
-
-    fn tested(slice: &'a [u8]) -> Result<MacsecSlice<'a>, HeaderSliceError>
+        // What is taken is at the start of the slice, and what is there is taken
+        // (`laws::macsec::payload_is_read`).
         ensures exact { result ≡ macsec_at slice.now }
         ensures offset { IfErr result (λ e. content_offset e ≡ 0) }
     {
