@@ -29,9 +29,10 @@ hw_len_of bytes = num bytes 4 1
 abbrev pub proto_len_of : List ℕ → ℕ
 proto_len_of bytes = num bytes 5 1
 
--- the length of the packet, as its length fields say
+-- the length of the packet, as the lengths of a hardware and of a protocol address say, which are bytes
+-- 4 and 5
 abbrev pub packet_len_of : List ℕ → ℕ
-packet_len_of bytes = 8 + 2 * hw_len_of bytes + 2 * proto_len_of bytes
+packet_len_of bytes = 8 + 2 * num bytes 4 1 + 2 * num bytes 5 1
 
 -- as many bytes as the length fields say
 pub record IsArpPacket (bytes : List ℕ) : Type 0 where
@@ -106,19 +107,14 @@ pub record IsArp (a : ArpFields) : Type 0 where
   pub hw : AreAddresses a.sender_hw_addr a.target_hw_addr
   pub proto : AreAddresses a.sender_protocol_addr a.target_protocol_addr
 
--- the address lengths need so many bytes, and fewer are there
-abbrev pub addresses_cut : ℕ → ℕ → LenError
-addresses_cut required found =
-    record (too_few_bytes layer.Arp required found) { len_source = ArpAddrLengths }
-
--- the packet at the start of the bytes, or the first error: fewer than 8 bytes, then too few for
--- the addresses
+-- the packet at the start of the bytes, or the first error: fewer than 8 bytes, then fewer than the
+-- lengths of the addresses need
 abbrev pub packet_at : List ℕ → Result (List ℕ) LenError
 packet_at bytes = unless_refused (
     (nat_lt (length bytes) 8, too_few_bytes layer.Arp 8 (length bytes))
     ∷ (
       nat_lt (length bytes) (packet_len_of bytes),
-      addresses_cut (packet_len_of bytes) (length bytes),
+      record (too_few_bytes layer.Arp (packet_len_of bytes) (length bytes)) { len_source = ArpAddrLengths },
     )
     ∷ []) (take (packet_len_of bytes) bytes)
 

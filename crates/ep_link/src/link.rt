@@ -6,6 +6,7 @@ mod arp_operation;
 mod arp_packet;
 mod arp_packet_slice;
 mod crc32;
+mod ethernet2_bytes;
 mod ethernet2_header;
 mod ethernet2_header_slice;
 mod ethernet2_slice;

@@ -1,10 +1,9 @@
--- for the crates above
-pub mod MacsecRead
 mod Bits
 mod CutTags
 mod Prefix
 mod DoubleVlanPrefix
 mod MacsecPrefix
+pub mod MacsecRead
 mod MacsecEncoding
 mod MoreTags
 mod Numbers

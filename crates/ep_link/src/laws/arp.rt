@@ -2,7 +2,8 @@
 ghost use Rattle.std.specs.Prelude.{◌≡◌, ℕ, List, [], ◌∷◌, ◌++◌, map, Ok, Err};
 ghost use Rattle.ep_base.specs.Bytes.{IsBytes};
 ghost use Rattle.ep_base.specs.declared.err.layer.Layer.TheVariants as layer;
-ghost use Rattle.ep_link.specs.Arp.{IsArpPacket, addresses_cut, fields_of, packet_at, encoding};
+ghost use Rattle.ep_base.specs.declared.len_source.LenSource.TheVariants.{ArpAddrLengths};
+ghost use Rattle.ep_link.specs.Arp.{IsArpPacket, fields_of, packet_at, encoding};
 ghost use Rattle.ep_base.specs.LenError.{too_few_bytes};
 
 use crate::{ArpHardwareId, ArpOperation, ArpPacket};
@@ -59,5 +60,6 @@ pub fn fields_at_literals()
           target_protocol_addr = 16 ∷ [];
         } }
     ensures short { packet_at (0 ∷ 1 ∷ 8 ∷ 0 ∷ 2 ∷ 1 ∷ 0 ∷ []) ≡ Err (too_few_bytes layer.Arp 8 7) }
-    ensures cut { packet_at (0 ∷ 1 ∷ 8 ∷ 0 ∷ 2 ∷ 1 ∷ 0 ∷ 2 ∷ 11 ∷ []) ≡ Err (addresses_cut 14 9) }
+    ensures cut { packet_at (0 ∷ 1 ∷ 8 ∷ 0 ∷ 2 ∷ 1 ∷ 0 ∷ 2 ∷ 11 ∷ [])
+        ≡ Err (record (too_few_bytes layer.Arp 14 9) { len_source = ArpAddrLengths }) }
 {}

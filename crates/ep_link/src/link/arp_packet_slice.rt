@@ -1,12 +1,15 @@
-ghost use Rattle.std.specs.Prelude.{◌≡◌, ◌≤◌, ◌+◌, ◌*◌, ℕ, List, length, drop, IfErr, nat_eq};
+ghost use Rattle.std.specs.Prelude.{◌≡◌, ◌≤◌, ◌+◌, ◌*◌, ℕ, List, length, IfErr, nat_eq};
 ghost use Rattle.std.specs.Cmp.Lexicographic.{pointwise};
 ghost use Rattle.std.specs.Cmp.Rules.{comparing};
 ghost use Rattle.std.proofs.Common.{rules};
-ghost use Rattle.ep_link.specs.Arp.{IsArpPacket, packet_at, packet_len_of, hw_len_of, proto_len_of, hw_type_of};
+ghost use Rattle.ep_link.specs.Arp.{IsArpPacket, packet_at, hw_len_of, proto_len_of, hw_type_of};
 ghost use Rattle.ep_link.specs.Arp.{proto_type_of, operation_of, addresses_of, after_sender_hw, after_sender};
 ghost use Rattle.ep_link.specs.Arp.{after_target_hw, sender_hw_of, sender_proto_of, target_hw_of, target_proto_of};
-ghost use Rattle.ep_link.specs.Arp.{addresses_cut, fields_of};
+ghost use Rattle.ep_link.specs.Arp.{fields_of};
+ghost use Rattle.ep_base.specs.LenError.{too_few_bytes};
 ghost use Rattle.ep_base.specs.Prefixes.{TakesPrefix};
+ghost use Rattle.ep_base.specs.declared.err.layer.Layer.TheVariants as layer;
+ghost use Rattle.ep_base.specs.declared.len_source.LenSource.TheVariants.{ArpAddrLengths};
 
 use super::{ArpHardwareId, ArpOperation, ArpPacket};
 use ep_base::err::{Layer, LenError};
@@ -201,7 +204,8 @@ impl<'a> ArpPacketSlice<'a> {
 
 // The address lengths need so many bytes, and fewer are there.
 fn addresses_cut(required_len: usize, len: usize) -> LenError
-    ensures { result ≡ addresses_cut required_len len }
+    ensures { result
+        ≡ record (too_few_bytes layer.Arp required_len len) { len_source = ArpAddrLengths } }
 {
     LenError {
         len_source: LenSource::ArpAddrLengths,

@@ -7,7 +7,7 @@ ghost use Rattle.ep_link.specs.Ethernet.{ethernet_len, destination_of, source_of
 ghost use Rattle.ep_base.specs.Prefixes.{IsOfLength, TakesPrefix};
 ghost use Rattle.ep_tag.specs.Prefix.{prefix_at};
 
-use super::Ethernet2Header;
+use super::{Ethernet2Header, ethernet2_bytes};
 use ep_base::EtherType;
 use ep_base::err::{Layer, LenError};
 use ep_tag::laws::prefix::prefix_is_taken;
@@ -75,32 +75,28 @@ impl<'a> Ethernet2HeaderSlice<'a> {
     pub fn destination(&self) -> [u8; 6]
         ensures { result ≡ destination_of self.now }
     {
-        self.slice[..6].try_into().unwrap()
+        ethernet2_bytes::destination_of(self.slice)
     }
 
     /// The source address.
     pub fn source(&self) -> [u8; 6]
         ensures { result ≡ source_of self.now }
     {
-        self.slice[6..12].try_into().unwrap()
+        ethernet2_bytes::source_of(self.slice)
     }
 
     /// The ether type of what follows the header.
     pub fn ether_type(&self) -> EtherType
         ensures { result ≡ next_type_of self.now }
     {
-        EtherType(u16::from_be_bytes([self.slice[12], self.slice[13]]))
+        ethernet2_bytes::ether_type_of(self.slice)
     }
 
     /// The fields of the header.
     pub fn to_header(&self) -> Ethernet2Header
         ensures { result ≡ ethernet_header_of self.now }
     {
-        Ethernet2Header {
-            source: self.source(),
-            destination: self.destination(),
-            ether_type: self.ether_type(),
-        }
+        ethernet2_bytes::header_of(self.slice)
     }
 }
 

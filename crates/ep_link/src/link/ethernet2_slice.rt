@@ -1,4 +1,4 @@
-ghost use Rattle.std.specs.Prelude.{◌≡◌, ◌≤◌, length, take, drop, nat_eq, IfErr, IfSome, option_map};
+ghost use Rattle.std.specs.Prelude.{◌≡◌, ◌≤◌, length, take, drop, nat_eq, IfErr, option_map};
 ghost use Rattle.std.specs.Cmp.Lexicographic.{pointwise};
 ghost use Rattle.std.specs.Cmp.Rules.{comparing};
 ghost use Rattle.std.specs.Ordering.{on};
@@ -8,8 +8,8 @@ ghost use Rattle.ep_link.specs.Ethernet.{payload_of};
 ghost use Rattle.ep_link.specs.Frame.{EthernetFrame, before_fcs, compared_as, fcs_is_right, fcs_of, frame_at};
 ghost use Rattle.ep_link.specs.Frame.{frame_with_fcs_at, least_len};
 
-use super::Ethernet2Header;
 use super::crc32::crc32;
+use super::{Ethernet2Header, ethernet2_bytes};
 use ep_base::err::{Layer, LenError};
 use ep_base::{EtherType, LenSource};
 use ep_tag::EtherPayloadSlice;
@@ -99,21 +99,21 @@ impl<'a> Ethernet2Slice<'a> {
     pub fn destination(&self) -> [u8; 6]
         ensures { result ≡ destination_of self.now.bytes }
     {
-        self.slice[..6].try_into().unwrap()
+        ethernet2_bytes::destination_of(self.slice)
     }
 
     /// The source address.
     pub fn source(&self) -> [u8; 6]
         ensures { result ≡ source_of self.now.bytes }
     {
-        self.slice[6..12].try_into().unwrap()
+        ethernet2_bytes::source_of(self.slice)
     }
 
     /// The ether type of what follows the header.
     pub fn ether_type(&self) -> EtherType
         ensures { result ≡ next_type_of self.now.bytes }
     {
-        EtherType(u16::from_be_bytes([self.slice[12], self.slice[13]]))
+        ethernet2_bytes::ether_type_of(self.slice)
     }
 
     /// The frame check sequence, the last four bytes of a frame that was given with one.
@@ -142,11 +142,7 @@ impl<'a> Ethernet2Slice<'a> {
     pub fn to_header(&self) -> Ethernet2Header
         ensures { result ≡ ethernet_header_of self.now.bytes }
     {
-        Ethernet2Header {
-            source: self.source(),
-            destination: self.destination(),
-            ether_type: self.ether_type(),
-        }
+        ethernet2_bytes::header_of(self.slice)
     }
 
     /// The header's 14 bytes.
@@ -170,7 +166,7 @@ impl<'a> Ethernet2Slice<'a> {
     {
         let frame = self.before_fcs();
         EtherPayloadSlice {
-            ether_type: EtherType(u16::from_be_bytes([frame[12], frame[13]])),
+            ether_type: ethernet2_bytes::ether_type_of(frame),
             len_source: LenSource::Slice,
             payload: &frame[Ethernet2Header::LEN..],
         }
