@@ -28,7 +28,7 @@ use Rattle.ep_ext.proofs.Reading.{consumed_some, raw_refused, auth_refused_withi
 use Rattle.ep_ext.proofs.ReadOnly.{alone, auth_end, read_same}
 use Rattle.std.proofs.lemmas.Option.{none-some, same_Some}
 use Rattle.ep_ext.proofs.Rows.{end_closed}
-use Rattle.ep_base.proofs.Reads.{consumes_none}
+use Rattle.ep_base.proofs.KnownReads.{consumes_none}
 
 -- headers that were taken were consumed, and the limit went down by them
 pub taken : {T : Type 0} (remaining : T → Option (List ℕ)) (old new : Limited T)

@@ -3,7 +3,7 @@ use Rattle.std.specs.Io.KnownBytes.{Consumes}
 use Rattle.ep_ext.specs.Value.{Piece, bytes_of}
 use Rattle.ep_ext.proofs.ReadWalk.{given_none, given_more, given_fewer, consumes_more}
 use Rattle.ep_ext.proofs.net.ipv6_extensions.Ipv6Extensions.fill_from.Goals as goal
-use Rattle.ep_base.proofs.Reads.{consumes_none}
+use Rattle.ep_base.proofs.KnownReads.{consumes_none}
 
 abbrev Kept : Option (List ℕ) → Option (List ℕ) → List Piece → Type 0
 Kept old new pieces = Consumes old new (bytes_of pieces)
