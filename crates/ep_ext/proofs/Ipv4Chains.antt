@@ -4,7 +4,7 @@ use Rattle.std.proofs.Common.{IsOkAnd, refl, sym, ap, ◌∙◌}
 use Rattle.std.proofs.lemmas.Bool.{eqb-true}
 use Rattle.ep_base.specs.declared.net.ip_number.IpNumber.{IpNumber}
 use Rattle.ep_ext.specs.Auth.{IsAuth, auth_of, auth_encoding}
-use Rattle.ep_ext.specs.Ipv4Exts.{Ipv4Chain, NamesAfter, auth_number, ipv4_exts_of, ipv4_exts_encoding, number_after}
+use Rattle.ep_ext.specs.Ipv4Exts.{Ipv4Chain, NamesAfter, ipv4_exts_of, ipv4_exts_encoding, number_after}
 use Rattle.ep_ext.specs.ReadsIpv4Exts.{IsOfAuth}
 use Rattle.ep_base.specs.declared.err.slice_error.SliceError.{SliceError}
 use Rattle.ep_ext.specs.declared.err.ip_auth.header_error.HeaderError.{HeaderError}
@@ -66,7 +66,7 @@ by_header : (auth : Option IpAuthHeader) (first : ℕ) (bytes : List ℕ)
     ((header : IpAuthHeader) → auth ≡ Some header
     → IsAuth (auth_encoding header) × (auth_of (auth_encoding header) ≡ header)) →
     (number : IpNumber) (rest : List ℕ) → NamesAfter (record { auth = auth }) first (Ok number)
-    → (auth ≡ None → first ≡ auth_number → ⊥) →
+    → (auth ≡ None → first ≡ 51 → ⊥) →
     bytes ≡ ipv4_exts_encoding (record { auth = auth }) ++ rest →
     IsOkAnd answer (λ r. (r.0 ≡ record { auth = auth }) × (r.1.0 ≡ number.0) × (r.2.now ≡ rest))
 by_header None first bytes answer only whole number rest named unnamed cut =
@@ -74,7 +74,7 @@ by_header None first bytes answer only whole number rest named unnamed cut =
     (only None rest (record { named = unnamed refl; cut = cut }))
 by_header (Some header) first bytes answer only whole number rest named unnamed cut =
     let h = whole header refl in
-    let is : first ≡ auth_number = grind (arith, eqb-true, named_by) in
+    let is : first ≡ 51 = grind (arith, eqb-true, named_by) in
     given answer _ _ _ _ rest (ap (λ (x : IpAuthHeader). record { auth = Some x }) h.1)
     (sym named.0)
     (only (Some (auth_encoding header)) rest (record { named = (is, h.0); cut = cut }))
@@ -84,7 +84,7 @@ pub ipv4_reads_back : (value : Ipv4Extensions) (first : ℕ) (bytes : List ℕ)
     ((header : IpAuthHeader) → value.auth ≡ Some header
     → IsAuth (auth_encoding header) × (auth_of (auth_encoding header) ≡ header)) →
     (number : IpNumber) (rest : List ℕ) → NamesAfter value first (Ok number)
-    → (value.auth ≡ None → first ≡ auth_number → ⊥) →
+    → (value.auth ≡ None → first ≡ 51 → ⊥) →
     bytes ≡ ipv4_exts_encoding value ++ rest
     → IsOkAnd answer (λ r. (r.0 ≡ value) × (r.1.0 ≡ number.0) × (r.2.now ≡ rest))
 ipv4_reads_back value first bytes answer only whole number rest named unnamed cut =
@@ -92,7 +92,7 @@ ipv4_reads_back value first bytes answer only whole number rest named unnamed cu
 
 -- the answer for a header that was read
 pub answer_of : (first : ℕ) (bytes : List ℕ) (header : IpAuthHeader)
-    (answer : Ipv4Extensions × IpNumber) → first ≡ auth_number → IsAuth bytes
+    (answer : Ipv4Extensions × IpNumber) → first ≡ 51 → IsAuth bytes
     → header ≡ auth_of bytes →
     ◌≡◌ {A = Ipv4Extensions × IpNumber} answer (record { auth = Some header }, header.next_header)
     → IsOfAuth first (Some bytes) answer

@@ -1,6 +1,6 @@
 -- The slots of extension headers, and in which order the headers may follow one another (RFC 8200,
 -- section 4.1).
-use Rattle.std.specs.Prelude.{◌≡◌, ℕ, Bool, ◌==◌, if◌then◌else◌, List, [], ◌∷◌, Option, Some, None}
+use Rattle.std.specs.Prelude.{◌≡◌, ℕ, Bool, ◌==◌, if◌then◌else◌, List, Option, Some, None, [], ◌∷◌}
 use Rattle.std.specs.List.{list_any}
 use Rattle.ep_ext.specs.declared.net.ipv6_ext_slot.Ipv6ExtSlot.{Ipv6ExtSlot}
 use Rattle.ep_ext.specs.declared.net.ipv6_ext_slot.Ipv6ExtSlot.TheVariants.{HopByHop, Destination, Routing, Fragment}
@@ -24,11 +24,8 @@ rank Fragment = 3
 rank Authentication = 4
 rank FinalDestination = 5
 
-abbrev pub is_same : Ipv6ExtSlot → Ipv6ExtSlot → Bool
-is_same p q = rank p == rank q
-
 abbrev pub is_passed : List Ipv6ExtSlot → Ipv6ExtSlot → Bool
-is_passed passed slot = list_any (λ p. is_same p slot) passed
+is_passed passed slot = list_any (λ p. rank p == rank slot) passed
 
 -- which slot, if any, a header of a number takes after headers in these slots
 abbrev pub Order : Type 0

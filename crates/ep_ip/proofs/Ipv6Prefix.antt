@@ -6,8 +6,9 @@ use Rattle.std.proofs.lemmas.List.{length-append}
 use Rattle.ep_base.specs.Bytes.{num}
 use Rattle.ep_base.specs.declared.err.slice_error.SliceError.{SliceError}
 use Rattle.ep_ip.specs.declared.err.ipv6.header_error.HeaderError.{HeaderError}
-use Rattle.ep_ip.specs.Ipv6.{IsIpv6Header, version_of}
+use Rattle.ep_ip.specs.Ipv6.{IsIpv6Header}
 use Rattle.ep_ip.specs.Ipv6Fault.{header_at}
+use Rattle.ep_ip.specs.Ipv4.{version_of}
 use Rattle.ep_base.specs.Prefixes.{TakesPrefix}
 use Rattle.ep_base.proofs.Prefixes.{guard_ok, ok_same, takes}
 

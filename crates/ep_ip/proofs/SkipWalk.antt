@@ -4,7 +4,7 @@ use Rattle.std.proofs.Common.{List, ◌∷◌, ◌++◌, length, take, drop, get
 use Rattle.std.proofs.Common.{leb, Result, Bor}
 use Rattle.std.proofs.lemmas.Bool.{le-ltb, le-leb}
 use Rattle.std.proofs.lemmas.List.{get_or-take, length-take-le, take-append-drop, take_at, take_rest, drop_at}
-use Rattle.std.proofs.lemmas.List.{get_or_append_left, length-append, append_assoc, append-nil}
+use Rattle.std.proofs.lemmas.List.{get_or_append_left, length-append, append_assoc, append-nil, length-drop}
 use Rattle.std.specs.List.{concat}
 use Rattle.ep_base.specs.declared.err.len_error.LenError.{LenError}
 use Rattle.ep_base.specs.declared.net.ip_number.IpNumber.{IpNumber}
@@ -123,6 +123,53 @@ named_last : (number : ℕ) (headers : List (List ℕ)) (last : ℕ) → Skips n
 unfolding next_number_after
 named_last number [] last row = row
 named_last number (header ∷ headers) last row = named_last (get_or header 0 0) headers last row.2
+
+-- the bytes are headers in a row and a rest
+abbrev pub IsWalked : ℕ → List ℕ → Type 0
+IsWalked number bytes =
+    (headers : List (List ℕ)) × (last : ℕ) × (rest : List ℕ) × Walk number bytes headers last rest
+
+walk_ends : (number : ℕ) (bytes : List ℕ)
+    → (IsTrue (is_skipped number) → length bytes < required_len number bytes)
+    → IsWalked number bytes
+walk_ends number bytes ended =
+    ([], number, bytes, record { named = refl; cut = refl; ended = ended })
+
+walk_more : (number : ℕ) (bytes : List ℕ) → is_skipped number ≡ true
+    → required_len number bytes ≤ length bytes
+    → IsWalked (get_or (take (skipped_len number bytes) bytes) 0 0)
+    (drop (skipped_len number bytes) bytes)
+    → IsWalked number bytes
+walk_more number bytes skipped fits further = (
+  take (skipped_len number bytes) bytes ∷ further.0,
+  further.1,
+  further.2,
+  record {
+    named = (skipped, whole_prefix number bytes fits, further.3.named);
+    cut = grind (arith, take-append-drop, append_assoc);
+    ended = further.3.ended;
+  },
+)
+
+walk_by : (skipped fits : Bool) (most number : ℕ) (bytes : List ℕ) → length bytes ≤ suc most
+    → ((n : ℕ) (xs : List ℕ) → length xs ≤ most → IsWalked n xs)
+    → is_skipped number ≡ skipped → leb (required_len number bytes) (length bytes) ≡ fits
+    → IsWalked number bytes
+walk_by false fits most number bytes size further skip enough =
+    walk_ends number bytes (grind arith)
+walk_by true false most number bytes size further skip enough =
+    walk_ends number bytes (grind arith)
+walk_by true true most number bytes size further skip enough =
+    walk_more number bytes skip (grind arith)
+    (further _ (drop (skipped_len number bytes) bytes)
+    (omega (arith, length-drop (skipped_len number bytes) bytes, eight_le number bytes)))
+
+-- all bytes are
+pub walk_within : (most number : ℕ) (bytes : List ℕ) → length bytes ≤ most → IsWalked number bytes
+walk_within zero number bytes fits = walk_ends number bytes (grind arith)
+walk_within (suc most) number bytes fits =
+    walk_by (is_skipped number) (leb (required_len number bytes) (length bytes)) most number bytes
+    fits (walk_within most) refl refl
 
 -- a walk over headers in a row is the one that the function finds
 pub walk_headers : (number : ℕ) (bytes : List ℕ) (headers : List (List ℕ)) (last : ℕ)

@@ -11,7 +11,7 @@ use Rattle.ep_base.specs.declared.net.ip_ecn.IpEcn.TheVariants.{NotEct}
 use Rattle.ep_ip.specs.Ipv4Options.{IsIpv4Options}
 use Rattle.ep_ip.specs.declared.net.ipv4_header.Ipv4Header.{Ipv4Header}
 
--- the version, and the header's length in words of 4 bytes
+-- the version, as in an IPv6 header, and the header's length in words of 4 bytes
 abbrev pub version_of : List ℕ → ℕ
 version_of bytes = num bytes 0 1 / 16
 

@@ -1,5 +1,4 @@
--- Why bytes do not begin with an IPv4 header (RFC 791, section 3.1), and why its total length
--- leaves no payload.
+-- Why bytes do not begin with an IPv4 header (RFC 791, section 3.1), and its payload's length.
 use Rattle.std.specs.Prelude.{◌≡◌, ◌<◌, ◌+◌, ◌∷◌, [], ℕ, ◌*◌, List, length, take, nat_lt, ◌==◌, not, Result, Ok, Err}
 use Rattle.ep_base.specs.LenError.{too_few_bytes}
 use Rattle.ep_base.specs.Refusals.{unless_refused}
@@ -25,19 +24,9 @@ header_at bytes = unless_refused (
     )
     ∷ []) (take (4 * ihl_of bytes) bytes)
 
--- the total length is below the header's own
-abbrev pub no_payload : ℕ → ℕ → LenError
-no_payload header_len total_len =
-    record {
-      required_len = header_len;
-      len = total_len;
-      len_source = Ipv4HeaderTotalLen;
-      layer = Ipv4Packet;
-      layer_start_offset = 0;
-    }
-
 -- `Ok` of the payload's length, which with the header's is the total length, or an error with both
 abbrev pub IsPayloadLen : ℕ → ℕ → Result ℕ LenError → Type 0
 IsPayloadLen header_len total_len (Ok n) = header_len + n ≡ total_len
 IsPayloadLen header_len total_len (Err e) = (total_len < header_len)
-    × (e ≡ no_payload header_len total_len)
+    × (e ≡ record (too_few_bytes Ipv4Packet header_len total_len)
+    { len_source = Ipv4HeaderTotalLen })

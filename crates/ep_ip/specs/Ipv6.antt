@@ -8,10 +8,7 @@ use Rattle.ep_base.specs.Prefixes.{IsReadAs}
 use Rattle.ep_base.specs.IpEcn.{ecn_of}
 use Rattle.ep_base.specs.declared.net.ip_ecn.IpEcn.{IpEcn}
 use Rattle.ep_ip.specs.declared.net.ipv6_header.Ipv6Header.{Ipv6Header}
-
--- the version, 4 bits
-abbrev pub version_of : List ℕ → ℕ
-version_of bytes = num bytes 0 1 / 2 ^ 4
+use Rattle.ep_ip.specs.Ipv4.{version_of}
 
 -- the traffic class, 8 bits after the version
 abbrev pub traffic_class_of : List ℕ → ℕ

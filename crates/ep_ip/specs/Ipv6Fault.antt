@@ -7,7 +7,7 @@ use Rattle.ep_ip.specs.declared.err.ipv6.header_error.HeaderError.TheVariants.{U
 use Rattle.ep_base.specs.declared.err.slice_error.SliceError.{SliceError}
 use Rattle.ep_base.specs.declared.err.slice_error.SliceError.TheVariants.{Len, Content}
 use Rattle.ep_ip.specs.declared.err.ipv6.header_error.HeaderError.{HeaderError}
-use Rattle.ep_ip.specs.Ipv6.{version_of}
+use Rattle.ep_ip.specs.Ipv4.{version_of}
 
 -- the header at the start of the bytes, or the first fault
 abbrev pub header_at : List ℕ → Result (List ℕ) (SliceError HeaderError)

@@ -1,12 +1,13 @@
 -- Packets of which the first bytes are there.
 use Rattle.std.proofs.Common.{◌≡◌, ◌∙◌, ap, ap₂, refl, ℕ, zero, suc, ◌+◌, ◌-◌, ◌*◌, ◌<◌, ◌≤◌, ◌==◌, ◌&&◌, not, Bool, true, false, List}
 use Rattle.std.proofs.Common.{[], ◌∷◌, ◌++◌, length, take, drop, Option, None, Result, Ok, Err, arith, append_assoc}
-use Rattle.std.proofs.Common.{append-nil, length-append, take-append-drop}
+use Rattle.std.proofs.Common.{append-nil, length-append, take-append-drop, Some}
 use Rattle.std.specs.Prelude.{if◌then◌else◌, nat_lt}
 use Rattle.std.proofs.Math.Seq.{take-append-add}
 use Rattle.std.proofs.lemmas.Bool.Decides.{nat_tests}
 use Rattle.std.proofs.lemmas.List.{drop_at, get_or-take, get_or_append_left, length-take, length-take-le, take_all}
 use Rattle.std.proofs.lemmas.List.{take_at}
+use Rattle.std.specs.Result.{result_map_both}
 use Rattle.ep_base.specs.Bytes.{num}
 use Rattle.ep_base.specs.declared.err.slice_error.SliceError.{SliceError}
 use Rattle.ep_base.specs.declared.len_source.LenSource.{LenSource}
@@ -18,7 +19,7 @@ use Rattle.ep_ip.specs.Ipv6Fault as v6
 use Rattle.ep_ip.specs.declared.err.ipv4.header_error.HeaderError.{HeaderError as Ipv4HeaderFault}
 use Rattle.ep_ip.proofs.Ipv6Prefix.{prefix_again}
 use Rattle.ep_ext.specs.Auth.{auth_at}
-use Rattle.ep_ext.specs.Ipv4Exts.{IsAuthAfter, auth_after, auth_bytes, auth_number, some_auth}
+use Rattle.ep_ext.specs.Ipv4Exts.{IsAuthAfter, auth_after, auth_bytes}
 use Rattle.ep_ext.specs.Value.{Piece, bytes_of, slots}
 use Rattle.ep_ext.specs.declared.err.ip_auth.header_error.HeaderError.{HeaderError as AuthFault}
 use Rattle.ep_ext.specs.declared.net.ipv6_ext_slot.Ipv6ExtSlot.TheVariants.{Authentication}
@@ -45,7 +46,8 @@ use Rattle.ep_ipslice.proofs.Ipv6At.{RowIn, fault_is, row_in}
 use Rattle.ep_ipslice.proofs.Ipv6Parts.{no_fault_of}
 use Rattle.ep_ipslice.proofs.LaxLaws.{auth_cut, four_is, six_is}
 use Rattle.ep_ipslice.proofs.Left.{HasLeast, IsFound}
-use Rattle.ep_ipslice.proofs.Prefixes.{auth_begins}
+use Rattle.ep_ipslice.proofs.Found.{fault_after}
+use Rattle.ep_ext.proofs.Found.{auth_begins}
 
 -- the first bytes of what follows a header
 take_after : (n : ℕ) (xs ys : List ℕ) → length xs ≤ n → take n (xs ++ ys) ≡ xs ++ take (n - length xs) ys
@@ -91,14 +93,14 @@ v4_again header rest is = grind (arith, nat_tests, get_or_append_left, length-ap
 
 -- what is found after a number is an authentication header, if it names one
 named_case : (body : List ℕ) (r : Result (List ℕ) (SliceError AuthFault)) (auth : Option (List ℕ))
-    → auth_at body ≡ r → some_auth r ≡ Ok auth → IsAuthAfter 51 auth
+    → auth_at body ≡ r → result_map_both Some (λ e. e) r ≡ Ok auth → IsAuthAfter 51 auth
 named_case body (Ok header) auth at is =
     let begins = auth_begins body header at in
     grind arith
 named_case body (Err e) auth at is = cc
 
 pub named_by : (named : Bool) (number : ℕ) (body : List ℕ) (auth : Option (List ℕ))
-    → (number == auth_number) ≡ named → (if named then some_auth (auth_at body) else Ok None) ≡ Ok auth
+    → (number == 51) ≡ named → (if named then result_map_both Some (λ e. e) (auth_at body) else Ok None) ≡ Ok auth
     → IsAuthAfter number auth
 named_by true number body auth names is =
     let same : number ≡ 51 = grind (arith, nat_tests) in
@@ -120,9 +122,9 @@ v4_stands bytes header auth is parts fits most at =
     (strict4.body_of header bytes)
     (drop (length (auth_bytes auth)) (strict4.body_of header bytes)) auth (total_len_of header) is
     parts refl fits most refl refl
-    (named_by (protocol_of header == auth_number) (protocol_of header) (strict4.body_of header bytes) auth
+    (named_by (protocol_of header == 51) (protocol_of header) (strict4.body_of header bytes) auth
     refl at)
-    (auth_cut (protocol_of header == auth_number) (strict4.body_of header bytes) auth at)
+    (auth_cut (protocol_of header == 51) (strict4.body_of header bytes) auth at)
 
 v4_with : (bytes header : List ℕ) (r : Result (Option (List ℕ)) (SliceError AuthFault))
     (packet : Ipv4Packet) → v4.header_at bytes ≡ Ok header
@@ -141,7 +143,7 @@ v4_after bytes (Ok header) packet at is = v4_with bytes header
 v4_after bytes (Err e) packet at is = cc
 
 -- the IPv4 packet that is found at the start of bytes is there
-v4_is : (bytes : List ℕ) (packet : Ipv4Packet) → ipv4_packet_at bytes ≡ Ok packet
+pub v4_is : (bytes : List ℕ) (packet : Ipv4Packet) → ipv4_packet_at bytes ≡ Ok packet
     → IsIpv4Packet bytes packet
 v4_is bytes packet is = v4_after bytes (v4.header_at bytes) packet refl is
 
@@ -260,7 +262,7 @@ v6_source false stated n exts payload padding given size = grind (arith, nat_tes
 record IsV6Cut (bytes header : List ℕ) (pieces : List Piece) (last : ℕ) (n : ℕ) (packet : Ipv6Packet) : Type 0 where
   header_is : v6.header_at bytes ≡ Ok header
   row : RowIn bytes header pieces last (take (n - ipv6_headers_len packet) packet.payload.payload)
-  fault : strict6.fault_after bytes header pieces ≡ None
+  fault : fault_after bytes header pieces ≡ None
   short : is_ipv6_cut bytes header ≡ is_ipv6_short n packet
   source : body_source header (length bytes - 40) ≡ cut_ipv6_source n packet
 

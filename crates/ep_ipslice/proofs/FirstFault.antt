@@ -5,7 +5,7 @@ use Rattle.std.specs.Prelude.{nat_lt, if◌then◌else◌}
 use Rattle.std.proofs.lemmas.Bool.{eqb-true, ltb-false, ltb-true}
 use Rattle.std.proofs.lemmas.List.{drop_at}
 use Rattle.ep_base.proofs.Prefixes.{err_same}
-use Rattle.ep_ext.specs.Chain.{Chain, Fault, IsEnd, fault_at, fault_of, prefix_of}
+use Rattle.ep_ext.specs.Chain.{Chain, Fault, IsEnd, fault_of, prefix_of, fault_at}
 use Rattle.ep_ext.specs.Slot.{Order}
 use Rattle.ep_ext.specs.Value.{Piece, bytes_of, slots}
 use Rattle.ep_base.specs.declared.err.slice_error.SliceError.{SliceError as HeaderSliceError}
@@ -18,10 +18,10 @@ use Rattle.ep_ip.specs.Ipv4.{version_of}
 use Rattle.ep_ipslice.specs.IpSlice.{IsIpFault, OfIpv4, OfIpv6, ip_packet_at, no_version, with_ipv4, with_ipv6}
 use Rattle.ep_ipslice.specs.Ipv4Packet.{ipv4_packet_at}
 use Rattle.ep_ipslice.specs.Ipv6Exts.{view_order}
-use Rattle.ep_ipslice.specs.Ipv6Fault.{IsIpv6Fault, IsRowFault, OfExtensions, OfHeader, OfLength, not_whole}
+use Rattle.ep_ipslice.specs.Ipv6Fault.{IsIpv6Fault, IsRowFault, OfExtensions, OfHeader, OfLength}
 use Rattle.ep_ipslice.specs.Ipv6Fault.{of_exts_fault}
-use Rattle.ep_ipslice.specs.Ipv6Packet.{body_of, extensions_of, fault_after, ipv6_packet_at, number_after, packet_after}
-use Rattle.ep_ipslice.specs.Ipv6Packet.{packet_unless, rest_after}
+use Rattle.ep_ipslice.specs.Ipv6Packet.{body_of, extensions_of, ipv6_packet_at, number_after, packet_after}
+use Rattle.ep_ipslice.specs.Ipv6Packet.{rest_after}
 use Rattle.ep_ipslice.specs.Ipv6Walk.{pieces_within}
 use Rattle.ep_ipslice.specs.Packet.{Ipv4Packet, Ipv6Packet, body_len, body_source}
 use Rattle.ep_ipslice.specs.declared.err.ip.header_error.HeaderError.TheVariants.{UnsupportedIpVersion}
@@ -33,7 +33,7 @@ use Rattle.ep_ipslice.specs.declared.err.ipv4.slice_error.SliceError.{SliceError
 use Rattle.ep_ipslice.specs.declared.err.ipv6.slice_error.SliceError.{SliceError}
 use Rattle.ep_ipslice.specs.declared.err.ipv6.slice_error.SliceError.TheVariants.{Len}
 use Rattle.ep_ipslice.specs.declared.net.ip_slice.IpSlice.{IpSlice}
-use Rattle.ep_ipslice.proofs.Found.{IsWalk, walk}
+use Rattle.ep_ipslice.proofs.Found.{IsWalk, walk, packet_unless, not_whole, fault_after}
 
 -- the law of how rows end, as it is called
 pub record RowEnds : Type 0 where

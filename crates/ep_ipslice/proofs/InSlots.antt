@@ -3,15 +3,16 @@ use Rattle.std.proofs.Common.{arith, ◌≡◌, ◌∙◌, ℕ, ◌==◌, ◌||�
 use Rattle.std.proofs.Common.{refl, ap, subst}
 use Rattle.std.specs.Option.{option_map, option_map_or}
 use Rattle.std.proofs.lemmas.List.Folds.{list_any-append}
+use Rattle.std.specs.List.{list_any}
 use Rattle.ep_base.specs.Bytes.{num}
 use Rattle.ep_ext.specs.Chain.{IsPiece, Row}
 use Rattle.ep_ext.specs.Fragment.{fragment_header_of, fragments}
-use Rattle.ep_ext.specs.Slot.{at_start, is_passed, slot_of}
+use Rattle.ep_ext.specs.Slot.{is_passed, slot_of, at_start}
 use Rattle.ep_ext.specs.Value.{Piece, bytes_of, piece_at}
 use Rattle.ep_ext.specs.declared.net.ipv6_ext_slot.Ipv6ExtSlot.{Ipv6ExtSlot}
 use Rattle.ep_ext.specs.declared.net.ipv6_ext_slot.Ipv6ExtSlot.TheVariants.{HopByHop, Destination, Routing, Fragment}
 use Rattle.ep_ext.specs.declared.net.ipv6_ext_slot.Ipv6ExtSlot.TheVariants.{Authentication, FinalDestination}
-use Rattle.ep_ipslice.specs.Ipv6Exts.{is_any_fragmenting, view_order}
+use Rattle.ep_ipslice.specs.Ipv6Exts.{view_order, is_fragmenting_piece}
 
 -- a view has one slot for destination options
 seen_at : Ipv6ExtSlot → Ipv6ExtSlot
@@ -112,7 +113,7 @@ or_none b = grind arith
 
 none_after : (passed : List Ipv6ExtSlot) (number : ℕ) (pieces : List Piece) (last : ℕ)
     → is_passed passed Fragment ≡ true → Row slot_of passed number pieces last
-    → is_any_fragmenting (seen pieces) ≡ false
+    → list_any is_fragmenting_piece (seen pieces) ≡ false
 unfolding seen seen_at
 none_after passed number [] last taken row = refl
 none_after passed number ((HopByHop, header) ∷ pieces) last taken row =
@@ -131,7 +132,7 @@ none_after passed number ((FinalDestination, header) ∷ pieces) last taken row 
     (passed_more passed FinalDestination taken) row.2
 
 abbrev IsSaid : List Piece → Type 0
-IsSaid pieces = is_any_fragmenting (seen pieces)
+IsSaid pieces = list_any is_fragmenting_piece (seen pieces)
     ≡ option_map_or fragments (option_map fragment_header_of (piece_at pieces Fragment)) false
 
 fragments_seen : (passed : List Ipv6ExtSlot) (number : ℕ) (pieces : List Piece) (last : ℕ)
@@ -156,7 +157,7 @@ fragments_seen passed number ((FinalDestination, header) ∷ pieces) last row =
 -- headers in slots of one value are headers of a view
 pub row_in_slots : (first : ℕ) (pieces : List Piece) (last : ℕ) → Row slot_of [] first pieces last →
     (q : List Piece) × Row view_order [] first q last × (bytes_of q ≡ bytes_of pieces)
-    × (is_any_fragmenting q ≡ option_map_or fragments
+    × (list_any is_fragmenting_piece q ≡ option_map_or fragments
     (option_map fragment_header_of (piece_at pieces Fragment)) false)
 unfolding seen_slots
 row_in_slots first pieces last row = grind (arith, seen, row_seen, bytes_seen, fragments_seen)

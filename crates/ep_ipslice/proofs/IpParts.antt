@@ -2,24 +2,20 @@
 use Rattle.std.proofs.Common.{◌≡◌, ℕ, ◌<◌, ◌/◌, List, ◌++◌, length, get_or, Result, Ok, ap, ◌∙◌, append_assoc, arith}
 use Rattle.std.proofs.lemmas.List.{get_or_append_left}
 use Rattle.ep_ip.specs.Ipv4 as v4
-use Rattle.ep_ipslice.specs.IpSlice.{IsIpPacket}
 use Rattle.ep_ipslice.specs.Packet.{Ipv4Packet, Ipv6Packet, IsIpv4Packet, IsIpv6Packet}
-use Rattle.ep_ipslice.specs.declared.err.ip.slice_error.SliceError.{SliceError}
 use Rattle.ep_ipslice.specs.declared.err.ipv4.slice_error.SliceError.{SliceError as Ipv4Fault}
 use Rattle.ep_ipslice.specs.declared.err.ipv6.slice_error.SliceError.{SliceError as Ipv6Fault}
-use Rattle.ep_ipslice.specs.declared.net.ip_slice.IpSlice.{IpSlice}
-use Rattle.ep_ipslice.specs.declared.net.ip_slice.IpSlice.TheVariants.{Ipv4, Ipv6}
 use Rattle.ep_ipslice.proofs.Ipv6Parts.{packet_parts}
 
 pub first_byte : (bytes header rest : List ℕ) → bytes ≡ header ++ rest → 0 < length header
     → get_or bytes 0 0 ≡ get_or header 0 0
 first_byte bytes header rest parts some = grind (arith, get_or_append_left)
 
-v4_version : (bytes : List ℕ) (packet : Ipv4Packet) → IsIpv4Packet bytes packet
+pub v4_version : (bytes : List ℕ) (packet : Ipv4Packet) → IsIpv4Packet bytes packet
     → v4.version_of bytes ≡ 4
 v4_version bytes packet is = grind (arith, append_assoc, first_byte)
 
-v6_version : (bytes : List ℕ) (packet : Ipv6Packet) → IsIpv6Packet bytes packet
+pub v6_version : (bytes : List ℕ) (packet : Ipv6Packet) → IsIpv6Packet bytes packet
     → v4.version_of bytes ≡ 6
 v6_version bytes packet is =
     ap (λ (n : ℕ). n / 16) (first_byte bytes packet.header _ (packet_parts bytes packet is)
@@ -33,18 +29,3 @@ ipv4_ok x y h = cc
 
 pub ipv6_ok : (x y : Ipv6Packet) → ◌≡◌ {A = Result Ipv6Packet Ipv6Fault} (Ok x) (Ok y) → x ≡ y
 ipv6_ok x y h = cc
-
-abbrev pub IsAnswer : IpSlice → IpSlice → Type 0
-IsAnswer x y = ◌≡◌ {A = Result IpSlice SliceError} (Ok x) (Ok y)
-
-pub ipv4_only : (bytes : List ℕ) (found : Ipv4Packet) → v4.version_of bytes ≡ 4 →
-    ((packet : Ipv4Packet) → IsIpv4Packet bytes packet
-    → ◌≡◌ {A = Result Ipv4Packet Ipv4Fault} (Ok found) (Ok packet)) →
-    (packet : IpSlice) → IsIpPacket bytes packet → IsAnswer (Ipv4 found) packet
-ipv4_only bytes found four only packet is = grind (arith, ipv4_ok, four_six, v6_version)
-
-pub ipv6_only : (bytes : List ℕ) (found : Ipv6Packet) → v4.version_of bytes ≡ 6 →
-    ((packet : Ipv6Packet) → IsIpv6Packet bytes packet
-    → ◌≡◌ {A = Result Ipv6Packet Ipv6Fault} (Ok found) (Ok packet)) →
-    (packet : IpSlice) → IsIpPacket bytes packet → IsAnswer (Ipv6 found) packet
-ipv6_only bytes found six only packet is = grind (arith, four_six, v4_version, ipv6_ok)

@@ -5,13 +5,13 @@ use Rattle.std.proofs.lemmas.Bool.{le-ltb}
 use Rattle.std.proofs.lemmas.List.{append-nil, drop_at}
 use Rattle.ep_base.specs.declared.len_source.LenSource.TheVariants.{Ipv4HeaderTotalLen}
 use Rattle.ep_base.specs.declared.net.ip_number.IpNumber.{IpNumber}
-use Rattle.ep_ip.specs.Ipv4.{IsIpv4Header, protocol_of, total_len_of}
+use Rattle.ep_ip.specs.Ipv4.{IsIpv4Header, protocol_of, total_len_of, is_fragmenting, more_fragments_of}
+use Rattle.ep_ip.specs.Ipv4.{fragment_offset_of}
 use Rattle.ep_ext.specs.Auth.{IsAuth}
 use Rattle.ep_ext.specs.Chain.{prefix_of}
 use Rattle.ep_ext.specs.Ipv4Exts.{IsAuthAfter, auth_after, auth_bytes, number_after}
 use Rattle.ep_ext.specs.declared.net.ipv6_ext_slot.Ipv6ExtSlot.TheVariants.{Authentication}
 use Rattle.ep_ipslice.specs.Packet.{IpPayload, Ipv4Packet, IsIpv4Packet, IsWholeIpv4, ipv4_bytes, ipv4_payload}
-use Rattle.ep_ipslice.specs.Packet.{is_ipv4_fragment}
 use Rattle.ep_ipslice.specs.Ipv4Packet.{packet_with}
 use Rattle.ep_ipslice.proofs.Cuts.{header_body_rest, header_body_len, body_again}
 
@@ -66,7 +66,8 @@ packet_by_itself bytes packet is = record {
 -- what is read of a payload is what its packet says
 pub payload_agrees : (header : List ℕ) (auth : Option (List ℕ)) (number : IpNumber)
     (fragmented : Bool) (payload : List ℕ) (protocol : ℕ) → protocol ≡ protocol_of header
-    → number.0 ≡ number_after protocol auth → fragmented ≡ is_ipv4_fragment header
+    → number.0 ≡ number_after protocol auth
+    → fragmented ≡ is_fragmenting (more_fragments_of header) (fragment_offset_of header)
     → ◌≡◌ {A = IpPayload}
     (record {
       ip_number = number;

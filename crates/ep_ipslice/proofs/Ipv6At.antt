@@ -1,29 +1,32 @@
 -- The IPv6 packet at the start of bytes is the one that is there, and the fault is the first.
-use Rattle.std.proofs.Common.{◌≡◌, ◌∙◌, sym, ap, refl, ℕ, ◌+◌, ◌-◌, true, false, List, ◌∷◌, [], ◌++◌, length, drop}
+use Rattle.std.proofs.Common.{◌≡◌, ◌∙◌, sym, ap, refl, ℕ, ◌+◌, ◌-◌, false, List, ◌∷◌, [], ◌++◌, length, drop, true}
 use Rattle.std.proofs.Common.{Option, Some, None, Result, Ok, Err, IfOk, IfErr, arith, append-nil, append_assoc}
 use Rattle.std.proofs.Common.{length-append}
 use Rattle.std.specs.Prelude.{nat_lt}
-use Rattle.std.proofs.lemmas.Bool.{le-ltb}
+use Rattle.std.proofs.lemmas.Bool.{le-ltb, lt-ltb}
 use Rattle.std.proofs.lemmas.List.{take_at, drop_at}
+use Rattle.std.specs.Option.{option_map}
+use Rattle.std.specs.Result.{result_err, result_ok}
 use Rattle.ep_base.specs.Bytes.{num}
+use Rattle.ep_base.specs.declared.err.slice_error.SliceError.{SliceError as HeaderSliceError}
 use Rattle.ep_ip.specs.Ipv6.{next_header_of}
 use Rattle.ep_ip.proofs.Ipv6Prefix.{prefix_again}
-use Rattle.ep_ext.specs.Chain.{Fault, Row, fault_at, fault_in, fault_of}
+use Rattle.ep_ip.specs.Ipv6Fault.{header_at}
+use Rattle.ep_ext.specs.Chain.{Fault, Row, fault_of, fault_at, prefix_of}
 use Rattle.ep_ext.specs.Value.{Piece, bytes_of, slots}
-use Rattle.ep_base.specs.declared.err.layer.Layer.{Layer}
-use Rattle.ep_base.specs.declared.err.slice_error.SliceError.{SliceError as HeaderSliceError}
-use Rattle.ep_ext.specs.declared.err.ipv6_exts.header_error.HeaderError.{HeaderError}
 use Rattle.ep_ext.specs.declared.net.ipv6_ext_slot.Ipv6ExtSlot.{Ipv6ExtSlot}
+use Rattle.ep_ext.specs.declared.err.ipv6_exts.header_error.HeaderError.{HeaderError}
 use Rattle.ep_ipslice.specs.Ipv6Exts.{Ipv6Exts, view_order}
-use Rattle.ep_ipslice.specs.Ipv6Fault.{IsIpv6Fault, OfHeader, OfLength, OfExtensions, not_whole}
-use Rattle.ep_ipslice.specs.Ipv6Packet.{body_of, extensions_in, extensions_of, fault_after, ipv6_packet_at}
-use Rattle.ep_ipslice.specs.Ipv6Packet.{number_after, packet_unless, packet_with, rest_after}
-use Rattle.ep_ipslice.specs.Ipv6Walk.{piece_at_start, whole_piece}
+use Rattle.ep_ipslice.specs.Ipv6Fault.{IsIpv6Fault, OfHeader, OfLength, OfExtensions}
+use Rattle.ep_ipslice.specs.Ipv6Packet.{body_of, extensions_in, extensions_of, ipv6_packet_at, packet_after}
+use Rattle.ep_ipslice.specs.Ipv6Packet.{number_after, rest_after, ipv6_packet_of}
+use Rattle.ep_ipslice.specs.Ipv6Walk.{piece_at_start}
 use Rattle.ep_ipslice.specs.Packet.{Ipv6Packet, IsIpv6Packet, body_len}
 use Rattle.ep_ipslice.specs.declared.err.ipv6.slice_error.SliceError.{SliceError}
-use Rattle.ep_ipslice.specs.declared.err.ipv6.slice_error.SliceError.TheVariants.{Len}
 use Rattle.ep_ipslice.proofs.Ipv6Parts.{no_fault_of}
 use Rattle.ep_ipslice.proofs.Left.{HasLeast, IsFound, walk_is}
+use Rattle.ep_ipslice.proofs.Found.{packet_unless, fault_after, packet_with, not_whole}
+use Rattle.ep_ipslice.specs.declared.err.ipv6.slice_error.SliceError.TheVariants.{Len}
 
 extensions_are : IsFound → HasLeast
     → (first : ℕ) (body : List ℕ) (pieces : List Piece) (last : ℕ) (rest : List ℕ)
@@ -41,14 +44,17 @@ number_is passed number (piece ∷ pieces) last row =
     number_is (passed ++ piece.0 ∷ []) (num piece.1 0 1) pieces last row.2
 
 -- where a row ends at a fault, no header is found, though the number names one
-no_header : (layer : Layer) (offset : ℕ) (slot : Ipv6ExtSlot)
+no_header : (at : HeaderSliceError HeaderError → Fault) (slot : Ipv6ExtSlot)
     (r : Result (List ℕ) (HeaderSliceError HeaderError)) (fault : Fault)
-    → fault_in layer offset r ≡ Some fault → whole_piece slot r ≡ None
-no_header layer offset slot r fault is = grind arith
+    → option_map at (result_err r) ≡ Some fault
+    → ◌≡◌ {A = Option Piece} (option_map (λ header. (slot, header)) (result_ok r)) None
+no_header at slot (Ok header) fault is = cc
+no_header at slot (Err e) fault is = refl
 
 closed_at : (offset : ℕ) (slot : Option Ipv6ExtSlot) (last : ℕ) (rest : List ℕ) (fault : Fault)
     → fault_at offset slot last rest ≡ Some fault → piece_at_start slot rest ≡ None
-closed_at offset slot last rest fault is = grind arith
+closed_at offset None last rest fault is = refl
+closed_at offset (Some slot) last rest fault is = no_header _ slot (prefix_of slot rest) fault is
 
 -- the parts of a row in a body
 pub record RowIn (bytes header : List ℕ) (pieces : List Piece) (last : ℕ) (rest : List ℕ) : Type 0 where
@@ -103,19 +109,39 @@ packet_is found least bytes packet is =
     grind (arith, length-append) in
     let whole : nat_lt (length bytes - 40) (body_len header (length bytes - 40)) ≡ false =
     grind arith in
-    grind (arith, prefix_again, whole_is, fault_is, no_fault_of)
+    let at : header_at bytes ≡ Ok header =
+    ap header_at parts ∙ prefix_again header (exts ++ payload ++ is.padding) is.header in
+    let none : fault_after bytes header is.pieces ≡ None =
+    fault_is bytes header is.pieces is.last payload row
+    ∙ no_fault_of is.pieces is.last payload is.ended in
+    let same : ipv6_packet_of bytes header is.pieces ≡ packet = grind arith in
+    ap (packet_after bytes) at ∙ ap (packet_with bytes header) row.pieces_are
+    ∙ whole_is bytes header is.pieces whole ∙ ap (packet_unless bytes header is.pieces) none
+    ∙ ap Ok same
 
 -- bytes that start with none
 pub fault_agrees : IsFound → HasLeast → (bytes : List ℕ) (e : SliceError) → IsIpv6Fault bytes e
     → ipv6_packet_at bytes ≡ Err e
-fault_agrees found least bytes e (OfHeader fault is error) = grind arith
-fault_agrees found least bytes e (OfLength header is short) = grind arith
+fault_agrees found least bytes e (OfHeader fault is error) =
+    ap (packet_after bytes) is ∙ ap Err (sym error)
+fault_agrees found least bytes e (OfLength header is short) =
+    let size : nat_lt (length bytes - 40) (body_len header (length bytes - 40)) ≡ true =
+    lt-ltb _ _ short.size in
+    ap (packet_after bytes) is
+    ∙ short_is bytes header (extensions_of (next_header_of header) (body_of bytes header)) size
+    ∙ ap Err (sym short.error)
 fault_agrees found least bytes e (OfExtensions header is row) =
     let closed = closed_at (length (bytes_of row.pieces))
     (view_order (slots row.pieces) row.last) row.last row.rest row.fault row.found in
     let parts = row_in found least bytes header row.pieces row.last row.rest row.chain.row
     row.chain.cut closed in
-    grind (arith, whole_is, le-ltb, fault_is)
+    let whole : nat_lt (length bytes - 40) (body_len header (length bytes - 40)) ≡ false =
+    le-ltb _ _ row.size in
+    ap (packet_after bytes) is ∙ ap (packet_with bytes header) parts.pieces_are
+    ∙ whole_is bytes header row.pieces whole
+    ∙ ap (packet_unless bytes header row.pieces)
+    (fault_is bytes header row.pieces row.last row.rest parts ∙ row.found)
+    ∙ ap Err (sym row.error)
 
 -- what a call that reports every fault takes is what is there
 pub found_exactly : IsFound → HasLeast → (bytes : List ℕ) (r : Result Ipv6Packet SliceError)

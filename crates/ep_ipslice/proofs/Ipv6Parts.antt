@@ -3,7 +3,6 @@ use Rattle.std.proofs.Common.{◌≡◌, ℕ, ◌+◌, ◌-◌, ◌≤◌, ◌<�
 use Rattle.std.proofs.Common.{length, take, drop, Option, Some, None, Result, Ok, Err, Bor, IfOk, IfErr, IsOkAnd, refl}
 use Rattle.std.proofs.Common.{sym, ap, ◌∙◌, append_assoc, length-append, take-append-drop, arith}
 use Rattle.std.proofs.lemmas.List.{append-nil, drop_at, length-take-le, take_at}
-use Rattle.ep_base.specs.declared.err.layer.Layer.{Layer}
 use Rattle.ep_base.specs.declared.len_source.LenSource.{LenSource}
 use Rattle.ep_base.specs.declared.len_source.LenSource.TheVariants.{Slice, Ipv6HeaderPayloadLen}
 use Rattle.ep_base.specs.declared.net.ip_number.IpNumber.{IpNumber}
@@ -13,21 +12,23 @@ use Rattle.ep_base.specs.declared.err.slice_error.SliceError.{SliceError as Head
 use Rattle.ep_ip.specs.declared.err.ipv6.header_error.HeaderError.{HeaderError as HeaderFault}
 use Rattle.ep_ipslice.specs.Ipv6Fault.{IsCutOff, IsPrefixFault, IsIpv6Fault, IsRowFault, InHeader, InLength, OfHeader}
 use Rattle.ep_ipslice.specs.Ipv6Fault.{OfLength, of_exts_fault}
-use Rattle.ep_ext.specs.Chain.{Chain, Fault, IsEnd, IsPiece, fault_at, fault_in, fault_of, prefix_of, layer_of}
+use Rattle.ep_ext.specs.Chain.{Chain, Fault, IsEnd, IsPiece, fault_of, prefix_of, fault_at}
 use Rattle.ep_ext.specs.Follow.{has_slot}
-use Rattle.ep_ext.specs.Slot.{KeepsNumbers, Order, at_start, slot_number}
+use Rattle.ep_ext.specs.Slot.{KeepsNumbers, Order, slot_number, at_start}
 use Rattle.ep_ext.specs.Value.{Piece, bytes_of, slots}
 use Rattle.ep_base.specs.declared.err.len_error.LenError.{LenError}
 use Rattle.std.proofs.lemmas.Bool.{eqb-true}
+use Rattle.std.specs.Option.{option_map}
+use Rattle.std.specs.Result.{result_err}
 use Rattle.ep_ext.specs.declared.err.ipv6_exts.header_error.HeaderError.{HeaderError}
 use Rattle.ep_ext.specs.declared.net.ipv6_ext_slot.Ipv6ExtSlot.{Ipv6ExtSlot}
 use Rattle.ep_ext.specs.declared.net.ipv6_ext_slot.Ipv6ExtSlot.TheVariants.{Destination, Routing, Fragment}
 use Rattle.ep_ext.specs.declared.net.ipv6_ext_slot.Ipv6ExtSlot.TheVariants.{Authentication}
-use Rattle.ep_ipslice.specs.Ipv6Exts.{Ipv6Exts, exts_of, is_any_fragmenting, view_order}
-use Rattle.ep_ipslice.specs.Packet.{IpPayload, Ipv6Packet, IsIpv6Body, IsIpv6Packet, IsWholeIpv6, body_len, body_source}
+use Rattle.ep_ipslice.specs.Ipv6Exts.{Ipv6Exts, exts_of, view_order}
+use Rattle.ep_ipslice.specs.Packet.{Ipv6Packet, IsIpv6Body, IsIpv6Packet, IsWholeIpv6, body_len, body_source}
 use Rattle.ep_ipslice.specs.Packet.{ipv6_bytes}
 use Rattle.ep_ipslice.specs.declared.err.ipv6.slice_error.SliceError.{SliceError}
-use Rattle.ep_ipslice.proofs.Prefixes.{prefix_begins}
+use Rattle.ep_ext.proofs.Found.{prefix_begins}
 use Rattle.ep_ipslice.proofs.ViewWalk.{EndsClosed}
 
 -- the order has no slot for a number, and it is not that of hop-by-hop options: it is none of the
@@ -48,9 +49,10 @@ not_zero : (zero rest : Bool) → (zero || rest) ≡ false → zero ≡ false
 not_zero zero rest h = grind arith
 
 -- no fault at the end of a row: no header is open there
-no_fault_in : (layer : Layer) (offset : ℕ) (r : Result (List ℕ) (HeaderSliceError HeaderError))
-    → fault_in layer offset r ≡ None → (header : List ℕ) × (r ≡ Ok header)
-no_fault_in layer offset r none = grind arith
+no_fault_in : (at : HeaderSliceError HeaderError → Fault)
+    (r : Result (List ℕ) (HeaderSliceError HeaderError))
+    → option_map at (result_err r) ≡ None → (header : List ℕ) × (r ≡ Ok header)
+no_fault_in at r none = grind arith
 
 pub not_misplaced : (zero : Bool) (fault : Fault)
     → cond zero (Some fault) None ≡ None → zero ≡ false
@@ -61,7 +63,7 @@ no_fault : (offset : ℕ) (slot : Option Ipv6ExtSlot) (last : ℕ) (rest : List 
     ((p : Ipv6ExtSlot) (header following : List ℕ) → slot ≡ Some p → IsPiece p header
     → rest ≡ header ++ following → ⊥) → (slot ≡ None) × ((last == 0) ≡ false)
 no_fault offset (Some p) last rest none ended =
-    let prefix = no_fault_in (layer_of p) offset (prefix_of p rest) none in
+    let prefix = no_fault_in _ (prefix_of p rest) none in
     let begins = prefix_begins p rest prefix.0 prefix.1 in
     absurd (ended p prefix.0 begins.1.0 refl begins.0 begins.1.1)
 no_fault offset None last rest none ended = (refl, not_misplaced (last == 0) _ none)
@@ -69,7 +71,11 @@ no_fault offset None last rest none ended = (refl, not_misplaced (last == 0) _ n
 pub ended_of : (pieces : List Piece) (last : ℕ) (rest : List ℕ)
     → IsEnd view_order (slots pieces) last rest → fault_of view_order pieces last rest ≡ None
     → has_slot last ≡ false
-ended_of pieces last rest ended none = grind (arith, no_fault, closed_all)
+ended_of pieces last rest ended none =
+    let closed = no_fault (length (bytes_of pieces)) (view_order (slots pieces) last) last rest none
+    ended in
+    closed_all (last == 0) (last == 0) (last == 43) (last == 44) (last == 51) (last == 60)
+    (at_start (slots pieces)) closed.1 closed.0
 
 pub no_fault_of : (pieces : List Piece) (last : ℕ) (rest : List ℕ) → has_slot last ≡ false
     → fault_of view_order pieces last rest ≡ None
@@ -178,53 +184,6 @@ packet_found bytes header body first source pieces last rest exts number fragmen
     grind arith in
     let number_is : number ≡ record { 0 = last } = λ i. record { 0 = numbered i } in
     grind (arith, append_assoc, ended_of, length-append)
-
--- the bytes start with a packet's header, and its extension headers and payload are the body
-pub packet_body : (bytes : List ℕ) (packet : Ipv6Packet) (is : IsIpv6Packet bytes packet) →
-    IsIpv6Body bytes packet.header (body_source packet.header (length bytes - 40))
-    (bytes_of is.pieces ++ packet.payload.payload)
-packet_body bytes packet is = record {
-  padding = is.padding;
-  cut = grind (arith, append_assoc);
-  whole = is.header;
-  size = grind (arith, length-append);
-  bounded = refl;
-}
-
--- a packet's extension headers are a row in its body
-pub packet_chain : EndsClosed
-    → (bytes body : List ℕ) (first : ℕ) (header : List ℕ) (packet : Ipv6Packet)
-    (is : IsIpv6Packet bytes packet) → header ≡ packet.header → first ≡ next_header_of header →
-    body ≡ bytes_of is.pieces ++ packet.payload.payload
-    → Chain view_order first body is.pieces is.last packet.payload.payload
-packet_chain ends bytes body first header packet is same named cut = grind arith
-
--- what the parts of a row say is what the packet says
-pub payload_same : (bytes : List ℕ) (first : ℕ) (source : LenSource) (exts : Ipv6Exts)
-    (number : IpNumber) (fragmented : Bool) (payload : List ℕ) (packet : Ipv6Packet)
-    (is : IsIpv6Packet bytes packet) →
-    source ≡ body_source packet.header (length bytes - 40)
-    → exts ≡ exts_of first is.pieces → number.0 ≡ is.last →
-    fragmented ≡ exts.fragmented → payload ≡ packet.payload.payload →
-    record { ip_number = number; fragmented = fragmented; len_source = source; payload = payload }
-    ≡ packet.payload
-payload_same bytes first source exts number fragmented payload packet is bounded
-    seen numbered parted left =
-    let number_is : number ≡ record { 0 = is.last } = λ i. record { 0 = numbered i } in
-    let flag_is : fragmented ≡ is_any_fragmenting is.pieces =
-    grind arith in
-    grind arith
-
-pub packet_same : (packet : Ipv6Packet) (header : List ℕ) (exts : Ipv6Exts) (payload : IpPayload)
-    → header ≡ packet.header → exts ≡ packet.exts → payload ≡ packet.payload →
-    ◌≡◌ {A = Result Ipv6Packet SliceError}
-    (Ok (record { header = header; exts = exts; payload = payload })) (Ok packet)
-packet_same packet header exts payload h e p = grind arith
-
--- a row that ends at none of the five numbers ends without a fault
-pub never_refused : (pieces : List Piece) (last : ℕ) (rest : List ℕ) (fault : Fault)
-    → has_slot last ≡ false → fault_of view_order pieces last rest ≡ Some fault → ⊥
-never_refused pieces last rest fault none found = grind arith
 
 -- after a header, the first fault is that of the length
 pub length_fault : (bytes header : List ℕ)

@@ -16,12 +16,13 @@ use Rattle.ep_ext.specs.Value.{Piece, bytes_of}
 use Rattle.ep_ipslice.specs.Ipv6Exts.{Ipv6Exts, exts_of, view_order}
 use Rattle.ep_ipslice.specs.Ipv6Packet.{body_of}
 use Rattle.ep_ipslice.specs.LaxPackets.{LaxIpv6Packet, StoppedIpv6, is_ipv6_cut, lax_ipv6_packet_at, lax_ipv6_source}
-use Rattle.ep_ipslice.specs.LaxPackets.{row_fault_within}
+use Rattle.ep_ipslice.specs.LaxPackets.{row_fault_within, lax_ipv6_of, lax_ipv6_after, lax_ipv6_with}
 use Rattle.ep_ipslice.specs.Packet.{IsIpv6Body, body_len}
 use Rattle.ep_ipslice.proofs.FaultOffsets.{RowMoves, body_fits}
 use Rattle.ep_ipslice.proofs.Ipv6At.{RowIn, fault_is, number_is}
 use Rattle.ep_ipslice.proofs.Ipv6Parts.{body_found}
 use Rattle.ep_ipslice.proofs.Left.{HasLeast, IsFound, row_found}
+use Rattle.ep_ipslice.proofs.Found.{fault_after}
 
 -- the bytes of a packet that isn't cut off are its body
 pub body_there : (bytes header rest body : List ℕ) (source : LenSource) → IsIpv6Header header
@@ -119,4 +120,11 @@ read_row found least bytes header body first incomplete source pieces last rest 
     let inside = row_in found least bytes header pieces last rest here in
     let ends = fault_is bytes header pieces last rest inside in
     let number_same : number ≡ record { 0 = last } = λ i. record { 0 = row.numbered i } in
-    grind arith
+    let packet : parts header exts incomplete number fragmented source payload
+    ≡ lax_ipv6_of bytes header pieces = grind arith in
+    let stopped : option_map (row_fault_within source) fault
+    ≡ option_map (row_fault_within (lax_ipv6_source bytes header)) (fault_after bytes header pieces) =
+    rw (is.bounded, row.ended, ends) refl in
+    (λ i. Ok (packet i, stopped i))
+    ∙ sym (ap (lax_ipv6_after bytes) is.at
+    ∙ ap (λ (ps : List Piece). Ok (lax_ipv6_with bytes header ps)) inside.pieces_are)

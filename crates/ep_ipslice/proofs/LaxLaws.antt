@@ -5,6 +5,7 @@ use Rattle.std.specs.Prelude.{if◌then◌else◌}
 use Rattle.std.specs.Option.{option_map}
 use Rattle.std.proofs.lemmas.Bool.{le-ltb, lt-ltb}
 use Rattle.std.proofs.lemmas.List.{drop_at, length-drop, take_all}
+use Rattle.std.specs.Result.{result_map_both}
 use Rattle.ep_base.specs.declared.err.layer.Layer.TheVariants as layer
 use Rattle.ep_base.specs.declared.err.len_error.LenError.{LenError}
 use Rattle.ep_base.specs.declared.err.slice_error.SliceError.{SliceError}
@@ -18,7 +19,7 @@ use Rattle.ep_ip.specs.declared.err.ipv4.header_error.HeaderError.{HeaderError a
 use Rattle.ep_ip.specs.declared.err.ipv6.header_error.HeaderError.{HeaderError as Ipv6HeaderFault}
 use Rattle.ep_ext.specs.Auth.{auth_at}
 use Rattle.ep_ext.specs.Chain.{Fault}
-use Rattle.ep_ext.specs.Ipv4Exts.{auth_after, auth_bytes, auth_number, some_auth}
+use Rattle.ep_ext.specs.Ipv4Exts.{auth_after, auth_bytes}
 use Rattle.ep_ext.specs.Value.{Piece, bytes_of}
 use Rattle.ep_ext.specs.declared.err.ip_auth.header_error.HeaderError.{HeaderError as AuthFault}
 use Rattle.ep_ext.specs.declared.err.ipv6_exts.header_error.HeaderError.{HeaderError as ExtsFault}
@@ -27,7 +28,7 @@ use Rattle.ep_ipslice.specs.Ipv4Packet as strict4
 use Rattle.ep_ipslice.specs.Ipv4Packet.{ipv4_packet_at}
 use Rattle.ep_ipslice.specs.Ipv6Exts.{view_order}
 use Rattle.ep_ipslice.specs.Ipv6Packet as strict6
-use Rattle.ep_ipslice.specs.Ipv6Packet.{ipv6_packet_at}
+use Rattle.ep_ipslice.specs.Ipv6Packet.{ipv6_packet_at, packet_after}
 use Rattle.ep_ipslice.specs.LaxIp.{StoppedIp, lax_ip_packet_at, whole_ip, with_lax_ipv4, with_lax_ipv6}
 use Rattle.ep_ipslice.specs.LaxPackets.{LaxIpv4Packet, is_ipv6_cut, lax_ipv4_after, lax_ipv4_body, lax_ipv4_packet_at}
 use Rattle.ep_ipslice.specs.LaxPackets.{lax_ipv4_with, lax_ipv6_after, lax_ipv6_packet_at, lax_ipv6_source}
@@ -41,7 +42,7 @@ use Rattle.ep_ipslice.specs.declared.err.ipv6.slice_error.SliceError.{SliceError
 use Rattle.ep_ipslice.specs.declared.err.ipv6.slice_error.SliceError.TheVariants as ipv6
 use Rattle.ep_ipslice.specs.declared.net.ip_slice.IpSlice.{IpSlice}
 use Rattle.ep_ipslice.proofs.Found.{header_found, walk}
-use Rattle.ep_ipslice.proofs.Prefixes.{auth_begins}
+use Rattle.ep_ext.proofs.Found.{auth_begins}
 
 -- where a packet is there, it is the packet as far as it is there
 after_ipv4 : (bytes : List ℕ) (r : Result (List ℕ) (SliceError Ipv4HeaderFault)) (packet : Ipv4Packet)
@@ -54,7 +55,7 @@ pub whole_v4 : (bytes : List ℕ) (packet : Ipv4Packet) → ipv4_packet_at bytes
 whole_v4 bytes packet is = after_ipv4 bytes (v4.header_at bytes) packet is
 
 after_ipv6 : (bytes : List ℕ) (r : Result (List ℕ) (SliceError Ipv6HeaderFault)) (packet : Ipv6Packet)
-    → strict6.packet_after bytes r ≡ Ok packet
+    → packet_after bytes r ≡ Ok packet
     → lax_ipv6_after bytes r ≡ Ok (whole_ipv6 packet, None)
 after_ipv6 bytes r packet is = grind arith
 
@@ -112,7 +113,7 @@ six_is bytes is = (rw (some_bytes bytes 5 is, is) refl, rw (some_bytes bytes 5 i
 
 -- an authentication header that is found, and what follows it
 auth_case : (body : List ℕ) (r : Result (List ℕ) (SliceError AuthFault)) (auth : Option (List ℕ))
-    → auth_at body ≡ r → some_auth r ≡ Ok auth
+    → auth_at body ≡ r → result_map_both Some (λ e. e) r ≡ Ok auth
     → body ≡ auth_bytes auth ++ drop (length (auth_bytes auth)) body
 auth_case body (Ok header) auth at is =
     let begins = auth_begins body header at in
@@ -120,7 +121,7 @@ auth_case body (Ok header) auth at is =
 auth_case body (Err e) auth at is = cc
 
 pub auth_cut : (named : Bool) (body : List ℕ) (auth : Option (List ℕ))
-    → (if named then some_auth (auth_at body) else Ok None) ≡ Ok auth
+    → (if named then result_map_both Some (λ e. e) (auth_at body) else Ok None) ≡ Ok auth
     → body ≡ auth_bytes auth ++ drop (length (auth_bytes auth)) body
 auth_cut true body auth is = auth_case body (auth_at body) auth refl is
 auth_cut false body auth is = grind arith
@@ -138,7 +139,7 @@ cut_with bytes header (Ok auth) parts short at = (
   lt-ltb (length bytes) (total_len_of header) short,
   grind (arith, lt-ltb),
   parts ∙ ap (λ (xs : List ℕ). header ++ xs)
-      (auth_cut (protocol_of header == auth_number) (lax_ipv4_body bytes header) auth at),
+      (auth_cut (protocol_of header == 51) (lax_ipv4_body bytes header) auth at),
 )
 cut_with bytes header (Err e) parts short at = (
   lt-ltb (length bytes) (total_len_of header) short,
@@ -212,7 +213,7 @@ pub auth_len_stops : (bytes : List ℕ) (e : LenError) → ipv4_packet_at bytes 
 auth_len_stops bytes e is named = after_auth_len bytes (v4.header_at bytes) e (v4_layer bytes) is named
 
 after_row : (bytes : List ℕ) (r : Result (List ℕ) (SliceError Ipv6HeaderFault)) (e : ExtsFault)
-    → strict6.packet_after bytes r ≡ Err (ipv6.Exts e)
+    → packet_after bytes r ≡ Err (ipv6.Exts e)
     → IsOkAnd (lax_ipv6_after bytes r)
     (λ s. option_map (λ (f : Fault). f.0) s.1 ≡ Some (slice_error.Content e))
 after_row bytes r e is = grind arith
@@ -228,7 +229,7 @@ v6_layer bytes e is = grind arith
 
 after_row_len : (bytes : List ℕ) (r : Result (List ℕ) (SliceError Ipv6HeaderFault)) (e : LenError)
     → ((f : LenError) → r ≡ Err (slice_error.Len f) → f.layer ≡ layer.Ipv6Header)
-    → strict6.packet_after bytes r ≡ Err (ipv6.Len e) → e.layer ≢ layer.Ipv6Header
+    → packet_after bytes r ≡ Err (ipv6.Len e) → e.layer ≢ layer.Ipv6Header
     → e.layer ≢ layer.Ipv6Packet
     → IsOkAnd (lax_ipv6_after bytes r)
     (λ s. option_map (λ (f : Fault). f.0) s.1 ≡ Some (slice_error.Len e))

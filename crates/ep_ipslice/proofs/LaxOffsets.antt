@@ -18,18 +18,18 @@ use Rattle.ep_ip.specs.Ipv6Fault as v6
 use Rattle.ep_ip.specs.declared.err.ipv4.header_error.HeaderError.{HeaderError as Ipv4HeaderFault}
 use Rattle.ep_ip.specs.declared.err.ipv6.header_error.HeaderError.{HeaderError as Ipv6HeaderFault}
 use Rattle.ep_ext.specs.Chain.{Fault}
-use Rattle.ep_ext.specs.Ipv4Exts.{auth_after, auth_bytes, auth_number}
+use Rattle.ep_ext.specs.Ipv4Exts.{auth_after, auth_bytes}
 use Rattle.ep_ext.specs.Value.{Piece, bytes_of}
 use Rattle.ep_ext.specs.declared.err.ip_auth.header_error.HeaderError.{HeaderError as AuthFault}
 use Rattle.ep_ipslice.specs.Ipv4Packet as strict4
 use Rattle.ep_ipslice.specs.Ipv6Exts.{view_order}
-use Rattle.ep_ipslice.specs.Ipv6Packet.{body_of, extensions_of, fault_after, number_after, rest_after}
+use Rattle.ep_ipslice.specs.Ipv6Packet.{body_of, extensions_of, number_after, rest_after}
 use Rattle.ep_ipslice.specs.LaxPackets.{StoppedIpv4, StoppedIpv6, fault_within, is_ipv4_open, lax_ipv4_after}
 use Rattle.ep_ipslice.specs.LaxPackets.{lax_ipv4_body, lax_ipv4_packet_at, lax_ipv4_source, lax_ipv4_with}
 use Rattle.ep_ipslice.specs.LaxPackets.{lax_ipv6_after, lax_ipv6_packet_at, lax_ipv6_source, row_fault_within}
 use Rattle.ep_ipslice.proofs.FaultOffsets.{AuthMoves, RowMoves, body_fits, take_fits}
 use Rattle.ep_ipslice.proofs.FirstFault.{RowEnds, row_chain}
-use Rattle.ep_ipslice.proofs.Found.{header_found, walk}
+use Rattle.ep_ipslice.proofs.Found.{header_found, walk, fault_after}
 use Rattle.ep_ipslice.proofs.LaxIpv6.{fault_moves}
 use Rattle.ep_ipslice.proofs.LaxLaws.{auth_cut}
 
@@ -71,7 +71,7 @@ auth_fits bytes header (Ok auth) short at =
       arith,
       ipv4_body_fits (is_ipv4_open header) bytes header short,
       prefix_within body (auth_bytes auth) (drop (length (auth_bytes auth)) body)
-          (auth_cut (protocol_of header == auth_number) body auth at),
+          (auth_cut (protocol_of header == 51) body auth at),
     )
 auth_fits bytes header (Err e) short at = omega (arith, short)
 

@@ -3,6 +3,9 @@ use Rattle.std.proofs.Common.{◌≡◌, ℕ, suc, zero, ◌≤◌, ◌==◌, Bo
 use Rattle.std.proofs.Common.{Option, Some, None, Result, Ok, Err, refl, sym, ap, ◌∙◌, subst, append-nil, append_assoc}
 use Rattle.std.proofs.Common.{length-append, arith}
 use Rattle.std.proofs.lemmas.List.{drop_at, get_or_append_left}
+use Rattle.std.specs.Option.{option_map}
+use Rattle.std.specs.Result.{result_ok}
+use Rattle.std.proofs.lemmas.Bool.Decides.{nat_tests}
 use Rattle.ep_base.specs.Bytes.{num}
 use Rattle.ep_base.specs.declared.net.ip_number.IpNumber.{IpNumber}
 use Rattle.ep_ext.specs.Auth.{IsAuth, auth_len}
@@ -15,9 +18,9 @@ use Rattle.ep_ext.specs.declared.net.ipv6_ext_slot.Ipv6ExtSlot.TheVariants.{HopB
 use Rattle.ep_base.specs.declared.err.slice_error.SliceError.{SliceError}
 use Rattle.ep_ext.specs.declared.err.ipv6_exts.header_error.HeaderError.{HeaderError}
 use Rattle.ep_ipslice.specs.Ipv6Ext.{ext_len, ext_of, piece_of}
-use Rattle.ep_ipslice.specs.Ipv6Exts.{Ipv6Exts, IsView, exts_of, first_header_of, slot_after, view_order}
-use Rattle.ep_ipslice.specs.Ipv6Walk.{IsLeft, any_order, piece_at_start, pieces_left, pieces_within, whole_piece}
-use Rattle.ep_ipslice.proofs.Prefixes.{prefix_begins}
+use Rattle.ep_ipslice.specs.Ipv6Exts.{Ipv6Exts, IsView, exts_of, slot_after, view_order}
+use Rattle.ep_ipslice.specs.Ipv6Walk.{IsLeft, any_order, piece_at_start, pieces_left, pieces_within}
+use Rattle.ep_ext.proofs.Found.{prefix_begins}
 
 -- laws of whole headers, as they are called
 abbrev pub IsFound : Type 0
@@ -79,7 +82,7 @@ walk_is found least (suc most) order passed number (piece ∷ pieces) last rest 
 none_whole : (slot : Ipv6ExtSlot) (rest : List ℕ) (r : Result (List ℕ) (SliceError HeaderError))
     → prefix_of slot rest ≡ r
     → ((header following : List ℕ) → IsPiece slot header → rest ≡ header ++ following → ⊥) →
-    whole_piece slot r ≡ None
+    ◌≡◌ {A = Option Piece} (option_map (λ header. (slot, header)) (result_ok r)) None
 none_whole slot rest (Ok header) is ended =
     let begins = prefix_begins slot rest header is in
     absurd (ended header begins.1.0 begins.0 begins.1.1)
@@ -208,7 +211,7 @@ left_after found least number bytes first piece next following same named cut =
     )
 
 first_named : (number : ℕ) (pieces : List Piece) (first : IpNumber)
-    → first_header_of number pieces ≡ Some first → number ≡ first.0
+    → (exts_of number pieces).first_header ≡ Some first → number ≡ first.0
 first_named number pieces first is = grind arith
 
 -- an iterator that starts has all headers of its view left
@@ -216,8 +219,10 @@ pub view_left : (exts : Ipv6Exts) (first : IpNumber) → IsView exts → exts.fi
     → IsLeft first.0 exts.slice
 view_left exts first view is = grind (arith, first_named)
 
-pub none_named : (number : ℕ) (pieces : List Piece) → first_header_of number pieces ≡ None → pieces ≡ []
-none_named number pieces is = grind arith
+pub none_named : (number : ℕ) (pieces : List Piece) → (exts_of number pieces).first_header ≡ None
+    → pieces ≡ []
+none_named number [] is = refl
+none_named number (piece ∷ pieces) is = grind (arith, nat_tests)
 
 -- the headers of a view are those that are left
 pub view_pieces : IsFound → HasLeast
@@ -235,7 +240,3 @@ view_pieces found least exts number first pieces last is row seen =
       ap
           (λ (e : Ipv6Exts). e.slice) seen,
     )
-
-pub view_empty : (exts : Ipv6Exts) (first : ℕ) (pieces : List Piece) → exts.first_header ≡ None
-    → exts ≡ exts_of first pieces → pieces ≡ []
-view_empty exts first pieces none seen = grind arith

@@ -3,8 +3,7 @@ mod Cuts
 mod FaultOffsets
 mod Faults
 mod FirstFault
-mod Found
-mod Prefixes
+pub mod Found
 pub mod IpParts
 mod Ipv4Parts
 mod Ipv6At
@@ -19,3 +18,4 @@ pub mod InSlots
 mod SamePayloads
 mod SameViews
 mod ViewWalk
+pub mod Packets

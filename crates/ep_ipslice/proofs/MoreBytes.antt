@@ -4,7 +4,7 @@ use Rattle.std.proofs.Common.{◌++◌, length, take, drop, Option, Some, None, 
 use Rattle.std.proofs.Common.{length-append}
 use Rattle.std.proofs.Common.{zero, suc}
 use Rattle.std.specs.Prelude.{if◌then◌else◌, nat_lt}
-use Rattle.std.specs.Option.{option_map}
+use Rattle.std.specs.Option.{option_map, option_map_or}
 use Rattle.std.proofs.lemmas.Bool.Decides.{nat_tests}
 use Rattle.std.proofs.lemmas.List.{drop-append-le, drop_at, length-drop, length-take, take-append-le, take_all}
 use Rattle.ep_base.specs.declared.err.slice_error.SliceError.{SliceError}
@@ -17,8 +17,8 @@ use Rattle.ep_ip.specs.Ipv6Fault as v6
 use Rattle.ep_ip.specs.declared.err.ipv4.header_error.HeaderError.{HeaderError as Ipv4HeaderFault}
 use Rattle.ep_ip.specs.declared.err.ipv6.header_error.HeaderError.{HeaderError as Ipv6HeaderFault}
 use Rattle.ep_ip.proofs.Ipv6Prefix.{prefix_again}
-use Rattle.ep_ext.specs.Chain.{Fault, fault_at, fault_of}
-use Rattle.ep_ext.specs.Ipv4Exts.{auth_after, auth_bytes, auth_number}
+use Rattle.ep_ext.specs.Chain.{Fault, fault_of, fault_at}
+use Rattle.ep_ext.specs.Ipv4Exts.{auth_after, auth_bytes}
 use Rattle.ep_base.specs.Bytes.{num}
 use Rattle.ep_ext.specs.Slot.{Order}
 use Rattle.ep_ext.specs.declared.net.ipv6_ext_slot.Ipv6ExtSlot.{Ipv6ExtSlot}
@@ -27,14 +27,14 @@ use Rattle.ep_ext.specs.declared.err.ip_auth.header_error.HeaderError.{HeaderErr
 use Rattle.ep_ext.specs.declared.net.ipv6_ext_slot.Ipv6ExtSlot.TheVariants.{Authentication}
 use Rattle.ep_ipslice.specs.Ipv6Exts.{view_order}
 use Rattle.ep_ipslice.specs.Ipv6Packet as strict6
-use Rattle.ep_ipslice.specs.Ipv6Walk.{piece_at_start, piece_then, pieces_within}
+use Rattle.ep_ipslice.specs.Ipv6Walk.{piece_at_start, pieces_within}
 use Rattle.ep_ipslice.specs.LaxPackets.{StoppedIpv4, StoppedIpv6, is_ipv4_cut, is_ipv4_open, is_ipv6_cut, lax_ipv4_after}
 use Rattle.ep_ipslice.specs.LaxPackets.{lax_ipv4_body, lax_ipv4_packet_at, lax_ipv4_source, lax_ipv4_with, lax_ipv6_after}
 use Rattle.ep_ipslice.specs.LaxPackets.{lax_ipv6_of, lax_ipv6_packet_at, lax_ipv6_source, lax_ipv6_with, row_fault_within}
 use Rattle.ep_ipslice.specs.MoreBytes.{IsContinued, KeepsIpv4, KeepsIpv6}
 use Rattle.ep_ipslice.specs.Packet.{body_len}
 use Rattle.ep_ipslice.proofs.CutPackets.{len_by, named_by, v4_again, v4_begins}
-use Rattle.ep_ipslice.proofs.Found.{header_found, none_open, prefix_is, walk}
+use Rattle.ep_ipslice.proofs.Found.{header_found, none_open, prefix_is, walk, fault_after}
 use Rattle.ep_ipslice.proofs.Ipv4Parts.{auth_found}
 use Rattle.ep_ipslice.proofs.Ipv6At.{fault_is, row_in}
 use Rattle.ep_ipslice.proofs.LaxLaws.{auth_cut}
@@ -113,8 +113,8 @@ v4_keeps : IsFound → (bytes more header : List ℕ) (r : Result (Option (List 
     → KeepsIpv4 (lax_ipv4_with bytes header r) (V4 (bytes ++ more) header)
 v4_keeps found bytes more header (Ok auth) at body =
     let number : ℕ = protocol_of header in
-    let named = named_by (number == auth_number) number (lax_ipv4_body bytes header) auth refl at in
-    let cut = auth_cut (number == auth_number) (lax_ipv4_body bytes header) auth at in
+    let named = named_by (number == 51) number (lax_ipv4_body bytes header) auth refl at in
+    let cut = auth_cut (number == 51) (lax_ipv4_body bytes header) auth at in
     let rest : List ℕ = drop (length (auth_bytes auth)) (lax_ipv4_body bytes header) in
     let parts : lax_ipv4_body (bytes ++ more) header ≡ auth_bytes auth ++ (rest ++ body.0) =
     body.1 ∙ ap (λ (xs : List ℕ). xs ++ body.0) cut ∙ append_assoc (auth_bytes auth) rest body.0 in
@@ -262,7 +262,7 @@ record IsSameRow (bytes all header : List ℕ) (pieces : List Piece) : Type 0 wh
 
 v6_row : IsFound → HasLeast → (bytes all header : List ℕ)
     → IsContinued (strict6.body_of bytes header) (strict6.body_of all header)
-    → strict6.fault_after bytes header
+    → fault_after bytes header
     (strict6.extensions_of (next_header_of header) (strict6.body_of bytes header)) ≡ None
     → IsSameRow bytes all header (strict6.extensions_of (next_header_of header) (strict6.body_of bytes header))
 v6_row found least bytes all header body none =
@@ -282,7 +282,7 @@ v6_row found least bytes all header body none =
     rw closed.0 refl in
     let row = row_in found least all header pieces last (here.rest ++ body.0) here.row parts no_header in
     let no_more : fault_of view_order pieces last (here.rest ++ body.0) ≡ None = rw (closed.0, closed.1) refl in
-    let fault : strict6.fault_after all header pieces ≡ None =
+    let fault : fault_after all header pieces ≡ None =
     fault_is all header pieces last (here.rest ++ body.0) row ∙ no_more in
     record {
       packet = ap (lax_ipv6_with all header) row.pieces_are
@@ -315,11 +315,13 @@ row_then : IsFound → (most later : ℕ) (order : Order) (passed : List Ipv6Ext
     ((ps : List Ipv6ExtSlot) (n : ℕ) (xs : List ℕ)
     → RowGoesOn (pieces_within most order ps n xs) (pieces_within later order ps n (xs ++ more))) →
     (o : Option Piece) → piece_at_start (order passed number) bytes ≡ o →
-    RowGoesOn (piece_then o (λ (piece : Piece). pieces_within most order (passed ++ piece.0 ∷ [])
-    (num piece.1 0 1) (drop (length piece.1) bytes)))
-    (piece_then (piece_at_start (order passed number) (bytes ++ more))
-    (λ (piece : Piece). pieces_within later order (passed ++ piece.0 ∷ [])
-    (num piece.1 0 1) (drop (length piece.1) (bytes ++ more))))
+    RowGoesOn (option_map_or (λ (piece : Piece). piece ∷
+    pieces_within most order (passed ++ piece.0 ∷ []) (num piece.1 0 1)
+    (drop (length piece.1) bytes)) o [])
+    (option_map_or (λ (piece : Piece). piece ∷
+    pieces_within later order (passed ++ piece.0 ∷ []) (num piece.1 0 1)
+    (drop (length piece.1) (bytes ++ more)))
+    (piece_at_start (order passed number) (bytes ++ more)) [])
 row_then found most later order passed number bytes more further None at = (_, refl)
 row_then found most later order passed number bytes more further (Some piece) at =
     let here = found_more found order passed number bytes more piece at in

@@ -1,21 +1,26 @@
 -- The walk of a view over extension headers in a row.
-use Rattle.std.proofs.Common.{◌≡◌, ℕ, ◌-◌, Bool, true, ◌||◌, List, ◌∷◌, ◌++◌, length, [], take, Option, Some}
-use Rattle.std.proofs.Common.{None, Err, Bor, arith, refl, sym, ap, ◌∙◌, length-append, append_assoc}
+use Rattle.std.proofs.Common.{◌≡◌, ℕ, ◌-◌, Bool, true, ◌||◌, List, ◌∷◌, ◌++◌, length, [], take, Option, Some, Ok}
+use Rattle.std.proofs.Common.{None, Err, Bor, arith, refl, sym, ap, ◌∙◌, length-append, append_assoc, Result}
 use Rattle.std.proofs.lemmas.List.{take_at}
 use Rattle.std.proofs.lemmas.List.Folds.{list_any-append}
+use Rattle.std.specs.List.{list_any}
 use Rattle.ep_base.specs.Bytes.{num}
 use Rattle.ep_base.specs.declared.err.layer.Layer.{Layer}
 use Rattle.ep_base.specs.declared.net.ip_number.IpNumber.{IpNumber}
-use Rattle.ep_ext.specs.Chain.{Chain, Fault, IsEnd, IsPiece, Row, fault_at, prefix_of, layer_of}
+use Rattle.ep_ext.specs.Chain.{Chain, Fault, IsEnd, IsPiece, Row, prefix_of, layer_of, fault_at}
 use Rattle.ep_base.specs.SliceError.{offset_by}
 use Rattle.ep_ext.specs.Slot.{Order}
 use Rattle.ep_ext.specs.Value.{Piece, bytes_of, slots}
 use Rattle.ep_base.specs.declared.err.slice_error.SliceError.{SliceError}
+use Rattle.ep_base.proofs.Prefixes.{ok_same}
 use Rattle.ep_ext.specs.declared.err.ipv6_exts.header_error.HeaderError.{HeaderError}
 use Rattle.ep_ext.specs.declared.net.ipv6_ext_slot.Ipv6ExtSlot.{Ipv6ExtSlot}
-use Rattle.ep_ipslice.specs.Ipv6Exts.{Ipv6Exts, IsViewOf, Stops, exts_of, is_any_fragmenting, is_started}
+use Rattle.ep_ext.proofs.Found.{prefix_begins}
+use Rattle.ep_ipslice.specs.Ipv6Exts.{Ipv6Exts, IsViewOf, Stops, exts_of, is_started}
 use Rattle.ep_ipslice.specs.Ipv6Exts.{is_fragmenting_piece, slot_after, view_order}
 use Rattle.std.proofs.Math.Bool.{or-false}
+use Rattle.ep_ipslice.specs.Ipv6Ext.{piece_of, ext_of, ext_at, some_ext}
+use Rattle.ep_ipslice.specs.declared.net.ipv6_extension_slice.Ipv6ExtensionSlice.{Ipv6ExtensionSlice}
 
 -- what the walk keeps: so far the bytes are headers in a row and the rest
 pub record Kept (first : ℕ) (bytes : List ℕ) (has_header fragmented : Bool) (number : ℕ)
@@ -24,7 +29,7 @@ pub record Kept (first : ℕ) (bytes : List ℕ) (has_header fragmented : Bool) 
   pub row : Row view_order [] first pieces number
   pub cut : bytes ≡ bytes_of pieces ++ rest
   pub started : has_header ≡ is_started pieces
-  pub parted : fragmented ≡ is_any_fragmenting pieces
+  pub parted : fragmented ≡ list_any is_fragmenting_piece pieces
 
 -- laws of rows, as they are called
 abbrev pub RowGrows : Type 0
@@ -54,8 +59,8 @@ started_more [] piece = refl
 started_more (first ∷ pieces) piece = refl
 
 parted_more : (pieces : List Piece) (piece : Piece)
-    → is_any_fragmenting (pieces ++ piece ∷ [])
-    ≡ (is_any_fragmenting pieces || is_fragmenting_piece piece)
+    → list_any is_fragmenting_piece (pieces ++ piece ∷ [])
+    ≡ (list_any is_fragmenting_piece pieces || is_fragmenting_piece piece)
 parted_more pieces piece = grind (arith, list_any-append, or-false)
 
 pub kept_more : RowGrows → BytesGrow
@@ -165,3 +170,22 @@ pub stops_same : ChainAlone
     → Stops first p m r answer → Stops first q n s answer
 stops_same alone first bytes p q m n r s answer chain other stops =
     let same = alone view_order first bytes p q m n r s chain other in grind arith
+
+bytes_are : (slot : Ipv6ExtSlot) (header : List ℕ) → (piece_of (ext_of slot header)).1 ≡ header
+bytes_are slot header = grind arith
+
+ext_by : (slot : Ipv6ExtSlot) (bytes : List ℕ) (ext : Ipv6ExtensionSlice)
+    (r : Result (List ℕ) (SliceError HeaderError)) → prefix_of slot bytes ≡ r
+    → Ok ext ≡ some_ext slot r
+    → IsPiece slot (piece_of ext).1 × ((rest : List ℕ) × (bytes ≡ (piece_of ext).1 ++ rest))
+ext_by slot bytes ext (Ok header) at is =
+    let same : (piece_of ext).1 ≡ header =
+    ap (λ (x : Ipv6ExtensionSlice). (piece_of x).1) (ok_same _ _ is) ∙ bytes_are slot header in
+    rw same (prefix_begins slot bytes header at)
+ext_by slot bytes ext (Err e) at is = cc
+
+-- what is found in a slot is a header, with which the bytes start
+pub ext_found : (slot : Ipv6ExtSlot) (bytes : List ℕ) (ext : Ipv6ExtensionSlice)
+    → Ok ext ≡ ext_at slot bytes
+    → IsPiece slot (piece_of ext).1 × ((rest : List ℕ) × (bytes ≡ (piece_of ext).1 ++ rest))
+ext_found slot bytes ext is = ext_by slot bytes ext (prefix_of slot bytes) refl is

@@ -1,6 +1,6 @@
 -- The extension headers of an IPv6 packet, as a view reads them (RFC 8200, sections 4 and 4.1).
 use Rattle.std.specs.Prelude.{◌≡◌, ℕ, ◌==◌, if◌then◌else◌, Bool, true, false, List, [], ◌∷◌, Option, Some, None, Result}
-use Rattle.std.specs.Prelude.{Ok, Err}
+use Rattle.std.specs.Prelude.{Ok, Err, length}
 use Rattle.std.specs.Borrow.{Bor}
 use Rattle.std.specs.List.{list_any}
 use Rattle.ep_base.specs.declared.err.layer.Layer.{Layer}
@@ -39,20 +39,13 @@ is_started [] = false
 is_started (piece ∷ pieces) = true
 
 -- the fragment header of a fragment
-abbrev pub is_fragmenting_header : List ℕ → Bool
-is_fragmenting_header header = fragments (fragment_header_of header)
-
 abbrev pub is_fragmenting_piece : Piece → Bool
 is_fragmenting_piece (HopByHop, header) = false
 is_fragmenting_piece (Destination, header) = false
 is_fragmenting_piece (Routing, header) = false
-is_fragmenting_piece (Fragment, header) = is_fragmenting_header header
+is_fragmenting_piece (Fragment, header) = fragments (fragment_header_of header)
 is_fragmenting_piece (Authentication, header) = false
 is_fragmenting_piece (FinalDestination, header) = false
-
--- at least one of the headers is the fragment header of a fragment
-abbrev pub is_any_fragmenting : List Piece → Bool
-is_any_fragmenting pieces = list_any is_fragmenting_piece pieces
 
 -- what a view shows: the number of the first header, where there is one, whether a header is the
 -- fragment header of a fragment, and the bytes of all headers
@@ -61,15 +54,11 @@ pub record Ipv6Exts : Type 0 where
   pub fragmented : Bool
   pub slice : List ℕ
 
-abbrev pub first_header_of : ℕ → List Piece → Option IpNumber
-first_header_of first [] = None
-first_header_of first (piece ∷ pieces) = Some (record { 0 = first })
-
 -- the view of these headers, of which the first has this number
 abbrev pub exts_of : ℕ → List Piece → Ipv6Exts
 exts_of first pieces = record {
-  first_header = first_header_of first pieces;
-  fragmented = is_any_fragmenting pieces;
+  first_header = if length pieces == 0 then None else Some (record { 0 = first });
+  fragmented = list_any is_fragmenting_piece pieces;
   slice = bytes_of pieces;
 }
 
@@ -83,7 +72,7 @@ abbrev pub IsViewOf : IpNumber → Bool → Bool → List ℕ → Type 0
 IsViewOf first has_header fragmented bytes =
     (pieces : List Piece) × (last : ℕ) × Row view_order [] first.0 pieces last
     × (bytes ≡ bytes_of pieces)
-    × (has_header ≡ is_started pieces) × (fragmented ≡ is_any_fragmenting pieces)
+    × (has_header ≡ is_started pieces) × (fragmented ≡ list_any is_fragmenting_piece pieces)
 
 -- the results of a call that stops at a fault, and of one that refuses it
 pub record Stops (first : ℕ) (pieces : List Piece) (last : ℕ) (rest : List ℕ)

@@ -2,7 +2,6 @@
 use Rattle.std.specs.Prelude.{◌≡◌, ◌<◌, ◌≤◌, ℕ, ◌+◌, ◌-◌, List, length, take, drop, Some, Ok, Err}
 use Rattle.ep_base.specs.LenError.{offset_by, too_few_bytes}
 use Rattle.ep_base.specs.declared.err.layer.Layer.TheVariants as layer
-use Rattle.ep_base.specs.declared.err.len_error.LenError.{LenError}
 use Rattle.ep_base.specs.declared.len_source.LenSource.{LenSource}
 use Rattle.ep_ip.specs.Ipv6.{next_header_of, payload_length_of}
 use Rattle.ep_ip.specs.Ipv6Fault.{header_at}
@@ -27,14 +26,10 @@ abbrev pub of_exts_fault : LenSource → HeaderSliceError ExtsFault → SliceErr
 of_exts_fault source (slice_error.Len e) = Len (record (offset_by e 40) { len_source = source })
 of_exts_fault source (slice_error.Content e) = Exts e
 
--- fewer bytes are there than header and payload length
-abbrev pub not_whole : List ℕ → ℕ → LenError
-not_whole header found = too_few_bytes layer.Ipv6Packet (40 + payload_length_of header) found
-
 -- fewer bytes follow the header than its payload length says
 pub record IsCutOff (bytes header : List ℕ) (e : SliceError) : Type 0 where
   pub size : length bytes - 40 < body_len header (length bytes - 40)
-  pub error : e ≡ Len (not_whole header (length bytes))
+  pub error : e ≡ Len (too_few_bytes layer.Ipv6Packet (40 + payload_length_of header) (length bytes))
 
 -- the row of extension headers within the payload length, under this order, ends at a fault
 pub record IsRowFault (order : Order) (bytes header : List ℕ) (e : SliceError) : Type 0 where

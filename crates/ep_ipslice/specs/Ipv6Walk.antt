@@ -1,36 +1,27 @@
 -- The extension headers at the start of bytes, one by one (RFC 8200, section 4).
-use Rattle.std.specs.Prelude.{◌≡◌, false, ℕ, zero, suc, List, [], ◌∷◌, ◌++◌, length, drop, Option, Some, None, Result}
-use Rattle.std.specs.Prelude.{Ok, Err}
+use Rattle.std.specs.Prelude.{◌≡◌, false, ℕ, zero, suc, List, [], ◌∷◌, ◌++◌, length, drop, Option, Some, None}
+use Rattle.std.specs.Option.{option_map, option_map_or}
+use Rattle.std.specs.Result.{result_ok}
 use Rattle.ep_base.specs.Bytes.{num}
 use Rattle.ep_ext.specs.Chain.{Row, prefix_of}
 use Rattle.ep_ext.specs.Slot.{Order}
 use Rattle.ep_ext.specs.Value.{Piece, bytes_of}
-use Rattle.ep_base.specs.declared.err.slice_error.SliceError.{SliceError}
-use Rattle.ep_ext.specs.declared.err.ipv6_exts.header_error.HeaderError.{HeaderError}
 use Rattle.ep_ext.specs.declared.net.ipv6_ext_slot.Ipv6ExtSlot.{Ipv6ExtSlot}
 use Rattle.ep_ipslice.specs.Ipv6Exts.{slot_after, view_order}
 
 -- the whole header of a slot at the start of the bytes
-abbrev pub whole_piece : Ipv6ExtSlot → Result (List ℕ) (SliceError HeaderError) → Option Piece
-whole_piece slot (Ok header) = Some (slot, header)
-whole_piece slot (Err e) = None
-
 abbrev pub piece_at_start : Option Ipv6ExtSlot → List ℕ → Option Piece
 piece_at_start None bytes = None
-piece_at_start (Some slot) bytes = whole_piece slot (prefix_of slot bytes)
-
--- a header, where there is one, and the headers after it
-abbrev pub piece_then : Option Piece → (Piece → List Piece) → List Piece
-piece_then None following = []
-piece_then (Some piece) following = piece ∷ following piece
+piece_at_start (Some slot) bytes =
+    option_map (λ header. (slot, header)) (result_ok (prefix_of slot bytes))
 
 -- headers in a row after others, at most so many
 unfoldable pub pieces_within : ℕ → Order → List Ipv6ExtSlot → ℕ → List ℕ → List Piece
 pieces_within zero order passed number bytes = []
 pieces_within (suc most) order passed number bytes =
-    piece_then (piece_at_start (order passed number) bytes)
-    (λ (piece : Piece). pieces_within most order (passed ++ piece.0 ∷ []) (num piece.1 0 1)
-    (drop (length piece.1) bytes))
+    option_map_or (λ (piece : Piece). piece ∷
+    pieces_within most order (passed ++ piece.0 ∷ []) (num piece.1 0 1)
+    (drop (length piece.1) bytes)) (piece_at_start (order passed number) bytes) []
 
 -- the order of headers after others, where none is out of place
 abbrev pub any_order : Order

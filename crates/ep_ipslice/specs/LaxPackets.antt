@@ -4,27 +4,27 @@
 use Rattle.std.specs.Prelude.{ℕ, ◌-◌, nat_lt, Bool, false, if◌then◌else◌, List, length, drop, Option, Some, None}
 use Rattle.std.specs.Prelude.{Result, Ok, Err}
 use Rattle.std.specs.Option.{option_map}
+use Rattle.std.specs.List.{list_any}
 use Rattle.ep_base.specs.LenError.{offset_by}
 use Rattle.ep_base.specs.declared.err.len_error.LenError.{LenError}
 use Rattle.ep_base.specs.declared.err.slice_error.SliceError.{SliceError}
 use Rattle.ep_base.specs.declared.err.slice_error.SliceError.TheVariants.{Len, Content}
 use Rattle.ep_base.specs.declared.len_source.LenSource.{LenSource}
 use Rattle.ep_base.specs.declared.len_source.LenSource.TheVariants.{Slice, Ipv4HeaderTotalLen}
-use Rattle.ep_ip.specs.Ipv4.{protocol_of, total_len_of}
+use Rattle.ep_ip.specs.Ipv4.{protocol_of, total_len_of, is_fragmenting, more_fragments_of, fragment_offset_of}
 use Rattle.ep_ip.specs.Ipv4Fault as v4
 use Rattle.ep_ip.specs.declared.err.ipv4.header_error.HeaderError.{HeaderError as Ipv4HeaderFault}
 use Rattle.ep_ip.specs.Ipv6.{next_header_of}
 use Rattle.ep_ip.specs.Ipv6Fault as v6
 use Rattle.ep_ip.specs.declared.err.ipv6.header_error.HeaderError.{HeaderError as Ipv6HeaderFault}
-use Rattle.ep_ext.specs.Chain.{Fault}
+use Rattle.ep_ext.specs.Chain.{Fault, fault_of}
 use Rattle.ep_ext.specs.Value.{Piece}
 use Rattle.ep_ext.specs.Ipv4Exts.{auth_after, auth_bytes, number_after}
 use Rattle.ep_ext.specs.declared.err.ip_auth.header_error.HeaderError.{HeaderError as AuthFault}
 use Rattle.ep_ipslice.specs.Ipv4Packet as ipv4
-use Rattle.ep_ipslice.specs.Ipv6Exts.{Ipv6Exts, exts_of, is_any_fragmenting}
+use Rattle.ep_ipslice.specs.Ipv6Exts.{Ipv6Exts, exts_of, is_fragmenting_piece, view_order}
 use Rattle.ep_ipslice.specs.Ipv6Packet as ipv6
 use Rattle.ep_ipslice.specs.Packet.{IpPayload, Ipv4Packet, Ipv6Packet, body_len, body_source, ipv4_payload}
-use Rattle.ep_ipslice.specs.Packet.{is_ipv4_fragment}
 
 -- what bounds the bytes after a header, of which so many are there: the field that says how many there
 -- are, or the slice where it promises more
@@ -73,7 +73,7 @@ lax_ipv4_of bytes header auth = record {
   incomplete = is_ipv4_cut bytes header;
   payload = record {
     ip_number = record { 0 = number_after (protocol_of header) auth };
-    fragmented = is_ipv4_fragment header;
+    fragmented = is_fragmenting (more_fragments_of header) (fragment_offset_of header);
     len_source = lax_ipv4_source bytes header;
     payload = drop (length (auth_bytes auth)) (lax_ipv4_body bytes header);
   };
@@ -136,7 +136,7 @@ lax_ipv6_of bytes header pieces = record {
   incomplete = is_ipv6_cut bytes header;
   payload = record {
     ip_number = record { 0 = ipv6.number_after (next_header_of header) pieces };
-    fragmented = is_any_fragmenting pieces;
+    fragmented = list_any is_fragmenting_piece pieces;
     len_source = lax_ipv6_source bytes header;
     payload = ipv6.rest_after bytes header pieces;
   };
@@ -153,7 +153,8 @@ row_fault_within source fault = (fault_within source 40 fault.0, fault.1)
 abbrev pub lax_ipv6_with : (bytes header : List ℕ) → List Piece → StoppedIpv6
 lax_ipv6_with bytes header pieces = (
   lax_ipv6_of bytes header pieces,
-  option_map (row_fault_within (lax_ipv6_source bytes header)) (ipv6.fault_after bytes header pieces),
+  option_map (row_fault_within (lax_ipv6_source bytes header)) (fault_of view_order pieces
+      (ipv6.number_after (next_header_of header) pieces) (ipv6.rest_after bytes header pieces)),
 )
 
 abbrev pub lax_ipv6_after : List ℕ → Result (List ℕ) (SliceError Ipv6HeaderFault)

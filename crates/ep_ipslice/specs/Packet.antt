@@ -4,6 +4,7 @@
 use Rattle.std.specs.Prelude.{◌≡◌, ℕ, ◌+◌, ◌-◌, ◌==◌, ◌&&◌, nat_lt, Bool, false, if◌then◌else◌, List, [], ◌++◌, length}
 use Rattle.std.specs.Prelude.{Option}
 use Rattle.std.specs.Option.{option_map}
+use Rattle.std.specs.List.{list_any}
 use Rattle.ep_base.specs.declared.len_source.LenSource.{LenSource}
 use Rattle.ep_base.specs.declared.len_source.LenSource.TheVariants.{Slice, Ipv4HeaderTotalLen, Ipv6HeaderPayloadLen}
 use Rattle.ep_base.specs.declared.net.ip_number.IpNumber.{IpNumber}
@@ -15,7 +16,7 @@ use Rattle.ep_ext.specs.Fragment.{fragment_header_of}
 use Rattle.ep_ext.specs.Value.{Piece, bytes_of, piece_at}
 use Rattle.ep_ext.specs.Ipv4Exts.{IsAuthAfter, auth_bytes, number_after}
 use Rattle.ep_ext.specs.declared.net.ipv6_ext_slot.Ipv6ExtSlot.TheVariants.{Fragment}
-use Rattle.ep_ipslice.specs.Ipv6Exts.{Ipv6Exts, exts_of, is_any_fragmenting, view_order}
+use Rattle.ep_ipslice.specs.Ipv6Exts.{Ipv6Exts, exts_of, view_order, is_fragmenting_piece}
 
 -- the payload of a packet: its protocol number, whether it is a fragment, what its length came
 -- from, and its bytes
@@ -44,17 +45,14 @@ ipv4_fragment_fields header = record {
   more = v4.more_fragments_of header;
 }
 
--- by a fragment header (RFC 8200, section 4.5)
-abbrev pub header_fragment_fields : List ℕ → FragmentFields
-header_fragment_fields header = record {
+-- by the first fragment header among these extension headers (RFC 8200, section 4.5), if there is
+-- one
+abbrev pub ipv6_fragment_fields : List Piece → Option FragmentFields
+ipv6_fragment_fields pieces = option_map (λ header. record {
   identification = (fragment_header_of header).identification;
   offset = (fragment_header_of header).fragment_offset;
   more = (fragment_header_of header).more_fragments;
-}
-
--- by the first fragment header among these extension headers, if there is one
-abbrev pub ipv6_fragment_fields : List Piece → Option FragmentFields
-ipv6_fragment_fields pieces = option_map header_fragment_fields (piece_at pieces Fragment)
+}) (piece_at pieces Fragment)
 
 -- the parts of an IPv4 packet
 pub record Ipv4Packet : Type 0 where
@@ -80,15 +78,11 @@ ipv4_bytes packet = packet.header ++ auth_bytes packet.auth ++ packet.payload
 abbrev pub IsWholeIpv4 : Ipv4Packet → Type 0
 IsWholeIpv4 packet = IsIpv4Packet (ipv4_bytes packet) packet
 
--- the payload is a fragment
-abbrev pub is_ipv4_fragment : List ℕ → Bool
-is_ipv4_fragment header = v4.is_fragmenting (v4.more_fragments_of header)
-    (v4.fragment_offset_of header)
-
 abbrev pub ipv4_payload : Ipv4Packet → IpPayload
 ipv4_payload packet = record {
   ip_number = record { 0 = number_after (v4.protocol_of packet.header) packet.auth };
-  fragmented = is_ipv4_fragment packet.header;
+  fragmented = v4.is_fragmenting (v4.more_fragments_of packet.header)
+      (v4.fragment_offset_of packet.header);
   len_source = Ipv4HeaderTotalLen;
   payload = packet.payload;
 }
@@ -102,18 +96,17 @@ pub record Ipv6Packet : Type 0 where
 abbrev pub ipv6_bytes : Ipv6Packet → List ℕ
 ipv6_bytes packet = packet.header ++ packet.exts.slice ++ packet.payload.payload
 
--- the packet's own length is not given: the payload length is 0 (RFC 2675, section 3), and more
--- than the header is there
-abbrev pub is_open : List ℕ → ℕ → Bool
-is_open header following = (v6.payload_length_of header == 0) && nat_lt 0 following
-
--- how long extension headers and payload are, where so many bytes follow the header
+-- how long extension headers and payload are, where so many bytes follow the header: a payload
+-- length of 0, where there are some, doesn't say it (RFC 2675, section 3)
 abbrev pub body_len : List ℕ → ℕ → ℕ
-body_len header following = if is_open header following then following else v6.payload_length_of header
+body_len header following =
+    if (v6.payload_length_of header == 0) && nat_lt 0 following then following
+    else v6.payload_length_of header
 
 -- what that length came from
 abbrev pub body_source : List ℕ → ℕ → LenSource
-body_source header following = if is_open header following then Slice else Ipv6HeaderPayloadLen
+body_source header following =
+    if (v6.payload_length_of header == 0) && nat_lt 0 following then Slice else Ipv6HeaderPayloadLen
 
 -- the bytes start with this header, and as many of those after it as its payload length says are
 -- the body, extension headers and payload; padding may follow
@@ -139,7 +132,7 @@ pub record IsIpv6Packet (bytes : List ℕ) (packet : Ipv6Packet) : Type 0 where
   pub exts : packet.exts ≡ exts_of (v6.next_header_of packet.header) pieces
   pub fields : packet.payload ≡ record {
     ip_number = record { 0 = last };
-    fragmented = is_any_fragmenting pieces;
+    fragmented = list_any is_fragmenting_piece pieces;
     len_source = body_source packet.header (length bytes - 40);
     payload = packet.payload.payload;
   }

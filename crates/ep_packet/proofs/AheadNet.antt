@@ -5,6 +5,8 @@ use Rattle.std.specs.Prelude.{if◌then◌else◌, nat_lt}
 use Rattle.std.specs.Option.{option_map}
 use Rattle.std.proofs.lemmas.Bool.{eqb-true, le-ltb, ltb-false}
 use Rattle.std.proofs.lemmas.List.{drop_at}
+use Rattle.std.specs.Result.{result_map_both}
+use Rattle.std.specs.List.{list_any}
 use Rattle.ep_base.proofs.Prefixes.{err_same}
 use Rattle.ep_base.specs.Bytes.{num}
 use Rattle.ep_base.specs.LenError.{too_few_bytes}
@@ -22,7 +24,7 @@ use Rattle.ep_ext.specs.Value.{Piece, bytes_of}
 use Rattle.ep_ext.specs.declared.err.ip_auth.header_error.HeaderError.{HeaderError as AuthFault}
 use Rattle.ep_ext.specs.declared.err.ipv6_exts.header_error.HeaderError.{HeaderError as ExtsFault}
 use Rattle.ep_ext.specs.declared.net.ipv6_ext_slot.Ipv6ExtSlot.{Ipv6ExtSlot}
-use Rattle.ep_ip.specs.Ipv4.{protocol_of, total_len_of}
+use Rattle.ep_ip.specs.Ipv4.{protocol_of, total_len_of, is_fragmenting, more_fragments_of, fragment_offset_of}
 use Rattle.ep_ip.specs.Ipv4Fault as v4
 use Rattle.ep_ip.specs.Ipv6.{next_header_of}
 use Rattle.ep_ip.specs.Ipv6Fault as v6
@@ -30,21 +32,23 @@ use Rattle.ep_ip.specs.declared.err.ipv4.header_error.HeaderError.{HeaderError a
 use Rattle.ep_ip.specs.declared.err.ipv6.header_error.HeaderError.{HeaderError as Ipv6HeaderFault}
 use Rattle.ep_ipslice.specs.Ipv4Packet as strict4
 use Rattle.ep_ipslice.specs.Ipv4Packet.{ipv4_packet_at, of_auth_fault}
-use Rattle.ep_ipslice.specs.Ipv6Exts.{exts_of, is_any_fragmenting, view_order}
-use Rattle.ep_ipslice.specs.Ipv6Fault.{IsRowFault, not_whole, of_exts_fault}
+use Rattle.ep_ipslice.specs.Ipv6Exts.{exts_of, view_order, is_fragmenting_piece}
+use Rattle.ep_ipslice.specs.Ipv6Fault.{IsRowFault, of_exts_fault}
 use Rattle.ep_ipslice.specs.Ipv6Fault as fault6
 use Rattle.ep_ipslice.specs.Ipv6Packet as strict6
-use Rattle.ep_ipslice.specs.Ipv6Packet.{extensions_of, fault_after, ipv6_packet_at, ipv6_packet_of, number_after, rest_after}
+use Rattle.ep_ipslice.specs.Ipv6Packet.{extensions_of, ipv6_packet_at, ipv6_packet_of, number_after, rest_after}
+use Rattle.ep_ipslice.specs.Ipv6Packet.{packet_after}
 use Rattle.ep_ipslice.specs.Ipv6Walk.{pieces_within}
 use Rattle.ep_ipslice.specs.LaxPackets.{LaxIpv6Packet, StoppedIpv4, StoppedIpv6, fault_within, lax_ipv4_after}
 use Rattle.ep_ipslice.specs.LaxPackets.{lax_ipv4_body, lax_ipv4_packet_at, lax_ipv4_source, lax_ipv4_with, lax_ipv6_after, lax_ipv6_of}
 use Rattle.ep_ipslice.specs.LaxPackets.{lax_ipv6_packet_at, lax_ipv6_source, source_within}
 use Rattle.ep_ipslice.specs.LaxPackets.{lax_ipv6_with, row_fault_within, whole_ipv4, whole_ipv6}
-use Rattle.ep_ipslice.specs.Packet.{IpPayload, Ipv4Packet, Ipv6Packet, body_len, body_source, ipv4_payload, is_ipv4_fragment}
+use Rattle.ep_ipslice.specs.Packet.{IpPayload, Ipv4Packet, Ipv6Packet, body_len, body_source, ipv4_payload}
 use Rattle.ep_ipslice.specs.declared.err.ipv4.slice_error.SliceError.{SliceError as Ipv4Fault}
 use Rattle.ep_ipslice.specs.declared.err.ipv4.slice_error.SliceError.TheVariants as ipv4
 use Rattle.ep_ipslice.specs.declared.err.ipv6.slice_error.SliceError.{SliceError as Ipv6Fault}
 use Rattle.ep_ipslice.specs.declared.err.ipv6.slice_error.SliceError.TheVariants as ipv6
+use Rattle.ep_ipslice.proofs.Found.{packet_unless, not_whole, fault_after}
 use Rattle.ep_link.specs.Arp as arp
 use Rattle.ep_packet.specs.LaxSliced.{LaxLayers, auth_stop, in_lax_ipv4, in_lax_ipv6, ipv6_exts_stop, lax_arp_layers}
 use Rattle.ep_packet.specs.LaxSliced.{lax_ipv4_layers, lax_ipv6_layers, lax_layers_of, lax_transport_in, message_layer}
@@ -121,17 +125,26 @@ pub data Ipv4Refused (bytes : List ℕ) (f : Ipv4Fault) : Type 0 where
   ForAuth : (header : List ℕ) (fault : HeaderSliceError AuthFault) → IsAuthFault bytes header fault
       → f ≡ of_auth_fault (length header) fault → Ipv4Refused bytes f
 
+-- the total length is below the header's own
+abbrev low_total : List ℕ → LenError
+low_total header = record (too_few_bytes layer.Ipv4Packet (length header) (total_len_of header))
+    { len_source = Ipv4HeaderTotalLen }
+
 auth_tests : (low cut : Bool) (bytes header : List ℕ)
     (r : Result (Option (List ℕ)) (HeaderSliceError AuthFault)) (f : Ipv4Fault)
     → v4.header_at bytes ≡ Ok header → nat_lt (total_len_of header) (length header) ≡ low
     → nat_lt (length bytes) (total_len_of header) ≡ cut
     → auth_after (protocol_of header) (strict4.body_of header bytes) ≡ r →
-    (if low then Err (ipv4.Len (v4.no_payload (length header) (total_len_of header))) else (
+    (if low then Err (ipv4.Len (low_total header)) else (
     if cut then Err (ipv4.Len (too_few_bytes layer.Ipv4Packet (total_len_of header) (length bytes))) else
-    strict4.packet_after header (strict4.body_of header bytes) r)) ≡ Err f
+    result_map_both {U = Ipv4Packet} (λ auth. record {
+      header = header;
+      auth = auth;
+      payload = drop (length (auth_bytes auth)) (strict4.body_of header bytes);
+    }) (of_auth_fault (length header)) r)) ≡ Err f
     → is_passed_over (of_ipv4 f) ≡ false → Ipv4Refused bytes f
 auth_tests true cut bytes header r f read counts there at is over =
-    absurd (not_passed (of_ipv4 (ipv4.Len (v4.no_payload (length header) (total_len_of header)))) (of_ipv4 f)
+    absurd (not_passed (of_ipv4 (ipv4.Len (low_total header))) (of_ipv4 f)
     refl (ap of_ipv4 (err_same {A = Ipv4Packet} _ _ is)) over)
 auth_tests false true bytes header r f read counts there at is over = absurd (not_passed
     (of_ipv4 (ipv4.Len (too_few_bytes layer.Ipv4Packet (total_len_of header) (length bytes)))) (of_ipv4 f)
@@ -175,7 +188,7 @@ stopped_alone header fault incomplete source body = (
     incomplete = incomplete;
     payload = record {
       ip_number = record { 0 = protocol_of header };
-      fragmented = is_ipv4_fragment header;
+      fragmented = is_fragmenting (more_fragments_of header) (fragment_offset_of header);
       len_source = source;
       payload = body;
     };
@@ -293,7 +306,7 @@ bounded bytes header pieces incomplete source = record {
   incomplete = incomplete;
   payload = record {
     ip_number = record { 0 = number_after (next_header_of header) pieces };
-    fragmented = is_any_fragmenting pieces;
+    fragmented = list_any is_fragmenting_piece pieces;
     len_source = source;
     payload = rest_after bytes header pieces;
   };
@@ -365,7 +378,7 @@ unless_part : AheadParts → (bytes header : List ℕ) (pieces : List Piece) (o 
     → v6.header_at bytes ≡ Ok header
     → nat_lt (length bytes - 40) (body_len header (length bytes - 40)) ≡ false
     → pieces ≡ extensions_of (next_header_of header) (strict6.body_of bytes header)
-    → fault_after bytes header pieces ≡ o → strict6.packet_unless bytes header pieces o ≡ Err f
+    → fault_after bytes header pieces ≡ o → packet_unless bytes header pieces o ≡ Err f
     → Ipv6Refused bytes f
 unless_part law bytes header pieces None f read size are ends is = cc
 unless_part law bytes header pieces (Some x) f read size are ends is =
@@ -380,7 +393,7 @@ length_test : AheadParts → (short : Bool) (bytes header : List ℕ) (pieces : 
     → nat_lt (length bytes - 40) (body_len header (length bytes - 40)) ≡ short
     → pieces ≡ extensions_of (next_header_of header) (strict6.body_of bytes header) →
     (if short then Err (ipv6.Len (not_whole header (length bytes)))
-    else strict6.packet_unless bytes header pieces (fault_after bytes header pieces)) ≡ Err f
+    else packet_unless bytes header pieces (fault_after bytes header pieces)) ≡ Err f
     → is_passed_over (of_ipv6 f) ≡ false → Ipv6Refused bytes f
 length_test law true bytes header pieces f read size are is over =
     absurd (not_passed (of_ipv6 (ipv6.Len (not_whole header (length bytes)))) (of_ipv6 f) refl
@@ -389,7 +402,7 @@ length_test law false bytes header pieces f read size are is over =
     unless_part law bytes header pieces (fault_after bytes header pieces) f read size are refl is
 
 after_ipv6_header : AheadParts → (bytes : List ℕ) (r : Result (List ℕ) (HeaderSliceError Ipv6HeaderFault))
-    (f : Ipv6Fault) → v6.header_at bytes ≡ r → strict6.packet_after bytes r ≡ Err f
+    (f : Ipv6Fault) → v6.header_at bytes ≡ r → packet_after bytes r ≡ Err f
     → is_passed_over (of_ipv6 f) ≡ false → Ipv6Refused bytes f
 after_ipv6_header law bytes (Err x) f read is over =
     ForHeader x read (sym (err_same {A = Ipv6Packet} _ _ is))

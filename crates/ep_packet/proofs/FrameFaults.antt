@@ -19,7 +19,7 @@ use Rattle.ep_ip.specs.declared.err.ipv6.header_error.HeaderError.{HeaderError a
 use Rattle.ep_ipslice.specs.IpSlice.{IsIpFault, NoBytes, OfIpv4, OfIpv6, ip_packet_at, ipv4_fault, ipv6_fault}
 use Rattle.ep_ipslice.specs.IpSlice.{no_version}
 use Rattle.ep_ipslice.specs.Ipv4Packet.{ipv4_packet_at}
-use Rattle.ep_ipslice.specs.Ipv6Fault.{IsFaultIn, IsIpv6Fault, IsRowFault, OfExtensions, OfHeader, OfLength, not_whole}
+use Rattle.ep_ipslice.specs.Ipv6Fault.{IsFaultIn, IsIpv6Fault, IsRowFault, OfExtensions, OfHeader, OfLength}
 use Rattle.ep_ipslice.specs.Ipv6Fault.{of_exts_fault}
 use Rattle.ep_ipslice.specs.Ipv6Packet.{body_of, ipv6_packet_at, number_after, rest_after}
 use Rattle.ep_ipslice.specs.Ipv6Walk.{pieces_within}
@@ -35,6 +35,7 @@ use Rattle.ep_ipslice.specs.declared.err.ipv6.slice_error.SliceError.{SliceError
 use Rattle.ep_ipslice.specs.declared.err.ipv6.slice_error.SliceError.TheVariants as ipv6_error
 use Rattle.ep_ipslice.specs.declared.net.ip_slice.IpSlice.{IpSlice}
 use Rattle.ep_ipslice.specs.declared.net.ip_slice.IpSlice.TheVariants as ip
+use Rattle.ep_ipslice.proofs.Found.{not_whole}
 use Rattle.ep_link.specs.Arp as arp
 use Rattle.ep_link.specs.Ethernet.{ethernet_header_of, ethernet_len, payload_of as payload_of_frame}
 use Rattle.ep_link.specs.Frame.{without_fcs}

@@ -13,12 +13,13 @@ use Rattle.ep_ext.specs.Value.{Piece}
 use Rattle.ep_ext.specs.declared.net.ipv6_ext_slot.Ipv6ExtSlot.{Ipv6ExtSlot}
 use Rattle.ep_ip.specs.Ipv6.{next_header_of}
 use Rattle.ep_ip.proofs.Ipv6Prefix.{prefix_again}
-use Rattle.ep_ipslice.specs.Ipv6Fault.{IsFaultIn, not_whole}
+use Rattle.ep_ipslice.specs.Ipv6Fault.{IsFaultIn}
 use Rattle.ep_ipslice.specs.Ipv6Packet.{body_of, number_after, rest_after}
 use Rattle.ep_ipslice.specs.Ipv6Walk.{pieces_within}
 use Rattle.ep_ipslice.specs.Packet.{IpPayload, IsIpv6Body, body_len}
 use Rattle.ep_ipslice.specs.declared.err.ipv6.slice_error.SliceError.{SliceError}
 use Rattle.ep_ipslice.specs.declared.err.ipv6.slice_error.SliceError.TheVariants.{Len}
+use Rattle.ep_ipslice.proofs.Found.{not_whole}
 use Rattle.ep_packet.specs.IpHeadersAt.{fault_after, ipv6_headers_at, ipv6_parts, ipv6_parts_unless, ipv6_parts_with}
 use Rattle.ep_packet.specs.IpHeadersAt.{headers_in_slots}
 use Rattle.ep_packet.specs.ReadIpHeaders.{IsIpv6Headers}

@@ -5,6 +5,7 @@ use Rattle.std.proofs.Common.{length, Option, Some, None, Result, Ok, Err, refl,
 use Rattle.std.proofs.Common.{arith}
 use Rattle.std.proofs.lemmas.List.{append-nil}
 use Rattle.std.specs.Option.{option_map, option_map_or}
+use Rattle.std.specs.List.{list_any}
 use Rattle.ep_base.proofs.Prefixes.{err_ok}
 use Rattle.ep_ext.specs.Chain.{Chain, IsPiece, Row, fault_of}
 use Rattle.ep_ext.specs.Follow.{has_slot}
@@ -19,7 +20,6 @@ use Rattle.ep_ip.specs.Ipv4 as v4
 use Rattle.ep_ip.specs.Ipv6 as v6
 use Rattle.ep_ipslice.specs.IpSlice.{ip_packet_at, no_version, with_ipv4, with_ipv6}
 use Rattle.ep_ipslice.specs.Ipv4Packet.{ipv4_packet_at}
-use Rattle.ep_ipslice.specs.Ipv6Exts.{is_any_fragmenting}
 use Rattle.ep_ipslice.specs.Ipv6Packet.{ipv6_packet_at}
 use Rattle.ep_ipslice.specs.Ipv6Walk.{pieces_within}
 use Rattle.ep_ipslice.specs.Packet.{IpPayload, Ipv4Packet, Ipv6Packet, IsIpv6Body, IsIpv6Packet, body_source}
@@ -30,6 +30,7 @@ use Rattle.ep_ipslice.specs.declared.err.ip.headers_slice_error.HeadersSliceErro
 use Rattle.ep_ipslice.specs.declared.err.ip.slice_error.SliceError.TheVariants as ip_fault
 use Rattle.ep_ipslice.specs.declared.err.ipv4.slice_error.SliceError.{SliceError as Ipv4Fault}
 use Rattle.ep_ipslice.specs.declared.err.ipv6.slice_error.SliceError.{SliceError as Ipv6Fault}
+use Rattle.ep_ipslice.specs.Ipv6Exts.{is_fragmenting_piece}
 use Rattle.ep_link.specs.Arp as arp
 use Rattle.ep_packet.specs.HeaderLayers as values
 use Rattle.ep_packet.specs.HeaderLayers.{HeaderLayers, in_packet, payload_alone, with_message}
@@ -127,7 +128,7 @@ headers_in_slots laws bytes packet h is placed =
     let last_same : placed.last ≡ is.last =
     grind (arith, number_is) in
     let none = no_slot_taken (slots placed.pieces) placed.last (ap has_slot last_same ∙ is.ended) in
-    let parted : is_any_fragmenting is.pieces
+    let parted : list_any is_fragmenting_piece is.pieces
     ≡ option_map_or fragments (value_of placed.pieces).fragment false =
     grind arith in
     let payload : List ℕ = packet.payload.payload in

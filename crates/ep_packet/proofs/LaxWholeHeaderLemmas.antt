@@ -21,7 +21,6 @@ use Rattle.ep_ip.specs.Ipv4.{version_of}
 use Rattle.ep_ip.specs.Ipv6Fault.{header_at}
 use Rattle.ep_ip.specs.declared.err.ipv6.header_error.HeaderError.{HeaderError as Ipv6HeaderFault}
 use Rattle.ep_ipslice.specs.Ipv4Packet.{ipv4_packet_at}
-use Rattle.ep_ipslice.specs.Ipv6Fault.{not_whole}
 use Rattle.ep_ipslice.specs.LaxPackets.{lax_ipv4_packet_at, whole_ipv4}
 use Rattle.ep_ipslice.specs.Packet.{IpPayload, Ipv4Packet, body_len, ipv4_payload}
 use Rattle.ep_ipslice.specs.declared.err.ip.header_error.HeaderError.{HeaderError as IpHeaderFault}
@@ -29,6 +28,7 @@ use Rattle.ep_ipslice.specs.declared.err.ip.headers_slice_error.HeadersSliceErro
 use Rattle.ep_ipslice.specs.declared.err.ipv4.slice_error.SliceError.{SliceError as Ipv4Fault}
 use Rattle.ep_ipslice.specs.declared.err.ipv6.slice_error.SliceError.{SliceError as Ipv6Fault}
 use Rattle.ep_ipslice.specs.declared.err.ipv6.slice_error.SliceError.TheVariants as strict6
+use Rattle.ep_ipslice.proofs.Found.{not_whole}
 use Rattle.ep_link.specs.Arp.{packet_at, fields_of as fields_of_arp}
 use Rattle.ep_link.specs.Ethernet.{ethernet_header_of, ethernet_len, payload_of}
 use Rattle.ep_link.specs.declared.link.link_header.LinkHeader.{LinkHeader}

@@ -4,6 +4,7 @@ use Rattle.std.proofs.Common.{length, Option, Some, None, Result, Ok, Err, arith
 use Rattle.std.specs.Prelude.{if◌then◌else◌, nat_lt, MatchResult}
 use Rattle.std.specs.Option.{option_map}
 use Rattle.std.proofs.lemmas.Bool.{eqb-true}
+use Rattle.std.specs.Result.{result_map_both, result_err}
 use Rattle.ep_base.proofs.Prefixes.{err_same}
 use Rattle.ep_base.specs.LenError.{too_few_bytes}
 use Rattle.ep_base.specs.SliceError as slice
@@ -16,8 +17,8 @@ use Rattle.ep_base.specs.declared.len_source.LenSource.{LenSource}
 use Rattle.ep_base.specs.declared.len_source.LenSource.TheVariants as source
 use Rattle.ep_base.specs.declared.link.ether_type.EtherType.{EtherType}
 use Rattle.ep_ext.specs.Auth.{auth_at}
-use Rattle.ep_ext.specs.Chain.{fault_at, fault_in, layer_of, prefix_of}
-use Rattle.ep_ext.specs.Ipv4Exts.{auth_after, auth_bytes, auth_number, some_auth}
+use Rattle.ep_ext.specs.Chain.{layer_of, prefix_of, fault_at}
+use Rattle.ep_ext.specs.Ipv4Exts.{auth_after, auth_bytes}
 use Rattle.ep_ext.specs.Value.{Piece, bytes_of, slots}
 use Rattle.ep_ext.specs.declared.err.ip_auth.header_error.HeaderError.{HeaderError as AuthFault}
 use Rattle.ep_ext.specs.declared.err.ipv6_exts.header_error.HeaderError.{HeaderError as ExtsFault}
@@ -29,21 +30,22 @@ use Rattle.ep_icmp.specs.Icmpv4Fault as icmpv4_fault
 use Rattle.ep_icmp.specs.Icmpv6Fault as icmpv6_fault
 use Rattle.ep_ip.specs.Ipv4.{protocol_of, total_len_of, version_of}
 use Rattle.ep_ip.specs.Ipv4Fault as v4
-use Rattle.ep_ip.specs.Ipv6.{next_header_of}
+use Rattle.ep_ip.specs.Ipv6.{next_header_of, payload_length_of}
 use Rattle.ep_ip.specs.Ipv6Fault as v6
 use Rattle.ep_ip.specs.declared.err.ipv4.header_error.HeaderError.{HeaderError as Ipv4HeaderFault}
 use Rattle.ep_ip.specs.declared.err.ipv6.header_error.HeaderError.{HeaderError as Ipv6HeaderFault}
 use Rattle.ep_ipslice.specs.IpSlice.{no_version}
 use Rattle.ep_ipslice.specs.Ipv6Exts.{view_order}
-use Rattle.ep_ipslice.specs.Ipv6Packet.{body_of, extensions_of, fault_after, number_after, rest_after}
+use Rattle.ep_ipslice.specs.Ipv6Packet.{body_of, extensions_of, number_after, rest_after}
 use Rattle.ep_ipslice.specs.LaxIp.{ipv4_header_fault, ipv6_header_fault, map_content, with_lax_ipv4, with_lax_ipv6}
 use Rattle.ep_ipslice.specs.LaxPackets.{LaxIpv6Packet, StoppedIpv4, StoppedIpv6, fault_within, lax_ipv4_after}
 use Rattle.ep_ipslice.specs.LaxPackets.{lax_ipv4_body, lax_ipv4_of, lax_ipv4_packet_at, lax_ipv4_source, lax_ipv4_with}
 use Rattle.ep_ipslice.specs.LaxPackets.{lax_ipv6_after, lax_ipv6_of, lax_ipv6_packet_at, lax_ipv6_source, lax_ipv6_with}
 use Rattle.ep_ipslice.specs.LaxPackets.{row_fault_within}
-use Rattle.ep_ipslice.specs.Packet.{IpPayload, body_len, is_open}
+use Rattle.ep_ipslice.specs.Packet.{IpPayload, body_len}
 use Rattle.ep_ipslice.specs.declared.err.ip.header_error.HeaderError.{HeaderError as IpHeaderFault}
 use Rattle.ep_ipslice.specs.declared.err.ip.header_error.HeaderError.TheVariants.{UnsupportedIpVersion}
+use Rattle.ep_ipslice.proofs.Found.{fault_after}
 use Rattle.ep_link.specs.Arp as arp
 use Rattle.ep_link.specs.Ethernet.{ethernet_len, payload_of}
 use Rattle.ep_link.specs.Frame.{without_fcs}
@@ -263,13 +265,13 @@ auth_at_stays outer n body e bounds is = grind arith
 
 some_stays : (outer : LenSource) (n : ℕ) (body : List ℕ) (r : Result (List ℕ) (HeaderSliceError AuthFault))
     (e : HeaderSliceError AuthFault) → is_udp_length outer ≡ false → auth_at body ≡ r
-    → some_auth r ≡ Err e → AuthStays outer n e
+    → result_map_both Some (λ e. e) r ≡ Err e → AuthStays outer n e
 some_stays outer n body (Ok auth) e bounds read is = cc
 some_stays outer n body (Err x) e bounds read is = subst (AuthStays outer n)
     (err_same {A = Option (List ℕ)} _ _ is) (auth_at_stays outer n body x bounds read)
 
 auth_by : (named : Bool) (outer : LenSource) (n : ℕ) (body : List ℕ) (e : HeaderSliceError AuthFault)
-    → is_udp_length outer ≡ false → (if named then some_auth (auth_at body) else Ok None) ≡ Err e
+    → is_udp_length outer ≡ false → (if named then result_map_both Some (λ e. e) (auth_at body) else Ok None) ≡ Err e
     → AuthStays outer n e
 auth_by true outer n body e bounds is = some_stays outer n body (auth_at body) e bounds refl is
 auth_by false outer n body e bounds is = cc
@@ -281,7 +283,7 @@ ipv4_with bytes header (Ok auth) read =
     transport_stays (length header + length (auth_bytes auth)) (lax_ipv4_of bytes header auth).payload None
     (ipv4_source bytes header) tt
 ipv4_with bytes header (Err e) read =
-    auth_by (protocol_of header == auth_number) (lax_ipv4_source bytes header) (length header)
+    auth_by (protocol_of header == 51) (lax_ipv4_source bytes header) (length header)
     (lax_ipv4_body bytes header) e (ipv4_source bytes header) read
 
 ipv4_after : (bytes : List ℕ) (r : Result (List ℕ) (HeaderSliceError Ipv4HeaderFault))
@@ -306,7 +308,8 @@ ipv6_source_by false false = refl
 
 ipv6_source : (bytes header : List ℕ) → is_udp_length (lax_ipv6_source bytes header) ≡ false
 ipv6_source bytes header = ipv6_source_by
-    (nat_lt (length bytes - 40) (body_len header (length bytes - 40))) (is_open header (length bytes - 40))
+    (nat_lt (length bytes - 40) (body_len header (length bytes - 40)))
+    ((payload_length_of header == 0) && nat_lt 0 (length bytes - 40))
 
 -- an extension header after so many bytes of others
 abbrev RowStays : LenSource → ℕ → HeaderSliceError ExtsFault → Type 0
@@ -327,7 +330,8 @@ prefix_stays slot.FinalDestination outer n rest e bounds is = raw_stays outer n 
 
 slot_stays : (outer : LenSource) (n : ℕ) (at : Layer) (s : Ipv6ExtSlot) (rest : List ℕ)
     (r : Result (List ℕ) (HeaderSliceError ExtsFault)) → is_udp_length outer ≡ false → prefix_of s rest ≡ r
-    → NoLengthStopped (option_map ipv6_exts_stop (option_map (row_fault_within outer) (fault_in at n r)))
+    → NoLengthStopped (option_map ipv6_exts_stop (option_map (row_fault_within outer)
+    (option_map (λ (e : HeaderSliceError ExtsFault). (slice.offset_by e n, at)) (result_err r))))
 slot_stays outer n at s rest (Ok header) bounds read = tt
 slot_stays outer n at s rest (Err e) bounds read = prefix_stays s outer n rest e bounds read
 

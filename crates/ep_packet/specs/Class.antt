@@ -5,9 +5,9 @@ use Rattle.ep_base.specs.declared.err.len_error.LenError.{LenError}
 use Rattle.ep_ip.specs.Ipv4 as v4
 use Rattle.ep_ip.specs.Ipv6 as v6
 use Rattle.ep_ipslice.specs.Ipv4Packet.{ipv4_packet_at}
-use Rattle.ep_ipslice.specs.Ipv6Packet.{fragment_fields_in, ipv6_packet_at}
+use Rattle.ep_ipslice.specs.Ipv6Packet.{ipv6_packet_at, extensions_in}
 use Rattle.ep_ipslice.specs.Packet.{FragmentFields, IpPayload, Ipv4Packet, Ipv6Packet, ipv4_fragment_fields}
-use Rattle.ep_ipslice.specs.Packet.{ipv4_payload}
+use Rattle.ep_ipslice.specs.Packet.{ipv4_payload, ipv6_fragment_fields}
 use Rattle.ep_ipslice.specs.declared.err.ipv4.slice_error.SliceError.{SliceError as Ipv4Fault}
 use Rattle.ep_ipslice.specs.declared.err.ipv6.slice_error.SliceError.{SliceError as Ipv6Fault}
 use Rattle.ep_link.specs.Arp.{packet_at}
@@ -89,7 +89,7 @@ ipv4_class vlan_ids packet =
 abbrev pub ipv6_class : List ℕ → Ipv6Packet → Class
 ipv6_class vlan_ids packet =
     if packet.payload.fragmented then fragmented_class vlan_ids (ipv6_addresses packet) packet.payload
-    (fragment_fields_in packet)
+    (ipv6_fragment_fields (extensions_in packet))
     else message_class (ipv6_addresses packet) packet.payload
 
 abbrev pub ipv4_class_at : List ℕ → Result Ipv4Packet Ipv4Fault → Class
@@ -147,7 +147,7 @@ net_class vlan_ids (Some (net.Ipv4 packet)) message =
     else whole_class (ipv4_addresses packet) (ipv4_payload packet) message
 net_class vlan_ids (Some (net.Ipv6 packet)) message =
     if packet.payload.fragmented then fragmented_class vlan_ids (ipv6_addresses packet) packet.payload
-    (fragment_fields_in packet)
+    (ipv6_fragment_fields (extensions_in packet))
     else whole_class (ipv6_addresses packet) packet.payload message
 net_class vlan_ids (Some (net.Arp packet)) message = Other
 

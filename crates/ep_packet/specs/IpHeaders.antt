@@ -8,7 +8,7 @@ use Rattle.ep_base.specs.declared.err.value_type.ValueType.TheVariants.{Ipv4Payl
 use Rattle.ep_base.specs.declared.net.ip_number.IpNumber.{IpNumber}
 use Rattle.ep_ext.specs.Follow as exts
 use Rattle.ep_ext.specs.Fragment.{fragments}
-use Rattle.ep_ext.specs.Ipv4Exts.{auth_number, ipv4_exts_of, ipv4_exts_encoding, ipv4_walk_fault, ipv4_with_link}
+use Rattle.ep_ext.specs.Ipv4Exts.{ipv4_exts_of, ipv4_exts_encoding, ipv4_walk_fault, ipv4_with_link}
 use Rattle.ep_ext.specs.Value.{Piece, bytes_of}
 use Rattle.ep_ext.specs.Link.{all_slots, pieces_in, with_links}
 use Rattle.ep_ext.specs.declared.err.ip_exts.exts_walk_error.ExtsWalkError.{ExtsWalkError}
@@ -78,7 +78,7 @@ ether_type_of (Ipv6 h e) = 0x86dd
 -- the headers name one another, from the IP header on, and the last one names this number
 abbrev pub IsLinked : IpHeaders → (last : ℕ) → IpHeaders → Type 0
 IsLinked (Ipv4 h e) last new =
-    new ≡ Ipv4 (record h { protocol = record { 0 = if is_some e.auth then auth_number else last } })
+    new ≡ Ipv4 (record h { protocol = record { 0 = if is_some e.auth then 51 else last } })
     (ipv4_with_link e last)
 IsLinked (Ipv6 h e) last new = (first : ℕ)
     × (new ≡ Ipv6 (record h { next_header = record { 0 = first } }) (with_links e last))

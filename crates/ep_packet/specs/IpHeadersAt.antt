@@ -1,19 +1,21 @@
 -- The headers and the payload of the IP packet at the start of bytes, or why there are none (RFC
 -- 791; RFC 8200).
 use Rattle.std.specs.Prelude.{ℕ, ◌-◌, ◌==◌, nat_lt, if◌then◌else◌, List, [], length, Option, Some, None, Result, Ok}
-use Rattle.std.specs.Prelude.{Err}
+use Rattle.std.specs.Prelude.{Err, ◌+◌}
 use Rattle.ep_ext.specs.Chain.{Fault, fault_of}
 use Rattle.ep_ext.specs.Slot.{slot_of}
 use Rattle.ep_ext.specs.Value.{Piece, value_of}
 use Rattle.ep_ip.specs.Ipv4.{version_of}
-use Rattle.ep_ip.specs.Ipv6.{ipv6_header_of, next_header_of}
+use Rattle.ep_ip.specs.Ipv6.{ipv6_header_of, next_header_of, payload_length_of}
 use Rattle.ep_ip.specs.Ipv6Fault.{header_at}
 use Rattle.ep_base.specs.declared.err.slice_error.SliceError.{SliceError}
+use Rattle.ep_base.specs.LenError.{too_few_bytes}
+use Rattle.ep_base.specs.declared.err.layer.Layer.TheVariants as layer
 use Rattle.ep_ip.specs.declared.err.ipv6.header_error.HeaderError.{HeaderError as HeaderFault}
 use Rattle.ep_ipslice.specs.IpFault.{headers_fault}
 use Rattle.ep_ipslice.specs.IpSlice.{ipv4_fault, ipv6_fault, no_version}
 use Rattle.ep_ipslice.specs.Ipv4Packet.{ipv4_packet_at}
-use Rattle.ep_ipslice.specs.Ipv6Fault.{not_whole, of_exts_fault, of_header_fault}
+use Rattle.ep_ipslice.specs.Ipv6Fault.{of_exts_fault, of_header_fault}
 use Rattle.ep_ipslice.specs.Ipv6Packet.{body_of, number_after, rest_after}
 use Rattle.ep_ipslice.specs.Ipv6Walk.{pieces_within}
 use Rattle.ep_ipslice.specs.Packet.{IpPayload, body_len, body_source}
@@ -64,7 +66,7 @@ abbrev pub ipv6_parts_with : (bytes header : List ℕ) → List Piece
     → Result (IpHeaders × IpPayload) Ipv6Fault
 ipv6_parts_with bytes header pieces =
     if nat_lt (length bytes - 40) (body_len header (length bytes - 40))
-    then Err (Len (not_whole header (length bytes)))
+    then Err (Len (too_few_bytes layer.Ipv6Packet (40 + payload_length_of header) (length bytes)))
     else ipv6_parts_unless bytes header pieces (fault_after bytes header pieces)
 
 abbrev pub ipv6_parts_after : List ℕ → Result (List ℕ) (SliceError HeaderFault)

@@ -3,7 +3,7 @@ use Rattle.std.proofs.Common.{arith, ◌≡◌, ◌∙◌, ap, ℕ, ◌+◌, Lis
 use Rattle.std.proofs.Common.{Some, None, Result, Err, IsOk, is_some, if◌then◌else◌}
 use Rattle.ep_base.specs.declared.net.ip_number.IpNumber.{IpNumber}
 use Rattle.ep_ext.specs.Follow.{Appends, Follows, header_len, walk_fault}
-use Rattle.ep_ext.specs.Ipv4Exts.{auth_number, ipv4_exts_encoding, ipv4_with_link}
+use Rattle.ep_ext.specs.Ipv4Exts.{ipv4_exts_encoding, ipv4_with_link}
 use Rattle.ep_ext.specs.Link.{all_slots, pieces_in, with_links}
 use Rattle.ep_ext.specs.Value.{Piece, bytes_of}
 use Rattle.ep_ext.specs.declared.err.ipv6_exts.exts_walk_error.ExtsWalkError.{ExtsWalkError}
@@ -48,7 +48,7 @@ ipv6_len e new last middle whole links exts = grind (arith, length-append, piece
 -- an IPv4 header that names the first number, and the extension header after it
 pub ipv4_appended : (h : Ipv4Header) (e new : Ipv4Extensions) (first : IpNumber) (last : ℕ)
     (prefix middle whole : List ℕ)
-    → new ≡ ipv4_with_link e last → first.0 ≡ (if is_some e.auth then auth_number else last)
+    → new ≡ ipv4_with_link e last → first.0 ≡ (if is_some e.auth then 51 else last)
     → middle ≡ prefix ++ encoding_v4
     (record h {
       protocol = first;

@@ -3,11 +3,12 @@ use Rattle.std.proofs.Common.{◌≡◌, ◌∙◌, sym, ap, refl, ℕ, ◌+◌,
 use Rattle.std.proofs.Common.{◌++◌, length, Option, Some, None, Ok, Err, arith, append_assoc, length-append}
 use Rattle.std.specs.Prelude.{nat_lt}
 use Rattle.std.specs.Option.{option_map, option_map_or, option_or}
+use Rattle.std.specs.List.{list_any}
 use Rattle.ep_base.specs.declared.err.value_too_big_error.ValueTooBigError.{ValueTooBigError}
 use Rattle.ep_base.specs.declared.len_source.LenSource.{LenSource}
 use Rattle.ep_base.specs.declared.len_source.LenSource.TheVariants.{Ipv4HeaderTotalLen}
 use Rattle.ep_ext.specs.Follow.{header_len}
-use Rattle.ep_ext.specs.Fragment.{fragment_encoding, fragments}
+use Rattle.ep_ext.specs.Fragment.{fragment_encoding, fragments, fragment_header_of}
 use Rattle.ep_ext.specs.Ipv4Exts.{ipv4_exts_encoding}
 use Rattle.ep_ext.specs.Link.{all_slots, first_named, pieces_in, with_links}
 use Rattle.ep_ext.specs.Value.{Piece, bytes_of}
@@ -18,9 +19,9 @@ use Rattle.ep_ip.specs.Ipv4 as ipv4
 use Rattle.ep_ip.specs.Ipv6 as ipv6
 use Rattle.ep_ip.specs.declared.net.ipv4_header.Ipv4Header.{Ipv4Header}
 use Rattle.ep_ip.specs.declared.net.ipv6_header.Ipv6Header.{Ipv6Header}
-use Rattle.ep_ipslice.specs.Ipv6Exts.{is_any_fragmenting, is_fragmenting_header}
-use Rattle.ep_ipslice.specs.Ipv6Packet.{fragment_fields_in, ipv6_packet_at}
-use Rattle.ep_ipslice.specs.Packet.{FragmentFields, IpPayload, Ipv6Packet, header_fragment_fields, ipv6_fragment_fields}
+use Rattle.ep_ipslice.specs.Ipv6Packet.{ipv6_packet_at, extensions_in}
+use Rattle.ep_ipslice.specs.Packet.{FragmentFields, IpPayload, Ipv6Packet, ipv6_fragment_fields}
+use Rattle.ep_ipslice.specs.Ipv6Exts.{is_fragmenting_piece}
 use Rattle.ep_link.specs.declared.link.ethernet2_header.Ethernet2Header.{Ethernet2Header}
 use Rattle.ep_packet.specs.Class.{class_of, ipv4_class_at, ipv6_class}
 use Rattle.ep_packet.specs.Class.Class.{Refused, Whole}
@@ -94,16 +95,24 @@ module _ (found : v4.Found) (link : Ethernet2Header) (vlan : Option VlanHeader) 
         (omega arith) frames.ip_fits.0 frames.ip_fits.1 frames.names_none ipv4_short (ids_in vlan),
   )
 
+-- what the bytes of a fragment header say of the payload as a fragment
+abbrev stated_fields : List ℕ → FragmentFields
+stated_fields header = record {
+  identification = (fragment_header_of header).identification;
+  offset = (fragment_header_of header).fragment_offset;
+  more = (fragment_header_of header).more_fragments;
+}
+
 -- the fields of the fragment header, read from its bytes
 fields_are : (o : Option Ipv6FragmentHeader) (n : ℕ) → FragmentFits o
-    → option_map header_fragment_fields
+    → option_map stated_fields
     (option_map fragment_encoding
     (option_map {T = Ipv6FragmentHeader} (λ h. record h { next_header = record { 0 = n } }) o))
     ≡ option_map ipv6_fields o
 fields_are o n fits = grind arith
 
 fragments_are : (o : Option Ipv6FragmentHeader) (n : ℕ) → FragmentFits o
-    → option_map_or is_fragmenting_header
+    → option_map_or (λ header. fragments (fragment_header_of header))
     (option_map fragment_encoding
     (option_map {T = Ipv6FragmentHeader} (λ h. record h { next_header = record { 0 = n } }) o))
     false
@@ -151,17 +160,17 @@ module _ (rows : v6.RowsFound) (ends : v6.RowEnds) (link : Ethernet2Header)
       (row_viewed (first_named e all_slots number) pieces number frames.ip_fits.2)
       frames.names_none size
 
-  extensions_agree : fragment_fields_in packet ≡ fields_in (Ipv6 h e)
+  extensions_agree : ipv6_fragment_fields (extensions_in packet) ≡ fields_in (Ipv6 h e)
   extensions_agree =
       ap ipv6_fragment_fields
       (v6.extensions_are rows ends head (viewed pieces) number payload
       (v6.is_header whole whole_fits)
       (row_viewed (first_named e all_slots number) pieces number frames.ip_fits.2)
       frames.names_none)
-      ∙ ap (option_map header_fragment_fields) (stated_by (with_links e number)).0
+      ∙ ap (option_map stated_fields) (stated_by (with_links e number)).0
       ∙ fields_are e.fragment _ frames.ip_fits.1
 
-  fragmented_is : is_any_fragmenting (viewed pieces) ≡ is_fragmenting (Ipv6 h e)
+  fragmented_is : list_any is_fragmenting_piece (viewed pieces) ≡ is_fragmenting (Ipv6 h e)
   fragmented_is = (stated_by (with_links e number)).1 ∙ fragments_are e.fragment _ frames.ip_fits.1
 
   class_is : ipv6_class (ids_in vlan) packet

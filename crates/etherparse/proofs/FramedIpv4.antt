@@ -5,10 +5,11 @@ use Rattle.std.proofs.Common.{length-append, if◌then◌else◌}
 use Rattle.std.specs.Int.{bit_at}
 use Rattle.std.proofs.lemmas.List.{drop_at, take_all, take_at, get_or_append_left}
 use Rattle.std.proofs.lemmas.Bool.{le-ltb, eq-eqb, ne_eqb}
+use Rattle.std.specs.Result.{result_map_both}
 use Rattle.ep_base.specs.declared.len_source.LenSource.TheVariants.{Ipv4HeaderTotalLen}
 use Rattle.ep_ext.specs.Auth.{auth_at, auth_encoding}
 use Rattle.ep_ext.specs.Chain.{IsPiece, prefix_of, of_auth}
-use Rattle.ep_ext.specs.Ipv4Exts.{auth_after, auth_bytes, ipv4_exts_encoding, ipv4_with_link, number_after, some_auth}
+use Rattle.ep_ext.specs.Ipv4Exts.{auth_after, auth_bytes, ipv4_exts_encoding, ipv4_with_link, number_after}
 use Rattle.ep_base.specs.declared.err.slice_error.SliceError.{SliceError}
 use Rattle.ep_base.specs.declared.err.slice_error.SliceError.TheVariants as slice_error
 use Rattle.ep_ext.specs.declared.err.ip_auth.header_error.HeaderError.{HeaderError as AuthFault}
@@ -112,7 +113,7 @@ after_first : Found → (auth : Option IpAuthHeader) (number : ℕ) (message : L
 after_first found None number message fits other = rw (ne_eqb number 51 other) refl
 after_first found (Some h) number message fits other =
     let bytes = auth_encoding (record h { next_header = record { 0 = number } }) in
-    ap some_auth (auth_found (auth_at (bytes ++ message)) bytes
+    ap (result_map_both Some (λ e. e)) (auth_found (auth_at (bytes ++ message)) bytes
     (found Authentication bytes message (record { least = fits.least; whole = fits.whole })))
 
 -- the number after it

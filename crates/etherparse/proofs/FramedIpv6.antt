@@ -3,6 +3,7 @@ use Rattle.std.proofs.Common.{◌≡◌, ◌∙◌, sym, ap, refl, ℕ, ◌+◌,
 use Rattle.std.proofs.Common.{get_or, None, Ok, arith, length-append}
 use Rattle.std.proofs.lemmas.List.{append-nil, drop_at, take_all, take_at, get_or_append_left}
 use Rattle.std.proofs.lemmas.Bool.{le-ltb, eq-eqb}
+use Rattle.std.specs.List.{list_any}
 use Rattle.ep_base.specs.Bytes.{num}
 use Rattle.ep_ext.specs.Chain.{Chain, IsEnd, Row, fault_of}
 use Rattle.ep_ext.specs.Follow.{has_slot}
@@ -10,14 +11,15 @@ use Rattle.ep_ext.specs.Slot.{Order}
 use Rattle.ep_ext.specs.Value.{Piece, bytes_of, slots}
 use Rattle.ep_ext.specs.declared.net.ipv6_ext_slot.Ipv6ExtSlot.{Ipv6ExtSlot}
 use Rattle.ep_ip.specs.Ipv6.{Fits, IsIpv6Header, destination_of, next_header_of, payload_length_of, source_of, encoding}
-use Rattle.ep_ip.specs.Ipv6.{version_of}
 use Rattle.ep_ip.specs.Ipv6Fault.{header_at}
 use Rattle.ep_ip.specs.declared.net.ipv6_header.Ipv6Header.{Ipv6Header}
-use Rattle.ep_ipslice.specs.Ipv6Exts.{exts_of, is_any_fragmenting, view_order}
-use Rattle.ep_ipslice.specs.Ipv6Packet.{body_of, extensions_in, extensions_of, fault_after, ipv6_packet_at}
+use Rattle.ep_ip.specs.Ipv4.{version_of}
+use Rattle.ep_ipslice.specs.Ipv6Exts.{exts_of, view_order, is_fragmenting_piece}
+use Rattle.ep_ipslice.specs.Ipv6Packet.{body_of, extensions_in, extensions_of, ipv6_packet_at}
 use Rattle.ep_ipslice.specs.Ipv6Packet.{number_after, ipv6_packet_of, rest_after}
 use Rattle.ep_ipslice.specs.Ipv6Walk.{pieces_within}
 use Rattle.ep_ipslice.specs.Packet.{Ipv6Packet, body_len, body_source}
+use Rattle.ep_ipslice.proofs.Found.{fault_after}
 
 -- the fields of a header, read from its bytes
 module _ (h : Ipv6Header) (fits : Fits h) where
@@ -76,7 +78,7 @@ packet_with_row head pieces last message = record {
   exts = exts_of (next_header_of head) pieces;
   payload = record {
     ip_number = record { 0 = last };
-    fragmented = is_any_fragmenting pieces;
+    fragmented = list_any is_fragmenting_piece pieces;
     len_source = body_source head (length (bytes_of pieces) + length message);
     payload = message;
   };

@@ -2,17 +2,19 @@
 use Rattle.std.proofs.Common.{arith, ◌≡◌, ◌∙◌, ℕ, ◌||◌, Bool, true, false, List, [], ◌∷◌, ◌++◌, Option, Some}
 use Rattle.std.proofs.Common.{None, refl, ap, subst}
 use Rattle.std.specs.Option.{option_map_or}
+use Rattle.std.specs.List.{list_any}
 use Rattle.ep_base.specs.Bytes.{num}
 use Rattle.ep_ext.specs.Chain.{IsPiece, Row}
 use Rattle.ep_ext.specs.Follow.{header_in}
 use Rattle.ep_ext.specs.Link.{all_slots, piece_if, pieces_in}
-use Rattle.ep_ext.specs.Slot.{at_start, slot_of}
+use Rattle.ep_ext.specs.Slot.{slot_of, at_start}
 use Rattle.ep_ext.specs.Value.{Piece, bytes_of, piece_at}
 use Rattle.ep_ext.specs.declared.net.ipv6_ext_slot.Ipv6ExtSlot.{Ipv6ExtSlot}
 use Rattle.ep_ext.specs.declared.net.ipv6_ext_slot.Ipv6ExtSlot.TheVariants.{HopByHop, Destination, Routing, Fragment}
 use Rattle.ep_ext.specs.declared.net.ipv6_ext_slot.Ipv6ExtSlot.TheVariants.{Authentication, FinalDestination}
 use Rattle.ep_ext.specs.declared.net.ipv6_extensions.Ipv6Extensions.{Ipv6Extensions}
-use Rattle.ep_ipslice.specs.Ipv6Exts.{is_any_fragmenting, is_fragmenting_header, view_order}
+use Rattle.ep_ext.specs.Fragment.{fragments, fragment_header_of}
+use Rattle.ep_ipslice.specs.Ipv6Exts.{view_order, is_fragmenting_piece}
 
 -- a view has one slot for destination options
 abbrev pub viewed_at : Ipv6ExtSlot → Ipv6ExtSlot
@@ -81,7 +83,7 @@ fragment_at pieces = piece_at (viewed pieces) Fragment
 
 abbrev pub Reported : List Piece → Option (List ℕ) → Type 0
 Reported pieces header = (fragment_at pieces ≡ header)
-    × (is_any_fragmenting (viewed pieces) ≡ option_map_or is_fragmenting_header header false)
+    × (list_any is_fragmenting_piece (viewed pieces) ≡ option_map_or (λ h. fragments (fragment_header_of h)) header false)
 
 after_hop : (o : Option (List ℕ)) (pieces : List Piece) (header : Option (List ℕ))
     → Reported pieces header → Reported (piece_if HopByHop o pieces) header
@@ -102,7 +104,11 @@ at_fragment : (o : Option (List ℕ)) (pieces : List Piece) → Reported pieces 
     → Reported (piece_if Fragment o pieces) o
 at_fragment None pieces stated = stated
 at_fragment (Some h) pieces stated =
-    (refl, ap (λ b. is_fragmenting_header h || b) stated.1 ∙ or_none (is_fragmenting_header h))
+    (
+      refl,
+      ap (λ b. fragments (fragment_header_of h) || b) stated.1
+          ∙ or_none (fragments (fragment_header_of h)),
+    )
   where
     or_none : (b : Bool) → (b || false) ≡ b
     or_none true = refl

@@ -5,7 +5,7 @@ use Rattle.std.specs.Prelude.{Err}
 use Rattle.std.specs.Option.{option_and_then, option_map_or, option_or}
 use Rattle.ep_base.specs.declared.err.value_too_big_error.ValueTooBigError.{ValueTooBigError}
 use Rattle.ep_ext.specs.Follow as exts
-use Rattle.ep_ext.specs.Ipv4Exts.{auth_number, ipv4_exts_encoding, ipv4_with_link}
+use Rattle.ep_ext.specs.Ipv4Exts.{ipv4_exts_encoding, ipv4_with_link}
 use Rattle.ep_ext.specs.Link.{all_slots, first_named, pieces_in, with_links}
 use Rattle.ep_ext.specs.Value.{bytes_of}
 use Rattle.ep_icmp.specs.Icmpv4 as icmpv4
@@ -92,7 +92,7 @@ with_lengths (Ipv6 h e) len = Ipv6 (record h { payload_length = exts.header_len 
 -- number
 abbrev pub with_last_number : IpHeaders → ℕ → IpHeaders
 with_last_number (Ipv4 h e) last =
-    Ipv4 (record h { protocol = record { 0 = if is_some e.auth then auth_number else last } })
+    Ipv4 (record h { protocol = record { 0 = if is_some e.auth then 51 else last } })
     (ipv4_with_link e last)
 with_last_number (Ipv6 h e) last =
     Ipv6 (record h { next_header = record { 0 = first_named e all_slots last } })

@@ -7,7 +7,6 @@ use Rattle.ep_ext.specs.Auth.{IsAuth, auth_encoding}
 use Rattle.ep_ext.specs.Chain.{Row}
 use Rattle.ep_ext.specs.Follow.{has_slot}
 use Rattle.ep_ext.specs.Fragment.{fragment_header_of, fragment_encoding}
-use Rattle.ep_ext.specs.Ipv4Exts.{auth_number}
 use Rattle.ep_ext.specs.Link.{all_slots, first_named, pieces_in, with_links}
 use Rattle.ep_ext.specs.Slot.{slot_of}
 use Rattle.ep_ext.specs.declared.net.ip_auth_header.IpAuthHeader.{IpAuthHeader}
@@ -79,7 +78,7 @@ fragment_with vlan ip number payload fields = Cut (record {
 
 -- the number of what follows names no extension header of the version
 abbrev pub NamesNone : IpHeaders → (number : ℕ) → Type 0
-NamesNone (Ipv4 h e) number = number ≢ auth_number
+NamesNone (Ipv4 h e) number = number ≢ 51
 NamesNone (Ipv6 h e) number = has_slot number ≡ false
 
 -- the fields are in their ranges

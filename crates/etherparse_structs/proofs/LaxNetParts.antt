@@ -5,12 +5,14 @@ use Rattle.std.proofs.Common.{length-append}
 use Rattle.std.proofs.lemmas.Bool.{ltb-false}
 use Rattle.std.proofs.lemmas.List.{append-nil, drop-drop, take-append-drop, take-take}
 use Rattle.std.specs.Prelude.{nat_lt, if◌then◌else◌}
+use Rattle.std.specs.Option.{option_map, option_map_or}
+use Rattle.std.specs.Result.{result_ok, result_map_both}
 use Rattle.etherparse.specs.base.Bytes.{num}
 use Rattle.etherparse.specs.base.declared.err.slice_error.SliceError.{SliceError}
 use Rattle.etherparse.specs.ext.Auth.{auth_at, auth_len}
 use Rattle.etherparse.specs.ext.Chain.{prefix_of}
 use Rattle.etherparse.specs.ext.Fragment.{fragment_at}
-use Rattle.etherparse.specs.ext.Ipv4Exts.{auth_after, auth_bytes, auth_number, some_auth}
+use Rattle.etherparse.specs.ext.Ipv4Exts.{auth_after, auth_bytes}
 use Rattle.etherparse.specs.ext.Raw.{raw_at, raw_len}
 use Rattle.etherparse.specs.ext.Slot.{Order}
 use Rattle.etherparse.specs.ext.Value.{Piece, bytes_of}
@@ -26,7 +28,7 @@ use Rattle.etherparse.specs.ip.declared.err.ipv4.header_error.HeaderError.{Heade
 use Rattle.etherparse.specs.ip.declared.err.ipv6.header_error.HeaderError.{HeaderError as Ipv6HeaderFault}
 use Rattle.etherparse.specs.ipslice.Ipv6Exts.{view_order}
 use Rattle.etherparse.specs.ipslice.Ipv6Packet.{body_of, extensions_of, rest_after}
-use Rattle.etherparse.specs.ipslice.Ipv6Walk.{piece_at_start, piece_then, pieces_within, whole_piece}
+use Rattle.etherparse.specs.ipslice.Ipv6Walk.{piece_at_start, pieces_within}
 use Rattle.etherparse.specs.ipslice.LaxPackets.{StoppedIpv4, StoppedIpv6, is_ipv4_open, lax_ipv4_after, lax_ipv4_body}
 use Rattle.etherparse.specs.ipslice.LaxPackets.{lax_ipv4_packet_at, lax_ipv4_with, lax_ipv6_after, lax_ipv6_packet_at}
 use Rattle.etherparse.specs.ipslice.LaxPackets.{lax_ipv6_with}
@@ -97,7 +99,8 @@ Follow bytes following = (piece : Piece)
 
 header_case : (bytes : List ℕ) (slot : Ipv6ExtSlot) (r : Result (List ℕ) (SliceError ExtsFault))
     → prefix_of slot bytes ≡ r → (following : Piece → List Piece) → Follow bytes following
-    → Begins bytes (bytes_of (piece_then (whole_piece slot r) following))
+    → Begins bytes (bytes_of (option_map_or (λ piece. piece ∷ following piece)
+    (option_map (λ header. (slot, header)) (result_ok r)) []))
 header_case bytes slot (Ok header) at following each =
     joined bytes header (bytes_of (following (slot, header))) (slot_begins slot bytes header at)
     (each (slot, header))
@@ -105,7 +108,8 @@ header_case bytes slot (Err e) at following each = refl
 
 piece_case : (bytes : List ℕ) (o : Option Ipv6ExtSlot) (following : Piece → List Piece)
     → Follow bytes following
-    → Begins bytes (bytes_of (piece_then (piece_at_start o bytes) following))
+    → Begins bytes (bytes_of (option_map_or (λ piece. piece ∷ following piece)
+    (piece_at_start o bytes) []))
 piece_case bytes None following each = refl
 piece_case bytes (Some slot) following each =
     header_case bytes slot (prefix_of slot bytes) refl following each
@@ -188,7 +192,7 @@ ipv4_with bytes header auth at first =
     (body.1 ∙ ap (λ (xs : List ℕ). header ++ xs ++ body.0) first ∙ simp append_assoc)
 
 auth_read : (b : Bool) (r : Result (List ℕ) (SliceError AuthFault)) (auth : List ℕ)
-    → (if b then some_auth r else Ok None) ≡ Ok (Some auth) → r ≡ Ok auth
+    → (if b then result_map_both Some (λ e. e) r else Ok None) ≡ Ok (Some auth) → r ≡ Ok auth
 auth_read b r auth same = grind arith
 
 auth_begins : (number : ℕ) (body : List ℕ) (auth : Option (List ℕ))
@@ -196,7 +200,7 @@ auth_begins : (number : ℕ) (body : List ℕ) (auth : Option (List ℕ))
 auth_begins number body None same = refl
 auth_begins number body (Some auth) same =
     begins (auth_len body) body auth
-    (auth_is body auth (auth_read (number == auth_number) (auth_at body) auth same))
+    (auth_is body auth (auth_read (number == 51) (auth_at body) auth same))
 
 auth_case : (bytes header : List ℕ) (r : Result (Option (List ℕ)) (SliceError AuthFault))
     → v4.header_at bytes ≡ Ok header

@@ -2,8 +2,9 @@
 use Rattle.std.proofs.Common.{◌≡◌, ℕ, ◌≤◌, Bool, cond, List, length, Option, Some, None, IfSome, subst, arith}
 use Rattle.std.proofs.Common.{length-append}
 use Rattle.etherparse.specs.ip.Ipv4 as v4
-use Rattle.etherparse.specs.ipslice.Ipv6Packet.{fragment_fields_in}
+use Rattle.etherparse.specs.ipslice.Ipv6Packet.{extensions_in}
 use Rattle.etherparse.specs.ipslice.Packet.{FragmentFields, IpPayload, ipv4_fragment_fields, ipv4_payload}
+use Rattle.etherparse.specs.ipslice.Packet.{ipv6_fragment_fields}
 use Rattle.etherparse.specs.link.Ethernet.{ethernet_len}
 use Rattle.etherparse.specs.packet.Class.{Class, ipv4_addresses, ipv6_addresses, net_class, packet_parsed}
 use Rattle.etherparse.specs.packet.Class.{fragmented_class}
@@ -47,7 +48,7 @@ net_fits frame ids position (Some (net.Ipv4 packet)) message at =
 net_fits frame ids position (Some (net.Ipv6 packet)) message at =
     choice_fits packet.payload.fragmented _ _ (length frame)
     (fragment_fits ids (ipv6_addresses packet) packet.payload
-    (fragment_fields_in packet) (length frame))
+    (ipv6_fragment_fields (extensions_in packet)) (length frame))
     (at_fits frame packet.payload.payload _ at.2)
 net_fits frame ids position (Some (net.Arp packet)) message at = omega arith
 

@@ -1,8 +1,11 @@
 //! Laws of single extension headers, and of the reader with a limit.
-ghost use Rattle.std.specs.Prelude.{◌≡◌, ◌+◌, ℕ, true, false, List, [], ◌∷◌, ◌++◌, map, Some, None, IsOkAnd, Ok, Err};
+ghost use Rattle.std.specs.Prelude.{◌≡◌, ◌↔◌, ◌+◌, ℕ, true, false, List, [], ◌∷◌, ◌++◌, map, Some, None, IsOkAnd};
+ghost use Rattle.std.specs.Prelude.{Ok, Err, Option};
 ghost use Rattle.ep_base.specs.Bytes.{IsBytes};
+ghost use Rattle.ep_base.specs.Prefixes.{TakesPrefix};
 ghost use Rattle.ep_ext.specs.Auth.{IsAuth, auth_of, auth_at, auth_encoding, auth_cleared, icv_fault};
 ghost use Rattle.ep_ext.specs.Fragment.{IsFragment, fragment_header_of, fragment_encoding, fragment_cleared, fragment_at};
+ghost use Rattle.ep_ext.specs.Ipv4Exts.{Ipv4Chain, auth_after};
 ghost use Rattle.ep_ext.specs.Raw.{IsRawExt, raw_of, raw_at, raw_encoding, is_raw_number, payload_fault};
 ghost use Rattle.ep_base.specs.LenError.{too_few_bytes};
 ghost use Rattle.ep_base.specs.declared.err.slice_error.SliceError.TheVariants as slice_error;
@@ -29,6 +32,16 @@ pub fn header_lengths() -> [usize; 8]
         IpAuthHeader::MAX_ICV_LEN,
     ]
 }
+
+/// What is found at the start of bytes is a header and a prefix of them, and a prefix of them that is
+/// a header is found. After a number of IPv4 it is the header, if the number names one.
+pub fn header_is_taken()
+    ensures raw { (bytes : List ℕ) → TakesPrefix IsRawExt bytes (raw_at bytes) }
+    ensures fragment { (bytes : List ℕ) → TakesPrefix IsFragment bytes (fragment_at bytes) }
+    ensures auth { (bytes : List ℕ) → TakesPrefix IsAuth bytes (auth_at bytes) }
+    ensures after { (number : ℕ) (bytes : List ℕ) (auth : Option (List ℕ))
+        → (auth_after number bytes ≡ Ok auth) ↔ ((rest : List ℕ) × Ipv4Chain number bytes auth rest) }
+{}
 
 /// Raw extension headers and their bytes are each other's.
 pub fn raw_headers_are_their_bytes(header: &Ipv6RawExtHeader)

@@ -2,11 +2,11 @@ ghost use Rattle.std.specs.Prelude.{◌≡◌, ℕ, List, [], ◌++◌, IfOk, If
 ghost use Rattle.std.specs.Option.{option_map};
 ghost use Rattle.ep_base.specs.Bytes.{num};
 ghost use Rattle.ep_ext.specs.Borrowed.{Finds, Holds, with_slice_at};
-ghost use Rattle.ep_ext.specs.Chain.{Chain, IsPiece, fault_at, prefix_of, of_auth, of_len};
+ghost use Rattle.ep_ext.specs.Chain.{Chain, IsPiece, prefix_of, fault_at};
 ghost use Rattle.ep_ext.specs.Slot.{slot_of};
-ghost use Rattle.ep_ext.specs.Auth.{IsAuth, auth_at, auth_of};
-ghost use Rattle.ep_ext.specs.Fragment.{IsFragment, fragment_at};
-ghost use Rattle.ep_ext.specs.Raw.{IsRawExt, raw_at, raw_of};
+ghost use Rattle.ep_ext.specs.Auth.{IsAuth, auth_of};
+ghost use Rattle.ep_ext.specs.Fragment.{IsFragment};
+ghost use Rattle.ep_ext.specs.Raw.{IsRawExt, raw_of};
 ghost use Rattle.ep_ext.specs.Value.{Piece, value_of};
 
 use super::passed::Passed;
@@ -136,13 +136,14 @@ fn take_raw<'a>(
 ) -> Result<(IpNumber, &'a [u8]), HeaderSliceError>
     ensures found { IfOk result (λ r. (header : List ℕ) × IsRawExt header
         × (slice.now ≡ header ++ r.1.now) × (r.0.0 ≡ num header 0 1) × (slot.new ≡ Some header)) }
-    ensures err { IfErr result (λ e. of_len (raw_at slice.now) ≡ Err e) }
+    // It is refused as hop-by-hop options, which have the same layout.
+    ensures err { IfErr result (λ e. prefix_of Ipv6ExtSlot.HopByHop slice.now ≡ Err e) }
     ensures kept { OnErr result (slot.new ≡ slot.old) }
 {
-    match Ipv6RawExtHeaderSlice::from_slice(slice) {
-        Ok(header) => {
+    match Ipv6RawExtHeader::split(slice) {
+        Ok((prefix, rest)) => {
+            let header = Ipv6RawExtHeaderSlice::of_bytes(prefix);
             let next = header.next_header();
-            let rest = &slice[header.slice().len()..];
             *slot = Some(header);
             Ok((next, rest))
         }
@@ -157,7 +158,7 @@ fn take_fragment<'a>(
 ) -> Result<(IpNumber, &'a [u8]), HeaderSliceError>
     ensures found { IfOk result (λ r. (header : List ℕ) × IsFragment header
         × (slice.now ≡ header ++ r.1.now) × (r.0.0 ≡ num header 0 1) × (slot.new ≡ Some header)) }
-    ensures err { IfErr result (λ e. of_len (fragment_at slice.now) ≡ Err e) }
+    ensures err { IfErr result (λ e. prefix_of Ipv6ExtSlot.Fragment slice.now ≡ Err e) }
     ensures kept { OnErr result (slot.new ≡ slot.old) }
 {
     match Ipv6FragmentHeaderSlice::split(slice) {
@@ -177,7 +178,7 @@ fn take_auth<'a>(
 ) -> Result<(IpNumber, &'a [u8]), HeaderSliceError>
     ensures found { IfOk result (λ r. (header : List ℕ) × IsAuth header
         × (slice.now ≡ header ++ r.1.now) × (r.0.0 ≡ num header 0 1) × (slot.new ≡ Some header)) }
-    ensures err { IfErr result (λ e. of_auth (auth_at slice.now) ≡ Err e) }
+    ensures err { IfErr result (λ e. prefix_of Ipv6ExtSlot.Authentication slice.now ≡ Err e) }
     ensures kept { OnErr result (slot.new ≡ slot.old) }
 {
     match IpAuthHeaderSlice::split(slice) {

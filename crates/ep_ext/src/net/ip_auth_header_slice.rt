@@ -28,14 +28,10 @@ impl<'a> Model for IpAuthHeaderSlice<'a> {
 
 impl<'a> IpAuthHeaderSlice<'a> {
     /// The header at the start of the slice. It is refused as by `IpAuthHeader::from_slice`.
+    ///
+    /// By the law [`header_is_taken`](crate::laws::headers::header_is_taken) what is taken is a
+    /// header and a prefix of the slice, and a prefix that is a header is taken.
     pub fn from_slice(slice: &'a [u8]) -> Result<IpAuthHeaderSlice<'a>, HeaderSliceError>
-        // What is taken is a header, and a prefix of the slice.
-        ensures found { IfOk result (λ header. IsAuth header
-            × ((rest : List ℕ) × (slice.now ≡ header ++ rest))) }
-        // A prefix that is a header is taken.
-        ensures only { (header rest : List ℕ) → IsAuth header → slice.now ≡ header ++ rest
-            → result ≡ Ok header }
-        // Else it is the first fault.
         ensures exact { result ≡ auth_at slice.now }
     {
         match Self::split(slice) {

@@ -27,14 +27,10 @@ impl<'a> Model for Ipv6FragmentHeaderSlice<'a> {
 impl<'a> Ipv6FragmentHeaderSlice<'a> {
     /// The header at the start of the slice. A slice of fewer than 8 bytes is refused, with the
     /// layer `Ipv6FragHeader`.
+    ///
+    /// By the law [`header_is_taken`](crate::laws::headers::header_is_taken) what is taken is a
+    /// header and a prefix of the slice, and a prefix that is a header is taken.
     pub fn from_slice(slice: &'a [u8]) -> Result<Ipv6FragmentHeaderSlice<'a>, LenError>
-        // What is taken is a header, and a prefix of the slice.
-        ensures found { IfOk result (λ header. IsFragment header
-            × ((rest : List ℕ) × (slice.now ≡ header ++ rest))) }
-        // A prefix that is a header is taken.
-        ensures only { (header rest : List ℕ) → IsFragment header → slice.now ≡ header ++ rest
-            → result ≡ Ok header }
-        // Else it is the error of too few bytes.
         ensures exact { result ≡ fragment_at slice.now }
     {
         match Self::split(slice) {

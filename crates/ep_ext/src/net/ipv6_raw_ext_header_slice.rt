@@ -1,4 +1,4 @@
-ghost use Rattle.std.specs.Prelude.{◌≡◌, ℕ, List, ◌++◌, length, drop, IfOk, Ok, nat_eq};
+ghost use Rattle.std.specs.Prelude.{◌≡◌, ℕ, List, drop, Ok, nat_eq};
 ghost use Rattle.std.specs.Cmp.Lexicographic.{pointwise};
 ghost use Rattle.std.specs.Cmp.Rules.{comparing};
 ghost use Rattle.std.proofs.Common.{rules};
@@ -34,14 +34,10 @@ impl<'a> Ipv6RawExtHeaderSlice<'a> {
     }
 
     /// The header at the start of the slice. It is refused as by `Ipv6RawExtHeader::from_slice`.
+    ///
+    /// By the law [`header_is_taken`](crate::laws::headers::header_is_taken) what is taken is a
+    /// header and a prefix of the slice, and a prefix that is a header is taken.
     pub fn from_slice(slice: &'a [u8]) -> Result<Ipv6RawExtHeaderSlice<'a>, LenError>
-        // What is taken is a header, and a prefix of the slice.
-        ensures found { IfOk result (λ header. IsRawExt header
-            × ((rest : List ℕ) × (slice.now ≡ header ++ rest))) }
-        // A prefix that is a header is taken.
-        ensures only { (header rest : List ℕ) → IsRawExt header → slice.now ≡ header ++ rest
-            → result ≡ Ok header }
-        // Else it is the first fault.
         ensures exact { result ≡ raw_at slice.now }
     {
         match Ipv6RawExtHeader::split(slice) {

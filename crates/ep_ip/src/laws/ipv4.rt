@@ -4,9 +4,10 @@ ghost use Rattle.std.specs.Hash as fed;
 ghost use Rattle.std.specs.Ordering.{nat_cmp};
 ghost use Rattle.std.specs.Cmp.Lexicographic.{slice_cmp};
 ghost use Rattle.ep_base.specs.Bytes.{IsBytes};
+ghost use Rattle.ep_base.specs.Prefixes.{TakesPrefix};
 ghost use Rattle.ep_ip.specs.Ipv4.{IsIpv4Header, ipv4_header_of, ihl_of, total_len_of, encoding};
 ghost use Rattle.ep_ip.specs.Ipv4.{with_reserved_bit_zero};
-ghost use Rattle.ep_ip.specs.Ipv4Fault.{IsPayloadLen};
+ghost use Rattle.ep_ip.specs.Ipv4Fault.{IsPayloadLen, header_at};
 
 use crate::err::ipv4::HeaderSliceError;
 use crate::{Ipv4Header, Ipv4HeaderSlice, Ipv4Options};
@@ -27,6 +28,12 @@ pub fn header_lengths() -> [usize; 3]
         Ipv4Header::SERIALIZED_SIZE,
     ]
 }
+
+/// What is found at the start of bytes is a header and a prefix of them, and a prefix of them that is
+/// a header is found.
+pub fn header_is_taken()
+    ensures { (bytes : List ℕ) → TakesPrefix IsIpv4Header bytes (header_at bytes) }
+{}
 
 /// What `to_bytes` gives is read again, whatever follows it.
 pub fn header_is_read_again<'a>(

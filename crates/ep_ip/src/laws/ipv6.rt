@@ -4,7 +4,9 @@ ghost use Rattle.std.specs.List.{concat, list_any};
 ghost use Rattle.ep_base.specs.Bytes.{IsBytes};
 ghost use Rattle.ep_base.specs.IpEcn.{ecn_number};
 ghost use Rattle.ep_base.specs.IpNumber.{ext_header_numbers};
+ghost use Rattle.ep_base.specs.Prefixes.{TakesPrefix};
 ghost use Rattle.ep_ip.specs.Ipv6.{IsIpv6Header, ipv6_header_of, encoding, dscp_in, ecn_in};
+ghost use Rattle.ep_ip.specs.Ipv6Fault.{header_at};
 ghost use Rattle.ep_ip.specs.Skip.{Walk, is_skipped, skipped_headers, outcome, skip};
 
 use crate::err::ipv6::HeaderSliceError;
@@ -29,6 +31,12 @@ pub fn headers_are_their_bytes(header: &Ipv6Header)
     // For the proof alone, which reads its contract.
     let _bytes = header.to_bytes();
 }
+
+/// What is found at the start of bytes is a header and a prefix of them, and a prefix of them that is
+/// a header is found.
+pub fn header_is_taken()
+    ensures { (bytes : List ℕ) → TakesPrefix IsIpv6Header bytes (header_at bytes) }
+{}
 
 /// What `to_bytes` gives is read again, whatever follows it.
 pub fn header_is_read_again<'a>(
@@ -57,9 +65,11 @@ pub fn skipped_numbers_are_ext_headers()
         ≡ (is_skipped n || ((n == 50) || ((n == 253) || (n == 254)))) }
 {}
 
-/// However bytes are headers in a row and a rest that begins with no whole header, the walk skips
-/// those headers.
+/// Bytes are headers in a row and a rest that begins with no whole header, and however they are so,
+/// the walk skips those headers.
 pub fn skip_follows_every_walk()
+    ensures some { (number : ℕ) (bytes : List ℕ) → (headers : List (List ℕ)) × (last : ℕ)
+        × (rest : List ℕ) × Walk number bytes headers last rest }
     ensures headers { (number : ℕ) (bytes : List ℕ) (headers : List (List ℕ))
         (last : ℕ) (rest : List ℕ)
         → Walk number bytes headers last rest → skipped_headers number bytes ≡ headers }

@@ -1,6 +1,6 @@
 //! IPv4 headers as borrowed bytes.
 
-ghost use Rattle.std.specs.Prelude.{◌≡◌, ℕ, ◌+◌, ◌*◌, List, ◌++◌, length, IfOk, Ok, nat_eq};
+ghost use Rattle.std.specs.Prelude.{◌≡◌, ℕ, ◌+◌, ◌*◌, List, length, Ok, nat_eq};
 ghost use Rattle.std.specs.Cmp.Lexicographic.{pointwise};
 ghost use Rattle.std.specs.Cmp.Rules.{comparing};
 ghost use Rattle.std.proofs.Common.{rules};
@@ -42,22 +42,11 @@ impl<'a> Ipv4HeaderSlice<'a> {
     /// Tested in this order: 20 bytes are there (`Len`), the version is 4 (`UnexpectedVersion`),
     /// the length field is at least 5 (`HeaderLengthSmallerThanHeader`), and as many words of
     /// 4 bytes are there as it says (`Len`).
+    ///
+    /// By the law [`header_is_taken`](crate::laws::ipv4::header_is_taken) what is taken is a header
+    /// and a prefix of the slice, and a prefix that is a header is taken.
     pub fn from_slice(slice: &'a [u8]) -> Result<Ipv4HeaderSlice<'a>, HeaderSliceError>
-        // What is taken is a header, and a prefix of the slice.
-        ensures found { IfOk result (λ header. IsIpv4Header header
-            × ((rest : List ℕ) × (slice.now ≡ header ++ rest))) }
-        // A prefix that is a header is taken.
-        ensures only { (header rest : List ℕ) → IsIpv4Header header
-            → slice.now ≡ header ++ rest → result ≡ Ok header }
-        // Else it is the first fault.
         ensures exact { result ≡ header_at slice.now }
-    {
-        Self::parse(slice)
-    }
-
-    // Apart from `from_slice`, whose other clauses follow from this one.
-    fn parse(slice: &'a [u8]) -> Result<Ipv4HeaderSlice<'a>, HeaderSliceError>
-        ensures { result ≡ header_at slice.now }
     {
         if slice.len() < 20 {
             return Err(LenError::too_few_bytes(Layer::Ipv4Header, 20, slice.len()).into());

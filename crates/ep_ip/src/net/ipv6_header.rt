@@ -2,7 +2,6 @@
 
 ghost use Rattle.std.specs.Prelude.{◌≡◌, ℕ, ◌+◌, ◌*◌, ◌^◌, ◌/◌, ◌<◌, ◌≤◌, List, ◌++◌, length, IfOk, IfErr, IsOkAnd};
 ghost use Rattle.std.specs.Prelude.{OnOk, OnErr, IsOk, MatchResult, Err, vec_len, vec_capacity};
-ghost use Rattle.std.specs.List.{concat};
 ghost use Rattle.ep_base.specs.Bounded.{too_big};
 ghost use Rattle.ep_base.specs.Bytes.{num};
 ghost use Rattle.ep_ip.specs.Ipv6Fault.{header_at};
@@ -230,18 +229,13 @@ impl Ipv6Header {
     /// the given number, and returns the first number that is none of 0, 43, 44, 51, 60, 135, 139
     /// and 140, and the bytes after the headers. A header of one of these numbers that is not
     /// whole is refused, with its offset in the slice.
+    ///
+    /// By the law [`skip_follows_every_walk`](crate::laws::ipv6::skip_follows_every_walk) the slice
+    /// is headers in a row and a rest, and however it is so, the result gives that.
     pub fn skip_all_header_extensions_in_slice(
         slice: &[u8],
         next_header: IpNumber,
     ) -> Result<(IpNumber, &[u8]), LenError>
-        // The slice is headers in a row and what the result gives.
-        ensures found { (headers : List (List ℕ)) × (last : ℕ) × (rest : List ℕ)
-            × walk.Walk next_header.0 slice.now headers last rest
-            × walk.Gives (walk.outcome (length (concat headers)) last rest) result }
-        // However the slice is headers in a row and a rest, the result gives that.
-        ensures only { (headers : List (List ℕ)) (last : ℕ) (rest : List ℕ)
-            → walk.Walk next_header.0 slice.now headers last rest
-            → walk.Gives (walk.outcome (length (concat headers)) last rest) result }
         ensures exact { walk.Gives (walk.skip next_header.0 slice.now) result }
     {
         Self::skip_counted(slice, next_header).0

@@ -1,13 +1,14 @@
 //! IPv6 headers as borrowed bytes.
 
-ghost use Rattle.std.specs.Prelude.{◌≡◌, ℕ, List, ◌++◌, length, IfOk, Ok, nat_eq};
+ghost use Rattle.std.specs.Prelude.{◌≡◌, ℕ, List, length, nat_eq};
 ghost use Rattle.std.specs.Cmp.Lexicographic.{pointwise};
 ghost use Rattle.std.specs.Cmp.Rules.{comparing};
 ghost use Rattle.std.proofs.Common.{rules};
-ghost use Rattle.ep_ip.specs.Ipv6.{IsIpv6Header, version_of, traffic_class_of, flow_label_of, payload_length_of};
+ghost use Rattle.ep_ip.specs.Ipv6.{IsIpv6Header, traffic_class_of, flow_label_of, payload_length_of};
 ghost use Rattle.ep_ip.specs.Ipv6.{next_header_of, hop_limit_of, source_of, destination_of, ipv6_header_of, dscp_in};
 ghost use Rattle.ep_ip.specs.Ipv6.{ecn_in};
 ghost use Rattle.ep_ip.specs.Ipv6Fault.{header_at};
+ghost use Rattle.ep_ip.specs.Ipv4.{version_of};
 
 use crate::Ipv6Header;
 use crate::err::ipv6::{HeaderError, HeaderSliceError};
@@ -34,22 +35,11 @@ impl<'a> Model for Ipv6HeaderSlice<'a> {
 impl<'a> Ipv6HeaderSlice<'a> {
     /// The header at the start of the slice. Refused are, in this order, a slice of fewer than 40
     /// bytes and a version other than 6.
+    ///
+    /// By the law [`header_is_taken`](crate::laws::ipv6::header_is_taken) what is taken is a header
+    /// and a prefix of the slice, and a prefix that is a header is taken.
     pub fn from_slice(slice: &'a [u8]) -> Result<Ipv6HeaderSlice<'a>, HeaderSliceError>
-        // What is taken is a header, and a prefix of the slice.
-        ensures found { IfOk result (λ header. IsIpv6Header header
-            × ((rest : List ℕ) × (slice.now ≡ header ++ rest))) }
-        // A prefix that is a header is taken.
-        ensures only { (header rest : List ℕ) → IsIpv6Header header → slice.now ≡ header ++ rest
-            → result ≡ Ok header }
-        // Else it is the first fault.
         ensures exact { result ≡ header_at slice.now }
-    {
-        Self::parse(slice)
-    }
-
-    // Apart from `from_slice`, whose other clauses follow from this one.
-    fn parse(slice: &'a [u8]) -> Result<Ipv6HeaderSlice<'a>, HeaderSliceError>
-        ensures { result ≡ header_at slice.now }
     {
         if slice.len() < Ipv6Header::LEN {
             return Err(LenError::too_few_bytes(

@@ -8,7 +8,7 @@ ghost use Rattle.ep_ipslice.specs.Examples.{example_header, example_ipv4, exampl
 ghost use Rattle.ep_ipslice.specs.Examples.{example_ipv6_packet, example_pieces, fragment_header};
 ghost use Rattle.ep_ipslice.specs.Ipv4Packet.{ipv4_packet_at};
 ghost use Rattle.ep_ipslice.specs.Packet.{IsIpv4Packet, IsIpv6Packet, ipv4_fragment_fields, ipv4_payload};
-ghost use Rattle.ep_ipslice.specs.Packet.{ipv6_fragment_fields, is_ipv4_fragment};
+ghost use Rattle.ep_ipslice.specs.Packet.{ipv6_fragment_fields};
 
 /// The parts of one IPv4 packet with an authentication header and padding, and what it says of its
 /// payload.
@@ -25,7 +25,7 @@ pub fn ipv4_packet_at_a_literal()
         ≡ record { identification = 7; offset = 0; more = false } }
     ensures fragment { ipv4_fragment_fields fragment_header
         ≡ record { identification = 258; offset = 5; more = true } }
-    ensures is_fragment { is_ipv4_fragment fragment_header ≡ true }
+    ensures is_fragment { (ipv4_payload (record example_ipv4_packet { header = fragment_header })).fragmented ≡ true }
 {}
 
 /// The parts of one IPv6 packet with hop-by-hop options, a fragment header and padding, and what it

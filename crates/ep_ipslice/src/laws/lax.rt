@@ -44,16 +44,13 @@ pub fn whole_packets_are_lax_packets()
 
 /// Where an IPv4 header's total length is above the bytes that are there, the packet is these bytes
 /// and is incomplete.
-pub fn cut_ipv4_packet_has_all_bytes(slice: &[u8])
-    ensures { (header : List ℕ) → v4.header_at slice.now ≡ Ok header
-        → length slice.now < total_len_of header
-        → IsOkAnd (lax_ipv4_packet_at slice.now) (λ r. (r.0.incomplete ≡ true)
+pub fn cut_ipv4_packet_has_all_bytes()
+    ensures { (bytes header : List ℕ) → v4.header_at bytes ≡ Ok header
+        → length bytes < total_len_of header
+        → IsOkAnd (lax_ipv4_packet_at bytes) (λ r. (r.0.incomplete ≡ true)
         × (r.0.payload.len_source ≡ Slice)
-        × (slice.now ≡ header ++ (auth_bytes r.0.auth ++ r.0.payload.payload))) }
-{
-    // For the proof alone.
-    let _header = Ipv4HeaderSlice::from_slice(slice);
-}
+        × (bytes ≡ header ++ (auth_bytes r.0.auth ++ r.0.payload.payload))) }
+{}
 
 /// Where an IPv6 header's payload length is above the bytes that follow it, the packet is the bytes
 /// that are there and is incomplete.

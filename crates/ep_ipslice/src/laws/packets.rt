@@ -2,6 +2,7 @@
 ghost use Rattle.std.specs.Prelude.{◌≡◌, ◌↔◌, ◌<◌, ◌≤◌, ◌+◌, ◌-◌, ◌^◌, ℕ, List, [], ◌∷◌, ◌++◌, length, None, Some, Ok};
 ghost use Rattle.std.specs.Prelude.{Err, IsOkAnd, false, replicate};
 ghost use Rattle.std.specs.Option.{option_map, option_map_or};
+ghost use Rattle.std.specs.List.{list_any};
 ghost use Rattle.ep_ip.specs.Ipv6.{next_header_of};
 ghost use Rattle.ep_ip.specs.Skip.{is_skipped};
 ghost use Rattle.ep_base.specs.declared.len_source.LenSource.{LenSource};
@@ -11,7 +12,7 @@ ghost use Rattle.ep_ext.specs.Slot.{KeepsNumbers, Order, slot_of};
 ghost use Rattle.ep_ext.specs.Value.{Piece, bytes_of, value_of};
 ghost use Rattle.ep_ext.specs.declared.net.ipv6_ext_slot.Ipv6ExtSlot.TheVariants as slot;
 ghost use Rattle.ep_ipslice.specs.FaultOffset.{ip_offset, ipv4_offset, ipv6_offset};
-ghost use Rattle.ep_ipslice.specs.IpSlice.{IsIpFault, IsIpFaultIn, IsWhole, ip_packet_at};
+ghost use Rattle.ep_ipslice.specs.IpSlice.{IsIpFault, IsIpFaultIn, IsWhole, ip_packet_at, IsIpPacket};
 ghost use Rattle.ep_ipslice.specs.Ipv4Packet.{ipv4_packet_at};
 ghost use Rattle.ep_ipslice.specs.Ipv6Packet.{body_of, extensions_in, ipv6_packet_at, number_after, rest_after};
 ghost use Rattle.ep_ipslice.specs.Ipv6Walk.{pieces_within};
@@ -19,7 +20,7 @@ ghost use Rattle.ep_ipslice.specs.Ipv6Fault.{IsFaultIn, IsIpv6Fault, IsRowFault,
 ghost use Rattle.ep_ipslice.specs.declared.err.ip.slice_error.SliceError.{SliceError as IpFault};
 ghost use Rattle.ep_ipslice.specs.declared.err.ipv4.slice_error.SliceError.{SliceError as Ipv4Fault};
 ghost use Rattle.ep_ipslice.specs.declared.err.ipv6.slice_error.SliceError.{SliceError as Ipv6Fault};
-ghost use Rattle.ep_ipslice.specs.Ipv6Exts.{is_any_fragmenting, view_order};
+ghost use Rattle.ep_ipslice.specs.Ipv6Exts.{view_order, is_fragmenting_piece};
 ghost use Rattle.ep_ipslice.specs.Packet.{Ipv4Packet, Ipv6Packet, IsIpv4Packet, IsIpv6Body, IsIpv6Packet, body_len};
 ghost use Rattle.ep_ipslice.specs.Packet.{body_source, fragment_fields, ipv4_fragment_fields, ipv6_fragment_fields};
 
@@ -31,18 +32,12 @@ use ep_ext::laws;
 /// A slice starts with one IPv4 packet at most.
 pub fn ipv4_packet_is_alone(slice: &[u8])
     ensures { (p q : Ipv4Packet) → IsIpv4Packet slice.now p → IsIpv4Packet slice.now q → p ≡ q }
-{
-    // For the proof alone.
-    let _packet = Ipv4Slice::from_slice(slice);
-}
+{}
 
 /// A slice starts with one IPv6 packet at most.
 pub fn ipv6_packet_is_alone(slice: &[u8])
     ensures { (p q : Ipv6Packet) → IsIpv6Packet slice.now p → IsIpv6Packet slice.now q → p ≡ q }
-{
-    // For the proof alone.
-    let _packet = Ipv6Slice::from_slice(slice);
-}
+{}
 
 /// Bytes that begin with no IPv6 packet have one first fault, and so have those that begin with no
 /// IP packet, whatever the order in which extension headers stand.
@@ -70,16 +65,14 @@ pub fn bodies_lie_within()
 
 /// The packet that is found at the start of bytes is one that they begin with, and one that they
 /// begin with is found.
-pub fn packets_are_their_parts(slice: &[u8])
-    ensures ipv4 { (packet : Ipv4Packet) → (ipv4_packet_at slice.now ≡ Ok packet)
-        ↔ IsIpv4Packet slice.now packet }
-    ensures ipv6 { (packet : Ipv6Packet) → (ipv6_packet_at slice.now ≡ Ok packet)
-        ↔ IsIpv6Packet slice.now packet }
-{
-    // For the proof alone.
-    let _ipv4 = Ipv4Slice::from_slice(slice);
-    let _ipv6 = Ipv6Slice::from_slice(slice);
-}
+pub fn packets_are_their_parts()
+    ensures ipv4 { (bytes : List ℕ) (packet : Ipv4Packet) → (ipv4_packet_at bytes ≡ Ok packet)
+        ↔ IsIpv4Packet bytes packet }
+    ensures ipv6 { (bytes : List ℕ) (packet : Ipv6Packet) → (ipv6_packet_at bytes ≡ Ok packet)
+        ↔ IsIpv6Packet bytes packet }
+    ensures ip { (bytes : List ℕ) (packet : IpSlice) → (ip_packet_at bytes ≡ Ok packet)
+        ↔ IsIpPacket bytes packet }
+{}
 
 /// The IPv6 packet that is found at the start of bytes is one that they begin with.
 pub fn ipv6_packet_found_is_there()
@@ -111,7 +104,7 @@ pub fn faults_found_are_first()
 pub fn rows_in_slots_are_views()
     ensures { (first : ℕ) (pieces : List Piece) (last : ℕ) → Row slot_of [] first pieces last
         → (q : List Piece) × Row view_order [] first q last × (bytes_of q ≡ bytes_of pieces)
-        × (is_any_fragmenting q ≡ option_map_or fragments (value_of pieces).fragment false) }
+        × (list_any is_fragmenting_piece q ≡ option_map_or fragments (value_of pieces).fragment false) }
 {}
 
 /// Headers in a row before a rest, as far as the order has a slot for one, are those that are found

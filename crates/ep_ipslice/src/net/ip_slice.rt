@@ -1,10 +1,10 @@
 //! An IP packet of either version.
 
-ghost use Rattle.std.specs.Prelude.{◌≡◌, IfOk, IfErr, Ok};
+ghost use Rattle.std.specs.Prelude.{◌≡◌, Ok};
 ghost use Rattle.std.specs.Option.{option_map};
 ghost use Rattle.ep_ipslice.specs.declared.net.ip_slice.IpSlice.{IpSlice};
 ghost use Rattle.ep_ipslice.specs.declared.net.ip_slice.IpSlice.TheVariants as view;
-ghost use Rattle.ep_ipslice.specs.IpSlice.{IsAddress, IsIpFault, IsIpPacket, destination_of, fragmented_of};
+ghost use Rattle.ep_ipslice.specs.IpSlice.{IsAddress, destination_of, fragmented_of};
 ghost use Rattle.ep_ipslice.specs.IpSlice.{ip_packet_at, ipv4_of, ipv6_of, payload_of, source_of};
 
 use super::{IpPayloadSlice, Ipv4Slice, Ipv6Slice};
@@ -26,13 +26,11 @@ impl<'a> IpSlice<'a> {
     /// The packet at the start of the slice, of the version in the upper half of its first byte.
     /// Refused are, in this order, a slice of no bytes, a version that is neither 4 nor 6, and what
     /// [`Ipv4Slice::from_slice`] or [`Ipv6Slice::from_slice`] refuses.
+    ///
+    /// By the law [`packets_are_their_parts`](crate::laws::packets_are_their_parts) what is taken is
+    /// a packet that the slice begins with, and such a packet is taken; by
+    /// [`faults_found_are_first`](crate::laws::faults_found_are_first) an error is the first fault.
     pub fn from_slice(slice: &'a [u8]) -> Result<IpSlice<'a>, SliceError>
-        // The slice begins with what is taken.
-        ensures found { IfOk result (λ packet. IsIpPacket slice.now packet) }
-        // A packet that the slice begins with is taken.
-        ensures only { (packet : IpSlice) → IsIpPacket slice.now packet → result ≡ Ok packet }
-        // Else it is the first fault.
-        ensures refused { IfErr result (λ e. IsIpFault slice.now e) }
         ensures exact { result ≡ ip_packet_at slice.now }
     {
         if slice.is_empty() {

@@ -1,10 +1,10 @@
 //! The extension header of an IPv4 packet.
 
-ghost use Rattle.std.specs.Prelude.{◌≡◌, ℕ, List, ◌++◌, IfOk, IsOkAnd, MatchResult, Option, Ok, Err, is_none};
+ghost use Rattle.std.specs.Prelude.{◌≡◌, ◌++◌, MatchResult, Option, Ok, Err, is_none};
 ghost use Rattle.std.specs.Option.{option_map};
 ghost use Rattle.ep_ext.specs.Auth.{auth_of};
 ghost use Rattle.ep_ipslice.specs.Ipv4Lax.{IsLaxAnswer};
-ghost use Rattle.ep_ext.specs.Ipv4Exts.{IsAuthAfter, auth_after, auth_bytes, number_after};
+ghost use Rattle.ep_ext.specs.Ipv4Exts.{auth_after, auth_bytes, number_after};
 
 use ep_base::IpNumber;
 use ep_ext::err::ip_auth::HeaderSliceError;
@@ -21,20 +21,16 @@ pub struct Ipv4ExtensionsSlice<'a> {
 impl<'a> Ipv4ExtensionsSlice<'a> {
     /// The extension header at the start of the slice, if the number names one, the number after it
     /// and the bytes after it. The errors are those of [`IpAuthHeaderSlice::from_slice`].
+    ///
+    /// By the law [`header_is_taken`](ep_ext::laws::headers::header_is_taken) what is taken is a
+    /// header that the number names, and such a header, or none where none is named, is taken.
     pub fn from_slice(
         first: IpNumber,
         slice: &'a [u8],
     ) -> Result<(Ipv4ExtensionsSlice<'a>, IpNumber, &'a [u8]), HeaderSliceError>
-        // The slice starts with what is taken.
-        ensures found { IfOk result (λ r. IsAuthAfter first.0 r.0.auth
+        ensures exact { MatchResult result (λ r. (auth_after first.0 slice.now ≡ Ok r.0.auth)
             × (slice.now ≡ auth_bytes r.0.auth ++ r.2.now)
-            × (r.1.0 ≡ number_after first.0 r.0.auth)) }
-        // Where the slice starts with one, or none is named, it is taken.
-        ensures only { (auth : Option (List ℕ)) (rest : List ℕ) → IsAuthAfter first.0 auth
-            → slice.now ≡ auth_bytes auth ++ rest
-            → IsOkAnd result (λ r. (r.0.auth ≡ auth) × (r.2.now ≡ rest)) }
-        // Else it is the fault of the header.
-        ensures exact { MatchResult result (λ r. auth_after first.0 slice.now ≡ Ok r.0.auth)
+            × (r.1.0 ≡ number_after first.0 r.0.auth))
             (λ e. auth_after first.0 slice.now ≡ Err e) }
     {
         if first != IpNumber::AUTHENTICATION_HEADER {

@@ -1,7 +1,7 @@
 //! The IPv4 packet.
 
-ghost use Rattle.std.specs.Prelude.{◌≡◌, ℕ, List, ◌++◌, IfOk, Ok, ◌&&◌, nat_eq};
-ghost use Rattle.ep_ipslice.specs.Packet.{Ipv4Packet, IsIpv4Packet, IsWholeIpv4, is_ipv4_fragment, ipv4_payload};
+ghost use Rattle.std.specs.Prelude.{◌≡◌, ℕ, List, ◌++◌, Ok, ◌&&◌, nat_eq};
+ghost use Rattle.ep_ipslice.specs.Packet.{Ipv4Packet, IsWholeIpv4, ipv4_payload};
 ghost use Rattle.ep_ipslice.specs.Ipv4Packet.{ipv4_packet_at, packet_with};
 ghost use Rattle.ep_ipslice.specs.LaxPackets.{is_ipv4_cut, lax_ipv4_body, lax_ipv4_source};
 ghost use Rattle.std.specs.Cmp.Lexicographic.{pointwise};
@@ -9,6 +9,7 @@ ghost use Rattle.std.specs.Cmp.Rules.{comparing};
 ghost use Rattle.std.specs.Ordering.{on};
 ghost use Rattle.std.proofs.Common.{rules};
 ghost use Rattle.ep_ipslice.specs.Compared.{auth_code};
+ghost use Rattle.ep_ip.specs.Ipv4.{is_fragmenting, more_fragments_of, fragment_offset_of};
 
 use super::body::{bytes_within, error_within};
 use super::{IpPayloadSlice, Ipv4ExtensionsSlice};
@@ -48,16 +49,13 @@ impl<'a> Ipv4Slice<'a> {
     /// [`Ipv4HeaderSlice::from_slice`] refuses, a total length below the header's own, one above
     /// the bytes that are there, and an authentication header that isn't whole within the total
     /// length or breaks its format.
+    ///
+    /// By the law [`packets_are_their_parts`](crate::laws::packets_are_their_parts) what is taken is
+    /// a packet that the slice begins with, and such a packet is taken.
     #[inline(always)]
     pub fn from_slice(slice: &'a [u8]) -> Result<Ipv4Slice<'a>, SliceError>
-        // The slice begins with what is taken.
-        ensures found { IfOk result (λ packet. IsIpv4Packet slice.now packet) }
-        // A packet that the slice begins with is taken.
-        ensures only { (packet : Ipv4Packet) → IsIpv4Packet slice.now packet → result ≡ Ok packet }
-        // Else it is the first fault.
         ensures exact { result ≡ ipv4_packet_at slice.now }
     {
-        laws::whole_header_is_found();
         match Ipv4HeaderSlice::from_slice(slice) {
             Ok(header) => Self::after_header(header, slice),
             Err(HeaderSliceError::Len(error)) => Err(SliceError::Len(error)),
@@ -72,7 +70,6 @@ impl<'a> Ipv4Slice<'a> {
         slice: &'a [u8],
     ) -> Result<Ipv4Slice<'a>, SliceError>
         requires { (rest : List ℕ) × (slice.now ≡ header ++ rest) }
-        ensures found { IfOk result (λ packet. IsIpv4Packet slice.now packet) }
         ensures exact { result ≡ packet_with slice.now (Ok header.entry) }
     {
         laws::whole_header_is_found();
@@ -150,7 +147,8 @@ impl<'a> Ipv4Slice<'a> {
 
     /// Whether the payload is a fragment: more fragments follow, or its offset isn't 0.
     pub fn is_payload_fragmented(&self) -> bool
-        ensures { result ≡ is_ipv4_fragment self.now.header }
+        ensures { result ≡ is_fragmenting (more_fragments_of self.now.header)
+            (fragment_offset_of self.now.header) }
     {
         self.payload.fragmented
     }

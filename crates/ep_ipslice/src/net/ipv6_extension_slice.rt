@@ -1,6 +1,6 @@
 //! One extension header of an IPv6 packet.
 
-ghost use Rattle.std.specs.Prelude.{◌≡◌, ◌<◌, List, ℕ, ◌++◌, length, IfOk, IfErr, Err};
+ghost use Rattle.std.specs.Prelude.{◌≡◌, ◌<◌, length, IfOk, IfErr, Err};
 ghost use Rattle.ep_ext.specs.Chain.{IsPiece, prefix_of};
 ghost use Rattle.ep_ipslice.specs.Ipv6Ext.{ext_at, ext_len, ext_of, piece_of};
 ghost use Rattle.ep_ipslice.specs.Ipv6Exts.{is_fragmenting_piece};
@@ -34,8 +34,6 @@ impl<'a> Ipv6ExtensionSlice<'a> {
         slice: &'a [u8],
     ) -> Result<Ipv6ExtensionSlice<'a>, HeaderSliceError>
         ensures exact { result ≡ ext_at slot slice.now }
-        ensures found { IfOk result (λ ext. IsPiece slot (piece_of ext).1
-            × ((rest : List ℕ) × (slice.now ≡ (piece_of ext).1 ++ rest))) }
         ensures fragmenting { IfOk result (λ ext. is_fragmenting_piece (piece_of ext)
             ≡ is_fragmenting_piece (slot, (piece_of ext).1)) }
         ensures err { IfErr result (λ e. prefix_of slot slice.now ≡ Err e) }

@@ -5,12 +5,13 @@ ghost use Rattle.std.specs.Cmp.Lexicographic.{pointwise};
 ghost use Rattle.std.specs.Cmp.Rules.{comparing};
 ghost use Rattle.std.specs.Ordering.{on};
 ghost use Rattle.std.proofs.Common.{rules};
+ghost use Rattle.std.specs.List.{list_any};
 ghost use Rattle.ep_ipslice.specs.Compared.{compared_as};
 ghost use Rattle.ep_ext.specs.Chain.{Chain, Row, fault_at};
 ghost use Rattle.ep_base.specs.SliceError.{CanMove};
 ghost use Rattle.ep_ext.specs.Value.{Piece, bytes_of, piece_at};
 ghost use Rattle.ep_ext.specs.declared.net.ipv6_ext_slot.Ipv6ExtSlot.TheVariants as slot;
-ghost use Rattle.ep_ipslice.specs.Ipv6Exts.{Answers, Ipv6Exts, IsView, IsViewOf, Stops, exts_of, is_any_fragmenting};
+ghost use Rattle.ep_ipslice.specs.Ipv6Exts.{Answers, Ipv6Exts, IsView, IsViewOf, Stops, exts_of, is_fragmenting_piece};
 ghost use Rattle.ep_ipslice.specs.Ipv6Exts.{is_started, slot_after, view_order};
 ghost use Rattle.ep_ipslice.specs.Ipv6Walk.{headers_left};
 
@@ -150,7 +151,7 @@ impl<'a> Ipv6ExtensionsSlice<'a> {
     ) -> Ipv6ExtensionsSlice<'a>
         requires { IsViewOf first has_header fragmented slice.now }
         ensures { (pieces : List Piece) → slice.now ≡ bytes_of pieces → has_header ≡ is_started pieces
-            → fragmented ≡ is_any_fragmenting pieces → result ≡ exts_of first.0 pieces }
+            → fragmented ≡ list_any is_fragmenting_piece pieces → result ≡ exts_of first.0 pieces }
     {
         Ipv6ExtensionsSlice {
             first_header: if has_header { Some(first) } else { None },

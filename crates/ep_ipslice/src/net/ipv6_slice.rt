@@ -9,8 +9,8 @@ ghost use Rattle.ep_base.specs.declared.len_source.LenSource.{LenSource};
 ghost use Rattle.ep_ip.specs.Ipv6.{IsIpv6Header};
 ghost use Rattle.ep_ip.specs.Ipv6Fault.{header_at};
 ghost use Rattle.ep_ipslice.specs.Compared.{compared_as, ordered_as};
-ghost use Rattle.ep_ipslice.specs.Packet.{Ipv6Packet, IsIpv6Body, IsIpv6Packet, IsWholeIpv6, body_len, body_source};
-ghost use Rattle.ep_ipslice.specs.Ipv6Fault.{IsCutOff, IsPrefixFault, IsIpv6Fault};
+ghost use Rattle.ep_ipslice.specs.Packet.{Ipv6Packet, IsIpv6Body, IsWholeIpv6, body_len, body_source};
+ghost use Rattle.ep_ipslice.specs.Ipv6Fault.{IsCutOff, IsPrefixFault};
 ghost use Rattle.ep_ipslice.specs.Ipv6Packet.{body_of, ipv6_packet_at};
 ghost use Rattle.ep_ipslice.specs.LaxPackets.{is_ipv6_cut, lax_ipv6_source};
 
@@ -50,18 +50,15 @@ impl<'a> Ipv6Slice<'a> {
     /// [`Ipv6HeaderSlice::from_slice`] refuses, a payload length above the bytes that are there,
     /// and the first extension header that isn't whole within that length, breaks its format or is
     /// out of order.
+    ///
+    /// By the law [`packets_are_their_parts`](crate::laws::packets_are_their_parts) what is taken is
+    /// a packet that the slice begins with, and such a packet is taken; by
+    /// [`faults_found_are_first`](crate::laws::faults_found_are_first) an error is the first fault.
     #[inline(always)]
     pub fn from_slice(slice: &'a [u8]) -> Result<Ipv6Slice<'a>, SliceError>
-        // The slice begins with what is taken.
-        ensures found { IfOk result (λ packet. IsIpv6Packet slice.now packet) }
-        // A packet that the slice begins with is taken.
-        ensures only { (packet : Ipv6Packet) → IsIpv6Packet slice.now packet → result ≡ Ok packet }
-        // Else it is the first fault.
-        ensures refused { IfErr result (λ e. IsIpv6Fault slice.now e) }
         ensures exact { result ≡ ipv6_packet_at slice.now }
     {
         laws::whole_header_is_found();
-        laws::row_ends_where_none_is_taken();
         let (header, len_source, body) = match Self::header_and_body(slice) {
             Ok(parts) => parts,
             Err(error) => return Err(error),

@@ -3,6 +3,7 @@ use Rattle.std.proofs.lemmas.Bool.{ltb-false}
 use Rattle.ep_ip.specs.Ipv4.{total_len_of}
 use Rattle.ep_ext.specs.Ipv4Exts.{IsAuthAfter}
 use Rattle.ep_ext.specs.declared.net.ipv6_ext_slot.Ipv6ExtSlot.TheVariants.{Authentication}
+use Rattle.ep_ext.proofs.Found.{auth_after_found}
 use Rattle.ep_ipslice.specs.Packet.{IsIpv4Packet}
 use Rattle.ep_ipslice.proofs.LaxIpv4.{body_here}
 use Rattle.ep_ipslice.proofs.Ipv4Parts.{packet_again, packet_by_itself, packet_found, payload_agrees}
@@ -28,27 +29,27 @@ found c =
     (ltb-false (length bytes) total (sym c.body_of-incomplete.ensures.incomplete
     ∙ c.if-incomplete.false)) refl
     (body_here bytes header _ fits c.body_of-incomplete.ensures.bytes)
-    (subst (λ (n : ℕ). IsAuthAfter n c.in-Ok.exts.auth) c.protocol.ensures c.in-Ok.ensures.found.0)
-    c.in-Ok.ensures.found.1
+    (subst (λ (n : ℕ). IsAuthAfter n c.in-Ok.exts.auth) c.protocol.ensures
+    (auth_after_found c.protocol.result.0 c.body_of-incomplete.result.0.now c.in-Ok.exts.auth
+    c.in-Ok.ensures.exact.0).1.named)
+    c.in-Ok.ensures.exact.1
 
 pub invariant_of-result : goal.invariant_of-result
 invariant_of-result c = (
   payload_agrees c.args.header c.in-Ok.exts.auth c.in-Ok.ip_number
       c.is_fragmenting_payload-fragmented.result c.in-Ok.payload.now c.protocol.result.0
-      c.protocol.ensures c.in-Ok.ensures.found.2 c.is_fragmenting_payload-fragmented.ensures,
+      c.protocol.ensures c.in-Ok.ensures.exact.2 c.is_fragmenting_payload-fragmented.ensures,
   packet_by_itself c.args.slice.now
       (record { header = c.args.header; auth = c.in-Ok.exts.auth; payload = c.in-Ok.payload.now })
       (found c),
 )
 
-pub returns-in-Ok-clause-found : goal.returns-in-Ok-clause-found
-returns-in-Ok-clause-found c = found c
-
-pub returns-in-Ok-clause-exact : goal.returns-in-Ok-clause-exact
-returns-in-Ok-clause-exact c =
-    sym (packet_again (c.whole_header_is_found.ensures.found Authentication) c.args.slice.now
-    (record {
-      header = c.args.header;
-      auth = c.in-Ok.exts.auth;
-      payload = c.in-Ok.payload.now;
-    }) (found c))
+pub returns-in-Ok : goal.returns-in-Ok
+returns-in-Ok c = record {
+  exact = sym (packet_again (c.whole_header_is_found.ensures.found Authentication) c.args.slice.now
+      (record {
+        header = c.args.header;
+        auth = c.in-Ok.exts.auth;
+        payload = c.in-Ok.payload.now;
+      }) (found c));
+}

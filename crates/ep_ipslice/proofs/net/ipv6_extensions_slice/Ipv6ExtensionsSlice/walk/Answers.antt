@@ -1,12 +1,12 @@
 use Rattle.std.proofs.Common.{◌∙◌, ◌-◌, ◌||◌, ℕ, Bool, List, get_or, length, sym, ap, refl, arith}
 use Rattle.ep_ipslice.specs.Ipv6Ext.{piece_of}
 use Rattle.ep_ipslice.proofs.Cuts.{split_prefix, split_back}
-use Rattle.ep_ipslice.proofs.ViewWalk.{kept_more, found_closed, found_fault, passed_bytes}
+use Rattle.ep_ipslice.proofs.ViewWalk.{ext_found, kept_more, found_closed, found_fault, passed_bytes}
 use Rattle.ep_ipslice.proofs.net.ipv6_extensions_slice.Ipv6ExtensionsSlice.walk.Goals as goal
 
 pub headers-preserved : goal.headers-preserved
 headers-preserved c =
-    let found = c.in-Ok.ensures.found in
+    let found = ext_found c.in-Some.slot c.headers.rest.now c.in-Ok.header c.in-Ok.ensures.exact in
     let header : List ℕ = (piece_of c.in-Ok.header).1 in
     let rest : List ℕ = c.headers.rest.now in
     kept_more c.row_grows_by_a_header.ensures.row c.row_grows_by_a_header.ensures.bytes

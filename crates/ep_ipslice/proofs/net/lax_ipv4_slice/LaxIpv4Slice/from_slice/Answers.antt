@@ -1,5 +1,6 @@
-use Rattle.std.proofs.Common.{sym, subst, Option}
+use Rattle.std.proofs.Common.{Ok, sym, subst, Option}
 use Rattle.ep_base.specs.declared.err.slice_error.SliceError.{SliceError}
+use Rattle.ep_ip.proofs.Ipv4Prefix.{takes_header}
 use Rattle.ep_ext.specs.declared.err.ip_auth.header_error.HeaderError.{HeaderError as AuthFault}
 use Rattle.ep_ext.specs.declared.net.ipv6_ext_slot.Ipv6ExtSlot.TheVariants.{Authentication}
 use Rattle.ep_ipslice.specs.Ipv4Lax.{IsLaxAnswer}
@@ -26,3 +27,7 @@ returns-in-None c =
           body.result.0.now lax.result.0.auth lax.result.1 lax.result.2.now o)
           c.in-None.is lax.ensures);
     }
+
+pub body_of-len_source-requires : goal.body_of-len_source-requires
+body_of-len_source-requires c =
+    (takes_header c.args.slice.now (Ok c.in-Ok.header) c.in-Ok.ensures.exact).found.1

@@ -1,7 +1,0 @@
-use Rattle.std.proofs.Common.{arith}
-use Rattle.ep_base.proofs.Bits.{masks}
-use Rattle.ep_ip.proofs.Ipv4Prefix.{header_at-ok}
-use Rattle.ep_ip.proofs.net.ipv4_header_slice.Ipv4HeaderSlice.parse.Goals as goal
-
-pub returns : goal.returns
-returns c = grind (arith, masks, header_at-ok)
