@@ -1,5 +1,5 @@
 -- Packets of which the first bytes are there.
-use Rattle.std.proofs.Common.{◌≡◌, ◌∙◌, ap, ap₂, refl, ℕ, zero, suc, ◌+◌, ◌-◌, ◌*◌, ◌<◌, ◌≤◌, ◌==◌, ◌&&◌, not, Bool, true, false, List}
+use Rattle.std.proofs.Common.{◌≡◌, ◌∙◌, ap, ap₂, refl, ℕ, ◌+◌, ◌-◌, ◌*◌, ◌<◌, ◌≤◌, ◌==◌, ◌&&◌, not, Bool, true, false, List}
 use Rattle.std.proofs.Common.{[], ◌∷◌, ◌++◌, length, take, drop, Option, None, Result, Ok, Err, arith, append_assoc}
 use Rattle.std.proofs.Common.{append-nil, length-append, take-append-drop, Some}
 use Rattle.std.specs.Prelude.{if◌then◌else◌, nat_lt}
@@ -8,6 +8,7 @@ use Rattle.std.proofs.lemmas.Bool.Decides.{nat_tests}
 use Rattle.std.proofs.lemmas.List.{drop_at, get_or-take, get_or_append_left, length-take, length-take-le, take_all}
 use Rattle.std.proofs.lemmas.List.{take_at}
 use Rattle.std.specs.Result.{result_map_both}
+use Rattle.ep_base.proofs.FirstBytes.{payload_prefix, take_after}
 use Rattle.ep_base.specs.Bytes.{num}
 use Rattle.ep_base.specs.declared.err.slice_error.SliceError.{SliceError}
 use Rattle.ep_base.specs.declared.len_source.LenSource.{LenSource}
@@ -48,24 +49,6 @@ use Rattle.ep_ipslice.proofs.LaxLaws.{auth_cut, four_is, six_is}
 use Rattle.ep_ipslice.proofs.Left.{HasLeast, IsFound}
 use Rattle.ep_ipslice.proofs.Found.{fault_after}
 use Rattle.ep_ext.proofs.Found.{auth_begins}
-
--- the first bytes of what follows a header
-take_after : (n : ℕ) (xs ys : List ℕ) → length xs ≤ n → take n (xs ++ ys) ≡ xs ++ take (n - length xs) ys
-take_after n xs ys fits =
-    let all : n ≡ length xs + (n - length xs) = omega (arith, fits) in
-    ap (λ (k : ℕ). take k (xs ++ ys)) all ∙ take-append-add xs ys (n - length xs)
-
--- of a payload that padding follows, as far as both are there
-payload_prefix : (n : ℕ) (payload padding : List ℕ)
-    → take (length payload) (take n (payload ++ padding)) ≡ take n payload
-payload_prefix zero [] padding = refl
-payload_prefix zero (b ∷ payload) padding = refl
-payload_prefix (suc n) [] padding = refl
-payload_prefix (suc n) (b ∷ payload) padding = ap (λ (xs : List ℕ). b ∷ xs) (payload_prefix n payload padding)
-
-short_of : (n : ℕ) (payload padding : List ℕ)
-    → nat_lt (length (take n (payload ++ padding))) (length payload) ≡ nat_lt n (length payload)
-short_of n payload padding = grind (arith, nat_tests, length-take, length-append)
 
 -- the IPv4 header at the start of bytes, and in other bytes that it starts
 v4_taken : (bytes header : List ℕ) → v4.header_at bytes ≡ Ok header → (version_of bytes ≡ 4)

@@ -19,7 +19,8 @@ use Rattle.ep_ip.specs.declared.err.ipv6.header_error.HeaderError.{HeaderError a
 use Rattle.ep_ip.proofs.Ipv6Prefix.{prefix_again}
 use Rattle.ep_ext.specs.Chain.{Fault, fault_of, fault_at}
 use Rattle.ep_ext.specs.Ipv4Exts.{auth_after, auth_bytes}
-use Rattle.ep_base.specs.Bytes.{num}
+use Rattle.ep_base.proofs.FirstBytes.{take_continued}
+use Rattle.ep_base.specs.Bytes.{IsContinued, num}
 use Rattle.ep_ext.specs.Slot.{Order}
 use Rattle.ep_ext.specs.declared.net.ipv6_ext_slot.Ipv6ExtSlot.{Ipv6ExtSlot}
 use Rattle.ep_ext.specs.Value.{Piece, bytes_of, slots}
@@ -31,7 +32,7 @@ use Rattle.ep_ipslice.specs.Ipv6Walk.{piece_at_start, pieces_within}
 use Rattle.ep_ipslice.specs.LaxPackets.{StoppedIpv4, StoppedIpv6, is_ipv4_cut, is_ipv4_open, is_ipv6_cut, lax_ipv4_after}
 use Rattle.ep_ipslice.specs.LaxPackets.{lax_ipv4_body, lax_ipv4_packet_at, lax_ipv4_source, lax_ipv4_with, lax_ipv6_after}
 use Rattle.ep_ipslice.specs.LaxPackets.{lax_ipv6_of, lax_ipv6_packet_at, lax_ipv6_source, lax_ipv6_with, row_fault_within}
-use Rattle.ep_ipslice.specs.MoreBytes.{IsContinued, KeepsIpv4, KeepsIpv6}
+use Rattle.ep_ipslice.specs.MoreBytes.{KeepsIpv4, KeepsIpv6}
 use Rattle.ep_ipslice.specs.Packet.{body_len}
 use Rattle.ep_ipslice.proofs.CutPackets.{len_by, named_by, v4_again, v4_begins}
 use Rattle.ep_ipslice.proofs.Found.{header_found, none_open, prefix_is, walk, fault_after}
@@ -39,14 +40,6 @@ use Rattle.ep_ipslice.proofs.Ipv4Parts.{auth_found}
 use Rattle.ep_ipslice.proofs.Ipv6At.{fault_is, row_in}
 use Rattle.ep_ipslice.proofs.LaxLaws.{auth_cut}
 use Rattle.ep_ipslice.proofs.Left.{HasLeast, IsFound, prefix_open}
-
--- the first n bytes, where more are there
-prefix_more : (n : ℕ) (bytes more : List ℕ) → IsContinued (take n bytes) (take n (bytes ++ more))
-prefix_more zero bytes more = ([], refl)
-prefix_more (suc n) [] more = (take (suc n) more, refl)
-prefix_more (suc n) (b ∷ bytes) more =
-    let inner = prefix_more n bytes more in
-    (inner.0, ap (λ (xs : List ℕ). b ∷ xs) inner.1)
 
 back_more : (n : ℕ) (bytes all : List ℕ) → n ≤ length bytes → IsContinued bytes all
     → IsContinued (drop n bytes) (drop n all)
@@ -63,7 +56,7 @@ v4_body_case false bytes more header is fits =
     let size : length header ≤ length (take (total_len_of header) bytes) =
     grind (arith, nat_tests, length-take) in
     rw is (back_more (length header) (take (total_len_of header) bytes)
-    (take (total_len_of header) (bytes ++ more)) size (prefix_more (total_len_of header) bytes more))
+    (take (total_len_of header) (bytes ++ more)) size (take_continued (total_len_of header) bytes more))
 
 -- where the total length counts no more than the bytes that are there, more change nothing
 record IsSameV4 (bytes all header : List ℕ) : Type 0 where
@@ -189,7 +182,7 @@ v6_body_case true stated following more none = (
 v6_body_case false stated following more given =
     let here : len_by stated (length following) ≡ stated = rw given refl in
     let there : len_by stated (length (following ++ more)) ≡ stated = rw given refl in
-    rw (here, there) (prefix_more stated following more)
+    rw (here, there) (take_continued stated following more)
 
 -- the bytes after the header
 following_more : (bytes more : List ℕ) → 40 ≤ length bytes → drop 40 (bytes ++ more) ≡ drop 40 bytes ++ more

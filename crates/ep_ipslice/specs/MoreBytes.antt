@@ -1,14 +1,11 @@
 -- What of an IP packet as far as it is there stays the same where more bytes are there (RFC 791, section
 -- 3.1; RFC 8200, sections 3 and 4).
-use Rattle.std.specs.Prelude.{◌≡◌, ◌≢◌, ℕ, List, ◌++◌, None, Some}
+use Rattle.std.specs.Prelude.{◌≡◌, ◌≢◌, ℕ, List, None, Some}
+use Rattle.ep_base.specs.Bytes.{IsContinued}
 use Rattle.ep_base.specs.declared.len_source.LenSource.TheVariants.{Ipv4HeaderTotalLen, Ipv6HeaderPayloadLen}
 use Rattle.ep_ip.specs.Ipv6.{payload_length_of}
 use Rattle.ep_ipslice.specs.LaxPackets.{StoppedIpv4, StoppedIpv6}
 use Rattle.ep_ipslice.specs.Packet.{IpPayload}
-
--- bytes are continued by others
-abbrev pub IsContinued : List ℕ → List ℕ → Type 0
-IsContinued bytes all = (rest : List ℕ) × (all ≡ bytes ++ rest)
 
 -- a payload with the same number, of which more may be there
 pub record IsPayloadContinued (p q : IpPayload) : Type 0 where

@@ -9,7 +9,7 @@ use Rattle.ep_packet.specs.CutPacket.{cut_link, cut_tags, cut_transport, link_le
 use Rattle.ep_packet.specs.Parts.{tags_len, transport_bytes}
 use Rattle.ep_packet.specs.declared.transport.transport_slice.TransportSlice.{TransportSlice}
 use Rattle.ep_packet.specs.declared.transport.transport_slice.TransportSlice.TheVariants as message
-use Rattle.ep_packet.proofs.CutPackets.{drop_in}
+use Rattle.ep_base.proofs.FirstBytes.{drop_in}
 use Rattle.ep_tag.specs.CutTags.{cut_tag}
 use Rattle.ep_tag.specs.LinkExt.{fields_of, lax_fields_of, tag_len}
 use Rattle.ep_tag.specs.declared.link.link_ext_slice.LinkExtSlice.{LinkExtSlice}

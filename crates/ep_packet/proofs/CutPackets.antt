@@ -4,7 +4,8 @@ use Rattle.std.proofs.Common.{ap₂, get_or, length, take, drop, Option, Some, N
 use Rattle.std.specs.Prelude.{if◌then◌else◌, nat_lt}
 use Rattle.std.specs.Option.{option_map}
 use Rattle.std.proofs.lemmas.Bool.Decides.{nat_tests}
-use Rattle.std.proofs.lemmas.List.{drop-take, get_or-take, length-take, length-take-le, take-take}
+use Rattle.std.proofs.lemmas.List.{get_or-take, length-take, length-take-le, take-take}
+use Rattle.ep_base.proofs.FirstBytes.{drop_in}
 use Rattle.ep_base.specs.LenError.{too_few_bytes}
 use Rattle.ep_base.specs.declared.err.layer.Layer.TheVariants.{Ethernet2Header, VlanHeader}
 use Rattle.ep_base.specs.declared.err.len_error.LenError.{LenError}
@@ -425,11 +426,6 @@ link_is old p packet is = grind arith
 later_ok : (n : ℕ) (r : Result SlicedPacket SliceError) (packet : SlicedPacket)
     → later n r ≡ Ok packet → r ≡ Ok packet
 later_ok n r packet is = grind arith
-
-pub drop_in : (k n : ℕ) (bytes : List ℕ) → k ≤ n → drop k (take n bytes) ≡ take (n - k) (drop k bytes)
-drop_in k n bytes fits =
-    let all : n ≡ k + (n - k) = omega (arith, fits) in
-    ap (λ (m : ℕ). drop k (take m bytes)) all ∙ drop-take k (n - k) bytes
 
 -- the packet of which the first n bytes are there, by its link header
 by_link : (n : ℕ) (header : LinkSlice) (packet : SlicedPacket) → packet.link ≡ Some header

@@ -71,7 +71,9 @@ use Rattle.ep_tag.specs.LinkExt.{lax_payload_after}
 use Rattle.ep_tag.specs.MacsecLax.{LaxMacsec, LaxMacsecPayload, LaxModified, LaxUnmodified, lax_macsec_at}
 use Rattle.ep_tag.specs.MacsecLax.{lax_named_payload}
 use Rattle.ep_tag.specs.MoreTags as tag_payload
-use Rattle.ep_tag.specs.MoreTags.{IsContinued, KeepsMacsec, KeepsTag}
+use Rattle.ep_base.proofs.FirstBytes.{take_continued}
+use Rattle.ep_base.specs.Bytes.{IsContinued}
+use Rattle.ep_tag.specs.MoreTags.{KeepsMacsec, KeepsTag}
 use Rattle.ep_tag.specs.Prefix.{whole_at}
 use Rattle.ep_tag.specs.Vlan as vlan
 use Rattle.ep_tag.specs.Vlan.{is_vlan_type, vlan_len}
@@ -164,19 +166,11 @@ icmpv6_more : (bytes more m : List ℕ) → icmpv6_fault.message_at bytes ≡ Ok
 icmpv6_more bytes more m is =
     let size = length-append bytes more in (grind (arith, nat_tests), grind (arith, nat_tests))
 
--- the first n bytes, where more are there
-take_more : (n : ℕ) (bytes more : List ℕ) → IsContinued (take n bytes) (take n (bytes ++ more))
-take_more zero bytes more = ([], refl)
-take_more (suc n) [] more = (take (suc n) more, refl)
-take_more (suc n) (b ∷ bytes) more =
-    let inner = take_more n bytes more in
-    (inner.0, ap (λ (xs : List ℕ). b ∷ xs) inner.1)
-
 summed_more : (small : Bool) (stated : ℕ) (bytes more : List ℕ) → nat_lt stated 8 ≡ small →
     IsContinued (if nat_lt stated 8 then bytes else take stated bytes)
     (if nat_lt stated 8 then bytes ++ more else take stated (bytes ++ more))
 summed_more true stated bytes more small = rw small (more, refl)
-summed_more false stated bytes more large = rw large (take_more stated bytes more)
+summed_more false stated bytes more large = rw large (take_continued stated bytes more)
 
 udp_more : (bytes more m : List ℕ) → lax_udp_at bytes ≡ Ok m
     → (all : List ℕ) × (lax_udp_at (bytes ++ more) ≡ Ok all) × IsContinued m all

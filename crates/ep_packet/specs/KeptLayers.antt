@@ -11,7 +11,8 @@ use Rattle.ep_packet.specs.declared.net.lax_net_slice.LaxNetSlice.{LaxNetSlice}
 use Rattle.ep_packet.specs.declared.net.lax_net_slice.LaxNetSlice.TheVariants as net
 use Rattle.ep_packet.specs.declared.transport.transport_slice.TransportSlice.{TransportSlice}
 use Rattle.ep_packet.specs.declared.transport.transport_slice.TransportSlice.TheVariants.{Icmpv4, Icmpv6, Tcp, Udp}
-use Rattle.ep_tag.specs.MoreTags.{IsContinued, KeepsTag}
+use Rattle.ep_base.specs.Bytes.{IsContinued}
+use Rattle.ep_tag.specs.MoreTags.{KeepsTag}
 use Rattle.ep_tag.specs.declared.link.lax_link_ext_slice.LaxLinkExtSlice.{LaxLinkExtSlice}
 
 -- the link header, and more of what follows it at most

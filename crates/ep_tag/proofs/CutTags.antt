@@ -1,11 +1,11 @@
 -- Tags of which the first bytes are there.
-use Rattle.std.proofs.Common.{◌≡◌, ◌∙◌, sym, ap, refl, ℕ, zero, suc, ◌+◌, ◌-◌, ◌≤◌, ◌<◌, ◌==◌, Bool, true, false, List, [], ◌∷◌}
-use Rattle.std.proofs.Common.{◌++◌, length, take, drop, Ok, arith, append-nil, append_assoc, length-append}
+use Rattle.std.proofs.Common.{◌≡◌, ◌∙◌, sym, ap, refl, ℕ, ◌-◌, ◌≤◌, ◌<◌, ◌==◌, Bool, true, false, List, [], ◌++◌, length, take}
+use Rattle.std.proofs.Common.{drop, Ok, arith, append-nil, append_assoc, length-append}
 use Rattle.std.specs.Prelude.{if◌then◌else◌, nat_lt}
 use Rattle.std.specs.Option.{option_map}
-use Rattle.std.proofs.Math.Seq.{take-append-add}
 use Rattle.std.proofs.lemmas.Bool.Decides.{nat_tests}
-use Rattle.std.proofs.lemmas.List.{drop-take, drop_at, get_or-take, length-take, take-append-le}
+use Rattle.std.proofs.lemmas.List.{drop_at, get_or-take, length-take, take-append-le}
+use Rattle.ep_base.proofs.FirstBytes.{drop_in, payload_prefix, take_after}
 use Rattle.ep_base.specs.declared.err.layer.Layer.TheVariants.{VlanHeader}
 use Rattle.ep_base.specs.declared.len_source.LenSource.{LenSource}
 use Rattle.ep_base.specs.declared.len_source.LenSource.TheVariants.{Slice, MacsecShortLength}
@@ -22,25 +22,6 @@ use Rattle.ep_tag.specs.declared.link.link_ext_slice.LinkExtSlice.{LinkExtSlice}
 use Rattle.ep_tag.specs.declared.link.link_ext_slice.LinkExtSlice.TheVariants as tag
 use Rattle.ep_tag.proofs.MacsecPrefix.{header_again}
 use Rattle.ep_tag.proofs.MacsecRead.{macsec_takes}
-
--- the first bytes of what follows a header
-take_after : (n : ℕ) (xs ys : List ℕ) → length xs ≤ n → take n (xs ++ ys) ≡ xs ++ take (n - length xs) ys
-take_after n xs ys fits =
-    let all : n ≡ length xs + (n - length xs) = omega (arith, fits) in
-    ap (λ (k : ℕ). take k (xs ++ ys)) all ∙ take-append-add xs ys (n - length xs)
-
-drop_in : (k n : ℕ) (bytes : List ℕ) → k ≤ n → drop k (take n bytes) ≡ take (n - k) (drop k bytes)
-drop_in k n bytes fits =
-    let all : n ≡ k + (n - k) = omega (arith, fits) in
-    ap (λ (m : ℕ). drop k (take m bytes)) all ∙ drop-take k (n - k) bytes
-
--- of a payload that other bytes follow, as far as both are there
-payload_prefix : (n : ℕ) (payload beyond : List ℕ)
-    → take (length payload) (take n (payload ++ beyond)) ≡ take n payload
-payload_prefix zero [] beyond = refl
-payload_prefix zero (b ∷ payload) beyond = refl
-payload_prefix (suc n) [] beyond = refl
-payload_prefix (suc n) (b ∷ payload) beyond = ap (λ (xs : List ℕ). b ∷ xs) (payload_prefix n payload beyond)
 
 short_of : (n : ℕ) (payload beyond : List ℕ)
     → nat_lt (length (take n (payload ++ beyond))) (length payload) ≡ nat_lt n (length payload)

@@ -1,9 +1,11 @@
 -- Tags as far as they are there, where more bytes are there.
-use Rattle.std.proofs.Common.{◌≡◌, ◌∙◌, sym, ap, refl, ℕ, zero, suc, ◌==◌, Bool, true, false, List, [], ◌∷◌, ◌++◌, length, take}
-use Rattle.std.proofs.Common.{drop, Result, Ok, Err, IsOkAnd, arith, append_assoc}
+use Rattle.std.proofs.Common.{◌≡◌, ◌∙◌, sym, ap, refl, ℕ, ◌==◌, Bool, true, false, List, ◌++◌, length, drop, Result, Ok, Err}
+use Rattle.std.proofs.Common.{IsOkAnd, arith, append_assoc}
 use Rattle.std.specs.Prelude.{if◌then◌else◌, nat_lt}
 use Rattle.std.proofs.lemmas.Bool.Decides.{nat_tests}
 use Rattle.std.proofs.lemmas.List.{drop_at, take_all}
+use Rattle.ep_base.proofs.FirstBytes.{take_continued}
+use Rattle.ep_base.specs.Bytes.{IsContinued}
 use Rattle.ep_base.specs.declared.err.slice_error.SliceError.{SliceError}
 use Rattle.ep_base.specs.declared.len_source.LenSource.{LenSource}
 use Rattle.ep_base.specs.declared.len_source.LenSource.TheVariants.{Slice, MacsecShortLength}
@@ -11,17 +13,9 @@ use Rattle.ep_tag.specs.Macsec.{is_unmodified, short_len_of}
 use Rattle.ep_tag.specs.MacsecFault.{header_at}
 use Rattle.ep_tag.specs.MacsecLax.{LaxMacsec, lax_macsec_after, lax_macsec_at, lax_macsec_with, lax_payload_under}
 use Rattle.ep_tag.specs.MacsecPayload.{bytes_under, payload_len_of}
-use Rattle.ep_tag.specs.MoreTags.{IsContinued, KeepsMacsec, IsPayloadContinued}
+use Rattle.ep_tag.specs.MoreTags.{KeepsMacsec, IsPayloadContinued}
 use Rattle.ep_tag.specs.declared.err.macsec.header_error.HeaderError.{HeaderError}
 use Rattle.ep_tag.proofs.MacsecPrefix.{header_again, header_found}
-
--- the first n bytes, where more are there
-take_more : (n : ℕ) (bytes more : List ℕ) → IsContinued (take n bytes) (take n (bytes ++ more))
-take_more zero bytes more = ([], refl)
-take_more (suc n) [] more = (take (suc n) more, refl)
-take_more (suc n) (b ∷ bytes) more =
-    let inner = take_more n bytes more in
-    (inner.0, ap (λ (xs : List ℕ). b ∷ xs) inner.1)
 
 -- the payload is what there is of the bytes that the short length leaves
 payload_case : (short : Bool) (header rest : List ℕ) → nat_lt (length rest) (payload_len_of header) ≡ short
@@ -36,7 +30,7 @@ payload_case false header rest short =
 bytes_more : (none : Bool) (header rest more : List ℕ) → (short_len_of header == 0) ≡ none
     → IsContinued (bytes_under header rest) (bytes_under header (rest ++ more))
 bytes_more true header rest more none = rw none (more, refl)
-bytes_more false header rest more given = rw given (take_more (payload_len_of header) rest more)
+bytes_more false header rest more given = rw given (take_continued (payload_len_of header) rest more)
 
 under_more : (plain : Bool) (header bytes all : List ℕ) (incomplete later : Bool)
     (source after : LenSource) → is_unmodified header ≡ plain → IsContinued bytes all

@@ -1,13 +1,10 @@
 -- What of a tag as far as it is there stays the same where more bytes are there (IEEE 802.1Q, section 9;
 -- IEEE 802.1AE, clause 9).
-use Rattle.std.specs.Prelude.{◌≡◌, List, ◌++◌, ℕ}
+use Rattle.std.specs.Prelude.{◌≡◌}
+use Rattle.ep_base.specs.Bytes.{IsContinued}
 use Rattle.ep_tag.specs.MacsecLax.{LaxMacsec, LaxMacsecPayload, LaxModified, LaxUnmodified}
 use Rattle.ep_tag.specs.declared.link.lax_link_ext_slice.LaxLinkExtSlice.{LaxLinkExtSlice}
 use Rattle.ep_tag.specs.declared.link.lax_link_ext_slice.LaxLinkExtSlice.TheVariants.{Vlan, Macsec}
-
--- bytes are continued by others
-abbrev pub IsContinued : List ℕ → List ℕ → Type 0
-IsContinued bytes all = (rest : List ℕ) × (all ≡ bytes ++ rest)
 
 -- a payload under the same ether type, or one that was modified, of which more may be there
 abbrev pub IsPayloadContinued : LaxMacsecPayload → LaxMacsecPayload → Type 0
