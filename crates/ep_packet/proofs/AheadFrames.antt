@@ -25,8 +25,7 @@ use Rattle.ep_packet.specs.FrameFault.{IsTagFault, OfMacsec, OfVlan}
 use Rattle.ep_packet.specs.IsTagged.{AreTags, IsTag, IsTagged}
 use Rattle.ep_packet.specs.LaxSliced.{in_lax_cooked, in_lax_frame, in_lax_linux_sll, lax_layers_of, lax_packet_after}
 use Rattle.ep_packet.specs.LaxSliced.{lax_packet_tagged, lax_sliced_ether_type, lax_sliced_ethernet, lax_sliced_linux_sll}
-use Rattle.ep_packet.specs.LaxTags.{LaxTagged, Stop, joined, lax_from_tag, lax_read_further, lax_tag_at, lax_tags_in}
-use Rattle.ep_packet.specs.LaxTags.{stop_by}
+use Rattle.ep_packet.specs.LaxTags.{LaxTagged, Stop, lax_tag_at, lax_tags_in, stop_by}
 use Rattle.ep_packet.specs.LaxWhole.{whole_tag}
 use Rattle.ep_packet.specs.LayersAhead.{AreAhead, InLayers, InTag, StopsAfter, StopsCooked, is_passed_over}
 use Rattle.ep_packet.specs.LayersAhead.{stopped_packet, tag_layer}
@@ -48,6 +47,7 @@ use Rattle.ep_packet.proofs.LaxWholeLemmas.{WholeParts, len_same, payload_same, 
 use Rattle.ep_packet.proofs.SlicedLemmas.{sll_whole}
 use Rattle.ep_packet.proofs.TagFaults.{tags_first}
 use Rattle.ep_packet.proofs.TaggedLaws.{MacsecIsRead, tag_only, tags_found}
+use Rattle.ep_packet.proofs.LaxTagsLemmas.{joined, lax_from_tag, lax_read_further, lax_tags_turn}
 use Rattle.ep_tag.specs.Ether.{EtherPayload, complete_ether}
 use Rattle.ep_tag.specs.LinkExt.{payload_after, tag_len}
 use Rattle.ep_tag.specs.MacsecFault as macsec_fault
@@ -121,7 +121,8 @@ pub tag_step : WholeParts → MacsecIsRead → (n : ℕ) (p : EtherPayload) (t :
     (lax_read_further (lax_tags_in n) (option_map complete_ether (payload_after t)))
 unfolding lax_tags_in
 tag_step whole read n p t is =
-    rw (tag_whole whole p (Some t) (tag_only read p t is), payload_same t, len_same t) refl
+    lax_tags_turn n (complete_ether p)
+    ∙ rw (tag_whole whole p (Some t) (tag_only read p t is), payload_same t, len_same t) refl
 
 tags_stop : WholeParts → MacsecIsRead → (tags : List LinkExtSlice) (n : ℕ) (p q : EtherPayload)
     (e : SliceError) (layer : Layer) → length tags < n → AreTags p tags (Some q)
@@ -133,7 +134,7 @@ tags_stop whole read (t ∷ tags) zero p q e layer few are fault = absurd (omega
 tags_stop whole read [] (suc n) p q e layer few are fault =
     let same : q ≡ p = cc (are) in
     let here : lax_tag_at (complete_ether p) ≡ Err (e, layer) = rw same at fault in
-    ap (lax_from_tag (lax_tags_in n) (complete_ether p)) here
+    lax_tags_turn n (complete_ether p) ∙ ap (lax_from_tag (lax_tags_in n) (complete_ether p)) here
     ∙ ap (stopped_by [] 0 layer) (sym (moved_nothing e))
 tags_stop whole read (t ∷ tags) (suc n) p q e layer few are fault = tag_step whole read n p t are.0
     ∙ after_tag n t tags (payload_after t) q e layer are.1

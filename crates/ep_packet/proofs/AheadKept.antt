@@ -34,7 +34,7 @@ use Rattle.ep_packet.specs.IsTagged.{AreTags}
 use Rattle.ep_packet.specs.LaxSliced.{LaxLayers, in_lax_cooked, in_lax_linux_sll, in_lax_version}
 use Rattle.ep_packet.specs.LaxSliced.{lax_ipv4_layers, lax_ipv6_layers, lax_layers_of, lax_packet_after, lax_packet_tagged}
 use Rattle.ep_packet.specs.LaxSliced.{lax_sliced_ether_type, lax_sliced_ethernet, lax_sliced_ip, lax_sliced_linux_sll}
-use Rattle.ep_packet.specs.LaxTags.{LaxTagged, joined, lax_read_further, lax_tags_in}
+use Rattle.ep_packet.specs.LaxTags.{LaxTagged, lax_tags_in}
 use Rattle.ep_packet.specs.LaxWhole.{whole_net, whole_tag}
 use Rattle.ep_packet.specs.LayersAhead.{HasCookedAhead, HasFrameAhead, HasIpAhead, HasIpv4, HasIpv6, HasLayersAhead, HasNetAhead}
 use Rattle.ep_packet.specs.NetSlice.{of_ip}
@@ -47,6 +47,7 @@ use Rattle.ep_packet.specs.declared.net.lax_net_slice.LaxNetSlice.{LaxNetSlice}
 use Rattle.ep_packet.proofs.AheadFrames.{tag_step}
 use Rattle.ep_packet.proofs.LaxWholeLemmas.{WholeParts, tags_whole, whole_tags}
 use Rattle.ep_packet.proofs.TaggedLaws.{MacsecIsRead, tags_only}
+use Rattle.ep_packet.proofs.LaxTagsLemmas.{joined, lax_read_further}
 use Rattle.ep_tag.specs.Ether.{EtherPayload, complete_ether}
 use Rattle.ep_tag.specs.LinkExt.{payload_after, tag_len}
 use Rattle.ep_tag.specs.declared.link.lax_link_ext_slice.LaxLinkExtSlice.{LaxLinkExtSlice}

@@ -1,6 +1,6 @@
 -- Packets of which the first bytes are there.
 use Rattle.std.proofs.Common.{◌≡◌, ◌∙◌, sym, ap, refl, ℕ, zero, suc, ◌+◌, ◌-◌, ◌≤◌, ◌==◌, Bool, true, false, List, [], ◌∷◌}
-use Rattle.std.proofs.Common.{ap₂, get_or, length, take, drop, Option, Some, None, IfSome, Result, Ok, Err, arith}
+use Rattle.std.proofs.Common.{ap₂, get_or, subst, length, take, drop, Option, Some, None, IfSome, Result, Ok, Err, arith}
 use Rattle.std.specs.Prelude.{if◌then◌else◌, nat_lt}
 use Rattle.std.specs.Option.{option_map}
 use Rattle.std.proofs.lemmas.Bool.Decides.{nat_tests}
@@ -45,8 +45,7 @@ use Rattle.ep_packet.specs.LaxSliced.{in_lax_linux_sll, lax_arp_layers, lax_ipv4
 use Rattle.ep_packet.specs.LaxSliced.{lax_message_at, lax_message_in, lax_packet_after, lax_packet_of, lax_packet_tagged}
 use Rattle.ep_packet.specs.LaxSliced.{lax_sliced_ether_type, lax_sliced_ethernet, lax_sliced_ip, lax_sliced_linux_sll}
 use Rattle.ep_packet.specs.LaxSliced.{lax_transport_in, no_layers, with_transport}
-use Rattle.ep_packet.specs.LaxTags.{LaxTagged, Stop, ended, joined, lax_from_tag, lax_macsec_tag, lax_read_further, lax_tag_at}
-use Rattle.ep_packet.specs.LaxTags.{lax_tags_in, lax_vlan_tag, stop_by}
+use Rattle.ep_packet.specs.LaxTags.{LaxTagged, Stop, lax_tag_at, lax_tags_in, stop_by}
 use Rattle.ep_packet.specs.Parts.{headers_len, tags_len}
 use Rattle.ep_packet.specs.Readable.{ReadMessage, message_at}
 use Rattle.ep_packet.specs.SliceFault.{later}
@@ -55,15 +54,17 @@ use Rattle.ep_packet.specs.Sliced.{in_linux_sll, ip_layers, ipv4_layers, ipv4_ty
 use Rattle.ep_packet.specs.Sliced.{packet_after, packet_tagged, packet_with, read_transport, result_within, sliced_ether_type}
 use Rattle.ep_packet.specs.Sliced.{sliced_ethernet, sliced_ip, sliced_linux_sll, transport_in, transport_of}
 use Rattle.ep_packet.specs.Sliced as strict
-use Rattle.ep_packet.specs.Tags.{Tagged, from_tag, is_macsec_type, macsec_tag, most_tags, read_further, tag_at}
-use Rattle.ep_packet.specs.Tags.{tags_in, vlan_tag, with_tag}
+use Rattle.ep_packet.specs.Tags.{Tagged, is_macsec_type, most_tags, tag_at, tags_in}
 use Rattle.ep_packet.specs.declared.err.packet.slice_error.SliceError.{SliceError}
 use Rattle.ep_packet.specs.declared.lax_sliced_packet.LaxSlicedPacket.{LaxSlicedPacket}
 use Rattle.ep_packet.specs.declared.net.net_slice.NetSlice.{NetSlice}
 use Rattle.ep_packet.specs.declared.net.net_slice.NetSlice.TheVariants as net
 use Rattle.ep_packet.specs.declared.sliced_packet.SlicedPacket.{SlicedPacket}
 use Rattle.ep_packet.specs.declared.transport.transport_slice.TransportSlice.{TransportSlice}
+use Rattle.ep_packet.proofs.FoundTagsLemmas.{no_tags}
 use Rattle.ep_packet.proofs.LaxCutLemmas.{message_cut}
+use Rattle.ep_packet.proofs.LaxTagsLemmas.{joined, lax_from_tag, lax_macsec_tag, lax_read_further, lax_tags_turn, lax_vlan_tag}
+use Rattle.ep_packet.proofs.TagsLemmas.{from_tag, macsec_tag, read_further, tags_turn, vlan_tag, with_tag}
 use Rattle.ep_tag.specs.CutTags.{Named, cut_macsec, cut_named, cut_tag, named_bytes}
 use Rattle.ep_tag.specs.Ether.{EtherPayload, LaxEtherPayload, complete_ether}
 use Rattle.ep_tag.specs.LinkExt.{lax_payload_after, lax_tag_len, payload_after, tag_len}
@@ -159,11 +160,11 @@ TagsAreCut count = (n : ℕ) (p : EtherPayload) (q : LaxEtherPayload) (t : Tagge
 
 no_tag : (n : ℕ) (p : EtherPayload) (q : LaxEtherPayload) (t : Tagged) → IsCut n p q
     → ◌≡◌ {A = Result Tagged SliceError} (Ok (record { tags = []; len = 0; last = Some p })) (Ok t)
-    → AreCutTags n t (ended (Some q) None)
+    → AreCutTags n t (no_tags (Some q) None)
 no_tag n p q t cut is =
     let same : record { tags = []; len = 0; last = Some p } ≡ t = cc in
     let all : n - 0 ≡ n = omega arith in
-    let here : AreCutTags n (record { tags = []; len = 0; last = Some p }) (ended (Some q) None) = record {
+    let here : AreCutTags n (record { tags = []; len = 0; last = Some p }) (no_tags (Some q) None) = record {
       tags = refl;
       len = refl;
       last = rw all (ap (λ (x : Named). Some x) cut);
@@ -220,7 +221,8 @@ tags_cut : CutParts → (count : ℕ) → TagsAreCut count
 unfolding tags_in lax_tags_in
 tags_cut law zero n p q t cut is fits = no_tag n p q t cut is
 tags_cut law (suc count) n p q t cut is fits =
-    from_tag_cut law count n p q (tag_at p) t (tags_cut law count) cut refl is fits
+    subst (AreCutTags n t) (sym (lax_tags_turn count q))
+    (from_tag_cut law count n p q (tag_at p) t (tags_cut law count) cut refl (sym (tags_turn count p) ∙ is) fits)
 
 -- messages
 transport_same : (n : ℕ) (m : ReadMessage)

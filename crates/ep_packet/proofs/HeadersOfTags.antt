@@ -1,13 +1,14 @@
 -- What the last of the tags names.
 use Rattle.std.proofs.Common.{◌≡◌, ℕ, zero, suc, ◌+◌, ◌-◌, List, ◌∷◌, length, Option, Some, [], Result, Ok, Err, refl}
-use Rattle.std.proofs.Common.{subst, arith}
+use Rattle.std.proofs.Common.{subst, sym, arith, ◌∙◌}
 use Rattle.std.specs.List.{slice_get}
 use Rattle.ep_base.proofs.Prefixes.{err_ok, ok_same}
 use Rattle.ep_link.specs.declared.link.link_slice.LinkSlice.{LinkSlice}
 use Rattle.ep_packet.specs.PacketView.{last_payload, link_payload}
 use Rattle.ep_packet.specs.SliceFault.{offset_by}
-use Rattle.ep_packet.specs.Tags.{Tagged, with_tag, from_tag, read_further, tag_at, tags_in, without_tags}
+use Rattle.ep_packet.specs.Tags.{Tagged, tag_at, tags_in}
 use Rattle.ep_packet.specs.declared.err.packet.slice_error.SliceError.{SliceError}
+use Rattle.ep_packet.proofs.TagsLemmas.{from_tag, read_further, tags_turn, with_tag, without_tags}
 use Rattle.ep_tag.specs.Ether.{EtherPayload}
 use Rattle.ep_tag.specs.LinkExt.{payload_after, tag_len}
 use Rattle.ep_tag.specs.declared.link.link_ext_slice.LinkExtSlice.{LinkExtSlice}
@@ -59,7 +60,7 @@ read_last : (n : ℕ) → Reads (tags_in n)
 unfolding tags_in
 read_last zero p g is = subst (λ (h : Tagged). IsLast p h.tags h.last)
     (ok_same {E = SliceError} (without_tags (Some p)) g is) refl
-read_last (suc n) p g is = last_from (tags_in n) (read_last n) p (tag_at p) g is
+read_last (suc n) p g is = last_from (tags_in n) (read_last n) p (tag_at p) g (sym (tags_turn n p) ∙ is)
 
 one_less : (n : ℕ) → suc n - 1 ≡ n
 one_less n = omega arith

@@ -1,5 +1,5 @@
 -- What is read of bytes, as far as it is there, lies within them.
-use Rattle.std.proofs.Common.{◌≡◌, ◌∙◌, sym, ap, subst, refl, ℕ, zero, suc, ◌+◌, ◌-◌, ◌≤◌, ◌<◌, ◌^◌, Bool, true, false, List, []}
+use Rattle.std.proofs.Common.{◌≡◌, sym, ap, subst, refl, ℕ, zero, suc, ◌+◌, ◌-◌, ◌≤◌, ◌<◌, ◌^◌, Bool, true, false, List, []}
 use Rattle.std.proofs.Common.{◌∷◌, length, take, drop, Option, Some, None, Result, Ok, Err, IfOk, IfErr, IfSome, arith}
 use Rattle.std.specs.Option.{option_map}
 use Rattle.std.proofs.lemmas.Bool.{ltb-false}
@@ -7,15 +7,16 @@ use Rattle.std.proofs.lemmas.List.{length-drop, length-take-le}
 use Rattle.std.proofs.Common.{◌++◌}
 use Rattle.ep_base.specs.declared.err.layer.Layer.{Layer}
 use Rattle.ep_base.specs.declared.err.slice_error.SliceError.{SliceError as HeaderSliceError}
-use Rattle.ep_packet.specs.LaxFits.{StopFits, TagFits, TagsFit}
-use Rattle.ep_packet.specs.LaxTags.{LaxTagged, Stop, joined, lax_from_tag, lax_read_further, lax_tag_at}
-use Rattle.ep_packet.specs.LaxTags.{lax_macsec_tag, lax_tags_in, lax_vlan_tag, stop_by}
+use Rattle.ep_packet.specs.LaxFits.{StopFits, TagsFit}
+use Rattle.ep_packet.specs.LaxTags.{LaxTagged, Stop, lax_tag_at, lax_tags_in, stop_by}
 use Rattle.ep_packet.specs.Tags.{is_macsec_type}
 use Rattle.std.specs.Prelude.{if◌then◌else◌}
 use Rattle.ep_base.specs.declared.err.layer.Layer.TheVariants.{VlanHeader}
 use Rattle.ep_base.specs.declared.err.len_error.LenError.{LenError}
 use Rattle.ep_packet.specs.SliceFault.{fault_offset, offset_by}
 use Rattle.ep_packet.specs.declared.err.packet.slice_error.SliceError.{SliceError}
+use Rattle.ep_packet.proofs.LaxTagsLemmas.{joined, lax_from_tag, lax_macsec_tag, lax_read_further, lax_tags_turn, lax_vlan_tag}
+use Rattle.ep_packet.proofs.LaxTagsLemmas.{tag_fault_at_start}
 use Rattle.ep_tag.specs.Ether.{LaxEtherPayload}
 use Rattle.ep_tag.specs.LinkExt.{lax_payload_after, lax_tag_len}
 use Rattle.ep_tag.specs.Macsec.{header_len_of}
@@ -29,11 +30,13 @@ use Rattle.ep_tag.specs.declared.link.lax_link_ext_slice.LaxLinkExtSlice.{LaxLin
 use Rattle.ep_tag.specs.declared.link.lax_link_ext_slice.LaxLinkExtSlice.TheVariants as tag
 use Rattle.ep_base.proofs.Cells.{take_fits}
 
-pub tag_fault_at_start : (p : LaxEtherPayload) → IfErr (lax_tag_at p) (λ s. fault_offset s.0 ≡ 0)
-tag_fault_at_start p = grind arith
+-- a tag in so many bytes
+abbrev TagFits : ℕ → Option LaxLinkExtSlice → Type 0
+TagFits size found = IfSome found (λ t. (lax_tag_len t ≤ size)
+    × IfSome (lax_payload_after t) (λ next. lax_tag_len t + length next.payload ≤ size))
 
 -- a VLAN tag
-pub vlan_fits : (layer : Layer) (bytes vlan : List ℕ) → Ok vlan ≡ whole_at layer vlan_len bytes
+vlan_fits : (layer : Layer) (bytes vlan : List ℕ) → Ok vlan ≡ whole_at layer vlan_len bytes
     → TagFits (length bytes) (Some (tag.Vlan vlan))
 vlan_fits layer bytes vlan same = grind (arith, length-drop)
 
@@ -83,21 +86,9 @@ macsec_case bytes (Ok header) macsec at same =
     subst (λ (m : LaxMacsec). TagFits (length bytes) (Some (tag.Macsec m))) (sym is) here
 macsec_case bytes (Err e) macsec at same = cc
 
-pub macsec_fits : (bytes : List ℕ) (macsec : LaxMacsec) → Ok macsec ≡ lax_macsec_at bytes
+macsec_fits : (bytes : List ℕ) (macsec : LaxMacsec) → Ok macsec ≡ lax_macsec_at bytes
     → TagFits (length bytes) (Some (tag.Macsec macsec))
 macsec_fits bytes macsec same = macsec_case bytes (header_at bytes) macsec refl same
-
--- the next turn, as the code names what it has
-pub next_fits : (size len tag_bytes : ℕ) (found : Option LaxLinkExtSlice) (t : LaxLinkExtSlice)
-    (rest next : LaxEtherPayload) → TagFits (length rest.payload) found → found ≡ Some t
-    → len + length rest.payload ≤ size → tag_bytes ≡ lax_tag_len t → lax_payload_after t ≡ Some next
-    → len + tag_bytes + length next.payload ≤ size
-next_fits size len tag_bytes found t rest next fits is most counted named =
-    let here : TagFits (length rest.payload) (Some t) = subst (TagFits (length rest.payload)) is fits in
-    let after : lax_tag_len t + length next.payload ≤ length rest.payload =
-    subst (λ (o : Option LaxEtherPayload). IfSome o
-    (λ q. lax_tag_len t + length q.payload ≤ length rest.payload)) named here.1 in
-    omega (arith, most, counted, after)
 
 offset_later : (e : SliceError) (n m : ℕ) → fault_offset e + n ≤ m → n ≤ m
     → fault_offset (offset_by n e) ≤ m
@@ -172,4 +163,5 @@ from_fits read p (Ok (Some t)) each fits start =
 pub tags_fit : (n : ℕ) (p : LaxEtherPayload) → TagsFit (length p.payload) (lax_tags_in n p)
 unfolding lax_tags_in
 tags_fit zero p = record { tags = omega arith; last = omega arith; stop = tt }
-tags_fit (suc n) p = from_fits (lax_tags_in n) p (lax_tag_at p) (tags_fit n) (of_tag p) (tag_fault_at_start p)
+tags_fit (suc n) p = subst (TagsFit (length p.payload)) (sym (lax_tags_turn n p))
+    (from_fits (lax_tags_in n) p (lax_tag_at p) (tags_fit n) (of_tag p) (tag_fault_at_start p))

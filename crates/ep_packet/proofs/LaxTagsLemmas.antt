@@ -1,89 +1,121 @@
 -- Tags read one after the other, as far as they are there.
-use Rattle.std.proofs.Common.{◌≡◌, ◌∙◌, ℕ, suc, ◌+◌, List, [], ◌∷◌, ◌++◌, Option, Some, None, Result, Ok, Err, arith, refl}
-use Rattle.std.proofs.Common.{sym, ap, append_assoc, append-nil}
+use Rattle.std.proofs.Common.{◌≡◌, ℕ, suc, ◌+◌, List, [], ◌∷◌, ◌++◌, Option, Some, None, Result, Ok, Err, IfErr, IfSome}
+use Rattle.std.proofs.Common.{ap, arith, refl, subst, sym, ◌≤◌}
 use Rattle.std.specs.Option.{option_map}
-use Rattle.ep_packet.specs.LaxTags.{LaxTagged, Stop, ended, joined, lax_from_tag, lax_read_further, lax_tag_at}
-use Rattle.ep_packet.specs.LaxTags.{lax_tags_in, stop_by}
+use Rattle.std.specs.Prelude.{unwrap_or}
+use Rattle.std.specs.Result.{result_map_both}
+use Rattle.ep_base.specs.declared.err.layer.Layer.TheVariants.{MacsecHeader, VlanHeader}
+use Rattle.ep_base.specs.declared.err.len_error.LenError.{LenError}
+use Rattle.ep_base.specs.declared.err.slice_error.SliceError.{SliceError as HeaderSliceError}
+use Rattle.ep_packet.specs.LaxTags.{LaxTagged, Stop, lax_tag_at, lax_tags_in, stop_by}
+use Rattle.ep_packet.specs.SliceFault.{CanMove, fault_offset, of_macsec}
+use Rattle.ep_packet.specs.Tags.{find_tags, tags_from}
+use Rattle.ep_packet.specs.declared.err.packet.slice_error.SliceError.{SliceError}
+use Rattle.ep_packet.specs.declared.err.packet.slice_error.SliceError.TheVariants.{Len}
 use Rattle.ep_packet.proofs.FaultLemmas.{moved_nothing, moved_twice}
+use Rattle.ep_packet.proofs.FoundTagsLemmas.{no_tags, stop_is}
 use Rattle.ep_tag.specs.Ether.{LaxEtherPayload}
 use Rattle.ep_tag.specs.LinkExt.{lax_payload_after, lax_tag_len}
+use Rattle.ep_tag.specs.MacsecLax.{LaxMacsec}
+use Rattle.ep_tag.specs.declared.err.macsec.header_error.HeaderError.{HeaderError}
 use Rattle.ep_tag.specs.declared.link.lax_link_ext_slice.LaxLinkExtSlice.{LaxLinkExtSlice}
+use Rattle.ep_tag.specs.declared.link.lax_link_ext_slice.LaxLinkExtSlice.TheVariants as tag
 
-pub joined_nothing : (t : LaxTagged) → joined [] 0 t ≡ t
-joined_nothing t = grind (arith, moved_nothing)
+abbrev pub lax_vlan_tag : Result (List ℕ) LenError → Result (Option LaxLinkExtSlice) Stop
+lax_vlan_tag r = result_map_both (λ bytes. Some (tag.Vlan bytes)) (λ e. (Len e, VlanHeader)) r
 
-joined_twice : (tags : List LaxLinkExtSlice) (len : ℕ) (tag : LaxLinkExtSlice) (n : ℕ) (t : LaxTagged)
-    → joined tags len (joined (tag ∷ []) n t) ≡ joined (tags ++ tag ∷ []) (len + n) t
-joined_twice tags len tag n t = grind (arith, append_assoc, moved_twice)
+abbrev pub lax_macsec_tag : Result LaxMacsec (HeaderSliceError HeaderError)
+    → Result (Option LaxLinkExtSlice) Stop
+lax_macsec_tag r = result_map_both (λ macsec. Some (tag.Macsec macsec)) (λ e. (of_macsec e, MacsecHeader)) r
 
-tags_turn : (n : ℕ) (p : LaxEtherPayload) (r : Result (Option LaxLinkExtSlice) Stop)
-    → lax_tag_at p ≡ r → lax_tags_in (suc n) p ≡ lax_from_tag (lax_tags_in n) p r
+-- tags of so many bytes, and what was read after them
+abbrev pub joined : List LaxLinkExtSlice → ℕ → LaxTagged → LaxTagged
+joined tags len more = record {
+  tags = tags ++ more.tags;
+  len = len + more.len;
+  last = more.last;
+  stop = option_map (stop_by len) more.stop;
+}
+
+abbrev pub lax_read_further : (LaxEtherPayload → LaxTagged) → Option LaxEtherPayload → LaxTagged
+lax_read_further read None = no_tags None None
+lax_read_further read (Some p) = read p
+
+abbrev pub lax_from_tag : (LaxEtherPayload → LaxTagged) → LaxEtherPayload
+    → Result (Option LaxLinkExtSlice) Stop → LaxTagged
+lax_from_tag read p (Err stop) = no_tags None (Some stop)
+lax_from_tag read p (Ok None) = no_tags (Some p) None
+lax_from_tag read p (Ok (Some t)) = joined (t ∷ []) (lax_tag_len t) (lax_read_further read (lax_payload_after t))
+
+abbrev lax_found_in : ℕ → LaxEtherPayload → LaxTagged
+lax_found_in n p = find_tags lax_tag_at lax_tag_len lax_payload_after n p
+
+-- with the fault counted from the start of the tags
+abbrev from_start : LaxTagged → LaxTagged
+from_start found = record {
+  tags = found.tags;
+  len = found.len;
+  last = found.last;
+  stop = option_map (stop_by found.len) found.stop;
+}
+
+stop_twice : (m n : ℕ) (stop : Option Stop)
+    → option_map (stop_by (m + n)) stop ≡ option_map (stop_by m) (option_map (stop_by n) stop)
+stop_twice m n None = refl
+stop_twice m n (Some stop) =
+    ap (λ (e : SliceError). Some (e, stop.1)) (sym (moved_twice m n stop.0))
+
+further : (n : ℕ) (t : LaxLinkExtSlice) (o : Option LaxEtherPayload)
+    → let more : LaxTagged = unwrap_or (option_map (lax_found_in n) o) (no_tags None None) in
+    from_start (record { tags = t ∷ more.tags; len = lax_tag_len t + more.len; last = more.last; stop = more.stop })
+    ≡ joined (t ∷ []) (lax_tag_len t) (lax_read_further (lax_tags_in n) o)
 unfolding lax_tags_in
-tags_turn n p r e = ap (lax_from_tag (lax_tags_in n) p) e
+further n t None = refl
+further n t (Some q) =
+    let more = lax_found_in n q in
+    ap (λ (stop : Option Stop). record {
+      tags = t ∷ more.tags;
+      len = lax_tag_len t + more.len;
+      last = more.last;
+      stop = stop;
+    }) (stop_twice (lax_tag_len t) more.len more.stop)
 
-full : (p : LaxEtherPayload) → lax_tags_in 0 p ≡ ended (Some p) None
+turn : (n : ℕ) (p : LaxEtherPayload) (r : Result (Option LaxLinkExtSlice) Stop)
+    → from_start (tags_from lax_tag_len lax_payload_after (lax_found_in n) p r)
+    ≡ lax_from_tag (lax_tags_in n) p r
+turn n p (Err stop) =
+    ap (λ (e : SliceError). no_tags None (Some (e, stop.1))) (moved_nothing stop.0)
+turn n p (Ok None) = refl
+turn n p (Ok (Some t)) = further n t (lax_payload_after t)
+
+-- one tag is read, and then the others
+pub lax_tags_turn : (n : ℕ) (p : LaxEtherPayload)
+    → lax_tags_in (suc n) p ≡ lax_from_tag (lax_tags_in n) p (lax_tag_at p)
 unfolding lax_tags_in
-full p = refl
+lax_tags_turn n p = turn n p (lax_tag_at p)
 
--- nothing more is read
-joined_ended : (tags : List LaxLinkExtSlice) (len : ℕ) (last : Option LaxEtherPayload)
-    (stop : Option Stop) → joined tags len (ended last stop)
-    ≡ record { tags = tags; len = len; last = last; stop = option_map (stop_by len) stop }
-joined_ended tags len last stop = grind (arith, append-nil)
+-- what is found is what is read
+pub found_lax : (p : LaxEtherPayload) (found : LaxTagged) (stop : Option Stop)
+    → found ≡ lax_found_in 3 p → stop ≡ option_map (stop_by found.len) found.stop
+    → record { tags = found.tags; len = found.len; last = found.last; stop = stop } ≡ lax_tags_in 3 p
+unfolding lax_tags_in
+found_lax p found stop is moved = rw moved (ap from_start is)
 
--- what is read of a whole, where k + 1 tags may still follow those that were read
-abbrev pub SoFar : LaxTagged → List LaxLinkExtSlice → ℕ → ℕ → LaxEtherPayload → Type 0
-SoFar all tags len n p = all ≡ joined tags len (lax_tags_in n p)
+pub tag_fault_at_start : (p : LaxEtherPayload) → IfErr (lax_tag_at p) (λ s. fault_offset s.0 ≡ 0)
+tag_fault_at_start p = grind arith
 
-pub ends_untagged : (all : LaxTagged) (tags : List LaxLinkExtSlice) (len k n : ℕ) (p : LaxEtherPayload)
-    → SoFar all tags len n p → n ≡ suc k → lax_tag_at p ≡ Ok None
-    → record { tags = tags; len = len; last = Some p; stop = None } ≡ all
-ends_untagged all tags len k n p so_far more none =
-    sym (so_far ∙ ap (λ (m : ℕ). joined tags len (lax_tags_in m p)) more
-    ∙ ap (joined tags len) (tags_turn k p (Ok None) none) ∙ joined_ended tags len (Some p) None)
+-- a fault is counted from its tag
+pub stop_at_start : (n : ℕ) (p : LaxEtherPayload)
+    → IfSome (lax_found_in n p).stop (λ s. fault_offset s.0 ≡ 0)
+stop_at_start n p =
+    stop_is lax_tag_at lax_tag_len lax_payload_after (λ s. fault_offset s.0 ≡ 0) tag_fault_at_start n p
 
-pub ends_faulty : (all : LaxTagged) (tags : List LaxLinkExtSlice) (len k n : ℕ) (p : LaxEtherPayload)
-    (stop : Stop) → SoFar all tags len n p → n ≡ suc k → lax_tag_at p ≡ Err stop
-    → record { tags = tags; len = len; last = None; stop = Some (stop_by len stop) } ≡ all
-ends_faulty all tags len k n p stop so_far more fault =
-    sym (so_far ∙ ap (λ (m : ℕ). joined tags len (lax_tags_in m p)) more
-    ∙ ap (joined tags len) (tags_turn k p (Err stop) fault) ∙ joined_ended tags len None (Some stop))
+can_move : (stop : Option Stop) (n : ℕ) → IfSome stop (λ s. fault_offset s.0 ≡ 0) → n ≤ 48
+    → IfSome stop (λ s. CanMove s.0 n)
+can_move None n start most = tt
+can_move (Some stop) n start most = omega (arith, start, most)
 
-pub ends_full : (all : LaxTagged) (tags : List LaxLinkExtSlice) (len n : ℕ) (p : LaxEtherPayload)
-    → SoFar all tags len n p → n ≡ 0
-    → record { tags = tags; len = len; last = Some p; stop = None } ≡ all
-ends_full all tags len n p so_far none =
-    sym (so_far ∙ ap (λ (m : ℕ). joined tags len (lax_tags_in m p)) none
-    ∙ ap (joined tags len) (full p) ∙ joined_ended tags len (Some p) None)
-
-goes_on : (all : LaxTagged) (tags : List LaxLinkExtSlice) (len k n : ℕ) (p : LaxEtherPayload)
-    (tag : LaxLinkExtSlice) → SoFar all tags len n p → n ≡ suc k → lax_tag_at p ≡ Ok (Some tag)
-    → all ≡ joined (tags ++ tag ∷ []) (len + lax_tag_len tag)
-    (lax_read_further (lax_tags_in k) (lax_payload_after tag))
-goes_on all tags len k n p tag so_far more found =
-    so_far ∙ ap (λ (m : ℕ). joined tags len (lax_tags_in m p)) more
-    ∙ ap (joined tags len) (tags_turn k p (Ok (Some tag)) found)
-    ∙ joined_twice tags len tag (lax_tag_len tag) (lax_read_further (lax_tags_in k) (lax_payload_after tag))
-
--- the same turn, as the code names what it has
-pub goes_on_some : (all : LaxTagged) (tags more_tags : List LaxLinkExtSlice) (len tag_bytes k n : ℕ)
-    (p : LaxEtherPayload) (tag : LaxLinkExtSlice) (next : LaxEtherPayload)
-    → SoFar all tags len n p → n ≡ suc k → lax_tag_at p ≡ Ok (Some tag)
-    → more_tags ≡ tags ++ tag ∷ [] → tag_bytes ≡ lax_tag_len tag → lax_payload_after tag ≡ Some next
-    → SoFar all more_tags (len + tag_bytes) k next
-goes_on_some all tags more_tags len tag_bytes k n p tag next so_far more found pushed counted named =
-    rw (pushed, counted) (goes_on all tags len k n p tag so_far more found
-    ∙ ap (λ (o : Option LaxEtherPayload). joined (tags ++ tag ∷ []) (len + lax_tag_len tag)
-    (lax_read_further (lax_tags_in k) o)) named)
-
-pub goes_on_none : (all : LaxTagged) (tags more_tags : List LaxLinkExtSlice) (len tag_bytes k n : ℕ)
-    (p : LaxEtherPayload) (tag : LaxLinkExtSlice)
-    → SoFar all tags len n p → n ≡ suc k → lax_tag_at p ≡ Ok (Some tag)
-    → more_tags ≡ tags ++ tag ∷ [] → tag_bytes ≡ lax_tag_len tag → lax_payload_after tag ≡ None
-    → record { tags = more_tags; len = len + tag_bytes; last = None; stop = None } ≡ all
-goes_on_none all tags more_tags len tag_bytes k n p tag so_far more found pushed counted named =
-    rw (pushed, counted)
-    (sym (goes_on all tags len k n p tag so_far more found
-    ∙ ap (λ (o : Option LaxEtherPayload). joined (tags ++ tag ∷ []) (len + lax_tag_len tag)
-    (lax_read_further (lax_tags_in k) o)) named
-    ∙ joined_ended (tags ++ tag ∷ []) (len + lax_tag_len tag) None None))
+pub stops_can_move : (p : LaxEtherPayload) (found : LaxTagged) → found ≡ lax_found_in 3 p → found.len ≤ 48
+    → IfSome found.stop (λ s. CanMove s.0 found.len)
+stops_can_move p found is most = can_move found.stop found.len
+    (subst (λ (f : LaxTagged). IfSome f.stop (λ s. fault_offset s.0 ≡ 0)) (sym is) (stop_at_start 3 p)) most

@@ -37,7 +37,7 @@ use Rattle.ep_packet.specs.LaxSliced.{LaxLayers, lax_packet_of, lax_sliced_linux
 use Rattle.ep_packet.specs.LaxSliced.{with_transport}
 use Rattle.ep_packet.specs.declared.net.net_slice.NetSlice.{NetSlice}
 use Rattle.ep_packet.specs.declared.net.net_slice.NetSlice.TheVariants as net
-use Rattle.ep_packet.specs.LaxTags.{LaxTagged, joined, lax_from_tag, lax_read_further, lax_tag_at, lax_tags_in}
+use Rattle.ep_packet.specs.LaxTags.{LaxTagged, lax_tag_at, lax_tags_in}
 use Rattle.ep_packet.specs.LaxWhole.{whole_net, whole_packet, whole_tag}
 use Rattle.ep_packet.specs.Readable.{ReadMessage, message_at, read_as, udp}
 use Rattle.ep_packet.specs.Readable.ReadMessage.{Udp}
@@ -48,10 +48,12 @@ use Rattle.ep_packet.specs.Sliced.{packet_after, packet_tagged, sliced_ether_typ
 use Rattle.ep_packet.specs.Sliced.{arp_layers, arp_type, ether_payload, in_cooked, in_frame, in_linux_sll, ipv4_type}
 use Rattle.ep_packet.specs.Sliced.{ipv6_type, packet_with, sliced_linux_sll, transport_in}
 use Rattle.ep_packet.specs.Sliced as strict
-use Rattle.ep_packet.specs.Tags.{Tagged, from_tag, most_tags, read_further, tag_at, tags_in, with_tag}
+use Rattle.ep_packet.specs.Tags.{Tagged, most_tags, tag_at, tags_in}
 use Rattle.ep_packet.specs.declared.err.packet.slice_error.SliceError.{SliceError}
 use Rattle.ep_packet.specs.declared.sliced_packet.SlicedPacket.{SlicedPacket}
 use Rattle.ep_packet.specs.declared.transport.transport_slice.TransportSlice.{TransportSlice}
+use Rattle.ep_packet.proofs.LaxTagsLemmas.{joined, lax_from_tag, lax_read_further, lax_tags_turn}
+use Rattle.ep_packet.proofs.TagsLemmas.{from_tag, read_further, tags_turn, with_tag}
 use Rattle.ep_tag.specs.Ether.{EtherPayload, complete_ether}
 use Rattle.ep_tag.specs.LinkExt.{lax_payload_after, lax_tag_len, payload_after, tag_len}
 use Rattle.ep_tag.specs.MacsecLax.{complete, lax_macsec_at}
@@ -126,7 +128,8 @@ from_whole law n p (Ok (Some tag)) t each at is =
 pub tags_whole : WholeParts → (n : ℕ) → AreWhole n
 unfolding tags_in lax_tags_in
 tags_whole law zero p t is = grind arith
-tags_whole law (suc n) p t is = from_whole law n p (tag_at p) t (tags_whole law n) refl is
+tags_whole law (suc n) p t is = lax_tags_turn n (complete_ether p)
+    ∙ from_whole law n p (tag_at p) t (tags_whole law n) refl (sym (tags_turn n p) ∙ is)
 
 udp_is : (number : ℕ) → (number == udp) ≡ true → number ≡ 17
 udp_is number is = grind (arith, nat_tests)

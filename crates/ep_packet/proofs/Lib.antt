@@ -9,6 +9,7 @@ mod CutHeaders
 mod CutPackets
 mod FaultLemmas
 mod FoundLemmas
+mod FoundTagsLemmas
 mod FrameFaults
 mod HeaderLemmas
 mod HeadersAt
@@ -40,4 +41,4 @@ mod SlicedLemmas
 mod StopLengths
 mod TagFaults
 mod TaggedLaws
-mod TagsLemmas
+pub mod TagsLemmas

@@ -53,8 +53,7 @@ use Rattle.ep_packet.specs.LaxSliced.{lax_ipv4_layers, lax_ipv6_layers, lax_laye
 use Rattle.ep_packet.specs.LaxSliced.{in_lax_cooked, in_lax_frame, in_lax_linux_sll, lax_packet_after, lax_sliced_ether_type}
 use Rattle.ep_packet.specs.LaxSliced.{lax_sliced_ethernet, lax_sliced_linux_sll, lax_transport_in, message_layer}
 use Rattle.ep_packet.specs.LaxSliced.{exts_stop, in_lax_version, lax_packet_of, lax_sliced_ip, message_or_stop, no_layers}
-use Rattle.ep_packet.specs.LaxTags.{LaxTagged, Stop, lax_from_tag, lax_macsec_tag, lax_read_further, lax_tag_at}
-use Rattle.ep_packet.specs.LaxTags.{lax_tags_in, lax_vlan_tag}
+use Rattle.ep_packet.specs.LaxTags.{LaxTagged, Stop, lax_tag_at, lax_tags_in}
 use Rattle.ep_packet.specs.Readable as number
 use Rattle.ep_packet.specs.Readable.{ReadMessage, read_as, tcp_fault}
 use Rattle.ep_packet.specs.Sliced.{arp_type, ether_payload, ipv4_type, ipv6_type, read_transport, result_within, transport_of}
@@ -66,6 +65,7 @@ use Rattle.ep_packet.specs.declared.net.lax_net_slice.LaxNetSlice.{LaxNetSlice}
 use Rattle.ep_packet.specs.declared.transport.transport_slice.TransportSlice.{TransportSlice}
 use Rattle.ep_packet.proofs.CutPackets.{arp_is, arp_taken, cooked_is, cooked_taken}
 use Rattle.ep_packet.proofs.LaxCutLemmas.{icmpv4_taken, passes, tcp_taken}
+use Rattle.ep_packet.proofs.LaxTagsLemmas.{lax_from_tag, lax_macsec_tag, lax_read_further, lax_tags_turn, lax_vlan_tag}
 use Rattle.ep_tag.specs.Ether.{EtherPayload, LaxEtherPayload, complete_ether}
 use Rattle.ep_tag.specs.LinkExt.{lax_payload_after}
 use Rattle.ep_tag.specs.MacsecLax.{LaxMacsec, LaxMacsecPayload, LaxModified, LaxUnmodified, lax_macsec_at}
@@ -554,7 +554,10 @@ tags_more : MoreParts → (count : ℕ) → TagsGoOn count
 unfolding lax_tags_in
 tags_more law zero p q more = record { tags = tt; last = (q, refl, more) }
 tags_more law (suc count) p q more =
-    from_tag_more law count p q (lax_tag_at p) (tags_more law count) more refl
+    let at : LaxTagged = lax_from_tag (lax_tags_in count) p (lax_tag_at p) in
+    subst (λ (t : LaxTagged). AreTagsKept t (lax_tags_in (suc count) q)) (sym (lax_tags_turn count p))
+    (subst (AreTagsKept at) (sym (lax_tags_turn count q))
+    (from_tag_more law count p q (lax_tag_at p) (tags_more law count) more refl))
 
 -- tags and layers together, after a link header of so many bytes
 net_in : (before after : Option LaxNetSlice) → NetKept before after

@@ -1,12 +1,14 @@
 -- The offsets of the parts of a frame.
-use Rattle.std.proofs.Common.{◌≡◌, ℕ, ◌+◌, ◌*◌, ◌≤◌, ◌==◌, ◌&&◌, not, Bool, true, false, cond, List, [], ◌∷◌, ◌++◌}
-use Rattle.std.proofs.Common.{length, take, drop, Option, Some, None, Result, Ok, Err, IfSome, arith, refl, sym, ap}
+use Rattle.std.proofs.Common.{◌≡◌, ℕ, zero, suc, ◌+◌, ◌*◌, ◌≤◌, ◌==◌, ◌&&◌, not, Bool, true, false, cond, List, [], ◌∷◌, ◌++◌}
+use Rattle.std.proofs.Common.{length, take, drop, Option, Some, None, Result, Ok, Err, IfOk, IfSome, arith, refl, sym, ap}
 use Rattle.std.proofs.Common.{subst, ◌∙◌, append_assoc, length-append}
-use Rattle.std.specs.Prelude.{MatchResult, nat_lt}
+use Rattle.std.specs.Prelude.{MatchResult, nat_lt, option_map, unwrap_or}
+use Rattle.std.proofs.lemmas.Bool.{ltb-false}
 use Rattle.std.proofs.lemmas.List.{take-append-drop, append-nil, length-take-le}
 use Rattle.ep_base.specs.declared.err.layer.Layer.{Layer}
-use Rattle.ep_base.specs.declared.err.layer.Layer.TheVariants.{Ethernet2Header}
+use Rattle.ep_base.specs.declared.err.layer.Layer.TheVariants.{Ethernet2Header, VlanHeader}
 use Rattle.ep_base.specs.declared.err.len_error.LenError.{LenError}
+use Rattle.ep_base.specs.declared.err.slice_error.SliceError.{SliceError as HeaderSliceError}
 use Rattle.ep_base.specs.declared.len_source.LenSource.{LenSource}
 use Rattle.ep_ext.specs.Ipv4Exts.{auth_bytes}
 use Rattle.ep_ext.specs.Value.{bytes_of}
@@ -16,21 +18,29 @@ use Rattle.ep_icmp.specs.Icmpv6Fault as icmpv6_fault
 use Rattle.ep_ipslice.specs.Packet.{Ipv4Packet, Ipv6Packet, IsIpv4Packet, IsIpv6Packet}
 use Rattle.ep_link.specs.Ethernet.{ethernet_len}
 use Rattle.ep_link.specs.Frame.{EthernetFrame, frame_at, without_fcs}
-use Rattle.ep_packet.specs.Parts.{AreTagsAt, IsAt, IsTagAt, LayersIn, StandAt, TagIn, TagsIn, macsec_bytes, tags_len}
+use Rattle.ep_packet.specs.Parts.{AreTagsAt, IsAt, IsTagAt, LayersIn, StandAt, TagsIn, macsec_bytes, tags_len}
 use Rattle.ep_packet.specs.Parts.{transport_bytes}
 use Rattle.ep_packet.specs.Readable.{ReadMessage, icmpv4, icmpv6, message_at, read_as, tcp, tcp_fault, udp}
 use Rattle.ep_packet.specs.Readable.ReadMessage.{Icmpv4, Icmpv6, Tcp, Udp}
-use Rattle.ep_packet.specs.SliceFault.{fault_offset, within}
+use Rattle.ep_packet.specs.SliceFault.{fault_offset, offset_by, within}
 use Rattle.ep_packet.specs.Sliced.{read_transport, transport_of}
+use Rattle.ep_packet.specs.Tags.{is_macsec_type, tag_at, tags_from}
 use Rattle.ep_packet.specs.declared.err.packet.slice_error.SliceError.{SliceError}
 use Rattle.ep_packet.specs.declared.err.packet.slice_error.SliceError.TheVariants as error
 use Rattle.ep_packet.specs.declared.net.net_slice.NetSlice.TheVariants as net
 use Rattle.ep_packet.specs.declared.transport.transport_slice.TransportSlice.{TransportSlice}
+use Rattle.ep_packet.proofs.FaultLemmas.{offset_moved}
+use Rattle.ep_packet.proofs.FoundTagsLemmas.{no_tags}
+use Rattle.ep_packet.proofs.TagsLemmas.{Found, found_in, macsec_tag, stop_at_start, vlan_tag}
 use Rattle.ep_tag.specs.Ether.{EtherPayload}
 use Rattle.ep_tag.specs.Prefix.{whole_at}
 use Rattle.ep_tag.specs.LinkExt.{payload_after, tag_len}
-use Rattle.ep_tag.specs.MacsecPayload.{IsMacsec, Macsec, MacsecPayload, Unmodified, Modified, named_payload}
-use Rattle.ep_tag.specs.Vlan.{vlan_len}
+use Rattle.ep_tag.specs.Macsec.{header_len_of, is_unmodified, short_len_of}
+use Rattle.ep_tag.specs.MacsecFault.{header_at}
+use Rattle.ep_tag.specs.MacsecPayload.{Macsec, MacsecPayload, Modified, Unmodified, bytes_under, macsec_after, macsec_with}
+use Rattle.ep_tag.specs.MacsecPayload.{named_payload, payload_len_of, payload_under}
+use Rattle.ep_tag.specs.Vlan.{is_vlan_type, payload_of, vlan_len}
+use Rattle.ep_tag.specs.declared.err.macsec.header_error.HeaderError.{HeaderError}
 use Rattle.ep_tag.specs.declared.link.link_ext_slice.LinkExtSlice.{LinkExtSlice}
 use Rattle.ep_tag.specs.declared.link.link_ext_slice.LinkExtSlice.TheVariants as tag
 use Rattle.ep_tcpudp.specs.Tcp.{data_offset_of}
@@ -98,8 +108,13 @@ pub frame_is : (bytes : List ℕ) (frame : EthernetFrame) → Ok frame ≡ frame
     × (whole_at Ethernet2Header ethernet_len bytes ≡ Ok bytes)
 frame_is bytes frame same = grind arith
 
+-- a tag at the start of some bytes, and what follows it
+record TagIn (bytes : List ℕ) (t : LinkExtSlice) : Type 0 where
+  tag : IsTagAt bytes 0 t
+  next : IfSome (payload_after t) (λ next. IsAt bytes (tag_len t) next.payload)
+
 -- a VLAN tag
-pub vlan_in : (layer : Layer) (bytes vlan : List ℕ) → Ok vlan ≡ whole_at layer vlan_len bytes
+vlan_in : (layer : Layer) (bytes vlan : List ℕ) → Ok vlan ≡ whole_at layer vlan_len bytes
     → TagIn bytes (tag.Vlan vlan)
 vlan_in layer bytes vlan same =
     let whole = whole_is layer vlan_len bytes vlan same in
@@ -111,19 +126,55 @@ named_in : (bytes header : List ℕ) (p : MacsecPayload) → IsAt bytes (length 
 named_in bytes header (Unmodified p) at = at
 named_in bytes header (Modified payload) at = tt
 
-pub macsec_in : (bytes : List ℕ) (macsec : Macsec) → IsMacsec bytes macsec
-    → TagIn bytes (tag.Macsec macsec)
-macsec_in bytes macsec is =
-    let inside : IsAt bytes (length macsec.header) (macsec_bytes macsec.payload) =
-    grind arith in
-    record {
+under_at : (header rest : List ℕ) → IsAt rest 0 (macsec_bytes (payload_under header (bytes_under header rest)))
+under_at header rest =
+    let here = chosen (IsAt rest 0) (short_len_of header == 0) _ _ (at_whole rest)
+    (at_take (payload_len_of header) rest) in
+    chosen (λ (p : MacsecPayload). IsAt rest 0 (macsec_bytes p)) (is_unmodified header) _ _ here here
+
+header_is : (bytes header : List ℕ) → header_at bytes ≡ Ok header
+    → (header ≡ take (header_len_of bytes) bytes) × (header_len_of bytes ≤ length bytes)
+header_is bytes header at = grind (arith, ltb-false)
+
+macsec_in : (bytes header : List ℕ) → header_at bytes ≡ Ok header
+    → IfOk (macsec_tag (macsec_with header (drop (length header) bytes))) (λ o. IfSome o (TagIn bytes))
+macsec_in bytes header at =
+    let is = header_is bytes header at in
+    let size : length header ≤ length bytes =
+    omega (arith, ap length is.0, length-take-le (header_len_of bytes) bytes is.1, is.1) in
+    let rest : List ℕ = drop (length header) bytes in
+    let payload : MacsecPayload = payload_under header (bytes_under header rest) in
+    let front : IsAt bytes 0 header =
+    subst (IsAt bytes 0) (sym is.0) (at_take (header_len_of bytes) bytes) in
+    let inside : IsAt bytes (length header) (macsec_bytes payload) =
+    at_prefix bytes rest (macsec_bytes payload) (length header) (at_drop (length header) bytes size)
+    (under_at header rest) in
+    let here : TagIn bytes (tag.Macsec (record { header = header; payload = payload })) = record {
       tag = (
-        at_parts bytes [] macsec.header (is.payload ++ is.beyond) 0 refl
-            (is.parts ∙ append_assoc macsec.header is.payload is.beyond),
-        grind arith,
+        front,
+        at_same_position bytes (macsec_bytes payload) (length header) (0 + length header) (omega arith) inside,
       );
-      next = named_in bytes macsec.header macsec.payload inside;
-    }
+      next = named_in bytes header payload inside;
+    } in
+    chosen (λ (r : Result Macsec (HeaderSliceError HeaderError)). IfOk (macsec_tag r) (λ o. IfSome o (TagIn bytes)))
+    (nat_lt (length rest) (payload_len_of header)) _ _ tt here
+
+macsec_case : (bytes : List ℕ) (h : Result (List ℕ) (HeaderSliceError HeaderError)) → header_at bytes ≡ h
+    → IfOk (macsec_tag (macsec_after bytes h)) (λ o. IfSome o (TagIn bytes))
+macsec_case bytes (Ok header) at = macsec_in bytes header at
+macsec_case bytes (Err e) at = tt
+
+vlan_case : (bytes : List ℕ) (r : Result (List ℕ) LenError) → whole_at VlanHeader vlan_len bytes ≡ r
+    → IfOk (vlan_tag r) (λ o. IfSome o (TagIn bytes))
+vlan_case bytes (Ok vlan) at = vlan_in VlanHeader bytes vlan (sym at)
+vlan_case bytes (Err e) at = tt
+
+tag_in : (p : EtherPayload) → IfOk (tag_at p) (λ o. IfSome o (TagIn p.payload))
+tag_in p =
+    let P : Result (Option LinkExtSlice) SliceError → Type 0 = λ r. IfOk r (λ o. IfSome o (TagIn p.payload)) in
+    chosen P (is_vlan_type p.ether_type) _ _
+    (vlan_case p.payload (whole_at VlanHeader vlan_len p.payload) refl)
+    (chosen P (is_macsec_type p.ether_type) _ _ (macsec_case p.payload (header_at p.payload) refl) tt)
 
 -- IP packets
 pub stand_in : (bytes header exts payload padding : List ℕ)
@@ -261,88 +312,90 @@ pub tag_later : (frame bytes : List ℕ) (position p q : ℕ) (t : LinkExtSlice)
     → IsAt frame position bytes → IsTagAt bytes p t → IsTagAt frame q t
 tag_later frame bytes position p q t sum at here = grind (arith, at_later)
 
--- one tag more
-pub more_tags_len : (tags : List LinkExtSlice) (t : LinkExtSlice)
-    → tags_len (tags ++ t ∷ []) ≡ tags_len tags + tag_len t
-more_tags_len [] t = omega arith
-more_tags_len (u ∷ tags) t = omega (arith, more_tags_len tags t)
-
-tag_moved : (frame : List ℕ) (p q : ℕ) (t : LinkExtSlice) → p ≡ q
-    → IsTagAt frame p t → IsTagAt frame q t
-tag_moved frame p q t same at = subst (λ (n : ℕ). IsTagAt frame n t) same at
-
-more_tags : (frame : List ℕ) (position : ℕ) (tags : List LinkExtSlice) (t : LinkExtSlice)
-    → AreTagsAt frame position tags → IsTagAt frame (position + tags_len tags) t
-    → AreTagsAt frame position (tags ++ t ∷ [])
-more_tags frame position [] t are at = (tag_moved frame (position + 0) position t (omega arith) at, tt)
-more_tags frame position (u ∷ tags) t are at = (
-  are.0,
-  grind (arith, more_tags frame (position + tag_len u) tags t are.1),
+pub tags_later : (frame bytes : List ℕ) (position p q : ℕ) (tags : List LinkExtSlice) → position + p ≡ q
+    → IsAt frame position bytes → AreTagsAt bytes p tags → AreTagsAt frame q tags
+tags_later frame bytes position p q [] sum at here = tt
+tags_later frame bytes position p q (t ∷ tags) sum at here = (
+  tag_later frame bytes position p q t sum at here.0,
+  tags_later frame bytes position (p + tag_len t)
+      (q + tag_len t) tags (omega (arith, sum)) at here.1,
 )
 
--- tags that were read, and the rest after them
-pub record Passed (bytes : List ℕ) (tags : List LinkExtSlice) (len : ℕ)
-    (rest : List ℕ) : Type 0 where
-  pub tags_at : AreTagsAt bytes 0 tags
-  pub len_is : len ≡ tags_len tags
-  pub rest_at : IsAt bytes len rest
+tag_fits : (bytes : List ℕ) (t : LinkExtSlice) → TagIn bytes t → tag_len t ≤ length bytes
+tag_fits bytes (tag.Vlan vlan) here = omega (arith, at_fits bytes (payload_of vlan).payload vlan_len here.next)
+tag_fits bytes (tag.Macsec m) here = omega (arith, at_fits bytes m.header 0 here.tag.0)
 
-pub nothing_passed : (bytes : List ℕ) → Passed bytes [] 0 bytes
-nothing_passed bytes = record { tags_at = tt; len_is = refl; rest_at = at_whole bytes }
+last_later : (frame bytes : List ℕ) (position n : ℕ) (last : Option EtherPayload) → IsAt frame position bytes
+    → IfSome last (λ q. IsAt bytes n q.payload) → IfSome last (λ q. IsAt frame (position + n) q.payload)
+last_later frame bytes position n None at here = tt
+last_later frame bytes position n (Some q) at here = at_in frame bytes q.payload position n at here
 
-pub passed_fits : (bytes : List ℕ) (tags : List LinkExtSlice) (len : ℕ) (rest : List ℕ)
-    → Passed bytes tags len rest → len ≤ length bytes
-passed_fits bytes tags len rest passed = omega (arith, at_fits bytes rest len passed.rest_at)
+-- tags and what follows them, in the bytes in which they were found
+record TagsFoundIn (bytes : List ℕ) (found : Found) : Type 0 where
+  tags : AreTagsAt bytes 0 found.tags
+  len : found.len ≡ tags_len found.tags
+  size : found.len ≤ length bytes
+  last : IfSome found.last (λ q. IsAt bytes found.len q.payload)
 
--- a tag at the start of the rest is one of them, with what follows it
-tags_more : (bytes : List ℕ) (tags more : List LinkExtSlice) (len : ℕ) (rest : List ℕ)
-    (t : LinkExtSlice) → Passed bytes tags len rest → TagIn rest t → more ≡ tags ++ t ∷ []
-    → AreTagsAt bytes 0 more
-tags_more bytes tags more len rest t passed in_rest pushed =
-    let here : IsTagAt bytes (0 + tags_len tags) t =
-    grind (arith, tag_later) in
-    subst (AreTagsAt bytes 0) (sym pushed) (more_tags bytes 0 tags t passed.tags_at here)
-
-len_more : (tags more : List LinkExtSlice) (len n : ℕ) (t : LinkExtSlice) → len ≡ tags_len tags
-    → more ≡ tags ++ t ∷ [] → n ≡ tag_len t → len + n ≡ tags_len more
-len_more tags more len n t len_is pushed counted = grind (arith, more_tags_len)
-
-pub passed_more : (bytes : List ℕ) (tags more : List LinkExtSlice) (len n : ℕ) (rest next : List ℕ)
-    (t : LinkExtSlice) → Passed bytes tags len rest → TagIn rest t
-    → more ≡ tags ++ t ∷ [] → n ≡ tag_len t →
-    IsAt rest (tag_len t) next → Passed bytes more (len + n) next
-passed_more bytes tags more len n rest next t passed in_rest pushed counted at = record {
-  tags_at = tags_more bytes tags more len rest t passed in_rest pushed;
-  len_is = len_more tags more len n t passed.len_is pushed counted;
-  rest_at = grind (arith, at_same_position, at_in);
-}
-
-pub tag_found : (bytes : List ℕ) (o : Option LinkExtSlice) (t : LinkExtSlice)
-    → IfSome o (λ u. TagIn bytes u) → o ≡ Some t → TagIn bytes t
-tag_found bytes o t at same = grind arith
-
-pub next_at : (bytes : List ℕ) (t : LinkExtSlice) (next : EtherPayload) → TagIn bytes t
-    → payload_after t ≡ Some next → IsAt bytes (tag_len t) next.payload
-next_at bytes t next in_bytes named = grind arith
-
--- where the tags end
-pub ended_with : (bytes : List ℕ) (tags : List LinkExtSlice) (len : ℕ) (rest : EtherPayload)
-    → Passed bytes tags len rest.payload
-    → TagsIn bytes 0 (record { tags = tags; len = len; last = Some rest })
-ended_with bytes tags len rest passed =
+further_in : (bytes : List ℕ) (t : LinkExtSlice) (n : ℕ) (next : Option EtherPayload)
+    → ((q : EtherPayload) → TagsFoundIn q.payload (found_in n q))
+    → IsTagAt bytes 0 t → tag_len t ≤ length bytes → IfSome next (λ q. IsAt bytes (tag_len t) q.payload)
+    → let more : Found = unwrap_or (option_map (found_in n) next) (no_tags None None) in
+    TagsFoundIn bytes
+    (record { tags = t ∷ more.tags; len = tag_len t + more.len; last = more.last; stop = more.stop })
+further_in bytes t n None each at fits next =
+    record { tags = (at, tt); len = refl; size = omega (arith, fits); last = tt }
+further_in bytes t n (Some q) each at fits next =
+    let found : Found = found_in n q in
+    let more = each q in
     record {
-      tags = passed.tags_at;
-      len = passed.len_is;
-      last = at_same_position bytes rest.payload len (0 + len) (omega arith) passed.rest_at;
+      tags = (
+        at,
+        tags_later bytes q.payload (tag_len t) 0 (0 + tag_len t) found.tags (omega arith) next more.tags,
+      );
+      len = omega (arith, more.len);
+      size = omega (arith, more.size, at_fits bytes q.payload (tag_len t) next);
+      last = last_later bytes q.payload (tag_len t) found.len found.last next more.last;
     }
 
-pub ended_without : (bytes : List ℕ) (tags more : List LinkExtSlice) (len n : ℕ) (rest : List ℕ)
-    (t : LinkExtSlice) → Passed bytes tags len rest → TagIn rest t
-    → more ≡ tags ++ t ∷ [] → n ≡ tag_len t →
-    TagsIn bytes 0 (record { tags = more; len = len + n; last = None })
-ended_without bytes tags more len n rest t passed in_rest pushed counted =
+from_in : (n : ℕ) (p : EtherPayload) (r : Result (Option LinkExtSlice) SliceError)
+    → ((q : EtherPayload) → TagsFoundIn q.payload (found_in n q)) → IfOk r (λ o. IfSome o (TagIn p.payload))
+    → TagsFoundIn p.payload (tags_from tag_len payload_after (found_in n) p r)
+from_in n p (Err e) each here = record { tags = tt; len = refl; size = omega arith; last = tt }
+from_in n p (Ok None) each here = record { tags = tt; len = refl; size = omega arith; last = at_whole p.payload }
+from_in n p (Ok (Some t)) each here =
+    further_in p.payload t n (payload_after t) each here.tag (tag_fits p.payload t here) here.next
+
+tags_found_in : (n : ℕ) (p : EtherPayload) → TagsFoundIn p.payload (found_in n p)
+tags_found_in zero p = record { tags = tt; len = refl; size = omega arith; last = at_whole p.payload }
+tags_found_in (suc n) p = from_in n p (tag_at p) (tags_found_in n) (tag_in p)
+
+last_from_start : (bytes : List ℕ) (n : ℕ) (last : Option EtherPayload)
+    → IfSome last (λ q. IsAt bytes n q.payload) → IfSome last (λ q. IsAt bytes (0 + n) q.payload)
+last_from_start bytes n None at = tt
+last_from_start bytes n (Some q) at = at_same_position bytes q.payload n (0 + n) (omega arith) at
+
+-- as the code names what was found
+pub found_parts : (p : EtherPayload) (found : Found) → found ≡ found_in 3 p
+    → TagsIn p.payload 0 (record { tags = found.tags; len = found.len; last = found.last })
+found_parts p found is =
+    let inside = subst (TagsFoundIn p.payload) (sym is) (tags_found_in 3 p) in
     record {
-      tags = tags_more bytes tags more len rest t passed in_rest pushed;
-      len = len_more tags more len n t passed.len_is pushed counted;
-      last = tt;
+      tags = inside.tags;
+      len = inside.len;
+      last = last_from_start p.payload found.len found.last inside.last;
     }
+
+stop_known : (P : SliceError → Type 0) (stop : Option SliceError) (e : SliceError) → IfSome stop P
+    → stop ≡ Some e → P e
+stop_known P stop e known is = subst (λ (o : Option SliceError). IfSome o P) is known
+
+pub found_stop : (p : EtherPayload) (found : Found) (e : SliceError) → found ≡ found_in 3 p
+    → found.stop ≡ Some e
+    → (fault_offset e ≡ 0) × (fault_offset (offset_by found.len e) ≤ length p.payload)
+found_stop p found e is faulty =
+    let inside = subst (TagsFoundIn p.payload) (sym is) (tags_found_in 3 p) in
+    let known : IfSome found.stop (λ x. fault_offset x ≡ 0) =
+    subst (λ (f : Found). IfSome f.stop (λ x. fault_offset x ≡ 0)) (sym is) (stop_at_start 3 p) in
+    let start = stop_known (λ x. fault_offset x ≡ 0) found.stop e known faulty in
+    (start, offset_moved e found.len (length p.payload) start inside.size)

@@ -20,7 +20,7 @@ use Rattle.ep_packet.specs.declared.net.net_slice.NetSlice.{NetSlice}
 use Rattle.ep_packet.specs.declared.net.net_slice.NetSlice.TheVariants as net
 use Rattle.ep_packet.specs.declared.sliced_packet.SlicedPacket.{SlicedPacket}
 use Rattle.ep_packet.specs.declared.transport.transport_slice.TransportSlice.{TransportSlice}
-use Rattle.ep_packet.proofs.PartsLemmas.{at_drop, at_fits, at_later, tag_later}
+use Rattle.ep_packet.proofs.PartsLemmas.{at_drop, at_fits, at_later, tags_later}
 use Rattle.ep_tag.specs.Ether.{EtherPayload}
 use Rattle.ep_tag.specs.LinkExt.{tag_len}
 use Rattle.ep_tag.specs.declared.link.link_ext_slice.LinkExtSlice.{LinkExtSlice}
@@ -73,15 +73,6 @@ layers_later frame bytes position p q layers sum at inside = record {
   transport = transport_later frame bytes position p q
       (headers_len layers.net) layers.transport sum at inside.transport;
 }
-
-tags_later : (frame bytes : List ℕ) (position p q : ℕ) (tags : List LinkExtSlice) → position + p ≡ q
-    → IsAt frame position bytes → AreTagsAt bytes p tags → AreTagsAt frame q tags
-tags_later frame bytes position p q [] sum at here = tt
-tags_later frame bytes position p q (t ∷ tags) sum at here = (
-  tag_later frame bytes position p q t sum at here.0,
-  tags_later frame bytes position (p + tag_len t)
-      (q + tag_len t) tags (omega (arith, sum)) at here.1,
-)
 
 -- the parts of a payload, at the offset of the payload in a frame
 pub parts_later : (frame bytes : List ℕ) (position : ℕ) (packet : SlicedPacket)

@@ -61,8 +61,7 @@ use Rattle.ep_packet.specs.LaxSliced.{lax_layers_in, lax_message_at, lax_message
 use Rattle.ep_packet.specs.LaxSliced.{lax_sliced_ether_type, lax_sliced_ethernet, lax_sliced_ip, lax_sliced_linux_sll}
 use Rattle.ep_packet.specs.LaxSliced.{message_layer, message_or_stop, no_layers, of_auth, of_ipv4_header, of_ipv6_exts}
 use Rattle.ep_packet.specs.LaxSliced.{of_ip_header, of_ipv6_header}
-use Rattle.ep_packet.specs.LaxTags.{LaxTagged, Stop, lax_from_tag, lax_macsec_tag, lax_read_further, lax_tag_at}
-use Rattle.ep_packet.specs.LaxTags.{lax_tags_in, lax_vlan_tag, stop_by}
+use Rattle.ep_packet.specs.LaxTags.{LaxTagged, Stop, lax_tag_at, lax_tags_in, stop_by}
 use Rattle.ep_packet.specs.LayersAhead.{NoLengthStopped, counts_payload, is_passed_over, is_udp_length}
 use Rattle.ep_packet.specs.Readable as number
 use Rattle.ep_packet.specs.Readable.{ReadMessage, message_at, read_as, tcp_fault}
@@ -77,6 +76,7 @@ use Rattle.ep_packet.proofs.AheadIp.{row_is}
 use Rattle.ep_packet.proofs.AheadMessages.{passed_moved}
 use Rattle.ep_packet.proofs.LaxCutLemmas.{rest_at}
 use Rattle.ep_packet.proofs.LaxSameHeaderLemmas.{auth_is}
+use Rattle.ep_packet.proofs.LaxTagsLemmas.{lax_from_tag, lax_macsec_tag, lax_read_further, lax_tags_turn, lax_vlan_tag}
 use Rattle.ep_tag.specs.Ether.{EtherPayload, LaxEtherPayload, complete_ether}
 use Rattle.ep_tag.specs.LinkExt.{lax_payload_after, lax_tag_len}
 use Rattle.ep_tag.specs.MacsecFault as macsec_fault
@@ -144,7 +144,8 @@ from_stays n p (Ok (Some t)) each read = stays_moved (lax_tag_len t)
 pub tags_stay : (n : ℕ) → TagsStay n
 unfolding lax_tags_in
 tags_stay zero p = tt
-tags_stay (suc n) p = from_stays n p (lax_tag_at p) (tags_stay n) refl
+tags_stay (suc n) p = subst (λ (t : LaxTagged). NoLengthStopped t.stop) (sym (lax_tags_turn n p))
+    (from_stays n p (lax_tag_at p) (tags_stay n) refl)
 
 -- messages
 read_stays : {E : Type 0} (message : List ℕ → ReadMessage) (fault : E → SliceError)

@@ -2,7 +2,7 @@
 -- its format.
 use Rattle.std.proofs.lemmas.Bool.Decides.{nat_tests}
 use Rattle.std.proofs.Common.{◌≡◌, ℕ, zero, suc, ◌<◌, Bool, true, false, cond, List, [], ◌∷◌, length, Option, Some}
-use Rattle.std.proofs.Common.{None, Result, Ok, Err, arith, refl, sym}
+use Rattle.std.proofs.Common.{None, Result, Ok, Err, arith, refl, sym, ◌∙◌}
 use Rattle.ep_base.proofs.Prefixes.{err_same}
 use Rattle.ep_base.specs.declared.err.layer.Layer.TheVariants.{VlanHeader}
 use Rattle.ep_base.specs.declared.err.slice_error.SliceError.{SliceError as HeaderSliceError}
@@ -10,10 +10,10 @@ use Rattle.ep_packet.specs.FrameFault.{IsTagFault, OfMacsec}
 use Rattle.ep_packet.specs.IsTagged.{AreTags}
 use Rattle.ep_packet.specs.Parts.{tags_len}
 use Rattle.ep_packet.specs.SliceFault.{offset_by}
-use Rattle.ep_packet.specs.Tags.{Tagged, from_tag, is_macsec_type, macsec_tag, read_further, tag_at}
-use Rattle.ep_packet.specs.Tags.{tags_in, vlan_tag, with_tag}
+use Rattle.ep_packet.specs.Tags.{Tagged, is_macsec_type, tag_at, tags_in}
 use Rattle.ep_packet.specs.declared.err.packet.slice_error.SliceError.{SliceError}
 use Rattle.ep_packet.proofs.TaggedLaws.{MacsecIsRead, tag_read}
+use Rattle.ep_packet.proofs.TagsLemmas.{from_tag, macsec_tag, read_further, tags_turn, vlan_tag, with_tag}
 use Rattle.ep_tag.specs.Ether.{EtherPayload}
 use Rattle.ep_tag.specs.Prefix.{whole_at}
 use Rattle.ep_tag.specs.LinkExt.{payload_after, tag_len}
@@ -101,4 +101,4 @@ from_tag_first law n p (Ok (Some t)) e first read is = grind (arith, nat_tests, 
 pub tags_first : MacsecIsRead → (n : ℕ) → IsFirst n
 unfolding tags_in
 tags_first law zero p e is = cc
-tags_first law (suc n) p e is = from_tag_first law n p (tag_at p) e (tags_first law n) refl is
+tags_first law (suc n) p e is = from_tag_first law n p (tag_at p) e (tags_first law n) refl (sym (tags_turn n p) ∙ is)

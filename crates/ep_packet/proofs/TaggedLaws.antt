@@ -5,9 +5,9 @@ use Rattle.std.proofs.Common.{Some, None, Result, Ok, Err, IfSome, MatchOption, 
 use Rattle.ep_base.specs.declared.err.layer.Layer.TheVariants.{VlanHeader}
 use Rattle.ep_packet.specs.IsTagged.{AreTags, IsTag, IsTagged}
 use Rattle.ep_packet.specs.Parts.{tags_len}
-use Rattle.ep_packet.specs.Tags.{Tagged, with_tag, from_tag, is_macsec_type, macsec_tag, names_tag}
-use Rattle.ep_packet.specs.Tags.{read_further, tag_at, tags_in, without_tags, vlan_tag}
+use Rattle.ep_packet.specs.Tags.{Tagged, is_macsec_type, names_tag, tag_at, tags_in}
 use Rattle.ep_packet.specs.declared.err.packet.slice_error.SliceError.{SliceError}
+use Rattle.ep_packet.proofs.TagsLemmas.{from_tag, macsec_tag, read_further, tags_turn, vlan_tag, with_tag, without_tags}
 use Rattle.ep_tag.specs.Ether.{EtherPayload}
 use Rattle.ep_tag.specs.Prefix.{whole_at}
 use Rattle.ep_tag.specs.LinkExt.{payload_after, tag_len}
@@ -96,13 +96,18 @@ pub tags_found : MacsecIsRead → (n : ℕ) → Sound n
 unfolding tags_in
 tags_found law zero p t e = let same : without_tags (Some p) ≡ t = cc in
     subst (Stands 0 p) same (stands_full p)
-tags_found law (suc n) p t e = from_tag_found law n p (tag_at p) t (tags_found law n) refl e
+tags_found law (suc n) p t e = from_tag_found law n p (tag_at p) t (tags_found law n) refl (sym (tags_turn n p) ∙ e)
 
 -- what is there is read
+untagged_from : (n : ℕ) (p : EtherPayload) (last : Option EtherPayload) → IsTagged (suc n) p [] last
+    → from_tag (tags_in n) p (tag_at p) ≡ Ok (record { tags = []; len = 0; last = last })
+untagged_from n p last is = grind arith
+
 untagged_only : (n : ℕ) (p : EtherPayload) (last : Option EtherPayload) → IsTagged n p [] last
     → tags_in n p ≡ Ok (record { tags = []; len = 0; last = last })
 unfolding tags_in
-untagged_only n p last is = grind arith
+untagged_only zero p last is = grind arith
+untagged_only (suc n) p last is = tags_turn n p ∙ untagged_from n p last is
 
 abbrev pub Complete : ℕ → List LinkExtSlice → Option EtherPayload → Type 0
 Complete n tags last = (p : EtherPayload) → IsTagged n p tags last
@@ -121,6 +126,6 @@ unfolding tags_in
 tags_only law [] n last p is = untagged_only n p last is
 tags_only law (t ∷ tags) zero last p is = absurd (omega (arith, is.few))
 tags_only law (t ∷ tags) (suc n) last p is =
-    ap (from_tag (tags_in n) p) (tag_only law p t is.are.0)
+    tags_turn n p ∙ ap (from_tag (tags_in n) p) (tag_only law p t is.are.0)
     ∙ ap (with_tag t) (further_only n (payload_after t) tags last (tags_only law tags n last)
     (omega (arith, is.few)) (λ less. is.ends (omega arith)) is.are.1)

@@ -1,94 +1,111 @@
--- Tags read one after the other.
-use Rattle.std.proofs.Common.{◌≡◌, ℕ, suc, ◌+◌, List, ◌∷◌, ◌++◌, Option, Some, None, Result, Ok, [], Err, arith, refl}
-use Rattle.std.proofs.Common.{sym, ap, ◌∙◌, append_assoc, append-nil}
-use Rattle.ep_packet.specs.SliceFault.{offset_by}
-use Rattle.ep_packet.specs.Tags.{Tagged, with_tag, from_tag, read_further, tag_at, tags_in, without_tags}
+-- Tags of a payload that has to be whole, one after the other.
+use Rattle.std.proofs.Common.{◌≡◌, ◌∙◌, ℕ, suc, ◌+◌, List, [], ◌∷◌, Option, Some, None, Result, Ok, Err, arith, refl}
+use Rattle.std.proofs.Common.{IfErr, IfSome, ap, sym}
+use Rattle.std.specs.Prelude.{option_map, unwrap_or}
+use Rattle.std.specs.Result.{result_map_both}
+use Rattle.ep_base.specs.declared.err.len_error.LenError.{LenError}
+use Rattle.ep_base.specs.declared.err.slice_error.SliceError.{SliceError as HeaderSliceError}
+use Rattle.ep_packet.specs.SliceFault.{fault_offset, of_macsec, offset_by}
+use Rattle.ep_packet.specs.Tags.{FoundTags, Tagged, find_tags, tag_at, tags_from, tags_in}
 use Rattle.ep_packet.specs.declared.err.packet.slice_error.SliceError.{SliceError}
-use Rattle.ep_packet.proofs.FaultLemmas.{moved_twice}
+use Rattle.ep_packet.specs.declared.err.packet.slice_error.SliceError.TheVariants.{Len}
+use Rattle.ep_packet.proofs.FaultLemmas.{moved_nothing, moved_twice}
+use Rattle.ep_packet.proofs.FoundTagsLemmas.{no_tags, stop_is}
 use Rattle.ep_tag.specs.Ether.{EtherPayload}
 use Rattle.ep_tag.specs.LinkExt.{payload_after, tag_len}
+use Rattle.ep_tag.specs.MacsecPayload.{Macsec}
+use Rattle.ep_tag.specs.declared.err.macsec.header_error.HeaderError.{HeaderError}
 use Rattle.ep_tag.specs.declared.link.link_ext_slice.LinkExtSlice.{LinkExtSlice}
+use Rattle.ep_tag.specs.declared.link.link_ext_slice.LinkExtSlice.TheVariants as tag
 
--- tags that were read, of so many bytes, and what was read after them
-abbrev pub joined : List LinkExtSlice → ℕ → Result Tagged SliceError → Result Tagged SliceError
-joined tags len (Ok t) = Ok (record { tags = tags ++ t.tags; len = len + t.len; last = t.last })
-joined tags len (Err e) = Err (offset_by len e)
+abbrev pub vlan_tag : Result (List ℕ) LenError → Result (Option LinkExtSlice) SliceError
+vlan_tag r = result_map_both (λ bytes. Some (tag.Vlan bytes)) Len r
 
-pub joined_nothing : (r : Result Tagged SliceError) → joined [] 0 r ≡ r
-joined_nothing r = grind arith
+abbrev pub macsec_tag : Result Macsec (HeaderSliceError HeaderError)
+    → Result (Option LinkExtSlice) SliceError
+macsec_tag r = result_map_both (λ macsec. Some (tag.Macsec macsec)) of_macsec r
 
-pub joined_after : (tags : List LinkExtSlice) (len : ℕ) (tag : LinkExtSlice)
-    (r : Result Tagged SliceError) →
-    joined tags len (with_tag tag r) ≡ joined (tags ++ tag ∷ []) (len + tag_len tag) r
-joined_after tags len tag r = grind (arith, append_assoc, moved_twice)
+abbrev pub without_tags : Option EtherPayload → Tagged
+without_tags last = record { tags = []; len = 0; last = last }
 
-tags_turn : (n : ℕ) (p : EtherPayload) (r : Result (Option LinkExtSlice) SliceError) → tag_at p ≡ r
-    → tags_in (suc n) p ≡ from_tag (tags_in n) p r
+-- a tag and what was read after it
+abbrev pub with_tag : LinkExtSlice → Result Tagged SliceError → Result Tagged SliceError
+with_tag t (Ok more) =
+    Ok (record { tags = t ∷ more.tags; len = tag_len t + more.len; last = more.last })
+with_tag t (Err e) = Err (offset_by (tag_len t) e)
+
+abbrev pub read_further : (EtherPayload → Result Tagged SliceError) → Option EtherPayload
+    → Result Tagged SliceError
+read_further read None = Ok (without_tags None)
+read_further read (Some p) = read p
+
+abbrev pub from_tag : (EtherPayload → Result Tagged SliceError) → EtherPayload
+    → Result (Option LinkExtSlice) SliceError → Result Tagged SliceError
+from_tag read p (Err e) = Err e
+from_tag read p (Ok None) = Ok (without_tags (Some p))
+from_tag read p (Ok (Some t)) = with_tag t (read_further read (payload_after t))
+
+abbrev pub Found : Type 0
+Found = FoundTags LinkExtSlice EtherPayload SliceError
+
+abbrev pub found_in : ℕ → EtherPayload → Found
+found_in n p = find_tags tag_at tag_len payload_after n p
+
+-- tags in order, or the fault after them
+abbrev pub unless_stopped : Found → Result Tagged SliceError
+unless_stopped found = unwrap_or (option_map (λ e. Err (offset_by found.len e)) found.stop)
+    (Ok (record { tags = found.tags; len = found.len; last = found.last }))
+
+one_more : (t : LinkExtSlice) (tags : List LinkExtSlice) (len : ℕ) (last : Option EtherPayload)
+    (stop : Option SliceError)
+    → unless_stopped (record { tags = t ∷ tags; len = tag_len t + len; last = last; stop = stop })
+    ≡ with_tag t (unless_stopped (record { tags = tags; len = len; last = last; stop = stop }))
+one_more t tags len last None = refl
+one_more t tags len last (Some e) =
+    ap (λ (x : SliceError). Err x) (sym (moved_twice (tag_len t) len e))
+
+further : (n : ℕ) (t : LinkExtSlice) (o : Option EtherPayload)
+    → let more : Found = unwrap_or (option_map (found_in n) o) (no_tags None None) in
+    unless_stopped (record { tags = t ∷ more.tags; len = tag_len t + more.len; last = more.last; stop = more.stop })
+    ≡ with_tag t (read_further (tags_in n) o)
 unfolding tags_in
-tags_turn n p r e = ap (from_tag (tags_in n) p) e
+further n t None = refl
+further n t (Some q) =
+    let more = found_in n q in one_more t more.tags more.len more.last more.stop
 
-pub tags_in_full : (p : EtherPayload) → tags_in 0 p ≡ Ok (without_tags (Some p))
+turn : (n : ℕ) (p : EtherPayload) (r : Result (Option LinkExtSlice) SliceError)
+    → unless_stopped (tags_from tag_len payload_after (found_in n) p r) ≡ from_tag (tags_in n) p r
+turn n p (Err e) = ap (λ (x : SliceError). Err x) (moved_nothing e)
+turn n p (Ok None) = refl
+turn n p (Ok (Some t)) = further n t (payload_after t)
+
+-- one tag is read, and then the others
+pub tags_turn : (n : ℕ) (p : EtherPayload) → tags_in (suc n) p ≡ from_tag (tags_in n) p (tag_at p)
 unfolding tags_in
-tags_in_full p = refl
+tags_turn n p = turn n p (tag_at p)
 
--- nothing more is read
-pub joined_untagged : (tags : List LinkExtSlice) (len : ℕ) (last : Option EtherPayload)
-    → joined tags len (Ok (without_tags last)) ≡ Ok (record { tags = tags; len = len; last = last })
-joined_untagged tags len last = grind (arith, append-nil)
+stop_none : (found : Found) → found.stop ≡ None
+    → Ok (record { tags = found.tags; len = found.len; last = found.last }) ≡ unless_stopped found
+stop_none found none = rw none refl
 
--- the ends of the loop, where k + 1 tags may still follow, and its next turn
-pub ends_untagged : (all : Result Tagged SliceError) (tags : List LinkExtSlice) (len k n : ℕ)
-    (p : EtherPayload) → all ≡ joined tags len (tags_in n p) → n ≡ suc k → tag_at p ≡ Ok None →
-    Ok (record { tags = tags; len = len; last = Some p }) ≡ all
-ends_untagged all tags len k n p so_far more none =
-    sym (so_far ∙ ap (λ (m : ℕ). joined tags len (tags_in m p)) more
-    ∙ ap (joined tags len) (tags_turn k p (Ok None) none) ∙ joined_untagged tags len (Some p))
+stop_some : (found : Found) (e : SliceError) → found.stop ≡ Some e
+    → Err (offset_by found.len e) ≡ unless_stopped found
+stop_some found e faulty = rw faulty refl
 
-pub ends_faulty : (all : Result Tagged SliceError) (tags : List LinkExtSlice) (len k n : ℕ)
-    (p : EtherPayload) (e : SliceError) → all ≡ joined tags len (tags_in n p)
-    → n ≡ suc k → tag_at p ≡ Err e →
-    Err (offset_by len e) ≡ all
-ends_faulty all tags len k n p e so_far more fault =
-    sym (so_far ∙ ap (λ (m : ℕ). joined tags len (tags_in m p)) more
-    ∙ ap (joined tags len) (tags_turn k p (Err e) fault))
+-- what is found is what is read
+pub found_whole : (p : EtherPayload) (found : Found) → found ≡ found_in 3 p → found.stop ≡ None
+    → Ok (record { tags = found.tags; len = found.len; last = found.last }) ≡ tags_in 3 p
+unfolding tags_in
+found_whole p found is none = stop_none found none ∙ ap unless_stopped is
 
-pub goes_on : (all : Result Tagged SliceError) (tags : List LinkExtSlice) (len k n : ℕ)
-    (p : EtherPayload) (tag : LinkExtSlice) → all ≡ joined tags len (tags_in n p) → n ≡ suc k →
-    tag_at p ≡ Ok (Some tag)
-    → all ≡ joined (tags ++ tag ∷ []) (len + tag_len tag)
-    (read_further (tags_in k) (payload_after tag))
-goes_on all tags len k n p tag so_far more found =
-    so_far ∙ ap (λ (m : ℕ). joined tags len (tags_in m p)) more
-    ∙ ap (joined tags len) (tags_turn k p (Ok (Some tag)) found)
-    ∙ joined_after tags len tag (read_further (tags_in k) (payload_after tag))
+pub found_faulty : (p : EtherPayload) (found : Found) (e : SliceError) → found ≡ found_in 3 p
+    → found.stop ≡ Some e → Err (offset_by found.len e) ≡ tags_in 3 p
+unfolding tags_in
+found_faulty p found e is faulty = stop_some found e faulty ∙ ap unless_stopped is
 
-pub ends_full : (all : Result Tagged SliceError) (tags : List LinkExtSlice) (len n : ℕ)
-    (p : EtherPayload) → all ≡ joined tags len (tags_in n p) → n ≡ 0 →
-    Ok (record { tags = tags; len = len; last = Some p }) ≡ all
-ends_full all tags len n p so_far none =
-    sym (so_far ∙ ap (λ (m : ℕ). joined tags len (tags_in m p)) none
-    ∙ ap (joined tags len) (tags_in_full p) ∙ joined_untagged tags len (Some p))
+tag_fault_at_start : (p : EtherPayload) → IfErr (tag_at p) (λ e. fault_offset e ≡ 0)
+tag_fault_at_start p = grind arith
 
--- the same turn, as the code names what it has
-pub goes_on_some : (all : Result Tagged SliceError) (tags more_tags : List LinkExtSlice)
-    (len tag_bytes k n : ℕ) (p : EtherPayload) (tag : LinkExtSlice) (next : EtherPayload) →
-    all ≡ joined tags len (tags_in n p) → n ≡ suc k → tag_at p ≡ Ok (Some tag) →
-    more_tags ≡ tags ++ tag ∷ [] → tag_bytes ≡ tag_len tag → payload_after tag ≡ Some next
-    → all ≡ joined more_tags (len + tag_bytes) (tags_in k next)
-goes_on_some all tags more_tags len tag_bytes k n p tag next so_far more
-    found pushed counted named =
-    rw (pushed, counted) (goes_on all tags len k n p tag so_far more found
-    ∙ ap (λ (o : Option EtherPayload). joined (tags ++ tag ∷ []) (len + tag_len tag)
-    (read_further (tags_in k) o)) named)
-
-pub goes_on_none : (all : Result Tagged SliceError) (tags more_tags : List LinkExtSlice)
-    (len tag_bytes k n : ℕ) (p : EtherPayload) (tag : LinkExtSlice) →
-    all ≡ joined tags len (tags_in n p) → n ≡ suc k → tag_at p ≡ Ok (Some tag) →
-    more_tags ≡ tags ++ tag ∷ [] → tag_bytes ≡ tag_len tag → payload_after tag ≡ None
-    → Ok (record { tags = more_tags; len = len + tag_bytes; last = None }) ≡ all
-goes_on_none all tags more_tags len tag_bytes k n p tag so_far more found pushed counted named =
-    rw (pushed, counted)
-    (sym (goes_on all tags len k n p tag so_far more found
-    ∙ ap (λ (o : Option EtherPayload). joined (tags ++ tag ∷ []) (len + tag_len tag)
-    (read_further (tags_in k) o)) named
-    ∙ joined_untagged (tags ++ tag ∷ []) (len + tag_len tag) None))
+-- a fault is counted from its tag
+pub stop_at_start : (n : ℕ) (p : EtherPayload) → IfSome (found_in n p).stop (λ e. fault_offset e ≡ 0)
+stop_at_start n p = stop_is tag_at tag_len payload_after (λ e. fault_offset e ≡ 0) tag_fault_at_start n p

@@ -3,17 +3,10 @@
 use Rattle.std.specs.Prelude.{ℕ, ◌+◌, ◌≤◌, ◌<◌, ◌^◌, Option, IfSome, length}
 use Rattle.ep_packet.specs.LaxTags.{LaxTagged, Stop}
 use Rattle.ep_packet.specs.SliceFault.{fault_offset}
-use Rattle.ep_tag.specs.LinkExt.{lax_payload_after, lax_tag_len}
-use Rattle.ep_tag.specs.declared.link.lax_link_ext_slice.LaxLinkExtSlice.{LaxLinkExtSlice}
 
 -- the offset of a fault lies within so many bytes
 abbrev pub StopFits : ℕ → Option Stop → Type 0
 StopFits size stop = IfSome stop (λ s. fault_offset s.0 ≤ size)
-
--- a tag in so many bytes
-abbrev pub TagFits : ℕ → Option LaxLinkExtSlice → Type 0
-TagFits size found = IfSome found (λ t. (lax_tag_len t ≤ size)
-    × IfSome (lax_payload_after t) (λ next. lax_tag_len t + length next.payload ≤ size))
 
 -- tags in so many bytes
 pub record TagsFit (size : ℕ) (t : LaxTagged) : Type 0 where

@@ -8,8 +8,7 @@ use Rattle.ep_packet.specs.declared.net.net_slice.NetSlice.TheVariants as net
 use Rattle.ep_packet.specs.declared.sliced_packet.SlicedPacket.{SlicedPacket}
 use Rattle.ep_packet.specs.declared.transport.transport_slice.TransportSlice.{TransportSlice}
 use Rattle.ep_packet.specs.declared.transport.transport_slice.TransportSlice.TheVariants as transport
-use Rattle.ep_tag.specs.Ether.{EtherPayload}
-use Rattle.ep_tag.specs.LinkExt.{payload_after, tag_len}
+use Rattle.ep_tag.specs.LinkExt.{tag_len}
 use Rattle.ep_tag.specs.MacsecPayload.{MacsecPayload, Unmodified, Modified}
 use Rattle.ep_tag.specs.declared.link.link_ext_slice.LinkExtSlice.{LinkExtSlice}
 use Rattle.ep_tag.specs.declared.link.link_ext_slice.LinkExtSlice.TheVariants as tag
@@ -72,11 +71,6 @@ pub record LayersIn (frame : List ℕ) (position : ℕ) (layers : Layers) : Type
   pub net : IfSome layers.net (IsNetAt frame position)
   pub transport : IfSome layers.transport
       (λ message. IsAt frame (position + headers_len layers.net) (transport_bytes message))
-
--- a tag at the start of some bytes, and what follows it
-pub record TagIn (bytes : List ℕ) (t : LinkExtSlice) : Type 0 where
-  pub tag : IsTagAt bytes 0 t
-  pub next : IfSome (payload_after t) (λ next. IsAt bytes (tag_len t) next.payload)
 
 -- the tags from this offset on, and what follows them
 pub record TagsIn (frame : List ℕ) (position : ℕ) (t : Tagged) : Type 0 where

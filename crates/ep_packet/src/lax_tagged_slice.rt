@@ -1,13 +1,14 @@
 //! The tags before a payload, as far as they are there.
-ghost use Rattle.std.specs.Prelude.{◌≡◌, false, length, IfErr, IfOk};
+ghost use Rattle.std.specs.Prelude.{◌≡◌, false, length};
 ghost use Rattle.ep_packet.specs.LaxTags.{LaxTagged, lax_tag_at, lax_tags_in};
-ghost use Rattle.ep_packet.specs.LaxFits.{TagFits, TagsFit};
+ghost use Rattle.ep_packet.specs.LaxFits.{TagsFit};
 ghost use Rattle.ep_base.specs.declared.len_source.LenSource.TheVariants.{Slice};
 ghost use Rattle.ep_packet.specs.LaxView.{bound_after, bound_by};
-ghost use Rattle.ep_packet.specs.SliceFault.{fault_offset};
 ghost use Rattle.ep_packet.specs.Tags.{most_tags};
+ghost use Rattle.ep_tag.specs.LinkExt.{lax_payload_after, lax_tag_len};
 
 use crate::err::packet::SliceError;
+use crate::found_tags::{FoundTags, TaggedPayload};
 use crate::slice_fault;
 use arrayvec::ArrayVec;
 use ep_base::err::Layer;
@@ -39,75 +40,53 @@ impl<'a> LaxTaggedSlice<'a> {
         ensures tags { result ≡ lax_tags_in most_tags payload.entry }
         ensures fits { TagsFit (length payload.entry.payload) result }
     {
-        let mut tags = ArrayVec::new();
-        let mut len = 0;
-        let mut rest = payload;
-        for _count in 0..3usize {
-            let tag = match tag_of(&rest) {
-                Ok(Some(tag)) => tag,
-                Ok(None) => {
-                    return LaxTaggedSlice {
-                        tags,
-                        len,
-                        last: Some(rest),
-                        stop: None,
-                    };
-                }
-                Err(stop) => {
-                    return LaxTaggedSlice {
-                        tags,
-                        len,
-                        last: None,
-                        stop: slice_fault::stop_moved(Some(stop), len),
-                    };
-                }
-            };
-            len += tag.header_len();
-            let next = tag.ether_payload();
-            tags.push(tag);
-            match next {
-                Some(payload) => rest = payload,
-                None => {
-                    return LaxTaggedSlice {
-                        tags,
-                        len,
-                        last: None,
-                        stop: None,
-                    };
-                }
-            }
-        }
+        let found = FoundTags::from_payload(payload);
         LaxTaggedSlice {
-            tags,
-            len,
-            last: Some(rest),
-            stop: None,
+            tags: found.tags,
+            len: found.len,
+            last: found.last,
+            stop: slice_fault::stop_moved(found.stop, found.len),
         }
     }
 }
 
-// The tag that the payload's ether type names, if it names one, or its fault.
-fn tag_of<'a>(
-    payload: &LaxEtherPayloadSlice<'a>,
-) -> Result<Option<LaxLinkExtSlice<'a>>, (SliceError, Layer)>
-    ensures tag { result ≡ lax_tag_at payload.now }
-    ensures fits { IfOk result (TagFits (length payload.now.payload)) }
-    ensures offset { IfErr result (λ stop. fault_offset stop.0 ≡ 0) }
-{
-    match payload.ether_type {
-        EtherType::VLAN_TAGGED_FRAME
-        | EtherType::PROVIDER_BRIDGING
-        | EtherType::VLAN_DOUBLE_TAGGED_FRAME => match SingleVlanSlice::from_slice(
-            payload.payload,
-        ) {
-            Ok(vlan) => Ok(Some(LaxLinkExtSlice::Vlan(vlan))),
-            Err(error) => Err((SliceError::Len(error), Layer::VlanHeader)),
-        },
-        EtherType::MACSEC => match LaxMacsecSlice::from_slice(payload.payload) {
-            Ok(macsec) => Ok(Some(LaxLinkExtSlice::Macsec(macsec))),
-            Err(error) => Err((slice_fault::of_macsec(error), Layer::MacsecHeader)),
-        },
-        _ => Ok(None),
+impl<'a> TaggedPayload for LaxEtherPayloadSlice<'a> {
+    type Tag = LaxLinkExtSlice<'a>;
+
+    type Fault = (SliceError, Layer);
+
+    ghost tag_at = { lax_tag_at };
+
+    ghost tag_len = { lax_tag_len };
+
+    ghost payload_after = { lax_payload_after };
+
+    fn tag(&self) -> Result<Option<LaxLinkExtSlice<'a>>, (SliceError, Layer)> {
+        match self.ether_type {
+            EtherType::VLAN_TAGGED_FRAME
+            | EtherType::PROVIDER_BRIDGING
+            | EtherType::VLAN_DOUBLE_TAGGED_FRAME => match SingleVlanSlice::from_slice(
+                self.payload,
+            ) {
+                Ok(vlan) => Ok(Some(LaxLinkExtSlice::Vlan(vlan))),
+                Err(error) => Err((SliceError::Len(error), Layer::VlanHeader)),
+            },
+            EtherType::MACSEC => match LaxMacsecSlice::from_slice(self.payload) {
+                Ok(macsec) => Ok(Some(LaxLinkExtSlice::Macsec(macsec))),
+                Err(error) => Err((slice_fault::of_macsec(error), Layer::MacsecHeader)),
+            },
+            _ => Ok(None),
+        }
+    }
+
+    #[inline(always)]
+    fn tag_len(tag: &LaxLinkExtSlice<'a>) -> usize {
+        tag.header_len()
+    }
+
+    #[inline(always)]
+    fn payload_after(tag: &LaxLinkExtSlice<'a>) -> Option<LaxEtherPayloadSlice<'a>> {
+        tag.ether_payload()
     }
 }
 

@@ -5,6 +5,7 @@
 mod addresses;
 mod class;
 pub mod err;
+mod found_tags;
 pub mod laws;
 mod lax_layer_headers;
 mod lax_layer_slices;

@@ -1,12 +1,14 @@
 //! The tags before a payload.
-ghost use Rattle.std.specs.Prelude.{◌≡◌, ◌≤◌, length, IfErr, IfOk, IfSome};
+ghost use Rattle.std.specs.Prelude.{◌≡◌, ◌≤◌, length, IfErr, IfOk};
 ghost use Rattle.ep_packet.specs.PacketView.{has_short_len, source_after};
-ghost use Rattle.ep_packet.specs.Parts.{TagIn, TagsIn};
+ghost use Rattle.ep_packet.specs.Parts.{TagsIn};
 ghost use Rattle.ep_packet.specs.SliceFault.{fault_offset};
 ghost use Rattle.ep_packet.specs.Sliced.{ether_payload};
 ghost use Rattle.ep_packet.specs.Tags.{Tagged, most_tags, tag_at, tags_in};
+ghost use Rattle.ep_tag.specs.LinkExt.{payload_after, tag_len};
 
 use crate::err::packet::SliceError;
+use crate::found_tags::{FoundTags, TaggedPayload};
 use crate::slice_fault;
 use arrayvec::ArrayVec;
 use ep_base::{EtherType, LenSource};
@@ -36,40 +38,15 @@ impl<'a> TaggedSlice<'a> {
         ensures parts { IfOk result (λ t. TagsIn payload.entry.payload 0 t) }
         ensures offset { IfErr result (λ e. fault_offset e ≤ length payload.entry.payload) }
     {
-        let mut tags = ArrayVec::new();
-        let mut len = 0;
-        let mut rest = payload;
-        for _count in 0..3usize {
-            let tag = match tag_of(&rest) {
-                Ok(Some(tag)) => tag,
-                Ok(None) => {
-                    return Ok(TaggedSlice {
-                        tags,
-                        len,
-                        last: Some(rest),
-                    });
-                }
-                Err(error) => return Err(slice_fault::moved(error, len)),
-            };
-            len += tag.header_len();
-            let next = tag.ether_payload();
-            tags.push(tag);
-            match next {
-                Some(payload) => rest = payload,
-                None => {
-                    return Ok(TaggedSlice {
-                        tags,
-                        len,
-                        last: None,
-                    });
-                }
-            }
+        let found = FoundTags::from_payload(payload);
+        match found.stop {
+            Some(fault) => Err(slice_fault::moved(fault, found.len)),
+            None => Ok(TaggedSlice {
+                tags: found.tags,
+                len: found.len,
+                last: found.last,
+            }),
         }
-        Ok(TaggedSlice {
-            tags,
-            len,
-            last: Some(rest),
-        })
     }
 }
 
@@ -84,26 +61,43 @@ pub(crate) fn ether_payload(ether_type: EtherType, slice: &[u8]) -> EtherPayload
     }
 }
 
-// The tag that the payload's ether type names, if it names one.
-fn tag_of<'a>(payload: &EtherPayloadSlice<'a>) -> Result<Option<LinkExtSlice<'a>>, SliceError>
-    ensures tag { result ≡ tag_at payload.now }
-    ensures parts { IfOk result (λ o. IfSome o (λ t. TagIn payload.now.payload t)) }
-    ensures offset { IfErr result (λ e. fault_offset e ≡ 0) }
-{
-    match payload.ether_type {
-        EtherType::VLAN_TAGGED_FRAME
-        | EtherType::PROVIDER_BRIDGING
-        | EtherType::VLAN_DOUBLE_TAGGED_FRAME => match SingleVlanSlice::from_slice(
-            payload.payload,
-        ) {
-            Ok(vlan) => Ok(Some(LinkExtSlice::Vlan(vlan))),
-            Err(error) => Err(SliceError::Len(error)),
-        },
-        EtherType::MACSEC => match MacsecSlice::from_slice(payload.payload) {
-            Ok(macsec) => Ok(Some(LinkExtSlice::Macsec(macsec))),
-            Err(error) => Err(slice_fault::of_macsec(error)),
-        },
-        _ => Ok(None),
+impl<'a> TaggedPayload for EtherPayloadSlice<'a> {
+    type Tag = LinkExtSlice<'a>;
+
+    type Fault = SliceError;
+
+    ghost tag_at = { tag_at };
+
+    ghost tag_len = { tag_len };
+
+    ghost payload_after = { payload_after };
+
+    fn tag(&self) -> Result<Option<LinkExtSlice<'a>>, SliceError> {
+        match self.ether_type {
+            EtherType::VLAN_TAGGED_FRAME
+            | EtherType::PROVIDER_BRIDGING
+            | EtherType::VLAN_DOUBLE_TAGGED_FRAME => match SingleVlanSlice::from_slice(
+                self.payload,
+            ) {
+                Ok(vlan) => Ok(Some(LinkExtSlice::Vlan(vlan))),
+                Err(error) => Err(SliceError::Len(error)),
+            },
+            EtherType::MACSEC => match MacsecSlice::from_slice(self.payload) {
+                Ok(macsec) => Ok(Some(LinkExtSlice::Macsec(macsec))),
+                Err(error) => Err(slice_fault::of_macsec(error)),
+            },
+            _ => Ok(None),
+        }
+    }
+
+    #[inline(always)]
+    fn tag_len(tag: &LinkExtSlice<'a>) -> usize {
+        tag.header_len()
+    }
+
+    #[inline(always)]
+    fn payload_after(tag: &LinkExtSlice<'a>) -> Option<EtherPayloadSlice<'a>> {
+        tag.ether_payload()
     }
 }
 

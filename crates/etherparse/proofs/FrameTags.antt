@@ -1,5 +1,5 @@
 -- The class of an Ethernet II frame whose header and tags were built, by what follows them.
-use Rattle.std.proofs.Common.{◌≡◌, ◌∙◌, sym, ap, ℕ, suc, ◌+◌, ◌*◌, ◌/◌, ◌%◌, ◌^◌, ◌≤◌, Bool, false, List, [], ◌∷◌, ◌++◌}
+use Rattle.std.proofs.Common.{◌≡◌, ◌∙◌, sym, ap, refl, ℕ, zero, suc, ◌+◌, ◌*◌, ◌/◌, ◌%◌, ◌^◌, ◌≤◌, Bool, false, List, [], ◌∷◌, ◌++◌}
 use Rattle.std.proofs.Common.{length, drop, get_or, Option, Some, None, Ok, arith, append_assoc, length-append}
 use Rattle.std.proofs.Common.{if◌then◌else◌}
 use Rattle.std.specs.Prelude.{nat_lt}
@@ -12,7 +12,8 @@ use Rattle.ep_link.specs.Ethernet.{Fits}
 use Rattle.ep_link.specs.declared.link.ethernet2_header.Ethernet2Header.{Ethernet2Header}
 use Rattle.ep_link.specs.declared.link.link_header.LinkHeader.TheVariants.{Ethernet2}
 use Rattle.ep_packet.specs.Class.{class_of, payload_class, tagged_class}
-use Rattle.ep_packet.specs.Tags.{with_tag, is_macsec_type, tags_in, without_tags}
+use Rattle.ep_packet.specs.Tags.{is_macsec_type, tag_at, tags_in}
+use Rattle.ep_packet.proofs.TagsLemmas.{from_tag, tags_turn, with_tag, without_tags}
 use Rattle.ep_tag.specs.Vlan.{is_vlan_type}
 use Rattle.ep_tag.specs.Ether.{EtherPayload}
 use Rattle.ep_tag.specs.Vlan as vlan
@@ -38,10 +39,17 @@ pub record NamesNoTag (ether_type : ℕ) : Type 0 where
   pub macsec : is_macsec_type (record { 0 = ether_type }) ≡ false
   pub short : ether_type ≤ 65535
 
+untagged_after : (n ether_type : ℕ) (payload : List ℕ) → NamesNoTag ether_type
+    → from_tag (tags_in n) (named ether_type payload) (tag_at (named ether_type payload))
+    ≡ Ok (without_tags (Some (named ether_type payload)))
+untagged_after n ether_type payload plain = grind arith
+
 untagged_in : (n ether_type : ℕ) (payload : List ℕ) → NamesNoTag ether_type
     → tags_in n (named ether_type payload) ≡ Ok (without_tags (Some (named ether_type payload)))
 unfolding tags_in
-untagged_in n ether_type payload plain = grind arith
+untagged_in zero ether_type payload plain = refl
+untagged_in (suc n) ether_type payload plain =
+    tags_turn n (named ether_type payload) ∙ untagged_after n ether_type payload plain
 
 -- the tag of an identifier
 identifier : (pcp id : ℕ) (eligible : Bool) → pcp ≤ 7 → id ≤ 4095
@@ -56,17 +64,25 @@ module _ (t : SingleVlanHeader) (fits : vlan.Fits t) (ether_type : ℕ) (rest : 
   tag_id : vlan.vlan_id_of naming ≡ t.vlan_id
   tag_id = identifier t.pcp t.vlan_id t.drop_eligible_indicator fits.pcp fits.vlan_id
 
+  single_after : (n : ℕ) → ether_type ≤ 65535
+      → from_tag (tags_in n) (named 0x8100 naming) (tag_at (named 0x8100 naming))
+      ≡ with_tag (tag.Vlan naming) (tags_in n (named ether_type rest))
+  single_after n short = grind arith
+
   single_in : (n : ℕ) → ether_type ≤ 65535
       → tags_in (suc n) (named 0x8100 naming)
       ≡ with_tag (tag.Vlan naming) (tags_in n (named ether_type rest))
-  unfolding tags_in
-  single_in n short = grind arith
+  single_in n short = tags_turn n (named 0x8100 naming) ∙ single_after n short
+
+  service_after : (n : ℕ) → ether_type ≤ 65535
+      → from_tag (tags_in n) (named 0x88a8 naming) (tag_at (named 0x88a8 naming))
+      ≡ with_tag (tag.Vlan naming) (tags_in n (named ether_type rest))
+  service_after n short = grind arith
 
   service_in : (n : ℕ) → ether_type ≤ 65535
       → tags_in (suc n) (named 0x88a8 naming)
       ≡ with_tag (tag.Vlan naming) (tags_in n (named ether_type rest))
-  unfolding tags_in
-  service_in n short = grind arith
+  service_in n short = tags_turn n (named 0x88a8 naming) ∙ service_after n short
 
 -- the class of what follows an Ethernet header
 pub class_after : (v : Option VlanHeader) (ether_type : ℕ) (packet : List ℕ) → TagsFit v

@@ -4,8 +4,10 @@ use Rattle.std.proofs.Common.{◌∷◌, length, take, drop, Option, Some, None,
 use Rattle.std.proofs.lemmas.Bool.{ltb-false}
 use Rattle.std.specs.List.{slice_get}
 use Rattle.std.specs.Option.{option_map}
+use Rattle.std.specs.Prelude.{unwrap_or}
+use Rattle.std.specs.Result.{result_map_both}
 use Rattle.etherparse.specs.base.declared.err.layer.Layer.{Layer}
-use Rattle.etherparse.specs.base.declared.err.layer.Layer.TheVariants.{VlanHeader}
+use Rattle.etherparse.specs.base.declared.err.layer.Layer.TheVariants.{MacsecHeader, VlanHeader}
 use Rattle.etherparse.specs.base.declared.err.len_error.LenError.{LenError}
 use Rattle.etherparse.specs.base.declared.err.slice_error.SliceError.{SliceError as HeaderSliceError}
 use Rattle.etherparse.specs.base.declared.len_source.LenSource.{LenSource}
@@ -18,12 +20,13 @@ use Rattle.etherparse.specs.link.Arp as arp
 use Rattle.etherparse.specs.link.declared.link.link_slice.LinkSlice.{LinkSlice}
 use Rattle.etherparse.specs.packet.LaxSliced.{LaxLayers, in_lax_ipv4, in_lax_ipv6, lax_arp_layers, lax_ipv4_layers, lax_ipv6_layers}
 use Rattle.etherparse.specs.packet.LaxSliced.{lax_layers_in, lax_layers_of, lax_packet_tagged, lax_transport_in}
-use Rattle.etherparse.specs.packet.LaxTags.{LaxTagged, Stop, joined, lax_from_tag, lax_macsec_tag, lax_read_further}
-use Rattle.etherparse.specs.packet.LaxTags.{lax_tag_at, lax_tags_in, lax_vlan_tag}
+use Rattle.etherparse.specs.packet.LaxTags.{LaxTagged, Stop, lax_tag_at, lax_tags_in}
 use Rattle.etherparse.specs.packet.LaxView.{bound_after, bounded, lax_named_by}
 use Rattle.etherparse.specs.packet.Parts.{IsAt, StandAt, transport_bytes}
 use Rattle.etherparse.specs.packet.Sliced.{arp_type, ipv4_type, ipv6_type}
-use Rattle.etherparse.specs.packet.Tags.{is_macsec_type}
+use Rattle.etherparse.specs.packet.SliceFault.{of_macsec}
+use Rattle.etherparse.specs.packet.Tags.{find_tags, is_macsec_type, tags_from}
+use Rattle.etherparse.specs.packet.declared.err.packet.slice_error.SliceError.TheVariants.{Len}
 use Rattle.etherparse.specs.packet.declared.net.lax_net_slice.LaxNetSlice.{LaxNetSlice}
 use Rattle.etherparse.specs.packet.declared.net.lax_net_slice.LaxNetSlice.TheVariants as net
 use Rattle.etherparse.specs.packet.declared.transport.transport_slice.TransportSlice.{TransportSlice}
@@ -31,7 +34,7 @@ use Rattle.etherparse.specs.tag.Ether.{LaxEtherPayload}
 use Rattle.etherparse.specs.tag.LinkExt.{lax_payload_after, lax_tag_len}
 use Rattle.etherparse.specs.tag.Macsec.{header_len_of}
 use Rattle.etherparse.specs.tag.MacsecFault.{header_at}
-use Rattle.etherparse.specs.tag.MacsecLax.{LaxMacsecPayload, LaxModified, LaxUnmodified, lax_macsec_after}
+use Rattle.etherparse.specs.tag.MacsecLax.{LaxMacsec, LaxMacsecPayload, LaxModified, LaxUnmodified, lax_macsec_after}
 use Rattle.etherparse.specs.tag.MacsecLax.{lax_macsec_with, lax_named_payload}
 use Rattle.etherparse.specs.tag.Prefix.{whole_at}
 use Rattle.etherparse.specs.tag.Vlan.{is_vlan_type, vlan_len}
@@ -148,6 +151,13 @@ pub whole_is : (layer : Layer) (n : ℕ) (bytes taken : List ℕ) → whole_at l
     → (taken ≡ bytes) × (n ≤ length bytes)
 whole_is layer n bytes taken same = grind arith
 
+abbrev lax_vlan_tag : Result (List ℕ) LenError → Result (Option LaxLinkExtSlice) Stop
+lax_vlan_tag r = result_map_both (λ bytes. Some (tag.Vlan bytes)) (λ e. (Len e, VlanHeader)) r
+
+abbrev lax_macsec_tag : Result LaxMacsec (HeaderSliceError HeaderError)
+    → Result (Option LaxLinkExtSlice) Stop
+lax_macsec_tag r = result_map_both (λ macsec. Some (tag.Macsec macsec)) (λ e. (of_macsec e, MacsecHeader)) r
+
 vlan_case : (bytes : List ℕ) (r : Result (List ℕ) LenError) → whole_at VlanHeader vlan_len bytes ≡ r
     → IfOk (lax_vlan_tag r) (λ o. IfSome o (TagAt bytes))
 vlan_case bytes (Ok taken) at =
@@ -239,11 +249,16 @@ last_later frame bytes position p q None sum at here = tt
 last_later frame bytes position p q (Some next) sum at here =
     at_later frame bytes next.payload position p q sum at here
 
+abbrev no_tags : LaxTagged
+no_tags = record { tags = []; len = 0; last = None; stop = None }
+
 further : (read : LaxEtherPayload → LaxTagged) (bytes : List ℕ) (t : LaxLinkExtSlice)
     (o next : Option LaxEtherPayload) → lax_payload_after t ≡ next
     → ((q : LaxEtherPayload) → TagsAt q.payload (Some q) (read q))
     → IsLaxTagAt bytes 0 t → IfSome next (λ q. IsAt bytes (lax_tag_len t) q.payload)
-    → TagsAt bytes o (joined (t ∷ []) (lax_tag_len t) (lax_read_further read next))
+    → let more : LaxTagged = unwrap_or (option_map read next) no_tags in
+    TagsAt bytes o
+    (record { tags = t ∷ more.tags; len = lax_tag_len t + more.len; last = more.last; stop = more.stop })
 further read bytes t o None is each at named = record {
   tags_at = (at, tt);
   size = refl;
@@ -271,7 +286,8 @@ further read bytes t o (Some q) is each at named =
 from_tag : (read : LaxEtherPayload → LaxTagged) (p : LaxEtherPayload)
     (found : Result (Option LaxLinkExtSlice) Stop)
     → ((q : LaxEtherPayload) → TagsAt q.payload (Some q) (read q))
-    → IfOk found (λ o. IfSome o (TagAt p.payload)) → TagsAt p.payload (Some p) (lax_from_tag read p found)
+    → IfOk found (λ o. IfSome o (TagAt p.payload))
+    → TagsAt p.payload (Some p) (tags_from lax_tag_len lax_payload_after read p found)
 from_tag read p (Err stop) each here =
     record { tags_at = tt; size = refl; named_at = at_whole p.payload; last_at = tt }
 from_tag read p (Ok None) each here =
@@ -279,10 +295,18 @@ from_tag read p (Ok None) each here =
 from_tag read p (Ok (Some t)) each here =
     further read p.payload t (Some p) (lax_payload_after t) refl each here.tag_at here.next
 
+abbrev found_in : ℕ → LaxEtherPayload → LaxTagged
+found_in n p = find_tags lax_tag_at lax_tag_len lax_payload_after n p
+
+found_at : (n : ℕ) (p : LaxEtherPayload) → TagsAt p.payload (Some p) (found_in n p)
+found_at zero p = record { tags_at = tt; size = refl; named_at = at_whole p.payload; last_at = at_whole p.payload }
+found_at (suc n) p = from_tag (found_in n) p (lax_tag_at p) (found_at n) (tag_of p)
+
 tags_at : (n : ℕ) (p : LaxEtherPayload) → TagsAt p.payload (Some p) (lax_tags_in n p)
 unfolding lax_tags_in
-tags_at zero p = record { tags_at = tt; size = refl; named_at = at_whole p.payload; last_at = at_whole p.payload }
-tags_at (suc n) p = from_tag (lax_tags_in n) p (lax_tag_at p) (tags_at n) (tag_of p)
+tags_at n p =
+    let found = found_at n p in
+    record { tags_at = found.tags_at; size = found.size; named_at = found.named_at; last_at = found.last_at }
 
 -- the layers after the tags
 layers_in : (bytes : List ℕ) (position : ℕ) (last : Option LaxEtherPayload)
