@@ -1,6 +1,6 @@
 -- What a checksum says of a message (RFC 768; RFC 792; RFC 4443, section 2.3; RFC 9293, section
 -- 3.1; RFC 8200, section 8.1; RFC 1071).
-use Rattle.std.specs.Prelude.{ℕ, ◌==◌, not, Bool, true, false, if◌then◌else◌, List, [], ◌++◌, length}
+use Rattle.std.specs.Prelude.{ℕ, ◌==◌, Bool, true, false, if◌then◌else◌, List, ◌++◌, length}
 use Rattle.ep_base.specs.Sum.{all_ones}
 use Rattle.ep_ip.specs.Pseudo.{pseudo_v4, pseudo_v6}
 use Rattle.ep_tcpudp.specs.Udp.{checksum_of}
@@ -22,43 +22,27 @@ abbrev pub pseudo : Addresses → (number len : ℕ) → List ℕ
 pseudo (V4 source destination) number len = pseudo_v4 source destination number len
 pseudo (V6 source destination) number len = pseudo_v6 source destination number len
 
--- the bytes of a message that its checksum covers: all as it is read. A raw one has no checksum.
-abbrev pub summed_bytes : ReadMessage → List ℕ
-summed_bytes (Icmpv4 bytes) = bytes
-summed_bytes (Tcp bytes) = bytes
-summed_bytes (Udp bytes) = bytes
-summed_bytes (Icmpv6 bytes) = bytes
-summed_bytes (Raw bytes) = bytes
-
--- what comes before them in the sum. ICMPv4 has no pseudo header.
-abbrev pub pseudo_of : Addresses → ReadMessage → List ℕ
-pseudo_of addresses (Icmpv4 bytes) = []
-pseudo_of addresses (Tcp bytes) = pseudo addresses tcp (length bytes)
-pseudo_of addresses (Udp bytes) = pseudo addresses udp (length bytes)
-pseudo_of addresses (Icmpv6 bytes) = pseudo addresses icmpv6 (length bytes)
-pseudo_of addresses (Raw bytes) = []
-
--- all bytes that its checksum covers
+-- all bytes that the checksum of a message covers: the message after its pseudo header. ICMPv4 has
+-- none, and a raw message has no checksum.
 abbrev pub summed_text : Addresses → ReadMessage → List ℕ
-summed_text addresses message = pseudo_of addresses message ++ summed_bytes message
-
-abbrev pub is_over_v4 : Addresses → Bool
-is_over_v4 (V4 source destination) = true
-is_over_v4 (V6 source destination) = false
+summed_text addresses (Icmpv4 bytes) = bytes
+summed_text addresses (Tcp bytes) = pseudo addresses tcp (length bytes) ++ bytes
+summed_text addresses (Udp bytes) = pseudo addresses udp (length bytes) ++ bytes
+summed_text addresses (Icmpv6 bytes) = pseudo addresses icmpv6 (length bytes) ++ bytes
+summed_text addresses (Raw bytes) = bytes
 
 -- no checksum was sent (UDP's is 0), or none is known: ICMP of the other version, and any other
 -- protocol
 abbrev pub is_unchecked : Addresses → ReadMessage → Bool
-is_unchecked addresses (Icmpv4 bytes) = not (is_over_v4 addresses)
 is_unchecked addresses (Tcp bytes) = false
 is_unchecked addresses (Udp bytes) = checksum_of bytes == 0
-is_unchecked addresses (Icmpv6 bytes) = is_over_v4 addresses
 is_unchecked addresses (Raw bytes) = true
+is_unchecked (V4 source destination) (Icmpv4 bytes) = false
+is_unchecked (V4 source destination) (Icmpv6 bytes) = true
+is_unchecked (V6 source destination) (Icmpv4 bytes) = true
+is_unchecked (V6 source destination) (Icmpv6 bytes) = false
 
--- whether the words of a text sum to all ones
-abbrev pub verdict_by_sum : List ℕ → Verdict
-verdict_by_sum text = if all_ones text then verdict.Good else verdict.Bad
-
+-- by whether the words sum to all ones
 abbrev pub verdict_of : Addresses → ReadMessage → Verdict
 verdict_of addresses message = if is_unchecked addresses message then verdict.None
-    else verdict_by_sum (summed_text addresses message)
+    else (if all_ones (summed_text addresses message) then verdict.Good else verdict.Bad)

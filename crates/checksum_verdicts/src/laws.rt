@@ -4,7 +4,7 @@ ghost use Rattle.std.specs.Hash as fed;
 ghost use Rattle.ep_base.specs.Traits.{HashIsOfIndex, IsPlainData};
 ghost use Rattle.ep_packet.specs.Readable.ReadMessage.{Icmpv4, Icmpv6, Raw, Tcp, Udp};
 ghost use Rattle.ep_packet.specs.declared.addresses.Addresses.TheVariants.{V4, V6};
-ghost use Rattle.checksum_verdicts.specs.Verdict.{pseudo_of, verdict_of, verdict_index};
+ghost use Rattle.checksum_verdicts.specs.Verdict.{summed_text, verdict_of, verdict_index};
 ghost use Rattle.checksum_verdicts.specs.declared.verdict.Verdict.TheVariants as verdict;
 
 use crate::Verdict;
@@ -66,18 +66,18 @@ pub fn verdicts_at_literal_values()
 /// number. Over IPv4 it has the length in 16 bits, here of 40,000 bytes, 9c40 (RFC 768).
 pub fn pseudo_headers_at_literal_values()
     ensures udp { (bytes : List ℕ) → length bytes ≡ 70000
-        → pseudo_of (V6 (253 ∷ (replicate 14 0 ++ 1 ∷ [])) (253 ∷ (replicate 14 0 ++ 2 ∷ [])))
+        → summed_text (V6 (253 ∷ (replicate 14 0 ++ 1 ∷ [])) (253 ∷ (replicate 14 0 ++ 2 ∷ [])))
         (Udp bytes) ≡ 253 ∷ (replicate 14 0 ++ (1 ∷ 253 ∷ (replicate 14 0
-        ++ (2 ∷ 0 ∷ 1 ∷ 0x11 ∷ 0x70 ∷ 0 ∷ 0 ∷ 0 ∷ 17 ∷ [])))) }
+        ++ (2 ∷ 0 ∷ 1 ∷ 0x11 ∷ 0x70 ∷ 0 ∷ 0 ∷ 0 ∷ 17 ∷ bytes)))) }
     ensures tcp { (bytes : List ℕ) → length bytes ≡ 70000
-        → pseudo_of (V6 (253 ∷ (replicate 14 0 ++ 1 ∷ [])) (253 ∷ (replicate 14 0 ++ 2 ∷ [])))
+        → summed_text (V6 (253 ∷ (replicate 14 0 ++ 1 ∷ [])) (253 ∷ (replicate 14 0 ++ 2 ∷ [])))
         (Tcp bytes) ≡ 253 ∷ (replicate 14 0 ++ (1 ∷ 253 ∷ (replicate 14 0
-        ++ (2 ∷ 0 ∷ 1 ∷ 0x11 ∷ 0x70 ∷ 0 ∷ 0 ∷ 0 ∷ 6 ∷ [])))) }
+        ++ (2 ∷ 0 ∷ 1 ∷ 0x11 ∷ 0x70 ∷ 0 ∷ 0 ∷ 0 ∷ 6 ∷ bytes)))) }
     ensures icmpv6 { (bytes : List ℕ) → length bytes ≡ 70000
-        → pseudo_of (V6 (253 ∷ (replicate 14 0 ++ 1 ∷ [])) (253 ∷ (replicate 14 0 ++ 2 ∷ [])))
+        → summed_text (V6 (253 ∷ (replicate 14 0 ++ 1 ∷ [])) (253 ∷ (replicate 14 0 ++ 2 ∷ [])))
         (Icmpv6 bytes) ≡ 253 ∷ (replicate 14 0 ++ (1 ∷ 253 ∷ (replicate 14 0
-        ++ (2 ∷ 0 ∷ 1 ∷ 0x11 ∷ 0x70 ∷ 0 ∷ 0 ∷ 0 ∷ 58 ∷ [])))) }
+        ++ (2 ∷ 0 ∷ 1 ∷ 0x11 ∷ 0x70 ∷ 0 ∷ 0 ∷ 0 ∷ 58 ∷ bytes)))) }
     ensures udp_over_ipv4 { (bytes : List ℕ) → length bytes ≡ 40000
-        → pseudo_of (V4 (10 ∷ 0 ∷ 0 ∷ 1 ∷ []) (10 ∷ 0 ∷ 0 ∷ 2 ∷ [])) (Udp bytes)
-        ≡ 10 ∷ 0 ∷ 0 ∷ 1 ∷ 10 ∷ 0 ∷ 0 ∷ 2 ∷ 0 ∷ 17 ∷ 0x9c ∷ 0x40 ∷ [] }
+        → summed_text (V4 (10 ∷ 0 ∷ 0 ∷ 1 ∷ []) (10 ∷ 0 ∷ 0 ∷ 2 ∷ [])) (Udp bytes)
+        ≡ 10 ∷ 0 ∷ 0 ∷ 1 ∷ 10 ∷ 0 ∷ 0 ∷ 2 ∷ 0 ∷ 17 ∷ 0x9c ∷ 0x40 ∷ bytes }
 {}

@@ -1,9 +1,10 @@
 //! What a message's checksum says.
-ghost use Rattle.std.specs.Prelude.{◌≡◌, ◌++◌, ℕ, List, length};
+ghost use Rattle.std.specs.Prelude.{◌≡◌, ◌++◌, ℕ, List, if◌then◌else◌, length};
 ghost use Rattle.ep_base.specs.MessageSum.{SumsWords};
-ghost use Rattle.ep_base.specs.Sum.{fold, total};
+ghost use Rattle.ep_base.specs.Sum.{all_ones, fold, total};
 ghost use Rattle.ep_packet.specs.Readable.{as_read};
-ghost use Rattle.checksum_verdicts.specs.Verdict.{verdict_by_sum, pseudo, verdict_of};
+ghost use Rattle.checksum_verdicts.specs.Verdict.{pseudo, verdict_of};
+ghost use Rattle.checksum_verdicts.specs.declared.verdict.Verdict.TheVariants as verdict;
 
 use ep_base::IpNumber;
 use ep_base::checksum::Sum16BitWords;
@@ -47,8 +48,8 @@ pub fn judge(addresses: &Addresses, message: &Message<'_>) -> Verdict
 
 #[inline(always)]
 fn judge_with_pseudo(addresses: &Addresses, number: IpNumber, summed: &[u8]) -> Verdict
-    ensures { result ≡ verdict_by_sum (pseudo addresses.now number.0 (length summed.now)
-        ++ summed.now) }
+    ensures { result ≡ (if all_ones (pseudo addresses.now number.0 (length summed.now) ++ summed.now)
+        then verdict.Good else verdict.Bad) }
 {
     judge_sum(pseudo_sum(addresses, number, summed.len()), summed)
 }
@@ -56,8 +57,8 @@ fn judge_with_pseudo(addresses: &Addresses, number: IpNumber, summed: &[u8]) -> 
 // Judges what is summed after a pseudo header with this sum.
 #[inline(always)]
 fn judge_sum(pseudo: Sum16BitWords, summed: &[u8]) -> Verdict
-    ensures { (prefix : List ℕ) → SumsWords pseudo prefix → result ≡ verdict_by_sum (prefix
-        ++ summed.now) }
+    ensures { (prefix : List ℕ) → SumsWords pseudo prefix
+        → result ≡ (if all_ones (prefix ++ summed.now) then verdict.Good else verdict.Bad) }
 {
     if pseudo.add_slice(summed).ones_complement() == 0 {
         Verdict::Good

@@ -4,12 +4,11 @@ use Rattle.std.proofs.Common.{true, false, List, ◌∷◌, ◌++◌, length, ge
 use Rattle.std.specs.Prelude.{if◌then◌else◌}
 use Rattle.std.proofs.lemmas.Bool.Decides.{nat_tests}
 use Rattle.etherparse.specs.base.Bytes.{IsBytes}
-use Rattle.etherparse.specs.base.Sum.{total}
-use Rattle.netlines.specs.ChangedWord.{DifferInOneWord, is_exchange, verdict_after}
+use Rattle.etherparse.specs.base.Sum.{all_ones, total}
+use Rattle.netlines.specs.ChangedWord.{DifferInOneWord, is_exchange, summed_bytes, verdict_after}
 use Rattle.etherparse.specs.tcpudp.Udp.{checksum_of, length_of}
 use Rattle.etherparse.specs.packet.Readable.{ReadMessage}
-use Rattle.checksum_verdicts.specs.Verdict.{is_unchecked, verdict_by_sum, pseudo, pseudo_of, summed_bytes, summed_text}
-use Rattle.checksum_verdicts.specs.Verdict.{verdict_of}
+use Rattle.checksum_verdicts.specs.Verdict.{is_unchecked, summed_text, verdict_of}
 use Rattle.etherparse.specs.packet.declared.addresses.Addresses.{Addresses}
 use Rattle.checksum_verdicts.specs.declared.verdict.Verdict.{Verdict}
 use Rattle.checksum_verdicts.specs.declared.verdict.Verdict.TheVariants as verdict
@@ -47,6 +46,10 @@ after : (others old new : ℕ) → old ≤ 65535 → new ≤ 65535 → old ≢ n
     → sums (others + new) ≡ (is_exchange old new && not (others + new == 0))
 after others old new old_small new_small differ good = grind (arith, nat_tests)
 
+-- the verdict on a text by its sum
+abbrev pub by_sum : List ℕ → Verdict
+by_sum text = if all_ones text then verdict.Good else verdict.Bad
+
 -- a verdict on a text that summed to all ones, when a word of it is another one
 is_good : (b : Bool) → (if b then verdict.Good else verdict.Bad) ≡ verdict.Good → b ≡ true
 is_good b is = grind arith
@@ -65,8 +68,8 @@ following pseudo prefix word rest = grind (arith, append_assoc)
 
 -- a text whose word is changed, after a pseudo header of whole words
 pub judged_after : (pseudo old new : List ℕ) → length pseudo % 2 ≡ 0
-    → (words : DifferInOneWord old new) → verdict_by_sum (pseudo ++ old) ≡ verdict.Good
-    → verdict_by_sum (pseudo ++ new) ≡ verdict_after words.old_word words.new_word (pseudo ++ new)
+    → (words : DifferInOneWord old new) → by_sum (pseudo ++ old) ≡ verdict.Good
+    → by_sum (pseudo ++ new) ≡ verdict_after words.old_word words.new_word (pseudo ++ new)
 judged_after pseudo old new even words good =
     let prefix : List ℕ = pseudo ++ words.prefix in
     let aligned : length prefix % 2 ≡ 0 =
@@ -145,29 +148,30 @@ kept prefix old new rest even at_length at_checksum (inr one) same long =
 pub record IsChanged (addresses : Addresses) (message changed : ReadMessage)
     (new : List ℕ) : Type 0 where
   pub unchecked : is_unchecked addresses changed ≡ is_unchecked addresses message
-  pub pseudo : pseudo_of addresses changed ≡ pseudo_of addresses message
-  pub summed : summed_bytes changed ≡ new
+  -- the pseudo header, where there is one
+  pub prefix : List ℕ
+  pub even : length prefix % 2 ≡ 0
+  pub was : summed_text addresses message ≡ prefix ++ summed_bytes message
+  pub is : summed_text addresses changed ≡ prefix ++ new
 
 checked_good : (b : Bool) (v : Verdict) → (if b then verdict.None else v) ≡ verdict.Good
     → (b ≡ false) × (v ≡ verdict.Good)
 checked_good b v is = grind arith
 
 pub reported : (addresses : Addresses) (message changed : ReadMessage) (new : List ℕ)
-    → length (pseudo_of addresses message) % 2 ≡ 0
     → verdict_of addresses message ≡ verdict.Good → (words : DifferInOneWord (summed_bytes message)
     new)
     → IsChanged addresses message changed new
     → verdict_of addresses changed ≡ verdict_after words.old_word words.new_word
     (summed_text addresses changed)
-reported addresses message changed new even good words is =
+reported addresses message changed new good words is =
     let was = checked_good (is_unchecked addresses message)
-    (verdict_by_sum (summed_text addresses message)) good in
-    let text : summed_text addresses changed ≡ pseudo_of addresses message ++ new =
-    λ i. is.pseudo i ++ is.summed i in
+    (by_sum (summed_text addresses message)) good in
     rw (is.unchecked ∙ was.0)
-    (ap verdict_by_sum text ∙ judged_after (pseudo_of addresses message)
-    (summed_bytes message) new even words was.1
-    ∙ ap (verdict_after words.old_word words.new_word) (sym text))
+    (ap by_sum is.is
+    ∙ judged_after is.prefix (summed_bytes message) new is.even words
+    (ap by_sum (sym is.was) ∙ was.1)
+    ∙ ap (verdict_after words.old_word words.new_word) (sym is.is))
 
 -- a text of the same length
 pub same_len : (old new : List ℕ) (words : DifferInOneWord old new) → length new ≡ length old

@@ -21,6 +21,7 @@ use Rattle.etherparse.specs.tcpudp.declared.transport.tcp_header.TcpHeader.{TcpH
 use Rattle.etherparse.specs.tcpudp.declared.transport.udp_header.UdpHeader.{UdpHeader}
 use Rattle.etherparse.specs.packet.Readable.{ReadMessage, message_at, read_as}
 use Rattle.etherparse.proofs.FrameTags.{two_bytes}
+use Rattle.netlines.proofs.ChangedWordLemmas.{by_sum}
 use Rattle.netlines.proofs.ReadLemmas.{icmpv6_is, segment_is}
 use Rattle.etherparse.specs.packet.Readable.ReadMessage.{Udp}
 use Rattle.etherparse.specs.icmp.declared.transport.icmpv4_header.Icmpv4Header.{Icmpv4Header}
@@ -36,19 +37,19 @@ use Rattle.etherparse.specs.packet.declared.transport.transport_header.Transport
 use Rattle.etherparse.specs.packet.declared.transport.transport_header.TransportHeader.TheVariants as header
 use Rattle.netlines.specs.Sealed.{AddressesFit, HeaderFits, IsSealable, addresses_of, seal_refusal, sealed_header}
 use Rattle.netlines.specs.Sealed.{sealed_message_bytes, version_id_of}
-use Rattle.checksum_verdicts.specs.Verdict.{verdict_by_sum, pseudo, verdict_of}
+use Rattle.checksum_verdicts.specs.Verdict.{pseudo, verdict_of}
 use Rattle.etherparse.specs.packet.declared.addresses.Addresses.{Addresses}
 use Rattle.etherparse.specs.packet.declared.addresses.Addresses.TheVariants.{V4, V6}
 use Rattle.checksum_verdicts.specs.declared.verdict.Verdict.TheVariants as verdict
 
 -- a text of all ones is good
-good_where : (text : List ℕ) → IsTrue (all_ones text) → verdict_by_sum text ≡ verdict.Good
+good_where : (text : List ℕ) → IsTrue (all_ones text) → by_sum text ≡ verdict.Good
 good_where text is = rw is refl
 
 -- a message after its pseudo header, header and payload together
 joined : (prefix header payload : List ℕ) → IsTrue (all_ones (prefix ++ header ++ payload))
-    → verdict_by_sum (prefix ++ (header ++ payload)) ≡ verdict.Good
-joined prefix header payload is = ap verdict_by_sum (sym (append_assoc prefix header payload))
+    → by_sum (prefix ++ (header ++ payload)) ≡ verdict.Good
+joined prefix header payload is = ap by_sum (sym (append_assoc prefix header payload))
     ∙ good_where (prefix ++ header ++ payload) is
 
 -- a checksum where 0 means that there is none
@@ -109,7 +110,7 @@ udp_is_good laws addresses h payload read fit fits is =
     let is_read : Udp bytes ≡ read = cc in
     let good : verdict_of addresses (Udp bytes) ≡ verdict.Good =
     rw some
-    (ap (λ (n : ℕ). verdict_by_sum (pseudo addresses 17 n ++ bytes)) len
+    (ap (λ (n : ℕ). by_sum (pseudo addresses 17 n ++ bytes)) len
     ∙ joined prefix (udp_spec.encoding sealed) payload
     (laws.udp prefix payload unchecked (even_pseudo addresses 17 (8 + length payload) fit))) in
     grind arith
@@ -125,7 +126,7 @@ tcp_is_good laws addresses h payload read fit options is =
     let len : length bytes ≡ tcp_spec.header_len h + length payload =
     omega (arith, length-append h.options payload) in
     ap (verdict_of addresses) (segment_is bytes read is)
-    ∙ ap (λ (n : ℕ). verdict_by_sum (pseudo addresses 6 n ++ bytes)) len
+    ∙ ap (λ (n : ℕ). by_sum (pseudo addresses 6 n ++ bytes)) len
     ∙ joined prefix (tcp_spec.encoding sealed) payload
     (laws.tcp prefix payload h
     (even_pseudo addresses 6 (tcp_spec.header_len h + length payload) fit) options)
@@ -152,7 +153,7 @@ icmpv6_is_good laws source destination h payload read fit eight is =
     let len : length bytes ≡ 8 + length payload =
     omega (arith, size, length-append header payload) in
     ap (verdict_of (V6 source destination)) (icmpv6_is bytes read is)
-    ∙ ap (λ (n : ℕ). verdict_by_sum (pseudo (V6 source destination) 58 n ++ bytes)) len
+    ∙ ap (λ (n : ℕ). by_sum (pseudo (V6 source destination) 58 n ++ bytes)) len
     ∙ joined (icmpv6_spec.pseudo source destination (8 + length payload)) header payload
     (laws.icmpv6 h.icmp_type source destination payload fit.0 fit.1)
 

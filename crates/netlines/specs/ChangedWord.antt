@@ -4,6 +4,8 @@ use Rattle.std.specs.Prelude.{◌≡◌, ◌≢◌, ◌⊎◌, ℕ, ◌%◌, ◌
 use Rattle.etherparse.specs.base.Bytes.{IsBytes}
 use Rattle.etherparse.specs.base.Sum.{total}
 use Rattle.etherparse.specs.Fragments.{Fragment}
+use Rattle.etherparse.specs.packet.Readable.{ReadMessage}
+use Rattle.etherparse.specs.packet.Readable.ReadMessage.{Icmpv4, Tcp, Udp, Icmpv6, Raw}
 use Rattle.checksum_verdicts.specs.declared.verdict.Verdict.{Verdict}
 use Rattle.checksum_verdicts.specs.declared.verdict.Verdict.TheVariants as verdict
 
@@ -33,6 +35,14 @@ pub record IsChangedFragment (f g : Fragment) : Type 0 where
 abbrev pub DifferAt : (position : ℕ) → (old new : List ℕ) → Type 0
 DifferAt position old new =
     (old ≡ new) ⊎ ((words : DifferInOneWord old new) × (length words.prefix ≡ position))
+
+-- the bytes of a message as it is read: its checksum covers all, those of a raw one aside
+abbrev pub summed_bytes : ReadMessage → List ℕ
+summed_bytes (Icmpv4 bytes) = bytes
+summed_bytes (Tcp bytes) = bytes
+summed_bytes (Udp bytes) = bytes
+summed_bytes (Icmpv6 bytes) = bytes
+summed_bytes (Raw bytes) = bytes
 
 -- one of the two words is 0000 and the other ffff
 abbrev pub is_exchange : (old new : ℕ) → Bool

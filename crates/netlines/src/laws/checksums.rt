@@ -4,7 +4,7 @@ ghost use Rattle.std.specs.Prelude.{None, Some, Ok};
 ghost use Rattle.netlines.specs.Alone.{answers_after};
 ghost use Rattle.netlines.specs.Answers.{answer_after, message_answer};
 ghost use Rattle.netlines.specs.Arrivals.{HasFragment};
-ghost use Rattle.netlines.specs.ChangedWord.{DifferInOneWord, IsChangedFragment, verdict_after};
+ghost use Rattle.netlines.specs.ChangedWord.{DifferInOneWord, IsChangedFragment, summed_bytes, verdict_after};
 ghost use Rattle.etherparse.specs.Fragments.{Fragment};
 ghost use Rattle.etherparse.specs.IpFragId.{rule_over};
 ghost use Rattle.etherparse.specs.declared.defrag.overlap_rule.OverlapRule.TheVariants.{Overwrites};
@@ -18,7 +18,7 @@ ghost use Rattle.etherparse.specs.packet.declared.net.ip_headers.IpHeaders.{IpHe
 ghost use Rattle.etherparse.specs.packet.declared.transport.transport_header.TransportHeader.{TransportHeader};
 ghost use Rattle.netlines.specs.Sealed.{AddressesFit, HeaderFits, IsSealable, addresses_of, is_icmp_of_other_version};
 ghost use Rattle.netlines.specs.Sealed.{seal_refusal, sealed_message_bytes, version_id_of};
-ghost use Rattle.checksum_verdicts.specs.Verdict.{summed_bytes, summed_text, verdict_of};
+ghost use Rattle.checksum_verdicts.specs.Verdict.{summed_text, verdict_of};
 ghost use Rattle.netlines.specs.Waiting.{Completes, ReturnsMessage, ReturnsChanged, lines_for, texts_for};
 ghost use Rattle.netlines.specs.Waiting.{waiting_lines};
 ghost use Rattle.netlines.specs.declared.seal_error.SealError.TheVariants.{IcmpOfOtherVersion, TooLong};
