@@ -15,8 +15,8 @@ use Rattle.captures.specs.declared.extra.Extra.TheVariants.{Forget}
 use Rattle.line_grammar.specs.Commands.Command.{Forget as Forgets}
 use Rattle.line_grammar.specs.Written.{written_forget}
 use Rattle.line_grammar.proofs.WrittenLemmas.{written_forget-requests, written_forget-one_line}
-use Rattle.etherparse.specs.IpFragId.{fragment_in, rule_over, same_name}
-use Rattle.etherparse.specs.PoolCalls.{Lists, after_fragment, no_lists, retained_from}
+use Rattle.etherparse.specs.IpFragId.{rule_over, same_name}
+use Rattle.etherparse.specs.PoolCalls.{Lists, after_frame, no_lists, retained_from}
 use Rattle.etherparse.specs.Fragments.{Fragment, fragment}
 use Rattle.etherparse.specs.declared.defrag.overlap_rule.OverlapRule.{OverlapRule}
 use Rattle.etherparse.specs.Outcome.{Held, Outcome, held_after, outcome}
@@ -47,14 +47,17 @@ record Alike (line first lines number : ℕ) (h g : Held) : Type 0 where
 module _ (line first lines number : ℕ) (h g : Held) (a : Alike line first lines number h g) where
   -- a packet comes, whose line is the next one
   module _ (starts : line ≤ lines + 1) (begins : first ≤ number) where
-    outcome_alike : (o : Outcome)
-        → Alike line first (lines + 1) (number + 1) (held_after h (lines + 1) o) (held_after g number o)
-    outcome_alike (Refusal error) = record {
+    stays_alike : Alike line first (lines + 1) (number + 1) h g
+    stays_alike = record {
       same = a.same;
       since = a.since;
       by_line = omega (arith, a.by_line);
       by_packet = omega (arith, a.by_packet);
     }
+
+    outcome_alike : (o : Outcome)
+        → Alike line first (lines + 1) (number + 1) (held_after h (lines + 1) o) (held_after g number o)
+    outcome_alike (Refusal error) = stays_alike
     outcome_alike (Clash error) = record {
       same = refl;
       since = rw (le-ltb (lines + 1) line starts, le-ltb number first begins) refl;
@@ -83,25 +86,17 @@ module _ (line first lines number : ℕ) (h g : Held) (a : Alike line first line
         (held_after h (lines + 1) (outcome rule h.fragments f))
         (held_after g number (outcome rule fs f))) a.same
         (outcome_alike (outcome rule h.fragments f))
-    tested_alike rule f false = record {
-      same = a.same;
-      since = a.since;
-      by_line = omega (arith, a.by_line);
-      by_packet = omega (arith, a.by_packet);
-    }
+    tested_alike rule f false = stays_alike
 
-    fragment_alike : (name : FragmentName) (channel other : ℕ) (with_forget_line : Option (FragmentName × Fragment))
+    class_alike : (name : FragmentName) (channel other : ℕ) (class : Class)
         → Alike line first (lines + 1) (number + 1)
-        (after_fragment name channel with_forget_line (lines + 1) other h)
-        (after_fragment name channel with_forget_line number other g)
-    fragment_alike name channel other None = record {
-      same = a.same;
-      since = a.since;
-      by_line = omega (arith, a.by_line);
-      by_packet = omega (arith, a.by_packet);
-    }
-    fragment_alike name channel other (Some with_forget_line) =
-        tested_alike (rule_over name.addresses) with_forget_line.1 (same_name with_forget_line.0 name && (other == channel))
+        (after_frame name channel class (lines + 1) other h) (after_frame name channel class number other g)
+    class_alike name channel other (Cut own offset more bytes) =
+        tested_alike (rule_over name.addresses) (fragment offset more bytes)
+        (same_name own name && (other == channel))
+    class_alike name channel other (Whole addresses protocol bytes message) = stays_alike
+    class_alike name channel other Other = stays_alike
+    class_alike name channel other Refused = stays_alike
 
   -- a span has passed, and the next line and packet begin another
   dropped_alike : (b c : Bool) → b ≡ c
@@ -198,8 +193,8 @@ packet_come left line first number earlier own packet fits named started few ali
           (lists_with_packet own number packet name channel)) count
           (subst (λ (l : Lists). Alike line first (length earlier + 1) (number + 1) (l name channel)
           (lists_with_packet own number packet name channel)) (sym (packet_listed earlier packet fits))
-          (fragment_alike line first (length earlier) number _ _ (alike name channel) named started
-          name channel packet.origin.channel (fragment_in (class_of packet.frame))));
+          (class_alike line first (length earlier) number _ _ (alike name channel) named started
+          name channel packet.origin.channel (class_of packet.frame)));
     }
 
 module _ (seconds : ℕ) (packet : Packet) (packets : List Packet) (fits : HasLine packet)

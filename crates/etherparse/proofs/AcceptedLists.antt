@@ -14,11 +14,11 @@ use Rattle.etherparse.specs.declared.defrag.overlap_rule.OverlapRule.TheVariants
 use Rattle.etherparse.specs.Fragments.{Fragment, end_of, named_end, refusal_at, overlaps, with_accepted}
 use Rattle.etherparse.specs.Fragments.{with_all_accepted, IsAccepted, AgreesWith, FragmentsAgree, AreDisjoint}
 use Rattle.etherparse.specs.Fragments.{AcceptedAreDisjoint, Holds}
-use Rattle.etherparse.specs.FragmentBytes.{byte_of, LastByteCounts, UncoveredHasNone}
+use Rattle.etherparse.specs.FragmentBytes.{LastByteCounts, UncoveredHasNone}
 use Rattle.etherparse.proofs.Clash.{clash_is}
 use Rattle.etherparse.proofs.Disjoint.{disjoint_push}
 use Rattle.etherparse.proofs.ListElements.{AllByRecursion-push, AnyOf-from_Any, Any-from_AnyOf}
-use Rattle.etherparse.proofs.Push.{named_end-push, own_end, cond_none, agrees, end_push, byte_of-here}
+use Rattle.etherparse.proofs.Push.{named_end-push, own_end, cond_none, agrees, end_push, byte_of, byte_of-here}
 
 -- a fragment of a list agrees with that list and one more fragment
 still_agrees : (fs gs : List Fragment) (f : Fragment) → AllByRecursion (AgreesWith fs) gs

@@ -5,7 +5,7 @@ use Rattle.std.proofs.lemmas.Grind.{common_steps}
 use Rattle.std.proofs.lemmas.List.{take_more, map-append}
 use Rattle.std.specs.List.{AllByRecursion}
 use Rattle.std.specs.Option.{option_map}
-use Rattle.ep_packet.specs.Class.{Class, FragmentName, class_of}
+use Rattle.ep_packet.specs.Class.{Class, class_of}
 use Rattle.ep_packet.specs.Class.Class.{Whole, Cut, Other, Refused as Faulty}
 use Rattle.ep_packet.specs.declared.err.packet.slice_error.SliceError.{SliceError}
 use Rattle.etherparse.specs.declared.defrag.ip_defrag_error.IpDefragError.{IpDefragError}
@@ -16,12 +16,12 @@ use Rattle.etherparse.specs.declared.defrag.pool_calls.PoolAnswer.{PoolAnswer}
 use Rattle.etherparse.specs.declared.defrag.ip_frag_id.IpFragId.{IpFragId}
 use Rattle.etherparse.specs.Counts.{Bounded, open_in}
 use Rattle.etherparse.specs.Fragments.{Fragment, fragment, named_end, refusal_at}
-use Rattle.etherparse.specs.IpFragId.{fragment_in, id_named, rule_over}
+use Rattle.etherparse.specs.IpFragId.{id_named, rule_over}
 use Rattle.etherparse.specs.OpenReassemblies.{IsOpenCount, NeverMore}
 use Rattle.etherparse.specs.Outcome.{Outcome, memory_error, outcome}
 use Rattle.etherparse.specs.PoolCalls.{Answered, HasMemory, Lists, CallsAnswered, CallResult, answer_to_frame, answers}
 use Rattle.etherparse.specs.PoolCalls.{lists_after, lists_with, outcome_at, answer_result, result_of_outcome}
-use Rattle.etherparse.specs.PoolCalls.{memory_error_at, memory_error_at_fragment, memory_error_at_frame}
+use Rattle.etherparse.specs.PoolCalls.{memory_error_at, memory_error_at_frame}
 use Rattle.etherparse.specs.PoolCalls.CallResult.{Refused}
 use Rattle.etherparse.specs.Processed.{MemoryErrorsAreReported}
 use Rattle.etherparse.specs.ReassemblyTable.{Pool}
@@ -67,16 +67,14 @@ lacks_memory : (f : Fragment) (o : Outcome) (t : CallResult)
     → option_map Refused (memory_error f o) ≡ Some t → HasMemory t → ⊥
 lacks_memory f o t is has = grind arith
 
-fragment_memory_error : (lists : Lists) (reported : Option (FragmentName × Fragment)) (channel : ℕ) (t :
-    CallResult)
-    → memory_error_at_fragment lists reported channel ≡ Some t → HasMemory t → ⊥
-fragment_memory_error lists None channel t is has = cc
-fragment_memory_error lists (Some reported) channel t is has =
-    lacks_memory reported.1 (outcome_at lists reported.0 channel reported.1) t is has
-
 frame_memory_error : (lists : Lists) (class : Class) (channel : ℕ) (t : CallResult)
-    → memory_error_at_frame lists class channel ≡ Some t → HasMemory t → ⊥
-frame_memory_error lists class channel t is has = fragment_memory_error lists (fragment_in class) channel t is has
+    → option_map Refused (memory_error_at_frame lists class channel) ≡ Some t → HasMemory t → ⊥
+frame_memory_error lists (Cut name offset more bytes) channel t is has =
+    let f = fragment offset more bytes in
+    lacks_memory f (outcome_at lists name channel f) t is has
+frame_memory_error lists (Whole addresses number bytes message) channel t is has = cc
+frame_memory_error lists Other channel t is has = cc
+frame_memory_error lists Faulty channel t is has = cc
 
 none_reported : (e : IpDefragError) → None ≡ Some e → HasMemory (Refused e)
 none_reported e is = cc
@@ -104,7 +102,8 @@ pub memory_errors_are_reported : MemoryErrorsAreReported
 memory_errors_are_reported = record { answers = answer_has; memory_errors = frame_memory_error }
 
 -- what may be answered in place of an answer reports out of memory
-memory_errors : (lists : Lists) (call : PoolCall) (t : CallResult) → memory_error_at lists call ≡ Some t → HasMemory t → ⊥
+memory_errors : (lists : Lists) (call : PoolCall) (t : CallResult)
+    → option_map Refused (memory_error_at lists call) ≡ Some t → HasMemory t → ⊥
 memory_errors lists (Frame frame time channel) t is has =
     frame_memory_error lists (class_of frame.now) channel t is has
 memory_errors lists (RetainFrom from) t is has = cc

@@ -10,11 +10,12 @@ use Rattle.ep_packet.specs.Class.Class.{Cut, Refused as Faulty}
 use Rattle.ep_packet.specs.declared.addresses.Addresses.{Addresses}
 use Rattle.ep_packet.specs.declared.err.packet.slice_error.SliceError.{SliceError}
 use Rattle.etherparse.specs.declared.defrag.ip_defrag_error.IpDefragError.{IpDefragError}
+use Rattle.etherparse.specs.declared.defrag.ip_defrag_error.IpDefragError.TheVariants.{OverlappingFragment}
 use Rattle.etherparse.specs.declared.defrag.ip_defrag_payload_vec.IpDefragPayloadVec.{IpDefragPayloadVec}
 use Rattle.etherparse.specs.declared.defrag.ip_frag_id.IpFragId.{IpFragId}
 use Rattle.etherparse.specs.declared.defrag.overlap_rule.OverlapRule.{OverlapRule}
 use Rattle.etherparse.specs.declared.defrag.reassembly.Reassembly.{Reassembly}
-use Rattle.etherparse.specs.Fragments.{Fragment, fragment, overlap_of}
+use Rattle.etherparse.specs.Fragments.{Fragment, fragment}
 use Rattle.etherparse.specs.IpDefragError.{is_overlap}
 use Rattle.etherparse.specs.IpDefragPool.{Accepts, Refuses, payload_of, payload_parsed, same_id as same_by}
 use Rattle.etherparse.specs.IpFragId.{id_named, overlap_rule_of, rule_over, same_name, spec_id}
@@ -94,7 +95,8 @@ left_after rule f h old new time e is left shows =
     grind arith in
     grind (arith, still_held))
     (λ none clash reported.
-    let same : overlap_of f ≡ e = some_same (overlap_of f) e reported in
+    let same : OverlappingFragment f.offset (length f.bytes) ≡ e =
+    some_same (OverlappingFragment f.offset (length f.bytes)) e reported in
     let gone : new ≡ None =
     grind arith in
     grind arith)

@@ -1,16 +1,22 @@
 -- Whether a fragment is a repeat, and whether it clashes: the tests decide the propositions.
-use Rattle.std.proofs.Common.{◌≡◌, ℕ, ◌<◌, ◌≤◌, Bool, true, false, not, ◌&&◌, ◌||◌, ltb, ◌⊎◌, inl, inr, List, max}
+use Rattle.std.proofs.Common.{◌≡◌, ℕ, ◌<◌, ◌≤◌, Bool, true, false, not, ◌&&◌, ◌||◌, ltb, ◌⊎◌, inl, inr, List, max, min}
 use Rattle.std.proofs.Common.{arith, sym, ◌∙◌, refl}
 use Rattle.std.proofs.lemmas.Bool.{false≢true}
 use Rattle.std.proofs.lemmas.Bool.Decides.{nat_tests, Decides-eqb}
 use Rattle.std.proofs.lemmas.List.Folds.{Any-from_list_any, list_any-from_Any}
-use Rattle.std.specs.Bool.{Decides}
+use Rattle.std.specs.Bool.{Decides, beq}
 use Rattle.std.specs.Cmp.{booleans_Decides}
-use Rattle.std.specs.Cmp.Lexicographic.{bytes_decides}
+use Rattle.std.specs.Cmp.Lexicographic.{bytes_decides, pointwise}
 use Rattle.std.specs.List.{list_any}
+use Rattle.std.specs.Prelude.{◌==◌, nat_eq}
 use Rattle.ep_base.proofs.Same.{field, last_field, record_same}
 use Rattle.etherparse.specs.Fragments.{Fragment, start_of, end_of, Covered, IsRepeat, SharesOffset, EndsBelow, Clashes}
-use Rattle.etherparse.specs.Fragments.{same_fragment, is_repeat, holds_within, clashes}
+use Rattle.etherparse.specs.Fragments.{is_repeat, overlaps}
+use Rattle.etherparse.specs.declared.defrag.overlap_rule.OverlapRule.TheVariants.{Refuses}
+
+abbrev same_fragment : Fragment → Fragment → Bool
+same_fragment f g = (f.offset == g.offset)
+    && (beq f.more g.more && pointwise nat_eq f.bytes g.bytes)
 
 same_fragment_Decides : (f g : Fragment) → Decides (same_fragment f g) (f ≡ g)
 same_fragment_Decides f g = record_same
@@ -26,7 +32,11 @@ repeat_Decides fs f = (
   grind (arith, list_any-from_Any, same_fragment_Decides),
 )
 
--- some fragment covers one of the offsets from a number on, up to another
+-- whether it covers one of the offsets from a number on, up to another
+abbrev holds_within : Fragment → ℕ → ℕ → Bool
+holds_within f low high = ltb (max (start_of f) low) (min (end_of f) high)
+
+-- some fragment covers one of them
 abbrev pub SomeHolds : List Fragment → ℕ → ℕ → Type 0
 SomeHolds fs low high = (p : ℕ) × (low ≤ p) × (p < high) × Covered fs p
 
@@ -76,7 +86,8 @@ one_of false t p q = (
   (λ h. elim h [ inl k ↦ absurd (false≢true (p.1 k)) | inr k ↦ q.1 k ]),
 )
 
-pub clashes_Decides : (fs : List Fragment) (f : Fragment) → Decides (clashes fs f) (Clashes fs f)
+pub clashes_Decides : (fs : List Fragment) (f : Fragment)
+    → Decides (overlaps Refuses fs f) (Clashes fs f)
 clashes_Decides fs f = one_of _ _
     (without _ _ (repeat_Decides fs f) (shares_Decides fs f))
     (unset f.more _ (after_Decides fs f))
@@ -85,8 +96,10 @@ not_from_false : {P : Type 0} (b : Bool) → Decides b P → (P → ⊥) → b �
 not_from_false true d h = absurd (h (d.0 refl))
 not_from_false false d h = refl
 
-pub no_clash : (fs : List Fragment) (f : Fragment) → (Clashes fs f → ⊥) → clashes fs f ≡ false
-no_clash fs f h = not_from_false (clashes fs f) (clashes_Decides fs f) h
+pub no_clash : (fs : List Fragment) (f : Fragment) → (Clashes fs f → ⊥)
+    → overlaps Refuses fs f ≡ false
+no_clash fs f h = not_from_false (overlaps Refuses fs f) (clashes_Decides fs f) h
 
-pub clash_is : (fs : List Fragment) (f : Fragment) → clashes fs f ≡ false → Clashes fs f → ⊥
+pub clash_is : (fs : List Fragment) (f : Fragment) → overlaps Refuses fs f ≡ false
+    → Clashes fs f → ⊥
 clash_is fs f is h = false≢true (sym is ∙ (clashes_Decides fs f).1 h)

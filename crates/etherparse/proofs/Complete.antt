@@ -1,15 +1,15 @@
 -- When a datagram is complete: an end and one section from 0 on.
-use Rattle.std.proofs.Common.{◌≡◌, ℕ, ◌-◌, ◌<◌, ◌≤◌, true, ◌↔◌, inl, inr, Option, IsSome, List, [], ◌∷◌, arith, refl}
+use Rattle.std.proofs.Common.{◌≡◌, ℕ, zero, suc, ◌+◌, ◌-◌, ◌<◌, ◌≤◌, true, ◌↔◌, inl, inr, Option, IsSome, List, [], ◌∷◌, arith, refl}
 use Rattle.std.proofs.Common.{sym, subst}
 use Rattle.std.proofs.lemmas.Bool.{cases_lt, eq-eqb, false≢true, and_parts, and_from}
-use Rattle.std.proofs.lemmas.Bool.Decides.{nat_tests, Decides-below_and}
+use Rattle.std.proofs.lemmas.Bool.Decides.{nat_tests}
 use Rattle.std.proofs.lemmas.List.Folds.{Any-from_list_any, list_any-from_Any}
 use Rattle.std.specs.Bool.{Decides}
-use Rattle.std.specs.List.{Any, AllByRecursion, list_any}
+use Rattle.std.specs.List.{Any, AllByRecursion, list_all, list_any, range_with_len}
 use Rattle.etherparse.specs.declared.defrag.ip_frag_range.IpFragRange.{IpFragRange}
 use Rattle.etherparse.specs.IpFragRange.{HasNumber, HasOffset, Apart, AreApart, is_one_from_zero}
 use Rattle.etherparse.specs.Fragments.{Fragment, start_of, end_of, named_end, greatest_end, Holds, holds, Covered}
-use Rattle.etherparse.specs.Fragments.{Complete, all_below, is_complete}
+use Rattle.etherparse.specs.Fragments.{Complete, is_complete}
 use Rattle.etherparse.specs.IpDefragBuf.{Contents, Shows, is_whole}
 use Rattle.etherparse.proofs.ListElements.{AnyOf, AnyOf-from_Any, Any-from_AnyOf}
 
@@ -133,9 +133,30 @@ covered_Decides fs p = (
   grind (arith, list_any-from_Any, any_weaker, holds_Decides),
 )
 
+-- from a number on, so many offsets
+range_Decides : (fs : List Fragment) (low n : ℕ)
+    → Decides (list_all (λ p. list_any (λ f. holds f p) fs) (range_with_len low n))
+    ((p : ℕ) → low ≤ p → p < low + n → Covered fs p)
+range_Decides fs low zero = ((λ _ p from below. absurd (omega arith)), (λ _. refl))
+range_Decides fs low (suc n) =
+    let rest = range_Decides fs (low + 1) n in (
+      (λ h p from below. elim (cases_lt low p) [
+        | inl later ↦ rest.0 (and_parts _ _ h).1 p (omega arith) (omega arith)
+        | inr first ↦
+            let same : low ≡ p = omega arith in
+            subst (Covered fs) same ((covered_Decides fs low).0 (and_parts _ _ h).0)
+      ]),
+      (λ h. and_from _ _ ((covered_Decides fs low).1 (h low (omega arith) (omega arith)))
+          (rest.1 (λ p from below. h p (omega arith) (omega arith)))),
+    )
+
 -- the test decides the proposition
 pub complete_Decides : (fs : List Fragment) → Decides (is_complete fs) (Complete fs)
 complete_Decides fs =
-    let below = Decides-below_and (λ p. list_any (λ f. holds f p) fs) (λ p. Covered fs p)
-    (all_below (λ p. list_any (λ f. holds f p) fs)) (covered_Decides fs) refl
-    (λ _. refl) (greatest_end fs) in grind arith
+    let range = range_Decides fs 0 (greatest_end fs) in (
+      (λ h. record {
+        ended = (and_parts _ _ h).0;
+        covered = λ p below. range.0 (and_parts _ _ h).1 p (omega arith) (omega arith);
+      }),
+      (λ h. and_from _ _ h.ended (range.1 (λ p from below. h.covered p (omega arith)))),
+    )

@@ -7,9 +7,9 @@ use Rattle.std.specs.List.{Contains}
 use Rattle.std.specs.Option.{option_or}
 use Rattle.etherparse.specs.Fragments.{Fragment, end_of, named_end, greatest_end, Holds, Covered, IsRepeat, Clashes}
 use Rattle.etherparse.specs.Fragments.{AreDisjoint, is_repeat, refusal_at}
-use Rattle.etherparse.specs.FragmentBytes.{byte_of, byte_at}
+use Rattle.etherparse.specs.FragmentBytes.{byte_at}
 use Rattle.etherparse.proofs.Clash.{repeat_Decides}
-use Rattle.etherparse.proofs.Push.{named_end-push, own_end}
+use Rattle.etherparse.proofs.Push.{byte_of, named_end-push, own_end}
 
 -- ---- fragments of the list
 

@@ -3,11 +3,12 @@ use Rattle.std.proofs.Common.{arith, ◌≡◌, ℕ, ◌%◌, Bool, true, false,
 use Rattle.std.proofs.Common.{None, is_some, option_map, Result, Ok, Err, List, [], ◌∷◌, ◌++◌, length, take, ap, refl}
 use Rattle.std.proofs.Common.{sym, subst, ◌∙◌}
 use Rattle.std.specs.List.{insert}
-use Rattle.std.specs.Option.{option_or}
+use Rattle.std.specs.Option.{option_and_then, option_or}
 use Rattle.std.specs.Prelude.{◌==◌, IfErr, IfOk, IfSome, OnErr, OnOk}
 use Rattle.etherparse.specs.declared.defrag.ip_defrag_error.IpDefragError.{IpDefragError}
 use Rattle.etherparse.specs.declared.defrag.ip_defrag_error.IpDefragError.TheVariants.{AllocationFailure}
 use Rattle.etherparse.specs.declared.defrag.ip_defrag_error.IpDefragError.TheVariants.{ConflictingEnd, SegmentTooBig}
+use Rattle.etherparse.specs.declared.defrag.ip_defrag_error.IpDefragError.TheVariants.{OverlappingFragment}
 use Rattle.etherparse.specs.declared.defrag.ip_defrag_error.IpDefragError.TheVariants.{UnalignedFragmentPayloadLen}
 use Rattle.etherparse.specs.declared.defrag.ip_frag_range.IpFragRange.{IpFragRange}
 use Rattle.etherparse.specs.declared.defrag.stored_fragment.StoredFragment.{StoredFragment}
@@ -15,8 +16,8 @@ use Rattle.etherparse.specs.declared.defrag.stored_fragment.Location.{Location}
 use Rattle.etherparse.specs.declared.defrag.stored_fragment.Location.TheVariants.{At, Clash, Repeat}
 use Rattle.etherparse.specs.declared.defrag.overlap_rule.OverlapRule.{OverlapRule}
 use Rattle.etherparse.specs.declared.defrag.overlap_rule.OverlapRule.TheVariants.{Refuses}
-use Rattle.etherparse.specs.Fragments.{Fragment, named_end, refusal_at, refusal_of, overlaps, overlap_of, IsRepeat}
-use Rattle.etherparse.specs.Fragments.{start_of, end_of, end_conflict, with_accepted}
+use Rattle.etherparse.specs.Fragments.{Fragment, named_end, refusal_at, refusal_of, overlaps, IsRepeat}
+use Rattle.etherparse.specs.Fragments.{start_of, end_of, with_accepted}
 use Rattle.etherparse.specs.IpDefragBuf.{AnswersAdd, Contents, FindsAmong, FindsLocation, ShowsAccepted, Shows}
 use Rattle.etherparse.specs.IpDefragBuf.{SameButRoom, Writes, empty_of, left_after, rule_by, rule_of, unless_refused}
 use Rattle.etherparse.specs.IpDefragError.{is_overlap, is_out_of_memory}
@@ -36,7 +37,7 @@ module _ {N : Type 0} (buf : Contents N) (fs : List Fragment) (f : Fragment) (sh
   unrefused = subst (λ (o : Option ℕ). refusal_at o f ≡ None) shows.ended none
 
   by_overlap : (rule : OverlapRule) (b : Bool) → overlaps rule fs f ≡ b
-      → refusal_of rule fs f ≡ cond b (Some (overlap_of f)) None
+      → refusal_of rule fs f ≡ cond b (Some (OverlappingFragment f.offset (length f.bytes))) None
   by_overlap rule b is = grind arith
 
   -- to an index
@@ -68,7 +69,7 @@ module _ {N : Type 0} (buf : Contents N) (fs : List Fragment) (f : Fragment) (sh
       (clashes_Decides fs f).1 (clash_found buf ms fs f shows keeps unrefused location)
 
   pub refused_at_clash : FindsLocation buf (stored_of f) f.bytes Clash
-      → refusal_of (rule_of buf) fs f ≡ Some (overlap_of f)
+      → refusal_of (rule_of buf) fs f ≡ Some (OverlappingFragment f.offset (length f.bytes))
   refused_at_clash location = by_overlap (rule_of buf) true (clash_by buf.stored_fragments shows.stored_fragments location)
 
   -- a stored fragment again
@@ -212,7 +213,11 @@ module _ (P : IpDefragError → Type 0) (f : Fragment)
     (long : P (SegmentTooBig f.offset (length f.bytes) 65535))
     (unaligned : P (UnalignedFragmentPayloadLen f.offset (length f.bytes)))
     (conflict : (end : ℕ) → P (ConflictingEnd end (end_of f))) where
-  at_end : (o : Option ℕ) → IfSome (end_conflict o f) P
+  abbrev end_conflict : ℕ → Option IpDefragError
+  end_conflict end = cond (ltb end (end_of f) || (not f.more && not (end_of f == end)))
+      (Some (ConflictingEnd end (end_of f))) None
+
+  at_end : (o : Option ℕ) → IfSome (option_and_then (λ end. end_conflict end) o) P
   at_end None = tt
   at_end (Some end) =
       elim (ltb end (end_of f) || (not f.more && not (end_of f == end))) as (λ (b : Bool). IfSome
@@ -224,7 +229,8 @@ module _ (P : IpDefragError → Type 0) (f : Fragment)
       elim (ltb 65535 (end_of f)) as (λ (b : Bool). IfSome (cond b
       (Some (SegmentTooBig f.offset (length f.bytes) 65535)) (cond
       (f.more && not (length f.bytes % 8 == 0))
-      (Some (UnalignedFragmentPayloadLen f.offset (length f.bytes))) (end_conflict o f))) P) [
+      (Some (UnalignedFragmentPayloadLen f.offset (length f.bytes)))
+      (option_and_then (λ end. end_conflict end) o))) P) [
         | true ↦ long
         | false ↦ grind arith
       ]
@@ -244,7 +250,8 @@ pub left_shows : {N : Type 0} (old new : Contents N) (fs : List Fragment) (f : F
 left_shows old new fs f e shows is left =
     elim (refusal_at (named_end fs) f) as (λ (o : Option IpDefragError).
     refusal_at (named_end fs) f ≡ o
-    → option_or o (cond (overlaps (rule_of old) fs f) (Some (overlap_of f)) None) ≡ Some e
+    → option_or o (cond (overlaps (rule_of old) fs f)
+    (Some (OverlappingFragment f.offset (length f.bytes))) None) ≡ Some e
     → Shows new (cond (is_some o) fs (cond (overlaps (rule_of old) fs f) [] (fs ++ f ∷ [])))) [
       | Some r ↦ λ at same.
           let one : r ≡ e = cc in
@@ -255,10 +262,10 @@ left_shows old new fs f e shows is left =
           let all : SameButRoom old new = rw stays at left in
           still_shows old new fs all shows
       | None ↦ λ at same.
-          elim (overlaps (rule_of old) fs f) as (λ (b : Bool). cond b (Some (overlap_of f)) None
-          ≡ Some e → Shows new (cond b [] (fs ++ f ∷ []))) [
+          elim (overlaps (rule_of old) fs f) as (λ (b : Bool). cond b
+          (Some (OverlappingFragment f.offset (length f.bytes))) None ≡ Some e → Shows new (cond b [] (fs ++ f ∷ []))) [
             | true ↦ λ is.
-                let one : overlap_of f ≡ e = cc in
+                let one : OverlappingFragment f.offset (length f.bytes) ≡ e = cc in
                 let gone : new ≡ empty_of old.ip_number (Some []) new.room =
                 left ∙ rw (← one) refl in
                 subst (λ (b : Contents _). Shows b []) (sym gone)

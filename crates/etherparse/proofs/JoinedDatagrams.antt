@@ -1,6 +1,6 @@
 -- Lists of accepted fragments, and the datagrams that are joined from them.
 use Rattle.std.proofs.Common.{arith, ◌≡◌, ◌∙◌, sym, subst, refl, ℕ, Bool, true, false, cond, inl, inr, Option, Some}
-use Rattle.std.proofs.Common.{None, List, [], ◌∷◌, ◌++◌}
+use Rattle.std.proofs.Common.{None, option_map, List, [], ◌∷◌, ◌++◌}
 use Rattle.std.specs.Prelude.{◌==◌, ◌&&◌, nat_lt}
 use Rattle.ep_packet.specs.Class.{Class, FragmentName, class_of}
 use Rattle.ep_packet.specs.Class.Class.{Whole, Cut, Other, Refused as Faulty}
@@ -15,13 +15,13 @@ use Rattle.etherparse.specs.declared.defrag.ip_frag_id.IpFragId.{IpFragId}
 use Rattle.etherparse.specs.declared.defrag.pool_calls.PoolCall.{PoolCall}
 use Rattle.etherparse.specs.declared.defrag.pool_calls.PoolCall.TheVariants.{Frame, RetainFrom}
 use Rattle.etherparse.specs.IpDefragPool.{Payload}
-use Rattle.etherparse.specs.IpFragId.{fragment_in, id_named, rule_over, same_name}
+use Rattle.etherparse.specs.IpFragId.{id_named, rule_over, same_name}
 use Rattle.etherparse.specs.JoinedCalls.{AreAccepted, IsJoinedFrom, JoinAnswers, JoinsCall, JoinsFrame}
 use Rattle.ep_packet.specs.Sliced.{sliced_ethernet}
-use Rattle.etherparse.specs.PoolCalls.{Answered, GoesOn, Lists, CallsAnswered, CallResult, after_fragment, fault_in}
+use Rattle.etherparse.specs.PoolCalls.{Answered, GoesOn, Lists, CallsAnswered, CallResult, after_frame, fault_in}
 use Rattle.etherparse.specs.PoolCalls.{answer_to_frame, lists_after, lists_with, lists_with_frame, outcome_at}
-use Rattle.etherparse.specs.PoolCalls.{result_of_outcome, memory_error_at_fragment}
-use Rattle.etherparse.specs.PoolCalls.CallResult.{Delivered}
+use Rattle.etherparse.specs.PoolCalls.{result_of_outcome, memory_error_at_frame}
+use Rattle.etherparse.specs.PoolCalls.CallResult.{Delivered, Refused}
 
 -- ---- lists of accepted fragments
 
@@ -30,20 +30,20 @@ kept_either : (rule : OverlapRule) (b : Bool) (h k : Held) → IsAccepted rule h
 kept_either rule true h k all other = all
 kept_either rule false h k all other = other
 
-fragment_accepted : (name : FragmentName) (channel : ℕ) (taken : Option (FragmentName × Fragment))
-    (time other : ℕ) (h : Held) → IsAccepted (rule_over name.addresses) h.fragments
-    → IsAccepted (rule_over name.addresses)
-    (after_fragment name channel taken time other h).fragments
-fragment_accepted name channel None time other h all = all
-fragment_accepted name channel (Some reported) time other h all =
-    kept_either (rule_over name.addresses) (same_name reported.0 name && (other == channel)) _ h
-    (held_accepted (rule_over name.addresses) h time reported.1 all) all
+class_accepted : (name : FragmentName) (channel : ℕ) (class : Class) (time other : ℕ) (h : Held)
+    → IsAccepted (rule_over name.addresses) h.fragments
+    → IsAccepted (rule_over name.addresses) (after_frame name channel class time other h).fragments
+class_accepted name channel (Cut own offset more bytes) time other h all =
+    kept_either (rule_over name.addresses) (same_name own name && (other == channel)) _ h
+    (held_accepted (rule_over name.addresses) h time (fragment offset more bytes) all) all
+class_accepted name channel (Whole addresses number bytes message) time other h all = all
+class_accepted name channel Other time other h all = all
+class_accepted name channel Faulty time other h all = all
 
 pub frame_accepted : (lists : Lists) (class : Class) (time channel : ℕ) → AreAccepted lists
     → AreAccepted (lists_with_frame lists class time channel)
 frame_accepted lists class time channel all name other =
-    fragment_accepted name other (fragment_in class) time channel (lists name other)
-    (all name other)
+    class_accepted name other class time channel (lists name other) (all name other)
 
 pub call_accepted : (lists : Lists) (call : PoolCall) → AreAccepted lists
     → AreAccepted (lists_with lists call)
@@ -91,7 +91,7 @@ module _ (lists : Lists) (accepted : AreAccepted lists) where
   answer_joins Faulty channel fault reported is name f payload taken over given = cc
 
   memory_error_joins : (class : Class) (channel : ℕ) (reported : CallResult)
-      → memory_error_at_fragment lists (fragment_in class) channel ≡ Some reported
+      → option_map Refused (memory_error_at_frame lists class channel) ≡ Some reported
       → JoinsFrame lists class channel reported
   memory_error_joins class channel reported memory_result name f payload taken over given =
       grind arith
@@ -99,7 +99,7 @@ module _ (lists : Lists) (accepted : AreAccepted lists) where
   pub frame_joins : (ends : Lists → Type 0) (next : Lists) (class : Class) (channel : ℕ)
       (fault : Option SliceError) (reported : CallResult)
       → GoesOn ends lists next (answer_to_frame lists class channel fault)
-      (memory_error_at_fragment lists (fragment_in class) channel) reported
+      (memory_error_at_frame lists class channel) reported
       → JoinsFrame lists class channel reported
   frame_joins ends next class channel fault reported (inl h) =
       answer_joins class channel fault reported h.0

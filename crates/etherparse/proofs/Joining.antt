@@ -1,15 +1,15 @@
 -- A datagram that is complete, fragment by fragment.
 use Rattle.std.proofs.Common.{◌≡◌, ℕ, zero, suc, ◌+◌, ◌-◌, ◌<◌, ◌≤◌, inl, inr, Option, Some, None, IsSome, List, []}
-use Rattle.std.proofs.Common.{◌∷◌, ◌++◌, length, get_or, unwrap_or, arith, ap, ◌∙◌, refl, drop}
+use Rattle.std.proofs.Common.{◌∷◌, ◌++◌, length, map, get_or, unwrap_or, arith, ap, ◌∙◌, refl, drop}
 use Rattle.std.proofs.lemmas.Bool.{cases_lt, false≢true}
 use Rattle.std.proofs.lemmas.Grind.{same_number_lists}
 use Rattle.std.proofs.lemmas.List.{get_or-drop, get_or_append_left, get_or-append_right, length-append, length-drop}
 use Rattle.std.proofs.lemmas.List.Elements.{All-cons, All-nil}
 use Rattle.std.proofs.lemmas.List.FromFn.{get_or-map-range_with_len, length-map-range_with_len}
-use Rattle.std.specs.List.{All, AllByRecursion, AllPairs, Contains}
+use Rattle.std.specs.List.{All, AllByRecursion, AllPairs, Contains, range_with_len}
 use Rattle.etherparse.specs.Fragments.{Fragment, start_of, end_of, named_end, Holds, Covered, AreDisjoint}
 use Rattle.etherparse.specs.Joined.{AreInRow, IsJoined, NoOverlap, joined_bytes}
-use Rattle.etherparse.specs.FragmentBytes.{byte_at, bytes_below}
+use Rattle.etherparse.specs.FragmentBytes.{byte_at}
 use Rattle.etherparse.proofs.AcceptedLists.{accepted_are_disjoint}
 use Rattle.etherparse.proofs.Disjoint.{byte_of_holder, greatest_named}
 use Rattle.etherparse.proofs.Push.{byte_of-here}
@@ -54,7 +54,7 @@ row_apart location (f ∷ parts) row (suc i) (suc j) d low high =
 module _ (fs : List Fragment) (disjoint : AreDisjoint fs) (end : ℕ) (named : named_end fs ≡ Some end)
     (covered : (p : ℕ) → p < end → Covered fs p) where
   abbrev text : List ℕ
-  text = bytes_below fs end
+  text = map (λ p. unwrap_or (byte_at fs p) 0) (range_with_len 0 end)
 
   long : length text ≡ end
   long = length-map-range_with_len (λ p. unwrap_or (byte_at fs p) 0) 0 end
@@ -146,7 +146,7 @@ pub no_overlap : NoOverlap
 no_overlap fs accepted complete =
     let disjoint = accepted_are_disjoint fs accepted in
     elim (named_end fs) as (λ (o : Option ℕ). named_end fs ≡ o → IsSome o
-    → IsJoined fs (bytes_below fs (unwrap_or o 0))) [
+    → IsJoined fs (map (λ p. unwrap_or (byte_at fs p) 0) (range_with_len 0 (unwrap_or o 0)))) [
       | None ↦ λ named ends. absurd (false≢true ends)
       | Some end ↦ λ named ends.
           let high = greatest_named fs end named in

@@ -15,11 +15,12 @@ use Rattle.etherparse.specs.Fragments.{IsRepeat, refusal_at}
 use Rattle.etherparse.specs.IpDefragBuf.{Contents, Shows}
 use Rattle.etherparse.specs.IpFragRange.{HasNumber, HasOffset, SharesWith}
 use Rattle.etherparse.specs.StoredFragment.{HasBytes, IsLocation, KeepsAll, stored_of, reach_of}
-use Rattle.etherparse.specs.FragmentBytes.{byte_at, byte_of, kept_bytes}
+use Rattle.etherparse.specs.FragmentBytes.{byte_at, kept_bytes}
 use Rattle.etherparse.proofs.Disjoint.{agrees_with, byte_of_holder, covered_by, disjoint_push, greatest_of, named_by}
 use Rattle.etherparse.proofs.Disjoint.{repeat_is_no_clash}
 use Rattle.etherparse.proofs.StoredOrder.{listed_insert}
-use Rattle.etherparse.proofs.Push.{byte_at-push, byte_of-here, greatest_end-push, named_end-push, own_end, range_of}
+use Rattle.etherparse.proofs.Push.{byte_at-push, byte_of, byte_of-here, greatest_end-push, named_end-push, own_end}
+use Rattle.etherparse.proofs.Push.{range_of}
 
 -- one that isn't refused is short
 pub end_short : (fs : List Fragment) (f : Fragment) → refusal_at (named_end fs) f ≡ None

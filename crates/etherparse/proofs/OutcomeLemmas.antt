@@ -1,9 +1,11 @@
 -- The outcome of a fragment, by whether it is refused and whether its datagram is complete with it.
 use Rattle.std.proofs.Common.{arith, ◌≡◌, refl, cond, Bool, true, false, Option, Some, None, List, [], ◌∷◌, ◌++◌}
+use Rattle.std.proofs.Common.{length}
 use Rattle.std.specs.Option.{option_or}
 use Rattle.etherparse.specs.declared.defrag.ip_defrag_error.IpDefragError.{IpDefragError}
+use Rattle.etherparse.specs.declared.defrag.ip_defrag_error.IpDefragError.TheVariants.{OverlappingFragment}
 use Rattle.etherparse.specs.declared.defrag.overlap_rule.OverlapRule.{OverlapRule}
-use Rattle.etherparse.specs.Fragments.{Fragment, is_complete, named_end, overlap_of, overlaps, refusal_at, refusal_of}
+use Rattle.etherparse.specs.Fragments.{Fragment, is_complete, named_end, overlaps, refusal_at, refusal_of}
 use Rattle.etherparse.specs.Outcome.{Outcome, outcome}
 use Rattle.etherparse.specs.Outcome.Outcome.{Clash, Completed, Refusal, Waiting}
 use Rattle.etherparse.specs.FragmentBytes.{text_of}
@@ -40,7 +42,8 @@ module _ (rule : OverlapRule) (fs : List Fragment) (f : Fragment) where
   -- each case of the outcome
   pub by_outcome : (P : Outcome → Type 0)
       → ((error : IpDefragError) → refusal_at (named_end fs) f ≡ Some error → P (Refusal error))
-      → (refusal_at (named_end fs) f ≡ None → overlaps rule fs f ≡ true → P (Clash (overlap_of f)))
+      → (refusal_at (named_end fs) f ≡ None → overlaps rule fs f ≡ true
+      → P (Clash (OverlappingFragment f.offset (length f.bytes))))
       → (refusal_of rule fs f ≡ None → is_complete all ≡ false → P (Waiting all))
       → (refusal_of rule fs f ≡ None → is_complete all ≡ true → P (Completed (text_of all)))
       → P (outcome rule fs f)

@@ -13,9 +13,9 @@ use Rattle.etherparse.specs.declared.defrag.ip_frag_range.IpFragRange.{IpFragRan
 use Rattle.etherparse.specs.declared.defrag.stored_fragment.StoredFragment.{StoredFragment}
 use Rattle.etherparse.specs.declared.defrag.overlap_rule.OverlapRule.{OverlapRule}
 use Rattle.etherparse.specs.Fragments.{Fragment, start_of, end_of, named_end, greatest_end, refusal_at, overlaps}
-use Rattle.etherparse.specs.Fragments.{IsAccepted}
+use Rattle.etherparse.specs.Fragments.{IsAccepted, holds}
 use Rattle.etherparse.specs.IpFragRange.{HasNumber, HasOffset, AreOrdered, AddsRange}
-use Rattle.etherparse.specs.FragmentBytes.{byte_of, byte_at, kept_bytes}
+use Rattle.etherparse.specs.FragmentBytes.{byte_at, kept_bytes}
 use Rattle.etherparse.specs.IpDefragBuf.{Contents, ShowsAccepted, IsSound, Shows, Writes, rule_of}
 use Rattle.etherparse.specs.StoredFragment.{Keeps, emptied, stored_of}
 use Rattle.etherparse.proofs.Accepted.{with_all_accepted-push}
@@ -25,6 +25,10 @@ use Rattle.etherparse.proofs.ListElements.{AnyOf-from_Any, Any-from_AnyOf, AnyOf
 -- from its first offset to the one after its last
 abbrev pub range_of : Fragment → IpFragRange
 range_of f = record { start = start_of f; end = end_of f }
+
+-- the byte that it holds at an offset
+abbrev pub byte_of : Fragment → ℕ → Option ℕ
+byte_of f p = cond (holds f p) (Some (get_or f.bytes (p - start_of f) 0)) None
 
 -- ---- one more fragment
 

@@ -6,14 +6,11 @@ use Rattle.std.specs.Option.{option_or}
 use Rattle.std.specs.List.{range_with_len}
 use Rattle.etherparse.specs.Fragments.{Fragment, start_of, end_of, named_end, greatest_end, holds, Holds, Covered}
 
--- the byte that a fragment holds at an offset
-abbrev pub byte_of : Fragment → ℕ → Option ℕ
-byte_of f p = (if holds f p then Some (slice_index f.bytes (p - start_of f)) else None)
-
--- that of the last fragment that covers the offset
+-- the byte at an offset: that of the last fragment that covers it
 abbrev pub byte_at : List Fragment → ℕ → Option ℕ
 byte_at [] p = None
-byte_at (f ∷ fs) p = option_or (byte_at fs p) (byte_of f p)
+byte_at (f ∷ fs) p = option_or (byte_at fs p)
+    (if holds f p then Some (slice_index f.bytes (p - start_of f)) else None)
 
 -- each byte is that of the last fragment that covers its offset
 abbrev pub LastByteCounts : Type 0
@@ -25,18 +22,15 @@ LastByteCounts = (before following : List Fragment) (f : Fragment) (p : ℕ) →
 abbrev pub UncoveredHasNone : Type 0
 UncoveredHasNone = (fs : List Fragment) (p : ℕ) → (Covered fs p → ⊥) → byte_at fs p ≡ None
 
--- the bytes below this end, with 0 at each offset that no fragment covers
-abbrev pub bytes_below : List Fragment → ℕ → List ℕ
-bytes_below fs end = map (λ p. unwrap_or (byte_at fs p) 0) (range_with_len 0 end)
-
--- the datagram: the bytes below its end
+-- the datagram: the bytes below its end, with 0 at each offset that no fragment covers
 abbrev pub text_of : List Fragment → List ℕ
-text_of fs = bytes_below fs (unwrap_or (named_end fs) 0)
+text_of fs = map (λ p. unwrap_or (byte_at fs p) 0) (range_with_len 0 (unwrap_or (named_end fs) 0))
 
 -- the bytes that are kept: those of the datagram, and up to the greatest end while its end isn't
 -- named
 abbrev pub kept_bytes : List Fragment → List ℕ
-kept_bytes fs = bytes_below fs (unwrap_or (named_end fs) (greatest_end fs))
+kept_bytes fs = map (λ p. unwrap_or (byte_at fs p) 0)
+    (range_with_len 0 (unwrap_or (named_end fs) (greatest_end fs)))
 
 -- the number lies between start and end of a fragment, both included
 abbrev pub Touched : List Fragment → ℕ → Type 0

@@ -1,12 +1,12 @@
 -- The fragments of one datagram, the oldest first (RFC 791, section 3.2; RFC 8200, section 4.5):
 -- where each ends, which of them are accepted, and when the datagram is complete.
-use Rattle.std.specs.Prelude.{◌≡◌, zero, suc, is_some, ℕ, ◌+◌, ◌*◌, ◌%◌, ◌<◌, ◌≤◌, ◌==◌, nat_lt, nat_le, nat_eq, Bool}
+use Rattle.std.specs.Prelude.{◌≡◌, is_some, ℕ, ◌+◌, ◌*◌, ◌%◌, ◌<◌, ◌≤◌, ◌==◌, nat_lt, nat_le, nat_eq, Bool}
 use Rattle.std.specs.Prelude.{true, false, not, ◌&&◌, ◌||◌, if◌then◌else◌, max, min, Option, Some, None, IsSome, List}
 use Rattle.std.specs.Prelude.{[], ◌∷◌, ◌++◌, length, All, Any, Contains, ◌⊎◌}
 use Rattle.std.specs.Bool.{beq}
 use Rattle.std.specs.Cmp.Lexicographic.{pointwise}
-use Rattle.std.specs.List.{list_any}
-use Rattle.std.specs.Option.{option_or}
+use Rattle.std.specs.List.{list_all, list_any, range_with_len}
+use Rattle.std.specs.Option.{option_and_then, option_or}
 use Rattle.etherparse.specs.declared.defrag.ip_defrag_error.IpDefragError.{IpDefragError}
 use Rattle.etherparse.specs.declared.defrag.ip_defrag_error.IpDefragError.TheVariants.{SegmentTooBig}
 use Rattle.etherparse.specs.declared.defrag.ip_defrag_error.IpDefragError.TheVariants.{UnalignedFragmentPayloadLen}
@@ -56,21 +56,16 @@ pub record Complete (fs : List Fragment) : Type 0 where
   pub ended : IsSome (named_end fs)
   pub covered : (p : ℕ) → p < greatest_end fs → Covered fs p
 
--- why a fragment doesn't agree with the end of the datagram: it ends after it, or it is the last
--- one and has another end
-abbrev pub end_conflict : Option ℕ → Fragment → Option IpDefragError
-end_conflict None f = None
-end_conflict (Some end) f =
-    (if nat_lt end (end_of f) || (not f.more && not (end_of f == end))
-    then Some (ConflictingEnd end (end_of f)) else None)
-
--- why a fragment is refused where this end of the datagram is named, if it is
+-- why a fragment is refused where this end of the datagram is named, if it is: it ends after
+-- 65535; more follows it, and it has no whole units of 8 bytes; it ends after that end; or it is the
+-- last one and has another end
 abbrev pub refusal_at : Option ℕ → Fragment → Option IpDefragError
 refusal_at named f =
     (if nat_lt 65535 (end_of f) then Some (SegmentTooBig f.offset (length f.bytes) 65535)
     else (if f.more && not (length f.bytes % 8 == 0)
     then Some (UnalignedFragmentPayloadLen f.offset (length f.bytes))
-    else end_conflict named f))
+    else option_and_then (λ end. if nat_lt end (end_of f) || (not f.more && not (end_of f == end))
+    then Some (ConflictingEnd end (end_of f)) else None) named))
 
 -- ---- fragments that cover the same offset
 
@@ -92,37 +87,24 @@ abbrev pub Clashes : List Fragment → Fragment → Type 0
 Clashes fs f = ((IsRepeat fs f → ⊥) × SharesOffset fs f) ⊎ ((f.more ≡ false) × EndsBelow fs f)
 
 -- the tests of these propositions
-abbrev pub same_fragment : Fragment → Fragment → Bool
-same_fragment f g = (f.offset == g.offset)
-    && (beq f.more g.more && pointwise nat_eq f.bytes g.bytes)
-
 abbrev pub is_repeat : List Fragment → Fragment → Bool
-is_repeat fs f = list_any (λ g. same_fragment g f) fs
-
--- whether it covers one of the offsets from a number on, up to another
-abbrev pub holds_within : Fragment → ℕ → ℕ → Bool
-holds_within f low high = nat_lt (max (start_of f) low) (min (end_of f) high)
-
-abbrev pub clashes : List Fragment → Fragment → Bool
-clashes fs f =
-    (not (is_repeat fs f) && list_any (λ g. holds_within g (start_of f) (end_of f)) fs)
-    || (not f.more && list_any (λ g. nat_lt (max (start_of g) (end_of f)) (end_of g)) fs)
+is_repeat fs f = list_any (λ g. (g.offset == f.offset)
+    && (beq g.more f.more && pointwise nat_eq g.bytes f.bytes)) fs
 
 -- whether a fragment clashes where a clash ends its datagram
 abbrev pub overlaps : OverlapRule → List Fragment → Fragment → Bool
 overlaps Overwrites fs f = false
-overlaps Refuses fs f = clashes fs f
-
--- the error that reports it
-abbrev pub overlap_of : Fragment → IpDefragError
-overlap_of f = OverlappingFragment f.offset (length f.bytes)
+overlaps Refuses fs f =
+    (not (is_repeat fs f)
+    && list_any (λ g. nat_lt (max (start_of g) (start_of f)) (min (end_of g) (end_of f))) fs)
+    || (not f.more && list_any (λ g. nat_lt (max (start_of g) (end_of f)) (end_of g)) fs)
 
 -- ---- the accepted fragments
 
 -- why a fragment is refused after these, if it is
 abbrev pub refusal_of : OverlapRule → List Fragment → Fragment → Option IpDefragError
 refusal_of rule fs f = option_or (refusal_at (named_end fs) f)
-    (if overlaps rule fs f then Some (overlap_of f) else None)
+    (if overlaps rule fs f then Some (OverlappingFragment f.offset (length f.bytes)) else None)
 
 -- the list with this fragment at its end, unless it is refused; none where it overlaps them
 abbrev pub with_accepted : OverlapRule → List Fragment → Fragment → List Fragment
@@ -172,12 +154,7 @@ AcceptedAreDisjoint = (fs : List Fragment) → IsAccepted Refuses fs → AreDisj
 abbrev pub holds : Fragment → ℕ → Bool
 holds f p = nat_le (start_of f) p && nat_lt p (end_of f)
 
--- the test holds of each number below n
-abbrev pub all_below : (ℕ → Bool) → ℕ → Bool
-all_below test zero = true
-all_below test (suc n) = test n && all_below test n
-
 -- whether the datagram is complete
 abbrev pub is_complete : List Fragment → Bool
-is_complete fs = is_some (named_end fs) && all_below
-    (λ p. list_any (λ f. holds f p) fs) (greatest_end fs)
+is_complete fs = is_some (named_end fs)
+    && list_all (λ p. list_any (λ f. holds f p) fs) (range_with_len 0 (greatest_end fs))

@@ -1,12 +1,13 @@
 -- The names of datagrams (RFC 791, section 3.2; over IPv6 RFC 8200, section 4.5, leaves the number
 -- out), and which fragment of one a packet is.
-use Rattle.std.specs.Prelude.{ℕ, Bool, false, ◌&&◌, ◌==◌, ◌∷◌, nat_eq, Option, Some, None}
+use Rattle.std.specs.Prelude.{ℕ, Bool, ◌&&◌, ◌==◌, ◌∷◌, nat_eq, Option, Some, None}
 use Rattle.std.specs.Cmp.Lexicographic.{pointwise}
 use Rattle.std.specs.Hash as fed
 use Rattle.ep_base.specs.declared.len_source.LenSource.{LenSource}
 use Rattle.ep_base.specs.declared.len_source.LenSource.TheVariants.{Ipv4HeaderTotalLen, Ipv6HeaderPayloadLen}
 use Rattle.ep_packet.specs.Class.{Class, FragmentName}
 use Rattle.ep_packet.specs.Class.Class.{Whole, Cut, Other, Refused}
+use Rattle.ep_packet.specs.contracts.addresses.AddressesPartialEq.TheImpl as addresses
 use Rattle.ep_packet.specs.declared.addresses.Addresses.{Addresses}
 use Rattle.ep_packet.specs.declared.addresses.Addresses.TheVariants.{V4, V6}
 use Rattle.etherparse.specs.declared.defrag.ip_frag_id.IpFragId.{IpFragId}
@@ -29,16 +30,10 @@ id_named name channel = record {
   channel_id = channel;
 }
 
-abbrev pub same_addresses : Addresses → Addresses → Bool
-same_addresses (V4 s d) (V4 t e) = pointwise nat_eq s t && pointwise nat_eq d e
-same_addresses (V6 s d) (V6 t e) = pointwise nat_eq s t && pointwise nat_eq d e
-same_addresses (V4 s d) (V6 t e) = false
-same_addresses (V6 s d) (V4 t e) = false
-
 -- the same tags, version, addresses, identification and number
 abbrev pub same_name : FragmentName → FragmentName → Bool
 same_name a b = pointwise nat_eq a.vlan_ids b.vlan_ids
-    && (same_addresses a.addresses b.addresses
+    && (addresses.ghosts.eq a.addresses b.addresses
     && ((a.identification == b.identification) && (a.number == b.number)))
 
 -- what a hasher is given of an id: both addresses, each in one write, and the identification

@@ -2,11 +2,13 @@
 -- section 3.2; RFC 8200, section 4.5). The fragments that are held after it, what is answered to
 -- it, and the out-of-memory error that may be answered in place of that are each a function of this
 -- one value.
-use Rattle.std.specs.Prelude.{ℕ, Bool, if◌then◌else◌, Option, Some, None, List, [], ◌∷◌, ◌++◌}
+use Rattle.std.specs.Prelude.{ℕ, if◌then◌else◌, Option, Some, None, List, [], ◌∷◌, ◌++◌, length}
+use Rattle.std.specs.Option.{option_map_or}
 use Rattle.etherparse.specs.declared.defrag.ip_defrag_error.IpDefragError.{IpDefragError}
 use Rattle.etherparse.specs.declared.defrag.ip_defrag_error.IpDefragError.TheVariants.{AllocationFailure}
+use Rattle.etherparse.specs.declared.defrag.ip_defrag_error.IpDefragError.TheVariants.{OverlappingFragment}
 use Rattle.etherparse.specs.declared.defrag.overlap_rule.OverlapRule.{OverlapRule}
-use Rattle.etherparse.specs.Fragments.{Fragment, end_of, is_complete, named_end, overlap_of, overlaps, refusal_at}
+use Rattle.etherparse.specs.Fragments.{Fragment, end_of, is_complete, named_end, overlaps, refusal_at}
 use Rattle.etherparse.specs.FragmentBytes.{text_of}
 
 -- it is refused with an error; or it is refused since it overlaps, and its reassembly starts anew,
@@ -18,21 +20,13 @@ pub data Outcome : Type 0 where
   Waiting : (fragments : List Fragment) → Outcome
   Completed : (text : List ℕ) → Outcome
 
--- that of the last one of these fragments where it is accepted
-abbrev pub outcome_accepted : List Fragment → Outcome
-outcome_accepted fs = if is_complete fs then Completed (text_of fs) else Waiting fs
-
--- unless there is a reason to refuse it, or it overlaps
-abbrev pub outcome_unless : Option IpDefragError → (overlap : Bool) → Fragment → List Fragment
-    → Outcome
-outcome_unless (Some error) overlap f fs = Refusal error
-outcome_unless None overlap f fs =
-    if overlap then Clash (overlap_of f) else outcome_accepted fs
-
--- that of a fragment after those that were accepted
+-- that of a fragment after those that were accepted: a refusal where there is a reason, and else by
+-- whether it overlaps, and by whether the datagram is complete with it
 abbrev pub outcome : OverlapRule → List Fragment → Fragment → Outcome
-outcome rule fs f =
-    outcome_unless (refusal_at (named_end fs) f) (overlaps rule fs f) f (fs ++ f ∷ [])
+outcome rule fs f = option_map_or Refusal (refusal_at (named_end fs) f)
+    (if overlaps rule fs f then Clash (OverlappingFragment f.offset (length f.bytes))
+    else (if is_complete (fs ++ f ∷ []) then Completed (text_of (fs ++ f ∷ []))
+    else Waiting (fs ++ f ∷ [])))
 
 -- the error that refuses it
 abbrev pub error_of : Outcome → Option IpDefragError

@@ -19,7 +19,7 @@ use Rattle.etherparse.specs.declared.defrag.pool_calls.PoolAnswer.TheVariants as
 use Rattle.etherparse.specs.declared.defrag.reassembly.Reassembly.{Reassembly}
 use Rattle.etherparse.specs.Fragments.{Fragment, fragment}
 use Rattle.etherparse.specs.IpDefragPool.{Payload, payload_of, payload_parsed, same_id}
-use Rattle.etherparse.specs.IpFragId.{fragment_in, id_named, rule_over, same_name}
+use Rattle.etherparse.specs.IpFragId.{id_named, rule_over, same_name}
 use Rattle.etherparse.specs.Outcome.{Held, Outcome, held_after, memory_error, outcome}
 use Rattle.etherparse.specs.Outcome.Outcome.{Clash, Completed, Refusal, Waiting}
 use Rattle.etherparse.specs.ReassemblyTable.{Pool, ShowsReassembly, reassembly_at}
@@ -76,18 +76,16 @@ HasMemory (NotSliced error) = Unit {0}
 HasMemory Retained = Unit {0}
 HasMemory NoMemory = ⊥
 
--- what a fragment that came at this time, if it is one, makes of the list of a name
-abbrev pub after_fragment : FragmentName → ℕ → Option (FragmentName × Fragment)
-    → ℕ → ℕ → Held → Held
-after_fragment name channel None time other_channel h = h
-after_fragment name channel (Some reported) time other_channel h =
-    if same_name reported.0 name && (other_channel == channel)
-    then held_after h time (outcome (rule_over name.addresses) h.fragments reported.1) else h
-
--- what a frame of a class makes of it
+-- what a frame of a class, which came at this time on another channel or the same, makes of the
+-- list of a name and channel
 abbrev pub after_frame : FragmentName → ℕ → Class → ℕ → ℕ → Held → Held
-after_frame name channel class time other_channel h =
-    after_fragment name channel (fragment_in class) time other_channel h
+after_frame name channel (Cut other offset more bytes) time other_channel h =
+    if same_name other name && (other_channel == channel)
+    then held_after h time
+    (outcome (rule_over name.addresses) h.fragments (fragment offset more bytes)) else h
+after_frame name channel (Whole addresses number bytes message) time other_channel h = h
+after_frame name channel Other time other_channel h = h
+after_frame name channel Faulty time other_channel h = h
 
 -- what is left of a list where reassemblies from a time on stay
 abbrev pub retained_from : ℕ → Held → Held
@@ -133,25 +131,25 @@ lists_with_frame lists class time channel name other =
 abbrev pub lists_with : Lists → PoolCall → Lists
 lists_with lists call name channel = after name channel call (lists name channel)
 
--- the out-of-memory error that may be answered to a fragment, if there is one
-abbrev pub memory_error_at_fragment : Lists → Option (FragmentName × Fragment) → ℕ → Option CallResult
-memory_error_at_fragment lists None channel = None
-memory_error_at_fragment lists (Some reported) channel =
-    option_map Refused (memory_error reported.1 (outcome_at lists reported.0 channel reported.1))
-
--- the out-of-memory error that may be answered to a frame of a class
-abbrev pub memory_error_at_frame : Lists → Class → ℕ → Option CallResult
-memory_error_at_frame lists class channel = memory_error_at_fragment lists (fragment_in class) channel
+-- the out-of-memory error that may be answered to a frame of a class, if there is one
+abbrev pub memory_error_at_frame : Lists → Class → ℕ → Option IpDefragError
+memory_error_at_frame lists (Cut name offset more bytes) channel =
+    memory_error (fragment offset more bytes) (outcome_at lists name channel (fragment offset more bytes))
+memory_error_at_frame lists (Whole addresses number bytes message) channel = None
+memory_error_at_frame lists Other channel = None
+memory_error_at_frame lists Faulty channel = None
 
 -- the out-of-memory error that may be answered to a call: to drop reassemblies takes no memory
-abbrev pub memory_error_at : Lists → PoolCall → Option CallResult
+abbrev pub memory_error_at : Lists → PoolCall → Option IpDefragError
 memory_error_at lists (Frame frame time channel) = memory_error_at_frame lists (class_of frame.now) channel
 memory_error_at lists (RetainFrom from) = None
 
 -- what is reported, and the lists after it: the answer, and the lists with it; or the out-of-memory
 -- error that may be answered in its place, and the lists as they were
-abbrev pub GoesOn : (Lists → Type 0) → (old new : Lists) → CallResult → Option CallResult → CallResult → Type 0
-GoesOn ends old new answer memory_result reported = (reported ≡ answer) × ends new ⊎ (memory_result ≡ Some reported) × ends old
+abbrev pub GoesOn : (Lists → Type 0) → (old new : Lists) → CallResult → Option IpDefragError → CallResult
+    → Type 0
+GoesOn ends old new answer error reported =
+    (reported ≡ answer) × ends new ⊎ (option_map Refused error ≡ Some reported) × ends old
 
 -- what is reported of a frame of a class
 abbrev pub FrameAnswered : (Lists → Type 0) → Lists → Class → ℕ → ℕ

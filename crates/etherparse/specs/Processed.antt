@@ -1,7 +1,7 @@
 -- What a pool makes of a packet, in terms of the lists that its reassemblies show.
-use Rattle.std.specs.Prelude.{◌≡◌, ℕ, nat_eq, Option, None, Some, Result, Ok, IfSome, IfErr}
+use Rattle.std.specs.Prelude.{◌≡◌, ℕ, nat_eq, Option, None, Some, option_map, Result, Ok, IfSome, IfErr}
 use Rattle.ep_packet.specs.Class.{Class}
-use Rattle.ep_packet.specs.Class.Class.{Refused}
+use Rattle.ep_packet.specs.Class.Class.{Refused as Faulty}
 use Rattle.ep_packet.specs.declared.err.packet.slice_error.SliceError.{SliceError}
 use Rattle.etherparse.specs.declared.defrag.ip_defrag_error.IpDefragError.{IpDefragError}
 use Rattle.etherparse.specs.declared.defrag.ip_defrag_payload_vec.IpDefragPayloadVec.{IpDefragPayloadVec}
@@ -10,6 +10,7 @@ use Rattle.etherparse.specs.IpDefragPool.{Accepts, Refuses, same_id}
 use Rattle.etherparse.specs.IpFragId.{fragment_in, id_named}
 use Rattle.etherparse.specs.PoolCalls.{FrameAnswered, HasMemory, Lists, ShowsLists, CallResult, answer_to_frame}
 use Rattle.etherparse.specs.PoolCalls.{as_call_result, memory_error_at_frame}
+use Rattle.etherparse.specs.PoolCalls.CallResult.{Refused}
 use Rattle.etherparse.specs.ReassemblyTable.{OthersStay, Pool, Stays}
 
 -- a packet of this class was processed, which came at this time on this channel: the clauses of
@@ -33,7 +34,7 @@ pub record Processed {T : Type 0} (old : Pool (IpFragId ℕ) T) (class : Class) 
 abbrev pub PacketsAreAnswered : Type 0
 PacketsAreAnswered = (old new : Pool (IpFragId ℕ) ℕ) (class : Class) (time channel : ℕ)
     (result : Result (Option IpDefragPayloadVec) IpDefragError)
-    → Processed old class time channel result new → (class ≡ Refused → ⊥)
+    → Processed old class time channel result new → (class ≡ Faulty → ⊥)
     → (fault : Option SliceError) (lists : Lists) → ShowsLists old lists
     → FrameAnswered (ShowsLists new) lists class time channel fault (as_call_result result)
 
@@ -42,4 +43,5 @@ pub record MemoryErrorsAreReported : Type 0 where
   pub answers : (lists : Lists) (class : Class) (channel : ℕ) (fault : Option SliceError)
       → HasMemory (answer_to_frame lists class channel fault)
   pub memory_errors : (lists : Lists) (class : Class) (channel : ℕ) (reported : CallResult)
-      → memory_error_at_frame lists class channel ≡ Some reported → HasMemory reported → ⊥
+      → option_map Refused (memory_error_at_frame lists class channel) ≡ Some reported
+      → HasMemory reported → ⊥

@@ -1,6 +1,7 @@
 -- What is known of the reassemblies of a pool when they are taken, and when they are put back.
 use Rattle.std.proofs.Common.{arith, inl, inr, ◌≡◌, ◌∙◌, sym, ap, subst, ℕ, List, Option, Some, None, IsSome, true}
 use Rattle.std.proofs.Common.{length}
+use Rattle.etherparse.specs.declared.defrag.ip_defrag_error.IpDefragError.{IpDefragError}
 use Rattle.etherparse.specs.IpDefragPool.{payload_parsed}
 use Rattle.etherparse.specs.PoolCalls.{FrameAnswered, GoesOn, Lists, ShowsLists, CallResult, answer_to_frame}
 use Rattle.etherparse.specs.PoolCalls.{lists_with_frame, memory_error_at_frame}
@@ -54,7 +55,7 @@ put_keeps p x lists kept held is_open s = grind arith
 
 -- what goes on with one proposition goes on with one that follows from it
 goes_on : (ends after : Lists → Type 0) (old new : Lists) (reported answer : CallResult)
-    (memory_result : Option CallResult) → ((l : Lists) → ends l → after l)
+    (memory_result : Option IpDefragError) → ((l : Lists) → ends l → after l)
     → GoesOn ends old new answer memory_result reported → GoesOn after old new answer memory_result reported
 goes_on ends after old new reported answer memory_result then (inl is) = inl (is.0, then new is.1)
 goes_on ends after old new reported answer memory_result then (inr is) = inr (is.0, then old is.1)

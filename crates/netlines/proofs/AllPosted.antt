@@ -4,7 +4,8 @@ use Rattle.std.proofs.Common.{true, false, List, ◌∷◌, ◌++◌, length, ma
 use Rattle.std.specs.Prelude.{IsTrue, codes, Contains}
 use Rattle.std.specs.List.{AllByRecursion}
 use Rattle.std.proofs.lemmas.List.Elements.{recursion_from_All}
-use Rattle.etherparse.specs.Fragments.{Fragment, overlap_of}
+use Rattle.etherparse.specs.Fragments.{Fragment}
+use Rattle.etherparse.specs.declared.defrag.ip_defrag_error.IpDefragError.TheVariants.{OverlappingFragment}
 use Rattle.etherparse.specs.IpFragId.{same_name, rule_over}
 use Rattle.etherparse.specs.Outcome.{Held, Outcome, held_after, outcome}
 use Rattle.etherparse.specs.Outcome.Outcome.{Completed, Waiting, Clash}
@@ -239,14 +240,15 @@ module _ (sent : FragmentName → ℕ → List ℕ) where
 
       becomes : (outcome rule held f ≡ Waiting (held ++ f ∷ []))
           ⊎ ((outcome rule held f ≡ Completed own)
-          ⊎ (outcome rule held f ≡ Clash (overlap_of f)) × (rule ≡ Refuses))
+          ⊎ (outcome rule held f ≡ Clash (OverlappingFragment f.offset (length f.bytes))) × (rule ≡ Refuses))
       becomes =
           let posted = posted_parts earlier line all in
           let posted_fragment = fragment_of_line line posted.1 f has in
           let before = fragments_after earlier posted.0 in
           let none = fragment_not_refused own held f posted_fragment.1 before posted_fragment.0 in
           by_outcome rule held f (λ (o : Outcome). (o ≡ Waiting (held ++ f ∷ []))
-          ⊎ ((o ≡ Completed own) ⊎ (o ≡ Clash (overlap_of f)) × (rule ≡ Refuses)))
+          ⊎ ((o ≡ Completed own)
+          ⊎ (o ≡ Clash (OverlappingFragment f.offset (length f.bytes))) × (rule ≡ Refuses)))
           (λ error refused. let never = sym none ∙ refused in cc)
           (λ none clash. inr (inr (refl, refuses_if rule held f clash)))
           (λ taken open_end. inl refl)

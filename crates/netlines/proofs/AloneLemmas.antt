@@ -1,18 +1,21 @@
 -- The answers to the lines of one message depend on the lines that matter to it alone.
+use Rattle.std.proofs.lemmas.Bool.{and_parts, eqb-true}
 use Rattle.std.proofs.lemmas.Bool.Decides.{nat_tests}
 use Rattle.std.proofs.Common.{◌≡◌, ◌∙◌, ap, refl, sym, ◌↔◌, ℕ, ◌+◌, [], Bool, true, false, not, cond, List, ◌∷◌, ◌++◌}
 use Rattle.std.proofs.Common.{length, arith, length-append}
-use Rattle.std.specs.Prelude.{IsTrue}
-use Rattle.etherparse.specs.IpFragId.{same_name}
-use Rattle.etherparse.specs.Outcome.{Held}
+use Rattle.std.specs.Prelude.{◌==◌, IsTrue}
+use Rattle.etherparse.specs.Fragments.{fragment}
+use Rattle.etherparse.specs.IpFragId.{rule_over, same_name}
+use Rattle.etherparse.specs.Outcome.{Held, outcome}
 use Rattle.etherparse.specs.PoolCalls.{Lists, after_frame}
-use Rattle.etherparse.specs.packet.Class.{Class, FragmentName}
+use Rattle.etherparse.specs.packet.Class.{Class, FragmentName, class_of}
+use Rattle.etherparse.specs.packet.Class.Class.{Whole, Cut, Other, Refused}
 use Rattle.netlines.specs.Alone.{alone, answers_after, answers_to, command_matters, command_of_another, is_fragment}
 use Rattle.netlines.specs.Alone.{is_fragment_of_another, lines_that_matter, matter_after, texts_that_matter}
-use Rattle.netlines.specs.Answers.{answer_after, command_answer}
+use Rattle.netlines.specs.Answers.{answer_after, class_answer, command_answer, outcome_answer}
 use Rattle.netlines.specs.Arrivals.{held_with_line, lists_after_lines}
 use Rattle.line_grammar.specs.Commands.{Command, command_of}
-use Rattle.line_grammar.specs.Commands.Command.{Bad}
+use Rattle.line_grammar.specs.Commands.Command.{Frame, Forget, Bad}
 use Rattle.netlines.proofs.AnswerLemmas.{held_after_lines-push}
 
 pub not_true : (b : Bool) → not b ≡ true → b ≡ false
@@ -29,10 +32,25 @@ module _ (same : (a b : FragmentName) → IsTrue (same_name a b) ↔ (a ≡ b)) 
   abbrev pub all_hold : Held → Lists
   all_hold h other_name other = h
 
+  class_by_own : (lists : Lists) (class : Class) (other : ℕ)
+      → is_fragment name channel class other ≡ true
+      → class_answer lists class other ≡ class_answer (all_hold (lists name channel)) class other
+  class_by_own lists (Cut own offset more bytes) other t =
+      let both = and_parts (same_name own name) (other == channel) t in
+      let own_list : lists own other ≡ lists name channel =
+      rw ((same own name).0 both.0, eqb-true other channel both.1) refl in
+      ap (λ (h : Held). outcome_answer own
+      (outcome (rule_over own.addresses) h.fragments (fragment offset more bytes))) own_list
+  class_by_own lists (Whole addresses number bytes message) other t = cc
+  class_by_own lists Other other t = cc
+  class_by_own lists Refused other t = cc
+
   command_by_own : (lists : Lists) (command : Command)
       → command_matters name channel command ≡ true
       → command_answer lists command ≡ command_answer (all_hold (lists name channel)) command
-  command_by_own lists command t = grind (arith, nat_tests)
+  command_by_own lists (Frame other bytes) t = class_by_own lists (class_of bytes) other t
+  command_by_own lists (Forget number) t = refl
+  command_by_own lists Bad t = refl
 
   -- any other line leaves that list
   class_stays : (class : Class) (other number : ℕ) (h : Held)

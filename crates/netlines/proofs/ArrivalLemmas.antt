@@ -5,10 +5,11 @@ use Rattle.std.specs.Prelude.{IsTrue, nat_eq}
 use Rattle.std.specs.Cmp.Lexicographic.{pointwise}
 use Rattle.std.proofs.lemmas.Bool.{and_parts, cases_Bool, cases_lt, eq-eqb, eqb-true, le-ltb, lt-ltb}
 use Rattle.etherparse.specs.Fragments.{Fragment, fragment}
-use Rattle.etherparse.specs.IpFragId.{fragment_in, same_addresses, same_name, rule_over}
+use Rattle.etherparse.specs.IpFragId.{fragment_in, same_name, rule_over}
 use Rattle.etherparse.specs.Outcome.{Held, Outcome, held_after, outcome}
 use Rattle.etherparse.specs.PoolCalls.{Lists, after_frame, outcome_at, retained_from}
 use Rattle.etherparse.specs.packet.Class.{Class, FragmentName, class_of}
+use Rattle.etherparse.specs.packet.contracts.addresses.AddressesPartialEq.TheImpl as addresses
 use Rattle.etherparse.specs.packet.declared.addresses.Addresses.{Addresses}
 use Rattle.etherparse.specs.packet.Class.Class.{Whole, Cut, Other, Refused}
 use Rattle.etherparse.proofs.OutcomeLemmas.{by_outcome}
@@ -24,7 +25,7 @@ same_bytes : (bytes : List ℕ) → pointwise nat_eq bytes bytes ≡ true
 same_bytes [] = refl
 same_bytes (b ∷ bytes) = rw (eq-eqb b b refl) (same_bytes bytes)
 
-same_between : (a : Addresses) → same_addresses a a ≡ true
+same_between : (a : Addresses) → addresses.ghosts.eq a a ≡ true
 same_between a = grind (arith, same_bytes)
 
 same_self : (name : FragmentName) (channel : ℕ)

@@ -15,9 +15,9 @@ use Rattle.std.proofs.lemmas.List.FromFn.{fill_by_all, get_or-map-range_with_len
 use Rattle.etherparse.specs.base.Bytes.{IsBytes}
 use Rattle.etherparse.specs.base.Sum.{total}
 use Rattle.etherparse.specs.Fragments.{AgreesWith, Fragment, Holds, end_of, holds, named_end, start_of}
-use Rattle.etherparse.specs.FragmentBytes.{byte_at, byte_of, text_of}
+use Rattle.etherparse.specs.FragmentBytes.{byte_at, text_of}
 use Rattle.etherparse.proofs.ListElements.{AnyOf, AnyOf-from_Any, AnyOf-right, Any-from_AnyOf}
-use Rattle.etherparse.proofs.Push.{byte_of-here}
+use Rattle.etherparse.proofs.Push.{byte_of, byte_of-here}
 use Rattle.netlines.specs.ChangedWord.{DifferAt, DifferInOneWord}
 use Rattle.netlines.proofs.CoverLemmas.{AnyOf-is, AnyOf-of, IsIn, all-in}
 use Rattle.netlines.proofs.ShapeLemmas.{SameShape, own_shape, same_holds, same_named, same_start}

@@ -9,13 +9,13 @@ use Rattle.etherparse.specs.IpFragId.{same_name, rule_over}
 use Rattle.etherparse.specs.Outcome.{Held, Outcome, held_after, outcome}
 use Rattle.etherparse.specs.Outcome.Outcome.{Clash, Completed, Refusal, Waiting}
 use Rattle.etherparse.specs.PoolCalls.{Lists, after_frame}
-use Rattle.etherparse.specs.packet.Class.{Class, FragmentName}
+use Rattle.etherparse.specs.packet.Class.{Class, FragmentName, class_of}
 use Rattle.etherparse.specs.packet.Class.Class.{Whole, Cut, Other, Refused}
 use Rattle.netlines.specs.Alone.{HasNoForget, answers_after, answers_to, command_on, on_channel}
 use Rattle.netlines.specs.Answers.{answer_after, class_answer, command_answer}
 use Rattle.netlines.specs.Arrivals.{held_with_line, lists_after_lines}
 use Rattle.line_grammar.specs.Commands.{Command, command_of}
-use Rattle.line_grammar.specs.Commands.Command.{Forget}
+use Rattle.line_grammar.specs.Commands.Command.{Frame, Forget, Bad}
 use Rattle.netlines.proofs.AloneLemmas.{answer_is}
 use Rattle.netlines.proofs.AnswerLemmas.{held_after_lines-push}
 use Rattle.etherparse.specs.declared.defrag.overlap_rule.OverlapRule.{OverlapRule}
@@ -55,7 +55,10 @@ command_alike : (name : FragmentName) (channel : ℕ) (command : Command) (h g :
     → command_on channel command ≡ true → SameFragments h g
     → SameFragments (held_with_line name channel n command h)
     (held_with_line name channel m command g)
-command_alike name channel command h g n m on is = grind arith
+command_alike name channel (Frame other bytes) h g n m on is =
+    class_alike name channel (class_of bytes) other h g n m is
+command_alike name channel (Forget number) h g n m on is = cc
+command_alike name channel Bad h g n m on is = is
 
 class_stays : (name : FragmentName) (channel : ℕ) (class : Class) (other : ℕ) (h : Held) (n : ℕ)
     → (other == channel) ≡ false → after_frame name channel class n other h ≡ h

@@ -13,13 +13,13 @@ use Rattle.etherparse.specs.Fragments.{Fragment, Holds, end_of, greatest_end, is
 use Rattle.etherparse.specs.Fragments.{refusal_at, refusal_of, start_of, Covered}
 use Rattle.etherparse.specs.declared.defrag.overlap_rule.OverlapRule.{OverlapRule}
 use Rattle.etherparse.specs.declared.defrag.overlap_rule.OverlapRule.TheVariants.{Overwrites, Refuses}
-use Rattle.etherparse.specs.FragmentBytes.{byte_at, byte_of, text_of}
+use Rattle.etherparse.specs.FragmentBytes.{byte_at, text_of}
 use Rattle.etherparse.proofs.Clash.{no_clash}
 use Rattle.etherparse.proofs.Complete.{complete_Decides}
 use Rattle.etherparse.proofs.Disjoint.{greatest_of}
 use Rattle.etherparse.proofs.ListElements.{Any-from_AnyOf, AnyOf, AnyOf-left, AnyOf-right}
 use Rattle.etherparse.proofs.OutcomeLemmas.{is_taken}
-use Rattle.etherparse.proofs.Push.{byte_at-push, byte_of-here, greatest_end-push, named_end-push, own_end}
+use Rattle.etherparse.proofs.Push.{byte_at-push, byte_of, byte_of-here, greatest_end-push, named_end-push, own_end}
 
 -- these fragments hold the first bytes of a message, whose end isn't named
 pub record ArePrefix (fs : List Fragment) (text : List ℕ) : Type 0 where

@@ -6,7 +6,7 @@ use Rattle.std.specs.List.{AllByRecursion, range_with_len}
 use Rattle.std.proofs.lemmas.Bool.{le-ltb}
 use Rattle.std.proofs.lemmas.Bool.Decides.{nat_tests}
 use Rattle.std.proofs.lemmas.List.FromFn.{fill_by_all}
-use Rattle.etherparse.specs.Fragments.{Fragment, Holds, end_of, end_conflict, greatest_end, holds, is_complete}
+use Rattle.etherparse.specs.Fragments.{Fragment, Holds, end_of, greatest_end, holds, is_complete}
 use Rattle.etherparse.specs.Fragments.{named_end, refusal_at, start_of}
 use Rattle.etherparse.specs.declared.defrag.ip_defrag_error.IpDefragError.{IpDefragError}
 use Rattle.etherparse.specs.FragmentBytes.{byte_at, text_of}
@@ -92,12 +92,13 @@ module _ (message : List ℕ) where
       → (if more && not (n % 8 == 0) then Some e else o) ≡ None
   aligned more n e o is none = grind arith
 
-  agrees : (f : Fragment) → IsFragmentOf message f → (o : Option ℕ)
-      → (o ≡ None) ⊎ (o ≡ Some (length message)) → end_conflict o f ≡ None
-  agrees f posted_fragment o h = grind arith
+  not_refused_at : (f : Fragment) → IsFragmentOf message f → length message ≤ 65535 → (o : Option ℕ)
+      → (o ≡ None) ⊎ (o ≡ Some (length message)) → refusal_at o f ≡ None
+  not_refused_at f posted_fragment short None h = grind (arith, le-ltb, aligned)
+  not_refused_at f posted_fragment short (Some end) h = grind (arith, le-ltb, aligned)
 
   -- one more fragment isn't refused for its end
   pub fragment_not_refused : (fs : List Fragment) (f : Fragment) → length message ≤ 65535
       → AreFragmentsOf message fs → IsFragmentOf message f → refusal_at (named_end fs) f ≡ None
   fragment_not_refused fs f short all posted_fragment =
-      grind (arith, le-ltb, aligned, agrees, named_is)
+      not_refused_at f posted_fragment short (named_end fs) (named_is fs all)

@@ -1,10 +1,10 @@
 -- Fragments of the same offsets, flags and lengths have the same outcomes, whatever their bytes
 -- are.
 use Rattle.std.proofs.Common.{[], ◌≡◌, ◌∙◌, refl, sym, ℕ, ◌&&◌, true, false, Option, None, List, ◌∷◌, ◌++◌, length}
-use Rattle.std.proofs.Common.{arith}
+use Rattle.std.proofs.Common.{Some, ap, arith, is_some}
 use Rattle.std.specs.Prelude.{nat_le, nat_lt}
-use Rattle.std.specs.List.{AllZip, list_any}
-use Rattle.etherparse.specs.Fragments.{Fragment, end_conflict, end_of, greatest_end, holds, is_complete, named_end}
+use Rattle.std.specs.List.{AllZip, list_all, list_any, range_with_len}
+use Rattle.etherparse.specs.Fragments.{Fragment, end_of, greatest_end, holds, is_complete, named_end}
 use Rattle.etherparse.specs.Fragments.{refusal_of, start_of, refusal_at}
 use Rattle.etherparse.specs.Outcome.{outcome}
 use Rattle.etherparse.specs.Outcome.Outcome.{Completed, Waiting}
@@ -35,8 +35,9 @@ module _ (f g : Fragment) (same : SameShape f g) where
   pub same_holds : (p : ℕ) → holds f p ≡ holds g p
   same_holds p = λ i. nat_le (same_start i) p && nat_lt p (same_end i)
 
-  same_conflict : (named : Option ℕ) → end_conflict named f ≡ end_conflict named g
-  same_conflict named = grind arith
+  same_refused : (named : Option ℕ) → refusal_at named f ≡ refusal_at named g
+  same_refused None = grind arith
+  same_refused (Some end) = grind arith
 
 pub same_named : (fs gs : List Fragment) → AllSameShape fs gs → named_end fs ≡ named_end gs
 same_named [] [] all = refl
@@ -58,11 +59,13 @@ same_covered (f ∷ fs) [] all p = absurd all
 same_covered (f ∷ fs) (g ∷ gs) all p = grind (arith, same_covered fs gs all.1 p)
 
 pub same_complete : (fs gs : List Fragment) → AllSameShape fs gs → is_complete fs ≡ is_complete gs
-same_complete fs gs all = grind (arith, same_named, same_greatest, same_covered)
+same_complete fs gs all = λ i. is_some (same_named fs gs all i)
+    && list_all (λ p. same_covered fs gs all p i) (range_with_len 0 (same_greatest fs gs all i))
 
 pub same_refusal : (fs gs : List Fragment) (f g : Fragment) → AllSameShape fs gs → SameShape f g
     → refusal_at (named_end fs) f ≡ refusal_at (named_end gs) g
-same_refusal fs gs f g all same = grind (arith, same_conflict, same_named, same_end)
+same_refusal fs gs f g all same = ap (λ (o : Option ℕ). refusal_at o f) (same_named fs gs all)
+    ∙ same_refused f g same (named_end gs)
 
 -- ---- what becomes of them
 

@@ -5,12 +5,13 @@ use Rattle.std.specs.Prelude.{◌↔◌, IsTrue}
 use Rattle.captures.specs.Spans.{passed_with}
 use Rattle.captures.specs.declared.packet.Packet.{Packet}
 use Rattle.etherparse.specs.Fragments.{Fragment}
-use Rattle.etherparse.specs.IpFragId.{fragment_in, same_name}
-use Rattle.etherparse.specs.PoolCalls.{Lists, after_fragment, retained_from}
-use Rattle.ep_packet.specs.Class.{FragmentName}
+use Rattle.etherparse.specs.IpFragId.{same_name}
+use Rattle.etherparse.specs.PoolCalls.{Lists, lists_with_frame, retained_from}
+use Rattle.ep_packet.specs.Class.{Class, FragmentName}
+use Rattle.ep_packet.specs.Class.Class.{Whole, Cut, Other, Refused}
 use Rattle.packets.specs.Courses.{Course, class_of, course_after, forgotten, lists_at, lists_since, next_course, no_course}
 use Rattle.packets.specs.Courses.{order_at, order_since, with_packet}
-use Rattle.packets.specs.ReassemblyMemory.{Order, Tracks, is_some_fragment, order_with_fragment, taken}
+use Rattle.packets.specs.ReassemblyMemory.{Order, Tracks, is_some_fragment, order_with, taken}
 use Rattle.packets.proofs.TrackLemmas.{tracked_by, tracked_waiting, tracked_within}
 use Rattle.packets.proofs.WithinLemmas.{held_within, none_within}
 
@@ -46,23 +47,23 @@ module _ (alike : (a b : FragmentName) → IsTrue (same_name a b) ↔ (a ≡ b))
   tracked_at (Some seconds) begin time lists order t =
       tracked_since (passed_with seconds begin time) lists order t
 
-  tracked_fragment : (o : Option (FragmentName × Fragment)) (lists : Lists) (order : Order) (time channel : ℕ)
-      → Tracks lists order
-      → Tracks (λ name other. after_fragment name other o time channel (lists name other))
-      (order_with_fragment lists (λ name other. after_fragment name other o time channel (lists name other)) o
-      channel order)
-  tracked_fragment None lists order time channel t = t
-  tracked_fragment (Some reported) lists order time channel t =
+  tracked_class : (class : Class) (lists : Lists) (order : Order) (time channel : ℕ) → Tracks lists order
+      → Tracks (lists_with_frame lists class time channel)
+      (order_with lists (lists_with_frame lists class time channel) class channel order)
+  tracked_class (Cut own offset more bytes) lists order time channel t =
       tracked_by alike lists
-      (λ name other. after_fragment name other (Some reported) time channel (lists name other)) order
-      (reported.0, channel) t (λ e h. rw h refl)
+      (lists_with_frame lists (Cut own offset more bytes) time channel) order
+      (own, channel) t (λ e h. rw h refl)
+  tracked_class (Whole addresses number bytes message) lists order time channel t = t
+  tracked_class Other lists order time channel t = t
+  tracked_class Refused lists order time channel t = t
 
   tracked_next : (forget : Option ℕ) (course : Course) (packet : Packet) → Tracks course.lists course.order
       → Tracks (next_course forget course packet).lists (next_course forget course packet).order
   tracked_next forget course packet t =
       let next = with_packet (forgotten forget packet.time course) packet in
       tracked_within alike course.memory next.lists next.order
-      (tracked_fragment (fragment_in (class_of packet)) (lists_at forget course.begin packet.time course.lists)
+      (tracked_class (class_of packet) (lists_at forget course.begin packet.time course.lists)
       (order_at forget course.begin packet.time course.lists course.order) packet.time packet.interface
       (tracked_at forget course.begin packet.time course.lists course.order t))
 

@@ -2,11 +2,12 @@
 
 ghost use Rattle.std.specs.Prelude.{◌≡◌, ◌↔◌, IsTrue, List};
 ghost use Rattle.etherparse.specs.Fragments.{Fragment, is_complete, Complete, FragmentsAgree, AcceptedAreDisjoint};
-ghost use Rattle.etherparse.specs.Fragments.{Clashes, IsRepeat, clashes, is_repeat};
+ghost use Rattle.etherparse.specs.Fragments.{Clashes, IsRepeat, is_repeat, overlaps};
 ghost use Rattle.etherparse.specs.IpDefragBuf.{Cover};
 ghost use Rattle.etherparse.specs.Joined.{NoOverlap};
 ghost use Rattle.etherparse.specs.FragmentBytes.{LastByteCounts, UncoveredHasNone};
 ghost use Rattle.etherparse.specs.declared.defrag.TheConstants.{MAX_IP_DEFRAG_LEN, MAX_IP_DEFRAG_LEN_U16};
+ghost use Rattle.etherparse.specs.declared.defrag.overlap_rule.OverlapRule.TheVariants.{Refuses};
 
 pub mod additions;
 pub mod examples;
@@ -58,7 +59,8 @@ pub fn complete_is_tested()
 /// The tests of a repeat and of a clash decide these.
 pub fn clashes_are_tested()
     ensures repeat { (fs : List Fragment) (f : Fragment) → IsTrue (is_repeat fs f) ↔ IsRepeat fs f }
-    ensures clash { (fs : List Fragment) (f : Fragment) → IsTrue (clashes fs f) ↔ Clashes fs f }
+    ensures clash { (fs : List Fragment) (f : Fragment)
+        → IsTrue (overlaps Refuses fs f) ↔ Clashes fs f }
 {}
 
 /// The greatest length of a datagram's payload: the greatest number in the 16 bits of an IP

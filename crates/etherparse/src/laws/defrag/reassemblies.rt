@@ -266,15 +266,15 @@ pub fn errors_of_memory()
     ensures fragment { (ids : List ℕ) (a b : List ℕ)
         → memory_error_at_frame
         (λ name channel. record { fragments = fragment 1 false (replicate 8 2) ∷ []; time = 4 })
-        (Cut (record { vlan_ids = ids; addresses = V6 a b; identification = 7; number = 17 }) 0 true (replicate 8 1)) 3 ≡ Some (Refused (AllocationFailure 8)) }
+        (Cut (record { vlan_ids = ids; addresses = V6 a b; identification = 7; number = 17 }) 0 true (replicate 8 1)) 3 ≡ Some (AllocationFailure 8) }
     ensures later { (ids : List ℕ) (a b : List ℕ)
         → memory_error_at_frame
         (λ name channel. record { fragments = fragment 0 true (replicate 8 1) ∷ []; time = 4 })
-        (Cut (record { vlan_ids = ids; addresses = V6 a b; identification = 7; number = 17 }) 3 true (replicate 16 3)) 3 ≡ Some (Refused (AllocationFailure 40)) }
+        (Cut (record { vlan_ids = ids; addresses = V6 a b; identification = 7; number = 17 }) 3 true (replicate 16 3)) 3 ≡ Some (AllocationFailure 40) }
     ensures later_over_ipv4 { (ids : List ℕ) (a b : List ℕ)
         → memory_error_at_frame
         (λ name channel. record { fragments = fragment 0 true (replicate 8 1) ∷ []; time = 4 })
-        (Cut (record { vlan_ids = ids; addresses = V4 a b; identification = 7; number = 17 }) 1 false (replicate 4 3)) 3 ≡ Some (Refused (AllocationFailure 12)) }
+        (Cut (record { vlan_ids = ids; addresses = V4 a b; identification = 7; number = 17 }) 1 false (replicate 4 3)) 3 ≡ Some (AllocationFailure 12) }
     ensures stays { (a b : List ℕ)
         → FrameAnswered (λ after. (after
         (record { vlan_ids = []; addresses = V6 a b; identification = 7; number = 17 }) 3).fragments
