@@ -13,7 +13,7 @@ use Rattle.captures.specs.Pcapng.Content.{Opens, OpensOther, Describes, Holds, N
 use Rattle.captures.specs.Units.{IsUnit, IsBlockUnit, Row, in_a_row, no_section}
 use Rattle.captures.specs.declared.byte_order.ByteOrder.{ByteOrder}
 use Rattle.captures.specs.declared.limits.TheConstants.{TIME_LIMIT}
-use Rattle.line_grammar.specs.declared.limits.TheConstants.{FRAME_LIMIT}
+use Rattle.line_grammar.specs.declared.frame_limits.TheConstants.{FRAME_LIMIT}
 use Rattle.captures.specs.Times.{moved, nanoseconds_in, nanoseconds_of}
 use Rattle.captures.specs.declared.link.kind.Link.{Link}
 use Rattle.captures.specs.declared.pcapng.section.Section.{Section}

@@ -19,7 +19,7 @@ use Rattle.line_grammar.specs.TimedLines.{TimedFrame}
 use Rattle.captures.specs.declared.time.time_unit.TimeUnit.TheVariants.{Microseconds, Nanoseconds}
 use Rattle.captures.specs.Units.{Row, in_a_row, IsRecordUnit, OpensFile, record_origin}
 use Rattle.captures.specs.declared.byte_order.ByteOrder.TheVariants.{Little}
-use Rattle.line_grammar.specs.declared.limits.TheConstants.{FRAME_LIMIT}
+use Rattle.line_grammar.specs.declared.frame_limits.TheConstants.{FRAME_LIMIT}
 use Rattle.captures.specs.declared.link.kind.Link.TheVariants.{Ethernet}
 use Rattle.captures.specs.declared.translation.state.State.TheVariants.{Classic}
 use Rattle.captures.specs.declared.time.time_unit.TimeUnit.{TimeUnit}

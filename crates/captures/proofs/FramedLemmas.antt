@@ -16,7 +16,7 @@ use Rattle.captures.specs.Framed.{null_family}
 use Rattle.captures.specs.declared.link.header.Header.{Header}
 use Rattle.captures.specs.Numbers.{half, word}
 use Rattle.captures.specs.declared.byte_order.ByteOrder.TheVariants.{Big}
-use Rattle.line_grammar.specs.declared.limits.TheConstants.{FRAME_LIMIT}
+use Rattle.line_grammar.specs.declared.frame_limits.TheConstants.{FRAME_LIMIT}
 use Rattle.captures.specs.declared.link.kind.Link.{Link}
 use Rattle.captures.specs.declared.link.kind.Link.TheVariants.{Ethernet, Ip, Null, Loop, Sll, Sll2, Other}
 use Rattle.captures.specs.declared.translation.skipped.Reason.{Reason}

@@ -10,7 +10,7 @@ use Rattle.hex.specs.declared.error.FromHexError.{FromHexError}
 use Rattle.hex.proofs.HexLemmas.{decode_of-ok, decode_sized-ok, decode_sized-twice}
 use Rattle.line_grammar.specs.Commands.{frame_on}
 use Rattle.line_grammar.specs.TimedLines.{frame_at}
-use Rattle.line_grammar.specs.declared.limits.TheConstants.{FRAME_LIMIT}
+use Rattle.line_grammar.specs.declared.frame_limits.TheConstants.{FRAME_LIMIT}
 use Rattle.line_grammar.specs.declared.timed_line.Time.{Time}
 use Rattle.captures.specs.Encoding.{parts_in, record_head, record_of}
 use Rattle.captures.specs.declared.time.time_unit.TimeUnit.{TimeUnit}

@@ -8,7 +8,7 @@ use Rattle.std.proofs.lemmas.Bool.{lt-ltb}
 use Rattle.std.proofs.lemmas.List.Sums.{split_at_first, passes_at_first}
 use Rattle.std.proofs.lemmas.List.Concat.{flat_map-append}
 use Rattle.line_grammar.specs.TimedLines.{timed_frame_of, TimedFrame}
-use Rattle.line_grammar.specs.declared.limits.TheConstants.{TIMED_LINE_LIMIT}
+use Rattle.line_grammar.specs.declared.frame_limits.TheConstants.{TIMED_LINE_LIMIT}
 use Rattle.captures.specs.Encoding.{record_of}
 use Rattle.captures.specs.Texts.{is_newline, with_line_ends, GiveFrames, GivesFrames, ends_line, with_last_line_end}
 use Rattle.captures.specs.Texts.{IsLeftLine}

@@ -12,7 +12,7 @@ use Rattle.captures.specs.Texts.{IsText}
 use Rattle.captures.specs.Times.{nanoseconds_in}
 use Rattle.captures.specs.declared.extra.Extra.TheVariants.{Nothing, Times}
 use Rattle.captures.specs.declared.limits.TheConstants.{TIME_LIMIT}
-use Rattle.line_grammar.specs.declared.limits.TheConstants.{FRAME_LIMIT}
+use Rattle.line_grammar.specs.declared.frame_limits.TheConstants.{FRAME_LIMIT}
 use Rattle.captures.specs.declared.time.time_unit.TimeUnit.{TimeUnit}
 use Rattle.captures.specs.declared.translation.skipped.Skipped.{Skipped}
 use Rattle.captures.specs.declared.unfit.Unfit.{Unfit}

@@ -6,7 +6,7 @@ use Rattle.std.specs.List.{flat_map}
 use Rattle.captures.specs.Lines.{Packet, packets_of}
 use Rattle.captures.specs.Times.{nanoseconds_in, record_time}
 use Rattle.line_grammar.specs.TimedLines.{TimedFrame}
-use Rattle.line_grammar.specs.declared.limits.TheConstants.{FRAME_LIMIT}
+use Rattle.line_grammar.specs.declared.frame_limits.TheConstants.{FRAME_LIMIT}
 use Rattle.captures.specs.declared.origin.Origin.{Origin}
 use Rattle.captures.specs.declared.time.time_unit.TimeUnit.{TimeUnit}
 use Rattle.captures.specs.declared.time.time_unit.TimeUnit.TheVariants.{Microseconds, Nanoseconds}

@@ -6,7 +6,7 @@ use Rattle.lines.specs.Lines.{HasNoNewline}
 use Rattle.device_runs.specs.Calls.{Call}
 use Rattle.device_runs.specs.Runs.{Task, Goes}
 use Rattle.captures.specs.declared.limits.TheConstants.{INPUT_CAPACITY}
-use Rattle.line_grammar.specs.declared.limits.TheConstants.{TIMED_LINE_LIMIT}
+use Rattle.line_grammar.specs.declared.frame_limits.TheConstants.{TIMED_LINE_LIMIT}
 use Rattle.captures.specs.declared.translation.run_error.RunError.{RunError}
 use Rattle.captures.specs.Endings.{ending_of}
 use Rattle.captures.specs.declared.translation.refusal.Refusal.{Refusal}

@@ -1,7 +1,7 @@
 -- The lines that give a frame, and those that have datagrams dropped, are those of the grammar.
 use Rattle.std.proofs.Common.{◌≡◌, ◌∙◌, sym, ap, refl, ℕ, zero, suc, ◌+◌, ◌*◌, ◌<◌, ◌≤◌, Bool, [], true, List, ◌∷◌}
 use Rattle.std.proofs.Common.{◌++◌, length, drop, get_or, Result, Ok, nat_eq, arith, length-append, append_assoc}
-use Rattle.std.specs.Prelude.{if◌then◌else◌, nat_le, codes}
+use Rattle.std.specs.Prelude.{◌&&◌, if◌then◌else◌, nat_le, codes}
 use Rattle.std.specs.Char.{is_ascii_digit}
 use Rattle.std.specs.List.{starts_with, list_all, before_first, after_first, position_or_len}
 use Rattle.std.specs.Str.Parse.{digits_value}
@@ -15,9 +15,8 @@ use Rattle.hex.specs.Hex.{decode_of}
 use Rattle.hex.proofs.HexLemmas.{decode_of-ok}
 use Rattle.hex.specs.declared.error.FromHexError.{FromHexError}
 use Rattle.lines.specs.declared.limits.TheConstants.{LINE_LIMIT}
-use Rattle.line_grammar.specs.Commands.{Command, command_of, forget_command_of, frame_command_of, frame_on, is_channel}
-use Rattle.line_grammar.specs.Commands.{is_line_number, is_number, is_space, short_command_of, ForgetLinesAreTheGrammar}
-use Rattle.line_grammar.specs.Commands.{FrameLinesAreTheGrammar, IsForgetLine, IsFrameLine}
+use Rattle.line_grammar.specs.Commands.{Command, command_of, frame_command_of, frame_on, is_number, is_space}
+use Rattle.line_grammar.specs.Commands.{ForgetLinesAreTheGrammar, FrameLinesAreTheGrammar, IsForgetLine, IsFrameLine}
 use Rattle.line_grammar.specs.Commands.Command.{Frame, Forget, Bad}
 use Rattle.line_grammar.proofs.CommandLemmas.{command_of-forget, command_of-frame, decode_of-nil, none_on}
 
@@ -30,23 +29,21 @@ if_is b command wanted not_bad is = grind arith
 no_frame : (channel : ℕ) (bytes : List ℕ) → Bad ≡ Frame channel bytes → ⊥
 no_frame channel bytes is = cc
 
-no_forget : (number : ℕ) → Bad ≡ Forget number → ⊥
-no_forget number is = cc
-
 -- a line that begins with `forget ` gives no frame,
-chosen_frame : (b c d : Bool) (command : Command) (n channel : ℕ) (bytes : List ℕ)
-    → (if b then command else (if c then (if d then Forget n else Bad) else Bad))
-    ≡ Frame channel bytes → (b ≡ true) × (command ≡ Frame channel bytes)
-chosen_frame b c d command n channel bytes is = grind arith
+chosen_frame : (short b c : Bool) (command : Command) (n channel : ℕ) (bytes : List ℕ)
+    → (if short then (if b then command else (if c then Forget n else Bad)) else Bad)
+    ≡ Frame channel bytes → (short ≡ true) × (b ≡ true) × (command ≡ Frame channel bytes)
+chosen_frame short b c command n channel bytes is = grind arith
 
 frame_no_forget : (b : Bool) (n number : ℕ) (d : Result (List ℕ) FromHexError)
     → (if b then frame_on n d else Bad) ≡ Forget number → ⊥
 frame_no_forget b n number d is = grind arith
 
-chosen_forget : (b c : Bool) (command other : Command) (number : ℕ) → (command ≡ Forget number → ⊥)
-    → (if b then command else (if c then other else Bad)) ≡ Forget number
-    → (c ≡ true) × (other ≡ Forget number)
-chosen_forget b c command other number never is = grind arith
+chosen_forget : (short b c d : Bool) (command : Command) (n number : ℕ)
+    → (command ≡ Forget number → ⊥)
+    → (if short then (if b then command else (if c && d then Forget n else Bad)) else Bad)
+    ≡ Forget number → (c ≡ true) × (d ≡ true) × (n ≡ number)
+chosen_forget short b c d command n number never is = grind arith
 
 on_frame : (n channel : ℕ) (d : Result (List ℕ) FromHexError) (bytes : List ℕ)
     → frame_on n d ≡ Frame channel bytes → (n ≡ channel) × (d ≡ Ok bytes) × (1 ≤ length bytes)
@@ -79,19 +76,19 @@ pub has_parts : (line : List ℕ) (channel : ℕ) (bytes : List ℕ) → command
     → IsFrameLine line channel bytes
 unfolding command_of
 has_parts line channel bytes is =
-    let outer = if_is (nat_le (length line) LINE_LIMIT) (short_command_of line)
-    (Frame channel bytes) (no_frame channel bytes) is in
     let text : List ℕ = drop 6 line in
-    let begins = chosen_frame (starts_with nat_eq line (codes "frame "))
-    (starts_with nat_eq line (codes "forget ")) (is_line_number (drop 7 line))
-    (frame_command_of text) (digits_value 10 (drop 7 line)) channel bytes outer.1 in
+    let begins = chosen_frame (nat_le (length line) LINE_LIMIT)
+    (starts_with nat_eq line (codes "frame "))
+    (starts_with nat_eq line (codes "forget ") && is_number 20 18446744073709551615 (drop 7 line))
+    (frame_command_of text) (digits_value 10 (drop 7 line)) channel bytes is in
     let number : List ℕ = before_first is_space text in
     let digits : List ℕ = after_first is_space text in
-    let inner = if_is (is_channel number) (frame_on (digits_value 10 number) (decode_of digits))
-    (Frame channel bytes) (no_frame channel bytes) begins.1 in
+    let inner = if_is (is_number 10 4294967295 number)
+    (frame_on (digits_value 10 number) (decode_of digits)) (Frame channel bytes)
+    (no_frame channel bytes) begins.2 in
     let found = on_frame (digits_value 10 number) channel (decode_of digits) bytes inner.1 in
     let tests = number_tests 10 4294967295 number inner.0 in
-    let there = space_there text channel bytes begins.1 in
+    let there = space_there text channel bytes begins.2 in
     let space : get_or text (position_or_len is_space text) 0 ≡ 32 =
     eqb-true _ 32 (passes_at_first is_space text 0 there) in
     let split = split_at_first is_space text 0 there ∙ ap (λ s. number ++ s ∷ digits) space in
@@ -137,7 +134,7 @@ on_bytes channel bytes some = grind arith
 
 -- what a line that has the head of a frame's line requests
 pub frame_text : (line number digits : List ℕ) → length line ≤ LINE_LIMIT
-    → line ≡ codes "frame " ++ (number ++ 32 ∷ digits) → is_channel number ≡ true
+    → line ≡ codes "frame " ++ (number ++ 32 ∷ digits) → is_number 10 4294967295 number ≡ true
     → command_of line ≡ frame_on (digits_value 10 number) (decode_of digits)
 frame_text line number digits short parts tested =
     grind (arith, number_tests, command_of-frame, starts_is, number_first, digits_after)
@@ -157,7 +154,7 @@ frame_lines_are_the_grammar line channel bytes =
     (has_parts line channel bytes, is_frame line channel bytes)
 
 -- a frame's line by its channel and its digits
-pub frame_has_line : (channel digits frame : List ℕ) → is_channel channel ≡ true
+pub frame_has_line : (channel digits frame : List ℕ) → is_number 10 4294967295 channel ≡ true
     → decode_of digits ≡ Ok frame → 1 ≤ length frame
     → 7 + length channel + 2 * length frame ≤ LINE_LIMIT
     → command_of (codes "frame " ++ channel ++ codes " " ++ digits)
@@ -179,20 +176,16 @@ pub has_number : (line : List ℕ) (number : ℕ) → command_of line ≡ Forget
     → IsForgetLine line number
 unfolding command_of
 has_number line number is =
-    let outer = if_is (nat_le (length line) LINE_LIMIT) (short_command_of line) (Forget number)
-    (no_forget number) is in
     let text : List ℕ = drop 6 line in
     let digits : List ℕ = drop 7 line in
-    let begins = chosen_forget (starts_with nat_eq line (codes "frame "))
-    (starts_with nat_eq line (codes "forget ")) (frame_command_of text)
-    (forget_command_of digits) number
-    (frame_no_forget (is_channel (before_first is_space text))
+    let begins = chosen_forget (nat_le (length line) LINE_LIMIT)
+    (starts_with nat_eq line (codes "frame ")) (starts_with nat_eq line (codes "forget "))
+    (is_number 20 18446744073709551615 digits) (frame_command_of text) (digits_value 10 digits) number
+    (frame_no_forget (is_number 10 4294967295 (before_first is_space text))
     (digits_value 10 (before_first is_space text)) number
-    (decode_of (after_first is_space text))) outer.1 in
-    let inner = if_is (is_line_number digits) (Forget (digits_value 10 digits)) (Forget number)
-    (no_forget number) begins.1 in
-    let tests = number_tests 20 18446744073709551615 digits inner.0 in
-    let value : digits_value 10 digits ≡ number = cc in
+    (decode_of (after_first is_space text))) is in
+    let tests = number_tests 20 18446744073709551615 digits begins.1 in
+    let value : digits_value 10 digits ≡ number = begins.2 in
     grind arith
 
 is_forget : (line : List ℕ) (number : ℕ) → IsForgetLine line number

@@ -17,7 +17,7 @@ use Rattle.line_grammar.specs.TimedLines.{channel_frame, digits_before, digits_f
 use Rattle.line_grammar.specs.TimedLines.{number_of_digits, parts_of, text_before, text_frame, time_at, time_of}
 use Rattle.line_grammar.specs.TimedLines.{time_with, timed_frame_of}
 use Rattle.line_grammar.specs.Written.{nanoseconds_text, time_text, written_frame, written_timed_frame}
-use Rattle.line_grammar.specs.declared.limits.TheConstants.{FRAME_LIMIT}
+use Rattle.line_grammar.specs.declared.frame_limits.TheConstants.{FRAME_LIMIT}
 use Rattle.line_grammar.specs.declared.timed_line.Time.{Time}
 use Rattle.line_grammar.proofs.TimedLemmas.{frame_text_read}
 use Rattle.line_grammar.proofs.WrittenLemmas.{decimal_digits, decimal_one_line, digit_other, hex_digits, hex_other}

@@ -24,41 +24,29 @@ is_number most greatest digits =
     nat_le 1 (length digits) && nat_le (length digits) most && list_all is_ascii_digit digits
     && nat_le (digits_value 10 digits) greatest
 
--- one to ten decimal digits, of a number that fits 32 bits
-abbrev pub is_channel : List ℕ → Bool
-is_channel digits = is_number 10 4294967295 digits
-
--- one to twenty decimal digits, of a number that fits 64 bits
-abbrev pub is_line_number : List ℕ → Bool
-is_line_number digits = is_number 20 18446744073709551615 digits
-
 -- a frame has a byte at least
 abbrev pub frame_on : ℕ → Result (List ℕ) FromHexError → Command
 frame_on channel (Ok []) = Bad
 frame_on channel (Ok (byte ∷ bytes)) = Frame channel (byte ∷ bytes)
 frame_on channel (Err e) = Bad
 
--- what follows `frame `: a channel, a space, and hex digits
+-- what follows `frame `: a channel, which is one to ten decimal digits of a number that fits 32 bits,
+-- a space, and hex digits
 abbrev pub frame_command_of : List ℕ → Command
 frame_command_of text =
     let number = before_first is_space text in
-    if is_channel number then frame_on (digits_value 10 number)
+    if is_number 10 4294967295 number then frame_on (digits_value 10 number)
     (decode_of (after_first is_space text)) else Bad
 
--- what follows `forget `: the number of a line
-abbrev pub forget_command_of : List ℕ → Command
-forget_command_of digits = if is_line_number digits then Forget (digits_value 10 digits) else Bad
-
--- what a line that is not too long requests
-abbrev pub short_command_of : List ℕ → Command
-short_command_of line =
-    if starts_with nat_eq line (codes "frame ") then frame_command_of (drop 6 line)
-    else (if starts_with nat_eq line (codes "forget ")
-    then forget_command_of (drop 7 line) else Bad)
-
--- what a line requests
+-- what a line requests that is not too long. What follows `forget ` is the number of a line: one to
+-- twenty decimal digits of a number that fits 64 bits.
 unfoldable pub command_of : List ℕ → Command
-command_of line = if nat_le (length line) LINE_LIMIT then short_command_of line else Bad
+command_of line =
+    if nat_le (length line) LINE_LIMIT
+    then (if starts_with nat_eq line (codes "frame ") then frame_command_of (drop 6 line)
+    else (if starts_with nat_eq line (codes "forget ")
+    && is_number 20 18446744073709551615 (drop 7 line)
+    then Forget (digits_value 10 (drop 7 line)) else Bad)) else Bad
 
 -- the same by the grammar: a whole line that gives these bytes on this channel
 pub record IsFrameLine (line : List ℕ) (channel : ℕ) (bytes : List ℕ) : Type 0 where

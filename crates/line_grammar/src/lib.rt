@@ -3,9 +3,9 @@
 //! frame with its time is parsed as a whole.
 #![tactic(auto)]
 
+mod frame_limits;
 mod hex_digits;
 pub mod laws;
-mod limits;
 mod line_head;
 mod line_reader;
 mod number;
@@ -13,8 +13,8 @@ mod request;
 mod state;
 mod timed_line;
 
+pub use frame_limits::{FRAME_LIMIT, TIMED_LINE_LIMIT};
 pub use hex_digits::FRAME_CAPACITY;
-pub use limits::{FRAME_LIMIT, TIMED_LINE_LIMIT};
 pub use line_reader::LineReader;
 pub use request::{FrameRequest, Request};
 pub use timed_line::{Time, TimedLine, read_timed_line};
