@@ -20,17 +20,17 @@ use Rattle.capture_answers.proofs.LineLemmas.{line_listed, line_answered}
 abbrev pub text_of : Packet → List ℕ
 text_of packet = written_frame packet.origin.channel packet.frame
 
-pub no_lines : (earlier : List (List ℕ)) → answers_to_later frame_meaning earlier (lines_of []) ≡ []
+pub no_lines : (earlier : List (List ℕ)) → answers_to_later frame_meaning.answer earlier (lines_of []) ≡ []
 unfolding split
 no_lines earlier = refl
 
 module _ (earlier : List (List ℕ)) (packet : Packet) (fits : HasLine packet) where
   pub packet_answered : (rest : List ℕ)
-      → answers_to_later frame_meaning earlier (lines_of (line_of packet ++ rest))
+      → answers_to_later frame_meaning.answer earlier (lines_of (line_of packet ++ rest))
       ≡ packet_answer (lists_after_lines earlier) packet
-      ++ 10 ∷ answers_to_later frame_meaning (earlier ++ text_of packet ∷ []) (lines_of rest)
+      ++ 10 ∷ answers_to_later frame_meaning.answer (earlier ++ text_of packet ∷ []) (lines_of rest)
   packet_answered rest =
-      ap (λ (t : List ℕ). answers_to_later frame_meaning earlier (lines_of t))
+      ap (λ (t : List ℕ). answers_to_later frame_meaning.answer earlier (lines_of t))
       (append_assoc (text_of packet) (10 ∷ []) rest)
       ∙ line_answered earlier (text_of packet) rest (Frame packet.origin.channel packet.frame)
       (written_frame-one_line packet.origin.channel packet.frame fits.number fits.bytes)
@@ -48,7 +48,7 @@ module _ (earlier : List (List ℕ)) (packet : Packet) (fits : HasLine packet) w
 pub plain_answered : (packets : List Packet) → AllByRecursion HasLine packets
     → (earlier : List (List ℕ)) (lists : Lists) (number : ℕ) → lists_after_lines earlier ≡ lists
     → number_after earlier ≡ number
-    → answers_to_later frame_meaning earlier (lines_of (lines_from (blank Nothing) packets))
+    → answers_to_later frame_meaning.answer earlier (lines_of (lines_from (blank Nothing) packets))
     ≡ with_line_ends (answers_from lists number packets)
 plain_answered [] all earlier lists number shown counted = no_lines earlier
 plain_answered (packet ∷ packets) all earlier lists number shown counted =

@@ -137,7 +137,7 @@ class_alike : (lists own : Lists) (line first n number : ℕ) → AreAlike line 
     → (class : Class) (channel : ℕ) → class_answer lists class channel ≡ class_answer own class channel
 class_alike lists own line first n number all (Whole addresses protocol bytes message) channel = refl
 class_alike lists own line first n number all (Cut name offset more bytes) channel =
-    ap (λ (fs : List Fragment). outcome_answer name
+    ap (λ (fs : List Fragment). outcome_answer name.addresses name.number
     (outcome (rule_over name.addresses) fs (fragment offset more bytes)))
     ((all name channel).same)
 class_alike lists own line first n number all Other channel = refl
@@ -202,7 +202,7 @@ module _ (seconds : ℕ) (packet : Packet) (packets : List Packet) (fits : HasLi
     (come : Come (length packets + 1) line first number earlier own)
     (next : (begin line first number : ℕ) (earlier : List (List ℕ)) (own : Lists)
     → Come (length packets) line first number earlier own
-    → answers_to_later frame_meaning earlier
+    → answers_to_later frame_meaning.answer earlier
     (lines_of (lines_from (at seconds (length earlier) begin line) packets))
     ≡ with_line_ends
     (spanned_from seconds (at seconds (length earlier) begin line) first own number packets)) where
@@ -215,7 +215,7 @@ module _ (seconds : ℕ) (packet : Packet) (packets : List Packet) (fits : HasLi
   -- the answers where a span has passed, or has not
   abbrev Answered : Bool → Type 0
   Answered passed =
-      answers_to_later frame_meaning earlier
+      answers_to_later frame_meaning.answer earlier
       (lines_of ((forget_text passed ledger ++ line_of packet) ++ lines_from (counted passed) packets))
       ≡ with_line_ends ((if passed then codes "ok" ∷ [] else [])
       ++ packet_answer (kept passed first own) packet
@@ -230,7 +230,7 @@ module _ (seconds : ℕ) (packet : Packet) (packets : List Packet) (fits : HasLi
       counted_more seconds (length earlier) begin line packet.origin.time come.some
       (omega (arith, come.few))
       ∙ ap (λ (n : ℕ). at seconds n begin line) count in
-      ap (λ (l : Ledger). answers_to_later frame_meaning earlier
+      ap (λ (l : Ledger). answers_to_later frame_meaning.answer earlier
       (lines_of (line_of packet ++ lines_from l packets))) goes
       ∙ packet_answered earlier packet fits
       (lines_from (at seconds (length mid) begin line) packets)
@@ -268,9 +268,9 @@ module _ (seconds : ℕ) (packet : Packet) (packets : List Packet) (fits : HasLi
       (l name channel) (left name channel))
       (sym (line_listed earlier forgets [] (Forgets line) is_one_line requests))
       (forget_alike line first (length earlier) number _ _ (come.alike name channel))) in
-      ap (λ (l : Ledger). answers_to_later frame_meaning earlier
+      ap (λ (l : Ledger). answers_to_later frame_meaning.answer earlier
       (lines_of ((forget_text true ledger ++ line_of packet) ++ lines_from l packets))) goes
-      ∙ ap (λ (t : List ℕ). answers_to_later frame_meaning earlier (lines_of t))
+      ∙ ap (λ (t : List ℕ). answers_to_later frame_meaning.answer earlier (lines_of t))
       (append_assoc (forgets ++ 10 ∷ []) (line_of packet) rest
       ∙ append_assoc forgets (10 ∷ []) (line_of packet ++ rest))
       ∙ line_answered earlier forgets (line_of packet ++ rest) (Forgets line) is_one_line requests
@@ -294,7 +294,7 @@ module _ (seconds : ℕ) (packet : Packet) (packets : List Packet) (fits : HasLi
 spans_from : (seconds : ℕ) (packets : List Packet) → AllByRecursion HasLine packets
     → (begin line first number : ℕ) (earlier : List (List ℕ)) (own : Lists)
     → Come (length packets) line first number earlier own
-    → answers_to_later frame_meaning earlier
+    → answers_to_later frame_meaning.answer earlier
     (lines_of (lines_from (at seconds (length earlier) begin line) packets))
     ≡ with_line_ends
     (spanned_from seconds (at seconds (length earlier) begin line) first own number packets)
@@ -320,7 +320,7 @@ none_alike name channel =
 
 pub spans_answered : (seconds : ℕ) (packets : List Packet) → AllByRecursion HasLine packets
     → length packets < 2 ^ 63
-    → answers_to_later frame_meaning [] (lines_of (lines_from (blank (Forget seconds)) packets))
+    → answers_to_later frame_meaning.answer [] (lines_of (lines_from (blank (Forget seconds)) packets))
     ≡ with_line_ends (spanned_answers seconds packets)
 spans_answered seconds [] all few = no_lines []
 spans_answered seconds (packet ∷ packets) all few =

@@ -6,9 +6,9 @@ use Rattle.lines.specs.LineAnswers.{whole_lines_of}
 use Rattle.lines.proofs.SplitLemmas.{split-append, split-nil}
 
 pub answers_to_later-append : (m : Meaning) (earlier a b : List (List ℕ))
-    → answers_to_later m earlier (a ++ b) ≡ answers_to_later m earlier a
-    ++ answers_to_later m (earlier ++ a) b
-answers_to_later-append m earlier [] b = ap (λ e. answers_to_later m e b) (sym (append-nil earlier))
+    → answers_to_later m.answer earlier (a ++ b) ≡ answers_to_later m.answer earlier a
+    ++ answers_to_later m.answer (earlier ++ a) b
+answers_to_later-append m earlier [] b = ap (λ e. answers_to_later m.answer e b) (sym (append-nil earlier))
 answers_to_later-append m earlier (x ∷ a) b =
     grind (arith, answers_to_later-append m (earlier ++ x ∷ []) a b, append_assoc)
 
@@ -27,7 +27,7 @@ EndsBefore-more m earlier lines more answers e = record {
 -- lines that are answered before
 pub EndsBefore-after : (m : Meaning) (earlier lines more : List (List ℕ)) (answers : List ℕ)
     → EndsBefore m (earlier ++ lines) more answers
-    → EndsBefore m earlier (lines ++ more) (answers_to_later m earlier lines ++ answers)
+    → EndsBefore m earlier (lines ++ more) (answers_to_later m.answer earlier lines ++ answers)
 EndsBefore-after m earlier lines more answers e = record {
   before = lines ++ e.before;
   line = e.line;
@@ -44,15 +44,15 @@ ended-append a b = ap (λ (c : Split). c.ended) (split-append a b)
 
 pub answers_to_ended-append : (m : Meaning) (a b : List ℕ)
     → answers_to_ended m (a ++ b) ≡ answers_to_ended m a
-    ++ answers_to_later m (ended_lines_of a) (ended_lines_of ((split a).rest ++ b))
+    ++ answers_to_later m.answer (ended_lines_of a) (ended_lines_of ((split a).rest ++ b))
 answers_to_ended-append m a b = grind (arith, ended-append, answers_to_later-append)
 
 pub answers_to_ended-nil : (m : Meaning) → answers_to_ended m [] ≡ []
-answers_to_ended-nil m = ap (λ (c : Split). answers_to_later m [] c.ended) split-nil
+answers_to_ended-nil m = ap (λ (c : Split). answers_to_later m.answer [] c.ended) split-nil
 
 pub answers_to_text-parts : (m : Meaning) (a : List ℕ)
     → answers_to_text m a ≡ answers_to_ended m a
-    ++ answers_to_later m (ended_lines_of a) (last_line (split a).rest)
+    ++ answers_to_later m.answer (ended_lines_of a) (last_line (split a).rest)
 answers_to_text-parts m a = answers_to_later-append m [] (ended_lines_of a) (last_line (split a).rest)
 
 -- no line is whole where nothing came

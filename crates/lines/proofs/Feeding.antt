@@ -28,7 +28,7 @@ pub record Fed {D : Type 0} (transition : D → Call → D → Type 0) (m : Mean
   pub same : split text ≡ split_on lines started rest
   pub prefix : List ℕ
   pub written : Written transition old prefix new
-  pub gathered : answers_to_later m earlier lines ≡ prefix ++ waiting
+  pub gathered : answers_to_later m.answer earlier lines ≡ prefix ++ waiting
 
 not_true : (b : Bool) → (b ≡ true → ⊥) → b ≡ false
 not_true b h = grind arith
@@ -64,9 +64,9 @@ split_on-line lines started rest n whole lt is none =
 
 -- the answers to one more line, after what was written and what waits
 answers-more : (m : Meaning) (earlier lines : List (List ℕ))
-    (line prefix waiting prefix' waiting' : List ℕ) → answers_to_later m earlier lines ≡ prefix ++ waiting
+    (line prefix waiting prefix' waiting' : List ℕ) → answers_to_later m.answer earlier lines ≡ prefix ++ waiting
     → waiting ++ m.answer (earlier ++ lines) line ≡ prefix' ++ waiting'
-    → answers_to_later m earlier (lines ++ line ∷ []) ≡ (prefix ++ prefix') ++ waiting'
+    → answers_to_later m.answer earlier (lines ++ line ∷ []) ≡ (prefix ++ prefix') ++ waiting'
 answers-more m earlier lines line prefix waiting prefix' waiting' before here =
     grind (arith, answers_to_later-append, append-nil, append_assoc)
 
@@ -165,18 +165,18 @@ module _ {D : Type 0} (transition : D → Call → D → Type 0) (m : Meaning) w
         let line = f.started ++ take n rest in
         let later = (split (drop (n + 1) rest)).ended in
         let answer = m.answer (earlier ++ f.lines) line in
-        let answers = answers_to_later m ((earlier ++ f.lines) ++ line ∷ []) later in
+        let answers = answers_to_later m.answer ((earlier ++ f.lines) ++ line ∷ []) later in
         let parts : (split text).ended ≡ f.lines ++ line ∷ later =
         ap (λ c. c.ended) (f.same ∙ split_on-line f.lines f.started rest n f.keeps.unended lt is none)
         ∙ append_assoc f.lines (line ∷ []) later in
-        let all : answers_to_later m earlier (split text).ended ≡ f.prefix
+        let all : answers_to_later m.answer earlier (split text).ended ≡ f.prefix
         ++ ((waiting ++ answer) ++ answers) =
         grind (arith, answers_to_later-append, append_assoc) in
         Gathers-fails transition
         (λ ending. Serves transition m old earlier (split text).ended ending new) mid new
         (m.takes_memory (earlier ++ f.lines) line) waiting answer waiting'
         (λ h. (
-          answers_to_later m earlier f.lines,
+          answers_to_later m.answer earlier f.lines,
           record {
             before = f.lines;
             line = line;
@@ -212,7 +212,7 @@ module _ {D : Type 0} (transition : D → Call → D → Type 0) (m : Meaning) w
     pub fed_written : (later : D) (r : Ending ⊥) → Delivers transition new waiting r later
         → Serves transition m old earlier (split text).ended r later
     fed_written later r d =
-        let all : answers_to_later m earlier (split text).ended ≡ f.prefix ++ waiting =
+        let all : answers_to_later m.answer earlier (split text).ended ≡ f.prefix ++ waiting =
         grind (arith, fed_split) in
         Serves-delivered transition m old later earlier (split text).ended r
         (subst (λ bytes. Delivers transition old bytes r later) (sym all)

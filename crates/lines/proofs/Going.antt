@@ -116,7 +116,7 @@ module _ {D : Type 0} (transition : D → Call → D → Type 0) (m : Meaning) w
 
       -- and where it is read, the lines that end in it are answered
       pub answered_more : Written transition later
-          (answers_to_later m (ended_lines_of a.came)
+          (answers_to_later m.answer (ended_lines_of a.came)
           (ended_lines_of ((split a.came).rest ++ chunk))) new
           → (kept' : List (List ℕ) → List ℕ → Type 0) (waiting' : List ℕ)
           → kept' (ended_lines_of a.came ++ ended_lines_of ((split a.came).rest ++ chunk))
@@ -146,7 +146,7 @@ module _ {D : Type 0} (transition : D → Call → D → Type 0) (m : Meaning) w
           (subst (λ ls. EndsBefore m [] ls (written ++ answers)) (sym (ended-append a.came chunk))
           (EndsBefore-after m [] earlier here answers ends)))
           (λ fault stops. going_stops (answer_task m) transition limit read written false
-          (n + 1) old later new after_read (omega arith) (answers_to_later m earlier here) fault
+          (n + 1) old later new after_read (omega arith) (answers_to_later m.answer earlier here) fault
           (answers_to_ended-append m a.came chunk) stops)
           fails
 
@@ -166,7 +166,7 @@ module _ {D : Type 0} (transition : D → Call → D → Type 0) (m : Meaning) w
           let read = a.came in
           let written = answers_to_ended m a.came in
           let line = last_line (split a.came).rest in
-          let last = answers_to_later m earlier line in
+          let last = answers_to_later m.answer earlier line in
           let after_read = going_end (answer_task m) transition read written n old mid later a.going
           refl chunk none call in
           Serves-cases transition (λ ending. Goes (answer_task m) transition limit old new ending)

@@ -77,10 +77,10 @@ module _ {D : Type 0} (transition : D → Call → D → Type 0) where
 
     -- and where lines are served
     pub Serves-cases : (m : Meaning) (earlier lines : List (List ℕ)) (ending : Ending ⊥)
-        → (ending ≡ Done → Written transition old (answers_to_later m earlier lines) new → P Done)
+        → (ending ≡ Done → Written transition old (answers_to_later m.answer earlier lines) new → P Done)
         → ((answers : List ℕ) → EndsBefore m earlier lines answers
         → Written transition old answers new → P OutOfMemory)
-        → ((fault : Fault) → Stops transition fault old (answers_to_later m earlier lines) new
+        → ((fault : Fault) → Stops transition fault old (answers_to_later m.answer earlier lines) new
         → P (Stopped fault))
         → Serves transition m old earlier lines ending new → P ending
     Serves-cases m earlier lines Done done memory stops s = done refl s
@@ -91,6 +91,6 @@ module _ {D : Type 0} (transition : D → Call → D → Type 0) where
 
   -- what is delivered is served
   pub Serves-delivered : (m : Meaning) (old new : D) (earlier lines : List (List ℕ))
-      (ending : Ending ⊥) → Delivers transition old (answers_to_later m earlier lines) ending new
+      (ending : Ending ⊥) → Delivers transition old (answers_to_later m.answer earlier lines) ending new
       → Serves transition m old earlier lines ending new
   Serves-delivered m old new earlier lines ending d = grind arith

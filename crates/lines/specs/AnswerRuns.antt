@@ -14,7 +14,7 @@ abbrev pub answer_task : Meaning → Task ⊥
 answer_task meaning = record {
   room = READ_SIZE_LIMIT;
   due = λ read written. written ≡ answers_to_ended meaning read;
-  full = λ end_reported read text. answers_to_later meaning [] (whole_lines_of end_reported read) ≡ text;
+  full = λ end_reported read text. answers_to_later meaning.answer [] (whole_lines_of end_reported read) ≡ text;
   whole = λ read written. written ≡ answers_to_text meaning read;
   out_of_memory = λ end_reported read written. ((read ≡ []) × (written ≡ []))
       ⊎ EndsBefore meaning [] (whole_lines_of end_reported read) written;

@@ -8,19 +8,20 @@ pub record Meaning : Type 0 where
   pub answer : List (List ℕ) → List ℕ → List ℕ
   pub takes_memory : List (List ℕ) → List ℕ → Bool
 
--- the answers to lines, in order, after these earlier ones
-abbrev pub answers_to_later : Meaning → List (List ℕ) → List (List ℕ) → List ℕ
-answers_to_later meaning earlier [] = []
-answers_to_later meaning earlier (line ∷ lines) =
-    meaning.answer earlier line ++ answers_to_later meaning (earlier ++ line ∷ []) lines
+-- the answers to lines, in order, after these earlier ones, where this answers a line after others
+abbrev pub answers_to_later : (List (List ℕ) → List ℕ → List ℕ) → List (List ℕ) → List (List ℕ)
+    → List ℕ
+answers_to_later answer earlier [] = []
+answers_to_later answer earlier (line ∷ lines) =
+    answer earlier line ++ answers_to_later answer (earlier ++ line ∷ []) lines
 
 -- the answers to all lines of these bytes
 abbrev pub answers_to_text : Meaning → List ℕ → List ℕ
-answers_to_text meaning bytes = answers_to_later meaning [] (lines_of bytes)
+answers_to_text meaning bytes = answers_to_later meaning.answer [] (lines_of bytes)
 
 -- the answers to the lines that 0a ends
 abbrev pub answers_to_ended : Meaning → List ℕ → List ℕ
-answers_to_ended meaning bytes = answers_to_later meaning [] (ended_lines_of bytes)
+answers_to_ended meaning bytes = answers_to_later meaning.answer [] (ended_lines_of bytes)
 
 -- the lines that are whole: all where the end is reported, and otherwise those that 0a ends
 abbrev pub whole_lines_of : Bool → List ℕ → List (List ℕ)
@@ -35,7 +36,7 @@ pub record EndsBefore (meaning : Meaning) (earlier lines : List (List ℕ))
   pub later : List (List ℕ)
   pub parts : lines ≡ before ++ line ∷ later
   pub takes : meaning.takes_memory (earlier ++ before) line ≡ true
-  pub same : answers ≡ answers_to_later meaning earlier before
+  pub same : answers ≡ answers_to_later meaning.answer earlier before
 
 -- the number of the line after these, from 1 on
 abbrev pub number_after : List (List ℕ) → ℕ

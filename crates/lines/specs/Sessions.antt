@@ -35,7 +35,7 @@ pub record Took {A : Type 0} (meaning : Meaning) (shows : A → List (List ℕ) 
 abbrev pub IsOutOfMemory : {A : Type 0} → Meaning → Session A → (earlier lines : List (List ℕ)) → Type 0
 IsOutOfMemory meaning s earlier lines = ((before : List ℕ) × EndsBefore meaning earlier lines before)
     ⊎ (vec_capacity s.waiting.output
-    < length s.waiting.output.items + length (answers_to_later meaning earlier lines))
+    < length s.waiting.output.items + length (answers_to_later meaning.answer earlier lines))
 
 -- or so many bytes more may end lines that can't be counted
 abbrev pub RunsOut : {A : Type 0} → Meaning → Session A → (earlier lines : List (List ℕ))

@@ -23,9 +23,9 @@ Gathers transition takes old waiting bytes (Refused reason) waiting' new = ⊥
 abbrev pub Serves : {D : Type 0} → (D → Call → D → Type 0) → Meaning → D → List (List ℕ)
     → List (List ℕ) → Ending ⊥ → D → Type 0
 Serves transition meaning old earlier lines Done new =
-    Written transition old (answers_to_later meaning earlier lines) new
+    Written transition old (answers_to_later meaning.answer earlier lines) new
 Serves transition meaning old earlier lines (Stopped fault) new =
-    Stops transition fault old (answers_to_later meaning earlier lines) new
+    Stops transition fault old (answers_to_later meaning.answer earlier lines) new
 Serves transition meaning old earlier lines OutOfMemory new =
     (answers : List ℕ) × EndsBefore meaning earlier lines answers
     × Written transition old answers new

@@ -19,9 +19,10 @@ pub fn text_goes_on()
         ≡ ended_lines_of a ++ ended_lines_of ((split a).rest ++ b) }
     ensures answers { (m : Meaning) (a b : List ℕ) → answers_to_ended m (a ++ b)
         ≡ answers_to_ended m a
-        ++ answers_to_later m (ended_lines_of a) (ended_lines_of ((split a).rest ++ b)) }
+        ++ answers_to_later m.answer (ended_lines_of a) (ended_lines_of ((split a).rest ++ b)) }
     ensures end { (m : Meaning) (a : List ℕ) → answers_to_text m a
-        ≡ answers_to_ended m a ++ answers_to_later m (ended_lines_of a) (last_line (split a).rest) }
+        ≡ answers_to_ended m a
+        ++ answers_to_later m.answer (ended_lines_of a) (last_line (split a).rest) }
 {}
 
 /// The limits of a run are these numbers: of a line's bytes, of a read's bytes, and of reads; and

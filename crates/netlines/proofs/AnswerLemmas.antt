@@ -6,7 +6,7 @@ use Rattle.etherparse.specs.declared.defrag.ip_frag_id.IpFragId.{IpFragId}
 use Rattle.etherparse.specs.Outcome.{Held}
 use Rattle.etherparse.specs.PoolCalls.{Lists, ShowsLists, no_lists}
 use Rattle.etherparse.specs.ReassemblyTable.{Pool}
-use Rattle.netlines.specs.Answers.{answer_after, command_answer, command_takes_memory, answer_line_after, takes_memory}
+use Rattle.netlines.specs.Answers.{answer_after, command_answer, command_takes_memory, takes_memory}
 use Rattle.netlines.specs.Arrivals.{held_after_more, held_with_line, lists_after_lines, lists_with_line}
 use Rattle.line_grammar.specs.Commands.{Command, command_of}
 use Rattle.lines.specs.LineAnswers.{number_after}
@@ -42,8 +42,8 @@ lists_after_lines-nil = refl
 
 answer_line_is : (earlier : List (List ℕ)) (line : List ℕ)
     → command_answer (lists_after_lines earlier) (command_of line) ++ 10 ∷ []
-    ≡ answer_line_after earlier line
-unfolding answer_after answer_line_after
+    ≡ answer_after earlier line ++ 10 ∷ []
+unfolding answer_after
 answer_line_is earlier line = refl
 
 takes_is : (earlier : List (List ℕ)) (line : List ℕ)
@@ -57,7 +57,7 @@ module _ (old new : Pool (IpFragId ℕ) ℕ) (number : ℕ) (command : Command) 
   -- the line is answered, and its fragment is in the list of its name,
   pub answered_line : (text : List ℕ)
       → ((lists : Lists) → ShowsLists old lists → text ≡ command_answer lists command)
-      → text ++ 10 ∷ [] ≡ answer_line_after earlier line
+      → text ++ 10 ∷ [] ≡ answer_after earlier line ++ 10 ∷ []
   answered_line text reported =
       ap (λ t. t ++ 10 ∷ []) (reported (lists_after_lines earlier) shows
       ∙ ap (command_answer (lists_after_lines earlier)) is) ∙ answer_line_is earlier line

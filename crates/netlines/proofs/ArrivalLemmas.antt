@@ -59,7 +59,7 @@ module _ (line : List ℕ) (name : FragmentName) (channel : ℕ) (f : Fragment)
   list_with_fragment earlier = grind (arith, held_after_lines-push, held_with_fragment)
 
   pub fragment_answered : (earlier : List (List ℕ))
-      → answer_after earlier line ≡ outcome_answer name
+      → answer_after earlier line ≡ outcome_answer name.addresses name.number
       (outcome_at (lists_after_lines earlier) name channel f)
   fragment_answered earlier = class_answered earlier line channel has.bytes
       (Cut name f.offset f.more f.bytes) has.frame has.as_fragment

@@ -211,7 +211,7 @@ module _ (same : (a b : FragmentName) → IsTrue (same_name a b) ↔ (a ≡ b)) 
       record {
         old = reported.0;
         new = text_of (n.gs ++ n.last ∷ []);
-        was = answer ∙ ap (outcome_answer name) reported.1;
+        was = answer ∙ ap (outcome_answer name.addresses name.number) reported.1;
         is = made ∙ (λ i. waits_alike l.prefix waiting size i
             ++ line_of_message name (text_of (n.gs ++ n.last ∷ [])) ∷ []);
         differ = subst (λ (t : List ℕ). DifferAt (8 * f.offset + length change.words.prefix) t

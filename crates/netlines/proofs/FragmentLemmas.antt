@@ -1,7 +1,7 @@
 -- The answer to a fragment, by what the pool returns.
 use Rattle.std.proofs.Common.{refl, arith, inl, inr, ◌≡◌, ◌∙◌, sym, ap, subst, ℕ, Bool, true, Option, None, Result}
 use Rattle.std.proofs.Common.{List, []}
-use Rattle.std.specs.Prelude.{codes}
+use Rattle.std.specs.Prelude.{codes, is_some}
 use Rattle.etherparse.specs.Fragments.{fragment, Fragment}
 use Rattle.etherparse.specs.declared.defrag.ip_defrag_error.IpDefragError.{IpDefragError}
 use Rattle.etherparse.specs.declared.defrag.ip_defrag_payload_vec.IpDefragPayloadVec.{IpDefragPayloadVec}
@@ -10,32 +10,33 @@ use Rattle.etherparse.specs.IpFragId.{id_named, rule_over}
 use Rattle.etherparse.specs.Processed.{PacketsAreAnswered, Processed, MemoryErrorsAreReported}
 use Rattle.etherparse.specs.ReassemblyTable.{Pool}
 use Rattle.etherparse.specs.PoolCalls.{FrameAnswered, HasMemory, Lists, ShowsLists, CallResult, answer_to_frame}
-use Rattle.etherparse.specs.PoolCalls.{lists_with_frame, outcome_at, result_of_outcome, as_call_result}
+use Rattle.etherparse.specs.PoolCalls.{lists_with_frame, memory_error_at_frame, outcome_at, result_of_outcome}
+use Rattle.etherparse.specs.PoolCalls.{as_call_result}
 use Rattle.etherparse.specs.PoolCalls.CallResult.{Delivered, Nothing, Refused, NotSliced, Retained, NoMemory}
 use Rattle.etherparse.specs.packet.Class.{Class, FragmentName, as_class}
 use Rattle.etherparse.specs.packet.Class.Class.{Cut, Refused as Faulty}
-use Rattle.etherparse.specs.packet.Readable.{message_at}
-use Rattle.netlines.specs.Answers.{class_answer, class_takes_memory, completed_answer, outcome_answer, refusal_answer}
+use Rattle.netlines.specs.Answers.{class_answer, outcome_answer}
 use Rattle.etherparse.specs.packet.declared.addresses.Addresses.{Addresses}
 use Rattle.etherparse.specs.packet.declared.class.Class.TheVariants as sliced_class
 use Rattle.etherparse.specs.packet.declared.class.IpFragment.{IpFragment}
 use Rattle.etherparse.specs.declared.defrag.overlap_rule.OverlapRule.{OverlapRule}
 use Rattle.etherparse.specs.Outcome.{outcome}
+use Rattle.etherparse.specs.Outcome.Outcome.{Completed, Refusal}
 
 -- the answer where the pool returns this for a message that goes between these addresses
 abbrev pub pool_answer : Addresses → CallResult → List ℕ
 pool_answer addresses Nothing = codes "wait"
 pool_answer addresses (Delivered payload) =
-    completed_answer addresses payload.ip_number.0 payload.bytes
-    (message_at payload.ip_number.0 payload.bytes)
-pool_answer addresses (Refused error) = refusal_answer error
+    outcome_answer addresses payload.ip_number.0 (Completed payload.bytes)
+pool_answer addresses (Refused error) = outcome_answer addresses 0 (Refusal error)
 pool_answer addresses (NotSliced error) = []
 pool_answer addresses Retained = []
 pool_answer addresses NoMemory = []
 
 outcome_reported : (name : FragmentName) (channel : ℕ) (rule : OverlapRule) (fs : List Fragment)
     (f : Fragment) → pool_answer name.addresses
-    (result_of_outcome (id_named name channel) (outcome rule fs f)) ≡ outcome_answer name (outcome rule fs f)
+    (result_of_outcome (id_named name channel) (outcome rule fs f))
+    ≡ outcome_answer name.addresses name.number (outcome rule fs f)
 outcome_reported name channel rule fs f = grind arith
 
 -- this is a fragment of a message that goes between these addresses
@@ -107,5 +108,5 @@ module _ (answered : PacketsAreAnswered) (memory_reported : MemoryErrorsAreRepor
       )
 
   pub fragment_takes_memory : (r : Result (Option IpDefragPayloadVec) IpDefragError) → result ≡ r
-      → (HasMemory (as_call_result r) → ⊥) → class_takes_memory lists class channel ≡ true
+      → (HasMemory (as_call_result r) → ⊥) → is_some (memory_error_at_frame lists class channel) ≡ true
   fragment_takes_memory r is lacks = grind arith

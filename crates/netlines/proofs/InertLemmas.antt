@@ -80,13 +80,13 @@ forgetting_other h = grind arith
 
 -- a fragment that is refused leaves its list
 refused_stays : (name : FragmentName) (o : Outcome) (h : Held) (number : ℕ)
-    → IsRefused (outcome_answer name o) → held_after h number o ≡ h
+    → IsRefused (outcome_answer name.addresses name.number o) → held_after h number o ≡ h
 refused_stays name o h number is = grind arith
 
 module _ (same : (a b : FragmentName) → IsTrue (same_name a b) ↔ (a ≡ b)) (lists : Lists)
     (number : ℕ) where
   fragment_stays : (own : FragmentName) (channel : ℕ) (f : Fragment)
-      → IsRefused (outcome_answer own (outcome_at lists own channel f)) → (name : FragmentName)
+      → IsRefused (outcome_answer own.addresses own.number (outcome_at lists own channel f)) → (name : FragmentName)
       (other : ℕ)
       → cond (same_name own name && (channel == other))
       (held_after (lists name other) number
@@ -141,7 +141,7 @@ whole_inert earlier line channel bytes addresses protocol text message frame rea
 -- ---- a message that can't be read
 
 ends_with : (name : FragmentName) (o : Outcome) (h : Held) (number : ℕ)
-    → outcome_answer name o ≡ codes "refused message" → (held_after h number o).fragments ≡ []
+    → outcome_answer name.addresses name.number o ≡ codes "refused message" → (held_after h number o).fragments ≡ []
 ends_with name o h number is = grind arith
 
 pub unread_ends : (earlier : List (List ℕ)) (line : List ℕ) (name : FragmentName) (channel : ℕ)
@@ -162,7 +162,7 @@ pub refuses_if : (rule : OverlapRule) (fs : List Fragment) (f : Fragment) → ov
 refuses_if rule fs f is = grind arith
 
 overlapped : (name : FragmentName) (rule : OverlapRule) (h : Held) (f : Fragment) (number : ℕ)
-    → outcome_answer name (outcome rule h.fragments f) ≡ codes "refused overlap"
+    → outcome_answer name.addresses name.number (outcome rule h.fragments f) ≡ codes "refused overlap"
     → ((held_after h number (outcome rule h.fragments f)).fragments ≡ []) × (rule ≡ Refuses)
 overlapped name rule h f number = grind arith
 

@@ -1,10 +1,11 @@
 -- The answers with two messages that came in fragments and differ in one word.
 use Rattle.std.proofs.Common.{◌≡◌, ◌∙◌, ap, refl, sym, ℕ, List, ◌++◌, length, get_or, append_assoc, Ok, arith}
-use Rattle.std.specs.Prelude.{codes, decimal}
+use Rattle.std.specs.Prelude.{◌==◌, codes, decimal, if◌then◌else◌}
+use Rattle.hex.specs.Hex.{encode_lower}
 use Rattle.std.proofs.lemmas.List.{get_or-append_right}
 use Rattle.etherparse.specs.packet.Class.{FragmentName}
 use Rattle.etherparse.specs.packet.Readable.{ReadMessage, message_at}
-use Rattle.netlines.specs.Answers.{answer_after, completed_answer, hex_word, message_answer, outcome_answer}
+use Rattle.netlines.specs.Answers.{answer_after, completed_answer, message_answer, outcome_answer}
 use Rattle.netlines.specs.Answers.{verdict_word}
 use Rattle.checksum_verdicts.specs.Verdict.{verdict_of}
 use Rattle.netlines.specs.Waiting.{Completes}
@@ -23,13 +24,16 @@ module _ (number : ℕ) (text : List ℕ) where
   abbrev prefix : List ℕ
   prefix = codes "message " ++ decimal number ++ codes " "
 
+  abbrev rest : List ℕ
+  rest = codes " " ++ (if length text == 0 then codes "-" else encode_lower text)
+
   letter_of : (verdict : Verdict) → get_or (message_answer number verdict text) (length prefix) 0
-      ≡ get_or (verdict_word verdict ++ (codes " " ++ hex_word text)) 0 0
+      ≡ get_or (verdict_word verdict ++ rest) 0 0
   letter_of verdict = grind (arith, append_assoc, word_at)
 
   letters_differ : (verdict : Verdict)
       → message_answer number verdict text ≡ message_answer number Good text
-      → get_or (verdict_word verdict ++ (codes " " ++ hex_word text)) 0 0 ≡ 103
+      → get_or (verdict_word verdict ++ rest) 0 0 ≡ 103
   letters_differ verdict is =
       sym (letter_of verdict) ∙ ap (λ (t : List ℕ). get_or t (length prefix) 0) is ∙ letter_of Good
 
@@ -48,7 +52,7 @@ pub completed_is : (name : FragmentName) (channel : ℕ) (earlier : List (List �
     (verdict_of name.addresses message) text
 completed_is name channel earlier line text message completes is =
     fragment_answered line name channel completes.fragment completes.has_fragment earlier
-    ∙ ap (outcome_answer name) completes.becomes
+    ∙ ap (outcome_answer name.addresses name.number) completes.becomes
     ∙ ap (completed_answer name.addresses name.number text) is
 
 pub was_good : (name : FragmentName) (channel : ℕ) (earlier : List (List ℕ))

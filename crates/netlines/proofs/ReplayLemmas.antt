@@ -3,7 +3,6 @@
 use Rattle.std.proofs.Common.{◌≡◌, ◌∙◌, ap, refl, subst, sym, ◌↔◌, ℕ, ◌+◌, List, ◌∷◌, ◌++◌, length, map, arith, []}
 use Rattle.std.proofs.Common.{append-nil, append_assoc}
 use Rattle.std.specs.Prelude.{IsTrue, codes}
-use Rattle.etherparse.specs.declared.defrag.ip_defrag_error.IpDefragError.{IpDefragError}
 use Rattle.etherparse.specs.Fragments.{Fragment}
 use Rattle.etherparse.specs.IpFragId.{same_name, rule_over}
 use Rattle.etherparse.specs.Outcome.{Held, Outcome, held_after, outcome}
@@ -12,24 +11,20 @@ use Rattle.etherparse.specs.PoolCalls.{outcome_at}
 use Rattle.etherparse.specs.packet.Class.{Class, FragmentName}
 use Rattle.line_grammar.specs.Commands.{command_of}
 use Rattle.netlines.specs.Alone.{answers_after, matter_after}
-use Rattle.netlines.specs.Answers.{answer_after, class_answer, command_answer, outcome_answer, refusal_answer}
+use Rattle.netlines.specs.Answers.{answer_after, class_answer, command_answer, outcome_answer}
 use Rattle.netlines.specs.Arrivals.{HasFragment, held_with_line, lists_after_lines}
 use Rattle.netlines.specs.Waiting.{ReturnsMessage, lines_for, texts_for, waiting_lines}
 use Rattle.netlines.proofs.AloneLemmas.{all_hold, answered_by, answers_by}
 use Rattle.netlines.proofs.ArrivalLemmas.{fragment_answered, held_with_fragment}
 use Rattle.netlines.proofs.WaitingLemmas.{AllWait, HaveFragments, are_waiting, none_held}
-use Rattle.etherparse.specs.declared.defrag.ip_defrag_error.IpDefragError.TheVariants.{OverlappingFragment}
-
-refusal_returns_nothing : (error : IpDefragError) → ReturnsMessage (refusal_answer error) → ⊥
-refusal_returns_nothing error = grind arith
 
 pub waiting_returns_nothing : ReturnsMessage (codes "wait") → ⊥
 waiting_returns_nothing = grind arith
 
 pub overlap_returns_nothing : ReturnsMessage (codes "refused overlap") → ⊥
-overlap_returns_nothing = refusal_returns_nothing (OverlappingFragment 0 0)
+overlap_returns_nothing = grind arith
 
-pub returned_text : (name : FragmentName) (o : Outcome) → ReturnsMessage (outcome_answer name o)
+pub returned_text : (name : FragmentName) (o : Outcome) → ReturnsMessage (outcome_answer name.addresses name.number o)
     → (text : List ℕ) × (o ≡ Completed text)
 returned_text name o is = grind arith
 
@@ -46,7 +41,7 @@ module _ (same : (a b : FragmentName) → IsTrue (same_name a b) ↔ (a ≡ b)) 
     (channel : ℕ) where
   answered_alone : (line : List ℕ) (f : Fragment) → HasFragment line name channel f → (h : Held)
       → command_answer (all_hold same name channel h) (command_of line)
-      ≡ outcome_answer name (outcome (rule_over name.addresses) h.fragments f)
+      ≡ outcome_answer name.addresses name.number (outcome (rule_over name.addresses) h.fragments f)
   answered_alone line f has h =
       ap (command_answer (all_hold same name channel h)) has.frame
       ∙ ap (λ (c : Class). class_answer (all_hold same name channel h) c channel) has.as_fragment
@@ -60,7 +55,7 @@ module _ (same : (a b : FragmentName) → IsTrue (same_name a b) ↔ (a ≡ b)) 
       → HasFragment line name channel f → AllWait (rule_over name.addresses) before fs
       → outcome (rule_over name.addresses) (before ++ fs) f ≡ Completed text → map (λ p. p.1) pairs ≡ lines ++ line ∷ []
       → map (λ p. p.1) (answers_by same name channel h pairs)
-      ≡ AllButLast lines (outcome_answer name (Completed text))
+      ≡ AllButLast lines (outcome_answer name.addresses name.number (Completed text))
   run_of [] [] before line f text [] h held all has wait whole is = cc
   run_of [] [] before line f text (pair ∷ []) h held all has wait whole is =
       let here : pair.1 ≡ line = cc in
@@ -75,7 +70,7 @@ module _ (same : (a b : FragmentName) → IsTrue (same_name a b) ↔ (a ≡ b)) 
       let becomes : outcome (rule_over name.addresses) h.fragments g ≡ Waiting (before ++ g ∷ []) =
       grind arith in
       let answer = ap (λ (x : List ℕ). command_answer (all_hold same name channel h) (command_of x))
-      here ∙ answered_alone l g all.0 h ∙ ap (outcome_answer name) becomes in
+      here ∙ answered_alone l g all.0 h ∙ ap (outcome_answer name.addresses name.number) becomes in
       let next = ap (λ (x : List ℕ). held_with_line name channel pair.0 (command_of x) h) here
       ∙ held_with_fragment l name channel g all.0 pair.0 h
       ∙ ap (held_after h pair.0) becomes in
@@ -93,7 +88,7 @@ module _ (same : (a b : FragmentName) → IsTrue (same_name a b) ↔ (a ≡ b)) 
       → outcome (rule_over name.addresses) fs f ≡ Completed text
       → lines_for name channel between ≡ lines ++ line ∷ []
       → texts_for name channel between (answers_after others between)
-      ≡ AllButLast lines (outcome_answer name (Completed text))
+      ≡ AllButLast lines (outcome_answer name.addresses name.number (Completed text))
   answered_among others between lines fs line f text none all has wait whole is =
       let h = lists_after_lines others name channel in
       let own = matter_after name channel (length others) between between in
@@ -117,4 +112,4 @@ module _ (same : (a b : FragmentName) → IsTrue (same_name a b) ↔ (a ≡ b)) 
       (lists_after_lines earlier name channel).fragments line f reported.0
       (none_held same name channel others none) waiting.0 has waiting.1 reported.1 is
       ∙ ap (AllButLast (waiting_lines name channel earlier))
-      (sym (answer ∙ ap (outcome_answer name) reported.1))
+      (sym (answer ∙ ap (outcome_answer name.addresses name.number) reported.1))

@@ -1,17 +1,16 @@
 -- The lines of what a run writes are its answers.
 use Rattle.std.proofs.Common.{◌≡◌, refl, subst, sym, ℕ, zero, suc, ◌/◌, ◌%◌, ◌==◌, [], ◌&&◌, Bool, true, false, not}
-use Rattle.std.proofs.Common.{cond, Option, Some, None, Result, Ok, Err, List, ◌∷◌, ◌++◌, get_or, append_assoc, arith}
+use Rattle.std.proofs.Common.{arith, cond, Option, Some, None, Result, Ok, Err, List, ◌∷◌, ◌++◌, length, get_or, append_assoc}
 use Rattle.std.specs.Fmt.{decimal, digit_glyph, digits, digits_onto}
 use Rattle.std.specs.Io.KnownBytes.{Appends}
-use Rattle.std.specs.Prelude.{IfSome, OnOk, codes}
+use Rattle.std.specs.Prelude.{IfSome, OnOk, codes, if◌then◌else◌}
 use Rattle.std.proofs.lemmas.Bool.{and_parts}
 use Rattle.std.proofs.lemmas.Bool.Decides.{nat_tests}
-use Rattle.hex.specs.Hex.{encode_with, lower_digits}
+use Rattle.hex.specs.Hex.{encode_lower, encode_with, lower_digits}
 use Rattle.etherparse.specs.Outcome.{Outcome}
 use Rattle.etherparse.specs.Outcome.Outcome.{Clash, Completed, Refusal, Waiting}
 use Rattle.etherparse.specs.Fragments.{fragment}
 use Rattle.etherparse.specs.PoolCalls.{Lists, outcome_at}
-use Rattle.etherparse.specs.declared.defrag.ip_defrag_error.IpDefragError.{IpDefragError}
 use Rattle.etherparse.specs.declared.defrag.ip_defrag_error.IpDefragError.TheVariants.{AllocationFailure}
 use Rattle.etherparse.specs.declared.defrag.ip_defrag_error.IpDefragError.TheVariants.{ConflictingEnd}
 use Rattle.etherparse.specs.declared.defrag.ip_defrag_error.IpDefragError.TheVariants.{OverlappingFragment}
@@ -29,8 +28,7 @@ use Rattle.lines.specs.LineAnswers.{answers_to_later}
 use Rattle.netlines.specs.Alone.{answers_after, answers_to, lines_that_matter, texts_that_matter}
 use Rattle.netlines.specs.TwoRuns.{AreIsolated}
 use Rattle.netlines.specs.Answers.{answer_after, answers_of, class_answer, command_answer, completed_answer}
-use Rattle.netlines.specs.Answers.{frame_meaning, hex_word, message_answer, outcome_answer, refusal_answer}
-use Rattle.netlines.specs.Answers.{answer_line_after, verdict_word}
+use Rattle.netlines.specs.Answers.{frame_meaning, message_answer, outcome_answer, verdict_word}
 use Rattle.netlines.specs.Arrivals.{lists_after_lines}
 use Rattle.checksum_verdicts.specs.Verdict.{verdict_of}
 use Rattle.checksum_verdicts.specs.declared.verdict.Verdict.{Verdict}
@@ -85,9 +83,15 @@ number_is_one_line : (n : ℕ) → HasNoNewline (decimal n)
 unfolding digits
 number_is_one_line n = digits_end 64 n [] tt
 
-hex_is_one_line : (bytes : List ℕ) → HasNoNewline (hex_word bytes)
-hex_is_one_line [] = by_test (codes "-") refl
-hex_is_one_line (byte ∷ bytes) = encoded lower_digits (byte ∷ bytes) (by_test lower_digits refl)
+one_of : (b : Bool) (first second : List ℕ) → HasNoNewline first → HasNoNewline second
+    → HasNoNewline (if b then first else second)
+one_of true first second left right = left
+one_of false first second left right = right
+
+hex_is_one_line : (bytes : List ℕ)
+    → HasNoNewline (if length bytes == 0 then codes "-" else encode_lower bytes)
+hex_is_one_line bytes = one_of (length bytes == 0) (codes "-") (encode_lower bytes)
+    (by_test (codes "-") refl) (encoded lower_digits bytes (by_test lower_digits refl))
 
 verdict_is_one_line : (v : Verdict) → HasNoNewline (verdict_word v)
 verdict_is_one_line verdict.Good = by_test (codes "good") refl
@@ -108,27 +112,29 @@ completed_is_one_line addresses number text (Ok read) =
     message_reported number (verdict_of addresses read) text
 completed_is_one_line addresses number text (Err e) = by_test (codes "refused message") refl
 
-refusal_is_one_line : (error : IpDefragError) → HasNoNewline (refusal_answer error)
-refusal_is_one_line (SegmentTooBig offset payload_len max) = by_test (codes "refused long") refl
-refusal_is_one_line (UnalignedFragmentPayloadLen offset payload_len) =
+outcome_is_one_line : (addresses : Addresses) (number : ℕ) (o : Outcome)
+    → HasNoNewline (outcome_answer addresses number o)
+outcome_is_one_line addresses number (Refusal (SegmentTooBig offset payload_len max)) =
+    by_test (codes "refused long") refl
+outcome_is_one_line addresses number (Refusal (UnalignedFragmentPayloadLen offset payload_len)) =
     by_test (codes "refused unaligned") refl
-refusal_is_one_line (ConflictingEnd previous_end conflicting_end) = by_test (codes "refused end") refl
-refusal_is_one_line (AllocationFailure len) = tt
-refusal_is_one_line (OverlappingFragment offset payload_len) = by_test (codes "refused overlap") refl
-
-outcome_is_one_line : (name : FragmentName) (o : Outcome) → HasNoNewline (outcome_answer name o)
-outcome_is_one_line name (Refusal error) = refusal_is_one_line error
-outcome_is_one_line name (Clash error) = by_test (codes "refused overlap") refl
-outcome_is_one_line name (Waiting fs) = by_test (codes "wait") refl
-outcome_is_one_line name (Completed text) =
-    completed_is_one_line name.addresses name.number text (message_at name.number text)
+outcome_is_one_line addresses number (Refusal (ConflictingEnd previous_end conflicting_end)) =
+    by_test (codes "refused end") refl
+outcome_is_one_line addresses number (Refusal (AllocationFailure len)) = tt
+outcome_is_one_line addresses number (Refusal (OverlappingFragment offset payload_len)) =
+    by_test (codes "refused overlap") refl
+outcome_is_one_line addresses number (Clash error) = by_test (codes "refused overlap") refl
+outcome_is_one_line addresses number (Waiting fs) = by_test (codes "wait") refl
+outcome_is_one_line addresses number (Completed text) =
+    completed_is_one_line addresses number text (message_at number text)
 
 class_reported : (lists : Lists) (class : Class) (channel : ℕ)
     → HasNoNewline (class_answer lists class channel)
 class_reported lists (Whole addresses number bytes message) channel =
     message_reported number (verdict_of addresses message) bytes
 class_reported lists (Cut name offset more bytes) channel =
-    outcome_is_one_line name (outcome_at lists name channel (fragment offset more bytes))
+    outcome_is_one_line name.addresses name.number
+    (outcome_at lists name channel (fragment offset more bytes))
 class_reported lists Other channel = by_test (codes "other") refl
 class_reported lists Refused channel = by_test (codes "refused frame") refl
 
@@ -157,20 +163,14 @@ first_line : (text following : List ℕ) → HasNoNewline text
     → lines_of (text ++ 10 ∷ following) ≡ text ∷ lines_of following
 first_line text following none = grind (arith, first_split)
 
-answer_line_is : (earlier : List (List ℕ)) (line : List ℕ)
-    → answer_line_after earlier line ≡ answer_after earlier line ++ 10 ∷ []
-unfolding answer_line_after
-answer_line_is earlier line = refl
-
 answer_lines : (earlier lines : List (List ℕ))
-    → lines_of (answers_to_later frame_meaning earlier lines) ≡ answers_after earlier lines
+    → lines_of (answers_to_later frame_meaning.answer earlier lines) ≡ answers_after earlier lines
 unfolding split
 answer_lines earlier [] = refl
 answer_lines earlier (line ∷ lines) =
     grind (
       arith,
       answer_lines (earlier ++ line ∷ []) lines,
-      answer_line_is,
       append_assoc,
       first_line,
       answer_is_one_line,

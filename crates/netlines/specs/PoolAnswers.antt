@@ -1,10 +1,10 @@
 -- What the code writes in answer to a line, and what its pool shows then.
-use Rattle.std.specs.Prelude.{◌≡◌, ℕ, true, MatchResult, Result, List, take}
-use Rattle.etherparse.specs.PoolCalls.{Lists, ShowsLists, lists_with_frame}
+use Rattle.std.specs.Prelude.{◌≡◌, ℕ, true, is_some, MatchResult, Result, List, take}
+use Rattle.etherparse.specs.PoolCalls.{Lists, ShowsLists, lists_with_frame, memory_error_at_frame}
 use Rattle.etherparse.specs.ReassemblyTable.{Pool}
 use Rattle.etherparse.specs.declared.defrag.ip_frag_id.IpFragId.{IpFragId}
 use Rattle.etherparse.specs.packet.Class.{Class}
-use Rattle.netlines.specs.Answers.{class_answer, class_takes_memory, command_answer, command_takes_memory}
+use Rattle.netlines.specs.Answers.{class_answer, command_answer, command_takes_memory}
 use Rattle.netlines.specs.Arrivals.{lists_with_line}
 use Rattle.line_grammar.specs.Commands.{Command}
 
@@ -18,7 +18,7 @@ AnswersClass old new number class channel text result = (lists : Lists) → Show
     → MatchResult result
     (λ end. (take end text ≡ class_answer lists class channel)
     × ShowsLists new (lists_with_frame lists class number channel))
-    (λ e. class_takes_memory lists class channel ≡ true)
+    (λ e. is_some (memory_error_at_frame lists class channel) ≡ true)
 
 -- the same of the command of a line
 abbrev pub AnswersCommand : {E : Type 0} → (old new : Pool (IpFragId ℕ) ℕ) → (number : ℕ) → Command

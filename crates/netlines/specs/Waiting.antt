@@ -8,11 +8,10 @@ use Rattle.etherparse.specs.Outcome.{Held, Outcome, outcome}
 use Rattle.etherparse.specs.Outcome.Outcome.{Clash, Completed, Refusal, Waiting}
 use Rattle.etherparse.specs.PoolCalls.{no_lists, outcome_at}
 use Rattle.etherparse.specs.packet.Class.{FragmentName, class_of}
-use Rattle.etherparse.specs.packet.Readable.{message_at}
 use Rattle.line_grammar.specs.Commands.{Command, command_of}
 use Rattle.line_grammar.specs.Commands.Command.{Frame, Forget, Bad}
 use Rattle.netlines.specs.Alone.{texts_that_matter}
-use Rattle.netlines.specs.Answers.{completed_answer, message_answer}
+use Rattle.netlines.specs.Answers.{message_answer, outcome_answer}
 use Rattle.netlines.specs.ChangedWord.{DifferAt}
 use Rattle.netlines.specs.Arrivals.{HasFragment, held_with_line, lists_after_lines}
 use Rattle.checksum_verdicts.specs.declared.verdict.Verdict.{Verdict}
@@ -31,7 +30,7 @@ lines_for name channel lines = texts_for name channel lines lines
 -- what is answered where the fragments of this message, which came under this name, are complete
 abbrev pub line_of_message : FragmentName → (message : List ℕ) → List ℕ
 line_of_message name message =
-    completed_answer name.addresses name.number message (message_at name.number message)
+    outcome_answer name.addresses name.number (Completed message)
 
 -- the answer that returns a message, or the one to a message that can't be read
 abbrev pub ReturnsMessage : (answer : List ℕ) → Type 0

@@ -1,8 +1,10 @@
 //! The texts of answers.
-ghost use Rattle.std.specs.Prelude.{◌≡◌, ◌+◌, ◌*◌, ◌≤◌, ◌<◌, ◌++◌, codes, length, take, IfSome, MatchOption};
+ghost use Rattle.std.specs.Prelude.{ℕ, ◌≡◌, ◌+◌, ◌*◌, ◌≤◌, ◌<◌, ◌++◌, codes, length, take, IfSome, MatchOption};
+ghost use Rattle.etherparse.specs.Outcome.Outcome.{Refusal};
 ghost use Rattle.etherparse.specs.PoolCalls.{HasMemory};
 ghost use Rattle.etherparse.specs.PoolCalls.CallResult.{Refused};
-ghost use Rattle.netlines.specs.Answers.{message_answer, refusal_answer, verdict_word};
+ghost use Rattle.etherparse.specs.packet.declared.addresses.Addresses.{Addresses};
+ghost use Rattle.netlines.specs.Answers.{message_answer, outcome_answer, verdict_word};
 
 use crate::Verdict;
 use crate::frames::output::{append, append_decimal, append_hex};
@@ -44,7 +46,8 @@ fn append_verdict(out: &mut [u8], used: usize, verdict: Verdict) -> usize
 /// The answer to a fragment that is refused; none where it is out of memory.
 pub fn refusal_text(error: &IpDefragError) -> Option<&'static [u8]>
     ensures text { MatchOption result (HasMemory (Refused error.now) → ⊥)
-        (λ text. HasMemory (Refused error.now) × (text.now ≡ refusal_answer error.now)) }
+        (λ text. HasMemory (Refused error.now) × ((addresses : Addresses) (number : ℕ)
+        → text.now ≡ outcome_answer addresses number (Refusal error.now))) }
     ensures short { IfSome result (λ text. length text.now ≤ 17) }
 {
     match error {

@@ -1,13 +1,14 @@
 //! Answers to lines by their frames and those of the lines before them.
 ghost use Rattle.std.specs.Prelude.{◌≡◌, ◌≤◌, ◌<◌, ◌*◌, ◌+◌, ℕ, List, [], vec_len, length, take, IfOk, vec_capacity};
+ghost use Rattle.etherparse.specs.Outcome.Outcome.{Completed};
 ghost use Rattle.etherparse.specs.PoolCalls.{ShowsLists};
 ghost use Rattle.etherparse.specs.packet.Class.{IdentificationFits, as_class, class_of, packet_parsed};
 ghost use Rattle.etherparse.specs.packet.Class.Class.{Whole};
-ghost use Rattle.etherparse.specs.packet.Readable.{ReadMessage, as_read, message_at};
+ghost use Rattle.etherparse.specs.packet.Readable.{ReadMessage, as_read};
 ghost use Rattle.etherparse.specs.packet.declared.addresses.Addresses.{Addresses as AddressesValue};
 ghost use Rattle.etherparse.specs.packet.declared.class.Class.TheVariants as reported;
 ghost use Rattle.etherparse.specs.Counts.{HasSlot};
-ghost use Rattle.netlines.specs.Answers.{frame_meaning, completed_answer, message_answer};
+ghost use Rattle.netlines.specs.Answers.{frame_meaning, message_answer, outcome_answer};
 ghost use Rattle.netlines.specs.Arrivals.{lists_after_lines};
 ghost use Rattle.line_grammar.specs.Commands.Command.{Forget};
 ghost use Rattle.line_grammar.specs.Reads.{Reads};
@@ -203,8 +204,8 @@ fn answer_completed<S: BuildHasher>(
     requires short { length payload.payload.items ≤ 65535 }
     requires room { ANSWER_CAPACITY ≤ length out.old }
     ensures end { result < length out.new }
-    ensures bytes { take result out.new ≡ completed_answer addresses.now payload.ip_number.0
-        payload.payload.items (message_at payload.ip_number.0 payload.payload.items) }
+    ensures bytes { take result out.new
+        ≡ outcome_answer addresses.now payload.ip_number.0 (Completed payload.payload.items) }
     ensures back { TakesBack pool.old pool.new (vec_capacity payload.payload) }
 {
     let end = write_completed(addresses, &payload, out);
@@ -218,8 +219,8 @@ fn write_completed(addresses: &Addresses, payload: &IpDefragPayloadVec, out: &mu
     requires short { length payload.now.payload.items ≤ 65535 }
     requires room { ANSWER_CAPACITY ≤ length out.old }
     ensures end { result < length out.new }
-    ensures bytes { take result out.new ≡ completed_answer addresses.now payload.now.ip_number.0
-        payload.now.payload.items (message_at payload.now.ip_number.0 payload.now.payload.items) }
+    ensures bytes { take result out.new ≡ outcome_answer addresses.now payload.now.ip_number.0
+        (Completed payload.now.payload.items) }
 {
     let bytes = payload.payload.as_slice();
     match read_message(payload.ip_number, bytes) {

@@ -23,7 +23,7 @@ pub fn lists_of_a_message()
     // the list changes by that. The line's number becomes the time of the list.
     ensures answer { (earlier : List (List ℕ)) (line : List ℕ) (name : FragmentName) (channel : ℕ)
         (f : Fragment) → HasFragment line name channel f
-        → answer_after earlier line ≡ outcome_answer name
+        → answer_after earlier line ≡ outcome_answer name.addresses name.number
         (outcome_at (lists_after_lines earlier) name channel f) }
     ensures fragment { (earlier : List (List ℕ)) (line : List ℕ) (name : FragmentName) (channel : ℕ)
         (f : Fragment) → HasFragment line name channel f

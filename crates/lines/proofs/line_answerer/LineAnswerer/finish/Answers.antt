@@ -13,7 +13,7 @@ use Rattle.lines.proofs.line_answerer.LineAnswerer.finish.Goals as goal
 pub returns-then-not-self : goal.returns-then-not-self
 returns-then-not-self g c earlier prefix started =
     subst (λ (l : List ℕ). Written g.D.Device.transition c.args.device.now
-    (answers_to_later g.A.Answerer.meaning earlier (last_line l)) c.args.device.now)
+    (answers_to_later g.A.Answerer.meaning.answer earlier (last_line l)) c.args.device.now)
     (sym (nothing_started prefix (sym c.if-not-self.true ∙ started.begins)))
     (Written-nil g.D.Device.transition c.args.device.now)
 

@@ -63,8 +63,10 @@ returns-in-Some-clause-answers g c lists shows =
     (fragment_is _ c.args.message refl) _ _ _
     (processed c.args.pool.now c.process_fragment.new.self c.args.message c.args.number c.args.channel
     c.process_fragment.result e.accepted e.refused e.others e.err) lists shows _
-    c.in-Err.is c.in-Some.ensures.text.0 in
-    (c.append-in-Some.ensures.text ∙ c.in-Some.ensures.text.1 ∙ answered.0, answered.1)
+    c.in-Err.is c.in-Some.ensures.text.0 in (
+      c.append-in-Some.ensures.text ∙ c.in-Some.ensures.text.1 c.args.message.addresses 0 ∙ answered.0,
+      answered.1,
+    )
 
 pub returns-in-None-clause-answers : goal.returns-in-None-clause-answers
 returns-in-None-clause-answers g c lists shows =
