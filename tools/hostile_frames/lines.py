@@ -287,7 +287,7 @@ def disturbance(draw, piece, message):
     units, end = len(part) // 8, start + (len(part) + 7) // 8
     length = len(message)
     name = draw.choice(
-        ("repeat", "other bytes", "other flag", "inside", "around", "over its front", "over its back", "before it", "behind it")
+        ("repeat", "other bytes", "other flag", "inside", "around", "over its front", "over its back", "before it", "after it")
         + ("lower end", "higher end", "same end", "beyond the end", "unaligned", "empty", "long")
     )
     size = None
@@ -303,7 +303,7 @@ def disturbance(draw, piece, message):
         start, size = max(0, end - 1), 16
     elif name == "before it":
         start, size = max(0, start - 2), 16
-    elif name == "behind it":
+    elif name == "after it":
         start, size = end, 16
     elif name == "beyond the end":
         start, more, size = (length + 7) // 8 + draw.randrange(3), draw.random() < 0.7, 8 * draw.randrange(3)
@@ -324,7 +324,7 @@ def disturbance(draw, piece, message):
         part += draw.randbytes(size - len(part))
     elif name == "other bytes":
         part = draw.randbytes(len(part))
-    if name in ("inside", "around", "over its front", "over its back", "before it", "behind it"):
+    if name in ("inside", "around", "over its front", "over its back", "before it", "after it"):
         # The fragment is aligned and ends nothing, but for one in ten.
         more = draw.random() < 0.9
     return name, (min(start, 8191), more, part)
