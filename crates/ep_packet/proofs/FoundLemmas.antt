@@ -3,12 +3,16 @@ use Rattle.std.proofs.Common.{arith, ◌≡◌, ◌∙◌, ℕ, List, Option, So
 use Rattle.ep_link.specs.declared.link.link_slice.LinkSlice.{LinkSlice}
 use Rattle.ep_packet.specs.SliceFault.{later}
 use Rattle.ep_packet.specs.Sliced.{AreIpLayers, IsSliced, IsSlicedIp, Layers, layers_in, packet_after, packet_tagged}
-use Rattle.ep_packet.specs.Sliced.{packet_with}
+use Rattle.ep_packet.specs.Sliced.{packet_with, ip_layers}
 use Rattle.ep_packet.specs.Tags.{Tagged, most_tags, tags_in}
 use Rattle.ep_packet.specs.declared.err.packet.slice_error.SliceError.{SliceError}
 use Rattle.ep_packet.specs.declared.sliced_packet.SlicedPacket.{SlicedPacket}
 use Rattle.ep_packet.proofs.TaggedLaws.{MacsecIsRead, Stands, tags_found, tags_only}
 use Rattle.ep_tag.specs.Ether.{EtherPayload}
+use Rattle.ep_ipslice.specs.IpSlice.{ip_packet_at}
+use Rattle.ep_ipslice.specs.declared.err.ip.slice_error.SliceError.{SliceError as IpFault}
+use Rattle.ep_ipslice.specs.declared.net.ip_slice.IpSlice.{IpSlice}
+use Rattle.ep_ipslice.proofs.Packets.{ip_found}
 
 found_with : (header : Option LinkSlice) (p : EtherPayload) (n : ℕ) (t : Tagged)
     (r : Result Layers SliceError) → layers_in t.last ≡ r → Stands most_tags p t →
@@ -44,3 +48,14 @@ pub taken_ip : (bytes : List ℕ) (r : Result Layers SliceError)
     → IsSlicedIp bytes packet → packet_with None [] r ≡ Ok packet
 taken_ip bytes r only packet is = ap (λ (x : Result Layers SliceError). packet_with None [] x)
     (only is.0 is.1) ∙ ap (λ (p : SlicedPacket). Ok p) (sym is.2)
+
+ip_by : (bytes : List ℕ) (r : Result IpSlice IpFault) (layers : Layers) → ip_packet_at bytes ≡ r
+    → ip_layers r ≡ Ok layers → AreIpLayers bytes layers
+ip_by bytes (Ok packet) layers at is =
+    record { packet = packet; begins = ip_found bytes packet at; message = is }
+ip_by bytes (Err e) layers at is = cc
+
+-- the layers of the IP packet that is found are in the bytes
+pub ip_layers_found : (bytes : List ℕ) (layers : Layers)
+    → ip_layers (ip_packet_at bytes) ≡ Ok layers → AreIpLayers bytes layers
+ip_layers_found bytes layers is = ip_by bytes (ip_packet_at bytes) layers refl is

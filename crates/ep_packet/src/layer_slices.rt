@@ -1,5 +1,5 @@
 //! The network layer and the transport layer in a payload.
-ghost use Rattle.std.specs.Prelude.{◌≡◌, ◌<◌, ◌+◌, ◌^◌, ℕ, length, IfErr, IfOk, IfSome, Ok};
+ghost use Rattle.std.specs.Prelude.{◌≡◌, ◌<◌, ◌+◌, ◌^◌, ℕ, length, IfErr, IfOk, IfSome};
 ghost use Rattle.ep_link.specs.Arp.{packet_at};
 ghost use Rattle.ep_ext.specs.Ipv4Exts.{auth_bytes};
 ghost use Rattle.ep_ipslice.specs.IpSlice.{ip_packet_at};
@@ -9,7 +9,7 @@ ghost use Rattle.ep_ipslice.specs.Packet.{IsIpv4Packet, IsIpv6Packet};
 ghost use Rattle.ep_packet.specs.Parts.{IsAt, LayersIn, transport_bytes};
 ghost use Rattle.ep_packet.specs.Readable.{message_at};
 ghost use Rattle.ep_packet.specs.SliceFault.{fault_offset};
-ghost use Rattle.ep_packet.specs.Sliced.{AreIpLayers, Layers, in_ipv4, in_ipv6, ip_layers, arp_layers, ipv4_layers};
+ghost use Rattle.ep_packet.specs.Sliced.{Layers, in_ipv4, in_ipv6, ip_layers, arp_layers, ipv4_layers};
 ghost use Rattle.ep_packet.specs.Sliced.{ipv6_layers, read_transport, transport_in};
 
 use crate::err::packet::SliceError;
@@ -85,8 +85,6 @@ impl<'a> LayerSlices<'a> {
     /// The layers in an IP packet of either version.
     pub(crate) fn from_ip(slice: &'a [u8]) -> Result<LayerSlices<'a>, SliceError>
         ensures layers { result ≡ ip_layers (ip_packet_at slice.now) }
-        ensures found { IfOk result (λ layers. AreIpLayers slice.now layers) }
-        ensures only { (layers : Layers) → AreIpLayers slice.now layers → result ≡ Ok layers }
         ensures parts { IfOk result (λ layers. LayersIn slice.now 0 layers) }
         ensures offset { IfErr result (λ e. (n : ℕ) → length slice.now + n < 2 ^ 64
             → fault_offset e + n < 2 ^ 64) }
