@@ -3,6 +3,7 @@ use Rattle.std.proofs.Common.{◌≡◌, ◌∙◌, sym, ap, refl, subst, ℕ, �
 use Rattle.std.proofs.Common.{Option, Some, None, Result, Ok, Err}
 use Rattle.std.specs.Prelude.{if◌then◌else◌, nat_lt}
 use Rattle.std.proofs.lemmas.Bool.{eqb-true}
+use Rattle.std.specs.Result.{result_map_both}
 use Rattle.ep_base.proofs.Prefixes.{err_same}
 use Rattle.ep_base.specs.LenError.{too_few_bytes}
 use Rattle.ep_base.specs.declared.err.layer.Layer.TheVariants.{UdpHeader, UdpPayload}
@@ -12,7 +13,7 @@ use Rattle.ep_base.specs.declared.len_source.LenSource.TheVariants as source
 use Rattle.ep_ipslice.specs.Packet.{IpPayload}
 use Rattle.ep_packet.specs.LaxSliced.{lax_message_at, lax_message_in, lax_transport_in, message_layer}
 use Rattle.ep_packet.specs.LayersAhead.{counts_payload, is_passed_over, is_udp_length}
-use Rattle.ep_packet.specs.Readable.{ReadMessage, message_at, read_as, udp}
+use Rattle.ep_packet.specs.Readable.{ReadMessage, message_at, udp}
 use Rattle.ep_packet.specs.Readable.ReadMessage.{Udp}
 use Rattle.ep_packet.specs.SliceFault.{bounded_by, offset_by, within}
 use Rattle.ep_packet.specs.Sliced.{Layers, read_transport, result_within, transport_in, with_transport}
@@ -51,10 +52,10 @@ not_passed f e passed same over = cc (ap is_passed_over same, passed, over)
 -- of UDP the lengths are passed over
 udp_tests : (short cut small : Bool) (x y z : LenError) (m k : List ℕ) (e : SliceError)
     → is_passed_over (Len y) ≡ true → is_passed_over (Len z) ≡ true →
-    read_as (λ b. Udp b) (λ e. Len e)
+    result_map_both (λ b. Udp b) (λ e. Len e)
     (if short then Err x else (if cut then Err y else (if small then Err z else Ok m))) ≡ Err e
     → is_passed_over e ≡ false
-    → read_as (λ b. Udp b) (λ e. Len e) (if short then Err x else Ok k) ≡ Err e
+    → result_map_both (λ b. Udp b) (λ e. Len e) (if short then Err x else Ok k) ≡ Err e
 udp_tests true cut small x y z m k e long low is over = is
 udp_tests false true small x y z m k e long low is over =
     absurd (not_passed (Len y) e long (err_same {A = ReadMessage} _ _ is) over)
@@ -63,8 +64,8 @@ udp_tests false false true x y z m k e long low is over =
 udp_tests false false false x y z m k e long low is over = cc
 
 udp_stops : (bytes : List ℕ) (e : SliceError)
-    → read_as (λ b. Udp b) (λ e. Len e) (udp_at bytes) ≡ Err e → is_passed_over e ≡ false
-    → read_as (λ b. Udp b) (λ e. Len e) (lax_udp_at bytes) ≡ Err e
+    → result_map_both (λ b. Udp b) (λ e. Len e) (udp_at bytes) ≡ Err e → is_passed_over e ≡ false
+    → result_map_both (λ b. Udp b) (λ e. Len e) (lax_udp_at bytes) ≡ Err e
 udp_stops bytes e is over = udp_tests (nat_lt (length bytes) 8) (nat_lt (length bytes) (length_of bytes))
     (not (length_of bytes == 0) && nat_lt (length_of bytes) 8) (too_few_bytes UdpHeader 8 (length bytes))
     (too_few_bytes UdpPayload (length_of bytes) (length bytes))
@@ -74,7 +75,7 @@ udp_stops bytes e is over = udp_tests (nat_lt (length bytes) 8) (nat_lt (length 
 message_by : (b : Bool) (number : ℕ) (bytes : List ℕ) (e : SliceError) → (number == udp) ≡ b
     → message_at number bytes ≡ Err e → is_passed_over e ≡ false → lax_message_at number bytes ≡ Err e
 message_by false number bytes e not is over = ap (λ (b : Bool). if b
-    then read_as (λ b. Udp b) (λ e. Len e) (lax_udp_at bytes) else message_at number bytes) not ∙ is
+    then result_map_both (λ b. Udp b) (λ e. Len e) (lax_udp_at bytes) else message_at number bytes) not ∙ is
 message_by true number bytes e here is over =
     subst (λ (n : ℕ). message_at n bytes ≡ Err e → lax_message_at n bytes ≡ Err e)
     (sym (eqb-true number udp here)) (λ at. udp_stops bytes e at over) is

@@ -2,26 +2,28 @@
 use Rattle.std.proofs.Common.{arith, ◌≡◌, ◌↔◌, ℕ, Bool, true, false, cond, List, Option, Some, None, Result, Ok, Err}
 use Rattle.std.proofs.Common.{IsErr, IfOk, if◌then◌else◌, refl}
 use Rattle.std.proofs.lemmas.Bool.Decides.{nat_tests}
+use Rattle.std.specs.Option.{option_map_or}
 use Rattle.std.specs.Prelude.{⊤}
+use Rattle.std.specs.Result.{result_ok}
 use Rattle.ep_base.specs.declared.err.len_error.LenError.{LenError}
 use Rattle.ep_ip.specs.Ipv4 as v4
 use Rattle.ep_ipslice.specs.Ipv6Packet.{extensions_in}
 use Rattle.ep_ipslice.specs.Packet.{FragmentFields, IpPayload, Ipv4Packet, Ipv6Packet, IsWholeIpv6}
-use Rattle.ep_ipslice.specs.Packet.{ipv6_fragment_fields}
+use Rattle.ep_ipslice.specs.Packet.{ipv4_fragment_fields, ipv4_payload, ipv6_fragment_fields}
 use Rattle.ep_ipslice.specs.declared.err.ipv4.slice_error.SliceError.{SliceError as Ipv4Fault}
 use Rattle.ep_ipslice.specs.declared.err.ipv6.slice_error.SliceError.{SliceError as Ipv6Fault}
+use Rattle.ep_link.specs.Ethernet.{payload_of}
 use Rattle.ep_link.specs.declared.link.link_slice.LinkSlice.{LinkSlice}
 use Rattle.ep_link.specs.declared.link.link_slice.LinkSlice.TheVariants as link
-use Rattle.ep_packet.specs.Class.{Class, arp_class_at, class_of, sliced_class, frame_class, ipv4_class_at}
-use Rattle.ep_packet.specs.Class.{ipv6_addresses, ipv6_class_at, last_class, message_class, net_class, fragmented_class}
-use Rattle.ep_packet.specs.Class.{read_class, tagged_class, whole_class}
-use Rattle.ep_packet.specs.Class.Class.{Refused}
+use Rattle.ep_packet.specs.Class.{Class, class_of, fragmented_class, ip_class, ipv4_addresses, ipv6_addresses}
+use Rattle.ep_packet.specs.Class.{net_class, payload_class, sliced_class, whole_class}
+use Rattle.ep_packet.specs.Class.Class.{Other, Refused, Whole}
 use Rattle.ep_packet.specs.Readable.{ReadMessage, message_at}
 use Rattle.ep_packet.specs.Readable.ReadMessage.{Icmpv4, Icmpv6, Raw, Tcp, Udp}
 use Rattle.ep_packet.specs.SliceFault.{later}
 use Rattle.ep_packet.specs.Sliced.{Layers, arp_layers, result_within, in_frame, ipv4_layers, ipv6_layers, layers_in}
 use Rattle.ep_packet.specs.Sliced.{packet_tagged, packet_with, read_transport, sliced_ethernet}
-use Rattle.ep_packet.specs.Tags.{Tagged, vlan_ids_of}
+use Rattle.ep_packet.specs.Tags.{Tagged, most_tags, tags_in, vlan_ids_of}
 use Rattle.ep_packet.specs.declared.addresses.Addresses.{Addresses}
 use Rattle.ep_packet.specs.declared.err.packet.slice_error.SliceError.{SliceError}
 use Rattle.ep_packet.specs.declared.net.net_slice.NetSlice.{NetSlice}
@@ -30,6 +32,31 @@ use Rattle.ep_packet.specs.declared.sliced_packet.SlicedPacket.{SlicedPacket}
 use Rattle.ep_packet.specs.declared.transport.transport_slice.TransportSlice.{TransportSlice}
 use Rattle.ep_tag.specs.Ether.{EtherPayload}
 use Rattle.ep_tag.specs.declared.link.link_ext_slice.LinkExtSlice.{LinkExtSlice}
+
+-- the class of what was found, else a frame is refused
+abbrev pub class_where : {A E : Type 0} → (A → Class) → Result A E → Class
+class_where class r = option_map_or class (result_ok r) Refused
+
+-- the class of an IP packet after tags with these identifiers
+abbrev pub ipv4_class : List ℕ → Ipv4Packet → Class
+ipv4_class ids packet = ip_class ids (ipv4_addresses packet) (ipv4_payload packet)
+    (Some (ipv4_fragment_fields packet.header))
+
+abbrev pub ipv6_class : List ℕ → Ipv6Packet → Class
+ipv6_class ids packet = ip_class ids (ipv6_addresses packet) packet.payload (ipv6_fragment_fields (extensions_in packet))
+
+abbrev pub ipv4_class_at : List ℕ → Result Ipv4Packet Ipv4Fault → Class
+ipv4_class_at ids r = class_where (λ packet. ipv4_class ids packet) r
+
+abbrev pub ipv6_class_at : List ℕ → Result Ipv6Packet Ipv6Fault → Class
+ipv6_class_at ids r = class_where (λ packet. ipv6_class ids packet) r
+
+-- of what the last ether type names, and of what follows a link header
+abbrev pub last_class : List ℕ → Option EtherPayload → Class
+last_class ids last = option_map_or (λ p. payload_class ids p) last Other
+
+abbrev pub tagged_class : Result Tagged SliceError → Class
+tagged_class r = class_where (λ (t : Tagged). last_class (vlan_ids_of t.tags) t.last) r
 
 -- the class of the layers, after tags with these identifiers
 abbrev pub layers_class : List ℕ → Result Layers SliceError → Class
@@ -84,14 +111,16 @@ message_read fragment addresses p fragmented (Err e) = Refused
 uncut : (fragment : Class) (addresses : Addresses) (p : IpPayload) (r : Result ReadMessage SliceError)
     → AllOwn p.payload r →
     message_read fragment addresses p false (result_within p.len_source (read_transport r))
-    ≡ read_class addresses p r
+    ≡ class_where (λ message. Whole addresses p.ip_number.0 p.payload message) r
 uncut fragment addresses p r own = grind arith
 
 payload_parsed : (fragment : Class) (addresses : Addresses) (p : IpPayload) (fragmented : Bool) →
     message_read fragment addresses p fragmented
     (if fragmented then Ok None
     else result_within p.len_source (read_transport (message_at p.ip_number.0 p.payload)))
-    ≡ (if fragmented then fragment else message_class addresses p)
+    ≡ (if fragmented then fragment
+    else class_where (λ message. Whole addresses p.ip_number.0 p.payload message)
+    (message_at p.ip_number.0 p.payload))
 payload_parsed fragment addresses p fragmented = grind arith
 
 pub ipv4_agrees : (ids : List ℕ) (r : Result Ipv4Packet Ipv4Fault)
@@ -104,7 +133,7 @@ ipv6_agrees ids (Ok packet) = grind arith
 ipv6_agrees ids (Err e) = refl
 
 arp_agrees : (ids : List ℕ) (r : Result (List ℕ) LenError)
-    → layers_class ids (arp_layers r) ≡ arp_class_at r
+    → layers_class ids (arp_layers r) ≡ class_where (λ packet. Other) r
 arp_agrees ids r = grind arith
 
 chosen_agrees : (ids : List ℕ) (b : Bool) (x y : Result Layers SliceError) (j k : Class)
@@ -124,7 +153,8 @@ pub tagged_agrees : (header : Option LinkSlice) (n : ℕ) (r : Result Tagged Sli
     → sliced_class (later n (packet_tagged header r)) ≡ tagged_class r
 tagged_agrees header n r = grind (arith, with_agrees, last_agrees)
 
-frame_agrees : (r : Result (List ℕ) LenError) → sliced_class (in_frame r) ≡ frame_class r
+frame_agrees : (r : Result (List ℕ) LenError)
+    → sliced_class (in_frame r) ≡ class_where (λ frame. tagged_class (tags_in most_tags (payload_of frame))) r
 frame_agrees r = grind (arith, tagged_agrees)
 
 pub class_agrees : (frame : List ℕ) (r : Result SlicedPacket SliceError)

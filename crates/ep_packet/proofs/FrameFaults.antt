@@ -1,5 +1,5 @@
 -- The fault at which a frame is refused is the first one.
-use Rattle.std.proofs.Common.{◌≡◌, ◌∙◌, ℕ, ◌-◌, ◌≤◌, ◌==◌, Bool, true, false, List, length, [], arith, IfErr}
+use Rattle.std.proofs.Common.{◌≡◌, ◌∙◌, ℕ, ◌-◌, ◌≤◌, ◌==◌, Bool, true, false, List, length, [], arith}
 use Rattle.std.proofs.Common.{Option, Some, None, Result, Ok, Err, refl, sym, ap, subst}
 use Rattle.std.specs.Prelude.{nat_lt, if◌then◌else◌}
 use Rattle.std.proofs.lemmas.Bool.{eqb-true, ltb-false, ltb-true}
@@ -61,7 +61,7 @@ use Rattle.ep_packet.specs.Payload as payload
 use Rattle.ep_packet.specs.IsTagged.{IsTagged}
 use Rattle.ep_packet.specs.PacketHeaders as packet_headers
 use Rattle.ep_packet.specs.PacketHeaders.{Headers, ether_type_headers, ethernet_headers, headers_after, headers_tagged}
-use Rattle.ep_packet.specs.PacketHeaders.{headers_with, ip_packet_headers, layers_after, result_parsed}
+use Rattle.ep_packet.specs.PacketHeaders.{headers_with, ip_packet_headers, layers_after}
 use Rattle.ep_packet.specs.PacketView.{source_after}
 use Rattle.ep_packet.specs.ReadIpHeaders.{IsIpHeadersFault}
 use Rattle.ep_packet.specs.SliceFault.{later, of_ipv4, of_ipv6, offset_by}
@@ -76,7 +76,6 @@ use Rattle.ep_packet.specs.declared.err.packet.slice_error.SliceError.TheVariant
 use Rattle.ep_packet.specs.declared.net.ip_headers.IpHeaders.{IpHeaders}
 use Rattle.ep_packet.specs.declared.net.net_slice.NetSlice.TheVariants as net
 use Rattle.ep_packet.specs.declared.sliced_packet.SlicedPacket.{SlicedPacket}
-use Rattle.ep_packet.specs.declared.packet_headers.PacketHeaders.{PacketHeaders}
 use Rattle.ep_packet.proofs.FaultLemmas.{moved_nothing}
 use Rattle.ep_packet.proofs.SlicedLemmas.{sll_whole}
 use Rattle.ep_packet.proofs.MessageFaults.{payload_faulty, payload_parts_faulty}
@@ -239,7 +238,7 @@ after_header law bytes (Ok header) e read is =
     sized_part law bytes header (headers_in_slots (next_header_of header) (body_of bytes header))
     (nat_lt (length bytes - 40) (body_len header (length bytes - 40))) e read refl refl is
 
-ipv6_in_slots : FaultsAreFirst → (bytes : List ℕ) (e : Ipv6Fault) → ipv6_headers_at bytes ≡ Err e
+pub ipv6_in_slots : FaultsAreFirst → (bytes : List ℕ) (e : Ipv6Fault) → ipv6_headers_at bytes ≡ Err e
     → IsFaultIn slot_of bytes e
 ipv6_in_slots law bytes e is = after_header law bytes (header_at bytes) e refl is
 
@@ -358,15 +357,19 @@ headers_by law false false false bytes e size v4 v6 is = (
   sym (err_same {A = Parts} _ _ is),
 )
 
+pub ip_headers_fault : FaultsAreFirst → (bytes : List ℕ) (e : HeadersSliceError)
+    → ip_headers_at bytes ≡ Err e → IsIpHeadersFault bytes e
+ip_headers_fault law bytes e is =
+    headers_by law (length bytes == 0) (version_of bytes == 4) (version_of bytes == 6) bytes e
+    refl refl refl is
+
 ip_headers_part : FaultsAreFirst → (bytes : List ℕ) (r : Result Parts HeadersSliceError)
     (e : SliceError) → ip_headers_at bytes ≡ r → headers.ip_layers (length bytes) r ≡ Err e
     → IsIpPacketHeadersFault bytes e
 ip_headers_part law bytes (Ok parts) e read is =
     fault.InMessage parts.0 parts.1 read (payload_parts_faulty _ _ parts.1 e is)
 ip_headers_part law bytes (Err x) e read is =
-    fault.InPacket x
-    (headers_by law (length bytes == 0) (version_of bytes == 4) (version_of bytes == 6) bytes x
-    refl refl refl read) (sym (err_same {A = HeaderLayers} _ _ is))
+    fault.InPacket x (ip_headers_fault law bytes x read) (sym (err_same {A = HeaderLayers} _ _ is))
 
 pub ip_headers_faulty : FaultsAreFirst → (bytes : List ℕ) (e : SliceError)
     → headers.ip_layers (length bytes) (ip_headers_at bytes) ≡ Err e
@@ -457,17 +460,7 @@ pub ip_packet_headers_fault : FaultsAreFirst → (bytes : List ℕ) (e : SliceEr
 ip_packet_headers_fault law bytes e is = ip_headers_faulty law bytes e
     (headers_with_err None [] (headers.ip_layers (length bytes) (ip_headers_at bytes)) e is)
 
--- a result with the fault of its definition
-pub if_err : {A E : Type 0} (P : E → Type 0) (r s : Result A E) → r ≡ s
-    → ((e : E) → s ≡ Err e → P e) → IfErr r P
-if_err P (Ok x) s same each = tt
-if_err P (Err e) s same each = each e (sym same)
-
-pub if_err_agrees : (P : SliceError → Type 0) (r : Result PacketHeaders SliceError)
-    (s : Result Headers SliceError) → result_parsed r ≡ s
-    → ((e : SliceError) → s ≡ Err e → P e) → IfErr r P
-if_err_agrees P r s same each = grind arith
-
+-- a result of reading no bytes later
 pub later_nothing : {A : Type 0} (r : Result A SliceError) → later 0 r ≡ r
 later_nothing (Ok x) = refl
 later_nothing (Err e) = ap Err (moved_nothing e)

@@ -4,6 +4,7 @@ use Rattle.std.proofs.Common.{◌≡◌, ◌∙◌, ◌⊎◌, ℕ, ◌<◌, ◌
 use Rattle.std.proofs.Common.{take, get_or, Option, Some, None, Result, Ok, Err, sym, ap, subst, arith}
 use Rattle.std.specs.Option.{option_map}
 use Rattle.std.proofs.lemmas.List.{get_or-take, take_all}
+use Rattle.std.specs.Result.{result_map_both}
 use Rattle.ep_base.specs.declared.err.len_error.LenError.{LenError}
 use Rattle.ep_base.specs.declared.len_source.LenSource.{LenSource}
 use Rattle.ep_base.proofs.Prefixes.{err_ok, ok_same}
@@ -14,7 +15,7 @@ use Rattle.ep_packet.specs.HeaderLayers.{MessageParts, icmpv4_parts, icmpv6_part
 use Rattle.ep_packet.specs.HeaderLayers.{udp_parts}
 use Rattle.ep_packet.specs.Payload.{Payload}
 use Rattle.ep_packet.specs.Payload as payload
-use Rattle.ep_packet.specs.Readable.{ReadMessage, message_at, read_as, tcp_fault}
+use Rattle.ep_packet.specs.Readable.{ReadMessage, message_at, tcp_fault}
 use Rattle.ep_packet.specs.Readable.ReadMessage.{Icmpv4, Icmpv6, Raw, Tcp, Udp}
 use Rattle.ep_packet.specs.Readable as number
 use Rattle.ep_packet.specs.SameHeaders.{after_message, transport_fields}
@@ -66,7 +67,7 @@ udp_same bytes m is counts = grind (arith, nat_tests, udp_cases, fields_are)
 read_alike : {E : Type 0} (message : List ℕ → ReadMessage) (fault : E → SliceError)
     (parts : Result (List ℕ) E → Result MessageParts SliceError) →
     ((x : List ℕ) → parts (Ok x) ≡ Ok (option_map parts_of (transport_of (message x))))
-    → (r : Result (List ℕ) E) (m : ReadMessage) → read_as message fault r ≡ Ok m →
+    → (r : Result (List ℕ) E) (m : ReadMessage) → result_map_both message fault r ≡ Ok m →
     parts r ≡ Ok (option_map parts_of (transport_of m))
 read_alike message fault parts each (Ok x) m is =
     each x ∙ ap (λ (w : ReadMessage). Ok (option_map parts_of (transport_of w)))
@@ -78,15 +79,15 @@ abbrev CountsAll : List ℕ → Option TransportSlice → Type 0
 CountsAll bytes o = (datagram : List ℕ) → o ≡ Some (slice.Udp datagram) → Counts bytes
 
 datagram_same : (bytes : List ℕ) (r : Result (List ℕ) LenError) (m : ReadMessage) → udp_at bytes ≡ r
-    → read_as (λ x. Udp x) (λ e. Len e) r ≡ Ok m → CountsAll bytes (transport_of m) →
+    → result_map_both (λ x. Udp x) (λ e. Len e) r ≡ Ok m → CountsAll bytes (transport_of m) →
     udp_parts bytes (header_at bytes) ≡ Ok (option_map parts_of (transport_of m))
 datagram_same bytes r m found is counts = grind (arith, ok_same, udp_same, err_ok)
 
 message_cases : (a b c d : Bool) (bytes : List ℕ) (m : ReadMessage) →
-    (if a then read_as (λ x. Icmpv4 x) (λ e. Len e) (icmpv4_fault.message_at bytes)
-    else (if b then read_as (λ x. Tcp x) tcp_fault (segment_at bytes)
-    else (if c then read_as (λ x. Udp x) (λ e. Len e) (udp_at bytes)
-    else (if d then read_as (λ x. Icmpv6 x) (λ e. Len e) (icmpv6_fault.message_at bytes)
+    (if a then result_map_both (λ x. Icmpv4 x) (λ e. Len e) (icmpv4_fault.message_at bytes)
+    else (if b then result_map_both (λ x. Tcp x) tcp_fault (segment_at bytes)
+    else (if c then result_map_both (λ x. Udp x) (λ e. Len e) (udp_at bytes)
+    else (if d then result_map_both (λ x. Icmpv6 x) (λ e. Len e) (icmpv6_fault.message_at bytes)
     else Ok (Raw bytes))))) ≡ Ok m → CountsAll bytes (transport_of m) →
     (if a then icmpv4_parts (icmpv4_fault.message_at bytes)
     else (if b then tcp_parts (segment_at bytes)

@@ -4,6 +4,7 @@ use Rattle.std.proofs.Common.{get_or, take, Result, Ok, Err, refl, arith}
 use Rattle.std.proofs.lemmas.Bool.Decides.{nat_tests}
 use Rattle.std.proofs.lemmas.List.{get_or-take, length-take, take_all}
 use Rattle.std.specs.Prelude.{if◌then◌else◌, nat_lt}
+use Rattle.std.specs.Result.{result_map_both}
 use Rattle.ep_base.specs.LenError.{too_few_bytes}
 use Rattle.ep_base.specs.declared.err.layer.Layer.TheVariants.{Icmpv4, Icmpv4Timestamp, Icmpv4TimestampReply}
 use Rattle.ep_base.specs.declared.err.layer.Layer.TheVariants.{TcpHeader, UdpHeader, UdpPayload}
@@ -17,7 +18,7 @@ use Rattle.ep_icmp.specs.Icmpv6Fault as icmpv6_fault
 use Rattle.ep_packet.specs.LaxCut.{cut_message, message_header_len}
 use Rattle.ep_packet.specs.LaxSliced.{lax_message_at}
 use Rattle.ep_packet.specs.Readable as number
-use Rattle.ep_packet.specs.Readable.{ReadMessage, message_at, read_as, tcp_fault}
+use Rattle.ep_packet.specs.Readable.{ReadMessage, message_at, tcp_fault}
 use Rattle.ep_packet.specs.declared.err.packet.slice_error.SliceError.{SliceError}
 use Rattle.ep_packet.specs.declared.err.packet.slice_error.SliceError.TheVariants as fault
 use Rattle.ep_tcpudp.specs.Tcp.{data_offset_of}
@@ -186,8 +187,8 @@ Fits n m = message_header_len m ≤ n
 
 icmpv4_read : (n : ℕ) (bytes : List ℕ) (r : Result (List ℕ) LenError) (m : ReadMessage)
     → icmpv4_fault.message_at bytes ≡ r
-    → read_as (λ x. number.Icmpv4 x) (λ e. fault.Len e) r ≡ Ok m → Fits n m
-    → read_as (λ x. number.Icmpv4 x) (λ e. fault.Len e) (icmpv4_fault.message_at (take n bytes))
+    → result_map_both (λ x. number.Icmpv4 x) (λ e. fault.Len e) r ≡ Ok m → Fits n m
+    → result_map_both (λ x. number.Icmpv4 x) (λ e. fault.Len e) (icmpv4_fault.message_at (take n bytes))
     ≡ Ok (cut_message n m)
 icmpv4_read n bytes (Err e) m at is fits = cc
 icmpv4_read n bytes (Ok x) m at is fits =
@@ -196,8 +197,8 @@ icmpv4_read n bytes (Ok x) m at is fits =
 
 icmpv6_read : (n : ℕ) (bytes : List ℕ) (r : Result (List ℕ) LenError) (m : ReadMessage)
     → icmpv6_fault.message_at bytes ≡ r
-    → read_as (λ x. number.Icmpv6 x) (λ e. fault.Len e) r ≡ Ok m → Fits n m
-    → read_as (λ x. number.Icmpv6 x) (λ e. fault.Len e) (icmpv6_fault.message_at (take n bytes))
+    → result_map_both (λ x. number.Icmpv6 x) (λ e. fault.Len e) r ≡ Ok m → Fits n m
+    → result_map_both (λ x. number.Icmpv6 x) (λ e. fault.Len e) (icmpv6_fault.message_at (take n bytes))
     ≡ Ok (cut_message n m)
 icmpv6_read n bytes (Err e) m at is fits = cc
 icmpv6_read n bytes (Ok x) m at is fits =
@@ -205,30 +206,30 @@ icmpv6_read n bytes (Ok x) m at is fits =
     rw (icmpv6_cut n bytes x at (rw (← same) at fits)) (ap (λ (k : ReadMessage). Ok (cut_message n k)) same)
 
 tcp_read : (n : ℕ) (bytes : List ℕ) (r : Result (List ℕ) (HeaderSliceError TcpFault))
-    (m : ReadMessage) → segment_at bytes ≡ r → read_as (λ x. number.Tcp x) tcp_fault r ≡ Ok m
+    (m : ReadMessage) → segment_at bytes ≡ r → result_map_both (λ x. number.Tcp x) tcp_fault r ≡ Ok m
     → Fits n m
-    → read_as (λ x. number.Tcp x) tcp_fault (segment_at (take n bytes)) ≡ Ok (cut_message n m)
+    → result_map_both (λ x. number.Tcp x) tcp_fault (segment_at (take n bytes)) ≡ Ok (cut_message n m)
 tcp_read n bytes (Err e) m at is fits = cc
 tcp_read n bytes (Ok x) m at is fits =
     let same : number.Tcp x ≡ m = grind arith in
     rw (tcp_cut n bytes x at (rw (← same) at fits)) (ap (λ (k : ReadMessage). Ok (cut_message n k)) same)
 
 udp_read : (n : ℕ) (bytes : List ℕ) (r : Result (List ℕ) LenError) (m : ReadMessage)
-    → udp_at bytes ≡ r → read_as (λ x. number.Udp x) (λ e. fault.Len e) r ≡ Ok m → Fits n m
-    → read_as (λ x. number.Udp x) (λ e. fault.Len e) (lax_udp_at (take n bytes)) ≡ Ok (cut_message n m)
+    → udp_at bytes ≡ r → result_map_both (λ x. number.Udp x) (λ e. fault.Len e) r ≡ Ok m → Fits n m
+    → result_map_both (λ x. number.Udp x) (λ e. fault.Len e) (lax_udp_at (take n bytes)) ≡ Ok (cut_message n m)
 udp_read n bytes (Err e) m at is fits = cc
 udp_read n bytes (Ok x) m at is fits =
     let same : number.Udp x ≡ m = grind arith in
     rw (udp_cut n bytes x at (rw (← same) at fits)) (ap (λ (k : ReadMessage). Ok (cut_message n k)) same)
 
 other_cases : (a b d : Bool) (n : ℕ) (bytes : List ℕ) (m : ReadMessage) →
-    (if a then read_as (λ x. number.Icmpv4 x) (λ e. fault.Len e) (icmpv4_fault.message_at bytes)
-    else (if b then read_as (λ x. number.Tcp x) tcp_fault (segment_at bytes)
-    else (if d then read_as (λ x. number.Icmpv6 x) (λ e. fault.Len e)
+    (if a then result_map_both (λ x. number.Icmpv4 x) (λ e. fault.Len e) (icmpv4_fault.message_at bytes)
+    else (if b then result_map_both (λ x. number.Tcp x) tcp_fault (segment_at bytes)
+    else (if d then result_map_both (λ x. number.Icmpv6 x) (λ e. fault.Len e)
     (icmpv6_fault.message_at bytes) else Ok (number.Raw bytes)))) ≡ Ok m → Fits n m →
-    (if a then read_as (λ x. number.Icmpv4 x) (λ e. fault.Len e) (icmpv4_fault.message_at (take n bytes))
-    else (if b then read_as (λ x. number.Tcp x) tcp_fault (segment_at (take n bytes))
-    else (if d then read_as (λ x. number.Icmpv6 x) (λ e. fault.Len e)
+    (if a then result_map_both (λ x. number.Icmpv4 x) (λ e. fault.Len e) (icmpv4_fault.message_at (take n bytes))
+    else (if b then result_map_both (λ x. number.Tcp x) tcp_fault (segment_at (take n bytes))
+    else (if d then result_map_both (λ x. number.Icmpv6 x) (λ e. fault.Len e)
     (icmpv6_fault.message_at (take n bytes)) else Ok (number.Raw (take n bytes))))) ≡ Ok (cut_message n m)
 other_cases true b d n bytes m is fits =
     icmpv4_read n bytes (icmpv4_fault.message_at bytes) m refl is fits
@@ -240,10 +241,10 @@ other_cases false false false n bytes m is fits = grind arith
 -- without UDP
 abbrev pub rest_at : Bool → ℕ → List ℕ → Result ReadMessage SliceError
 rest_at c k bytes =
-    if k == number.icmpv4 then read_as (λ x. number.Icmpv4 x) (λ e. fault.Len e) (icmpv4_fault.message_at bytes)
-    else (if k == number.tcp then read_as (λ x. number.Tcp x) tcp_fault (segment_at bytes)
-    else (if c then read_as (λ x. number.Udp x) (λ e. fault.Len e) (udp_at bytes)
-    else (if k == number.icmpv6 then read_as (λ x. number.Icmpv6 x) (λ e. fault.Len e)
+    if k == number.icmpv4 then result_map_both (λ x. number.Icmpv4 x) (λ e. fault.Len e) (icmpv4_fault.message_at bytes)
+    else (if k == number.tcp then result_map_both (λ x. number.Tcp x) tcp_fault (segment_at bytes)
+    else (if c then result_map_both (λ x. number.Udp x) (λ e. fault.Len e) (udp_at bytes)
+    else (if k == number.icmpv6 then result_map_both (λ x. number.Icmpv6 x) (λ e. fault.Len e)
     (icmpv6_fault.message_at bytes) else Ok (number.Raw bytes))))
 
 message_case : (c : Bool) (k n : ℕ) (bytes : List ℕ) (m : ReadMessage) → (k == number.udp) ≡ c
@@ -254,7 +255,7 @@ message_case true k n bytes m here is fits =
     subst (λ (j : ℕ). message_at j bytes ≡ Ok m → lax_message_at j (take n bytes) ≡ Ok (cut_message n m))
     (sym named) (λ at. udp_read n bytes (udp_at bytes) m refl at fits) is
 message_case false k n bytes m not is fits =
-    ap (λ (c : Bool). if c then read_as (λ x. number.Udp x) (λ e. fault.Len e) (lax_udp_at (take n bytes))
+    ap (λ (c : Bool). if c then result_map_both (λ x. number.Udp x) (λ e. fault.Len e) (lax_udp_at (take n bytes))
     else message_at k (take n bytes)) not
     ∙ ap (λ (c : Bool). rest_at c k (take n bytes)) not
     ∙ other_cases (k == number.icmpv4) (k == number.tcp) (k == number.icmpv6) n bytes m

@@ -6,6 +6,7 @@ use Rattle.std.proofs.lemmas.Bool.{ltb-false}
 use Rattle.std.proofs.lemmas.List.{drop-take, get_or-take}
 use Rattle.std.specs.Prelude.{if◌then◌else◌, nat_lt}
 use Rattle.std.specs.Option.{option_map}
+use Rattle.std.specs.Result.{result_map_both}
 use Rattle.ep_base.specs.declared.err.layer.Layer.TheVariants.{Ethernet2Header}
 use Rattle.ep_base.specs.declared.err.len_error.LenError.{LenError}
 use Rattle.ep_base.specs.declared.err.slice_error.SliceError.{SliceError as HeaderSliceError}
@@ -61,7 +62,7 @@ use Rattle.ep_packet.specs.PacketView.{last_of, named_by, source_after}
 use Rattle.ep_packet.specs.Payload.{Payload}
 use Rattle.ep_packet.specs.Payload as strict_payload
 use Rattle.ep_packet.specs.Readable as number
-use Rattle.ep_packet.specs.Readable.{read_as, tcp_fault}
+use Rattle.ep_packet.specs.Readable.{tcp_fault}
 use Rattle.ep_packet.specs.SameHeaders.{transport_fields}
 use Rattle.ep_packet.specs.SliceFault.{later}
 use Rattle.ep_packet.specs.Sliced.{arp_type, ether_payload, ipv4_type, ipv6_type, read_transport, result_within}
@@ -134,24 +135,24 @@ IsRead r o = (m : Option TransportSlice) × (r ≡ Ok m)
     × (option_map lax_parts m ≡ option_map whole_parts o)
 
 icmpv4_whole : (r : Result (List ℕ) LenError) (o : MessageParts) → strict.icmpv4_parts r ≡ Ok o
-    → IsRead (read_transport (read_as (λ m. number.Icmpv4 m) (λ e. fault.Len e) r)) o
+    → IsRead (read_transport (result_map_both (λ m. number.Icmpv4 m) (λ e. fault.Len e) r)) o
 icmpv4_whole (Ok m) o is = (Some (message.Icmpv4 m), refl, grind arith)
 icmpv4_whole (Err e) o is = cc
 
 icmpv6_whole : (r : Result (List ℕ) LenError) (o : MessageParts) → strict.icmpv6_parts r ≡ Ok o
-    → IsRead (read_transport (read_as (λ m. number.Icmpv6 m) (λ e. fault.Len e) r)) o
+    → IsRead (read_transport (result_map_both (λ m. number.Icmpv6 m) (λ e. fault.Len e) r)) o
 icmpv6_whole (Ok m) o is = (Some (message.Icmpv6 m), refl, grind arith)
 icmpv6_whole (Err e) o is = cc
 
 tcp_whole : (r : Result (List ℕ) (HeaderSliceError TcpFault)) (o : MessageParts)
     → strict.tcp_parts r ≡ Ok o
-    → IsRead (read_transport (read_as (λ m. number.Tcp m) tcp_fault r)) o
+    → IsRead (read_transport (result_map_both (λ m. number.Tcp m) tcp_fault r)) o
 tcp_whole (Ok m) o is = (Some (message.Tcp m), refl, grind arith)
 tcp_whole (Err e) o is = cc
 
 udp_case : (short : Bool) (bytes : List ℕ) (e f : LenError) (o : MessageParts)
     → strict.udp_parts bytes (if short then Err e else Ok (take 8 bytes)) ≡ Ok o
-    → IsRead (read_transport (read_as (λ m. number.Udp m) (λ e. fault.Len e)
+    → IsRead (read_transport (result_map_both (λ m. number.Udp m) (λ e. fault.Len e)
     (if short then Err f else Ok (lax_summed_udp bytes)))) o
 udp_case true bytes e f o is = cc
 udp_case false bytes e f o is =
@@ -160,7 +161,7 @@ udp_case false bytes e f o is =
 
 udp_whole : (bytes : List ℕ) (o : MessageParts)
     → strict.udp_parts bytes (udp_fault.header_at bytes) ≡ Ok o
-    → IsRead (read_transport (read_as (λ m. number.Udp m) (λ e. fault.Len e)
+    → IsRead (read_transport (result_map_both (λ m. number.Udp m) (λ e. fault.Len e)
     (udp_fault.lax_udp_at bytes))) o
 udp_whole bytes o is = udp_case (nat_lt (length bytes) 8) bytes _ _ o is
 
@@ -169,9 +170,9 @@ other_cases : (a b d : Bool) (bytes : List ℕ) (o : MessageParts) →
     else (if b then strict.tcp_parts (segment_at bytes)
     else (if d then strict.icmpv6_parts (icmpv6_fault.message_at bytes) else Ok None))) ≡ Ok o
     → IsRead (read_transport (
-    if a then read_as (λ m. number.Icmpv4 m) (λ e. fault.Len e) (icmpv4_fault.message_at bytes)
-    else (if b then read_as (λ m. number.Tcp m) tcp_fault (segment_at bytes)
-    else (if d then read_as (λ m. number.Icmpv6 m) (λ e. fault.Len e)
+    if a then result_map_both (λ m. number.Icmpv4 m) (λ e. fault.Len e) (icmpv4_fault.message_at bytes)
+    else (if b then result_map_both (λ m. number.Tcp m) tcp_fault (segment_at bytes)
+    else (if d then result_map_both (λ m. number.Icmpv6 m) (λ e. fault.Len e)
     (icmpv6_fault.message_at bytes) else Ok (number.Raw bytes))))) o
 other_cases true b d bytes o is = icmpv4_whole (icmpv4_fault.message_at bytes) o is
 other_cases false true d bytes o is = tcp_whole (segment_at bytes) o is
@@ -190,9 +191,9 @@ message_case false n bytes o not is =
     else (if c then strict.udp_parts bytes (udp_fault.header_at bytes)
     else (if n == number.icmpv6 then strict.icmpv6_parts (icmpv6_fault.message_at bytes) else Ok None)))) not in
     let lax_is : lax_message_at n bytes ≡ (
-    if n == number.icmpv4 then read_as (λ m. number.Icmpv4 m) (λ e. fault.Len e) (icmpv4_fault.message_at bytes)
-    else (if n == number.tcp then read_as (λ m. number.Tcp m) tcp_fault (segment_at bytes)
-    else (if n == number.icmpv6 then read_as (λ m. number.Icmpv6 m) (λ e. fault.Len e)
+    if n == number.icmpv4 then result_map_both (λ m. number.Icmpv4 m) (λ e. fault.Len e) (icmpv4_fault.message_at bytes)
+    else (if n == number.tcp then result_map_both (λ m. number.Tcp m) tcp_fault (segment_at bytes)
+    else (if n == number.icmpv6 then result_map_both (λ m. number.Icmpv6 m) (λ e. fault.Len e)
     (icmpv6_fault.message_at bytes) else Ok (number.Raw bytes)))) = rw not refl in
     subst (λ (r : Result number.ReadMessage SliceError). IsRead (read_transport r) o) (sym lax_is)
     (other_cases (n == number.icmpv4) (n == number.tcp) (n == number.icmpv6) bytes o (sym strict_is ∙ is))

@@ -4,6 +4,7 @@ use Rattle.std.proofs.Common.{map, Option, Some, None, Result, Ok, Err, arith}
 use Rattle.std.proofs.lemmas.Bool.Decides.{nat_tests}
 use Rattle.std.specs.Prelude.{if◌then◌else◌}
 use Rattle.std.specs.Option.{option_map}
+use Rattle.std.specs.Result.{result_map_both}
 use Rattle.ep_base.specs.declared.err.slice_error.SliceError.{SliceError as HeaderSliceError}
 use Rattle.ep_base.specs.declared.err.layer.Layer.TheVariants.{Ethernet2Header}
 use Rattle.ep_base.specs.declared.err.len_error.LenError.{LenError}
@@ -39,7 +40,7 @@ use Rattle.ep_packet.specs.declared.net.net_slice.NetSlice.{NetSlice}
 use Rattle.ep_packet.specs.declared.net.net_slice.NetSlice.TheVariants as net
 use Rattle.ep_packet.specs.LaxTags.{LaxTagged, lax_tag_at, lax_tags_in}
 use Rattle.ep_packet.specs.LaxWhole.{whole_net, whole_packet, whole_tag}
-use Rattle.ep_packet.specs.Readable.{ReadMessage, message_at, read_as, udp}
+use Rattle.ep_packet.specs.Readable.{ReadMessage, message_at, udp}
 use Rattle.ep_packet.specs.Readable.ReadMessage.{Udp}
 use Rattle.ep_packet.specs.declared.err.packet.slice_error.SliceError.TheVariants as slice_error
 use Rattle.ep_packet.specs.SliceFault.{later}
@@ -135,8 +136,8 @@ udp_is : (number : ℕ) → (number == udp) ≡ true → number ≡ 17
 udp_is number is = grind (arith, nat_tests)
 
 datagram_whole : WholeParts → (bytes : List ℕ) (r : Result (List ℕ) LenError) (message : ReadMessage)
-    → udp_at bytes ≡ r → read_as (λ m. Udp m) (λ e. slice_error.Len e) r ≡ Ok message
-    → read_as (λ m. Udp m) (λ e. slice_error.Len e) (lax_udp_at bytes) ≡ Ok message
+    → udp_at bytes ≡ r → result_map_both (λ m. Udp m) (λ e. slice_error.Len e) r ≡ Ok message
+    → result_map_both (λ m. Udp m) (λ e. slice_error.Len e) (lax_udp_at bytes) ≡ Ok message
 datagram_whole law bytes (Ok datagram) message at is = rw (law.datagram bytes datagram at) is
 datagram_whole law bytes (Err e) message at is = cc
 
@@ -144,7 +145,7 @@ message_case : WholeParts → (b : Bool) (number : ℕ) (bytes : List ℕ) (mess
     → (number == udp) ≡ b → message_at number bytes ≡ Ok message
     → lax_message_at number bytes ≡ Ok message
 message_case law false number bytes message not is = ap (λ (b : Bool). if b
-    then read_as (λ m. Udp m) (λ e. slice_error.Len e) (lax_udp_at bytes) else message_at number bytes) not
+    then result_map_both (λ m. Udp m) (λ e. slice_error.Len e) (lax_udp_at bytes) else message_at number bytes) not
     ∙ is
 message_case law true number bytes message here is =
     subst (λ (n : ℕ). message_at n bytes ≡ Ok message → lax_message_at n bytes ≡ Ok message)

@@ -24,7 +24,7 @@ mod LaxHeadersLemmas
 mod LaxLayersLemmas
 mod LaxPayloads
 mod LaxSameHeaderLemmas
-mod LaxTagsLemmas
+pub mod LaxTagsLemmas
 mod LaxViewLemmas
 mod LaxWholeHeaderLemmas
 mod LaxWholeLemmas

@@ -2,6 +2,7 @@
 use Rattle.std.proofs.Common.{arith, ◌≡◌, ℕ, ◌==◌, Bool, true, false, List, Option, None, Result, Ok, Err, refl, sym}
 use Rattle.std.specs.Prelude.{if◌then◌else◌}
 use Rattle.std.proofs.lemmas.Bool.{eqb-true}
+use Rattle.std.specs.Result.{result_map_both}
 use Rattle.ep_base.proofs.Prefixes.{err_same}
 use Rattle.ep_base.specs.declared.err.len_error.LenError.{LenError}
 use Rattle.ep_base.specs.declared.err.slice_error.SliceError.{SliceError as HeaderSliceError}
@@ -12,7 +13,7 @@ use Rattle.ep_ipslice.specs.Packet.{IpPayload}
 use Rattle.ep_packet.specs.FrameFault.{IsMessageFault, IsPayloadFault, OfIcmpv4, OfIcmpv6, OfTcp, OfUdp}
 use Rattle.ep_packet.specs.HeaderLayers.{MessageParts, icmpv4_parts, icmpv6_parts, message_in, message_parts, tcp_parts}
 use Rattle.ep_packet.specs.HeaderLayers.{udp_parts, with_message}
-use Rattle.ep_packet.specs.Readable.{ReadMessage, icmpv4, icmpv6, message_at, read_as, tcp, tcp_fault, udp}
+use Rattle.ep_packet.specs.Readable.{ReadMessage, icmpv4, icmpv6, message_at, tcp, tcp_fault, udp}
 use Rattle.ep_packet.specs.Readable as readable
 use Rattle.ep_packet.specs.SliceFault.{offset_by, within}
 use Rattle.ep_packet.specs.Sliced.{read_transport, result_within, transport_in, with_transport}
@@ -27,17 +28,17 @@ use Rattle.ep_tcpudp.specs.declared.err.tcp.header_error.HeaderError.{HeaderErro
 
 -- what a reading of a message refuses is what its protocol does
 read_faulty : {E : Type 0} (message : List ℕ → ReadMessage) (fault : E → SliceError)
-    (r : Result (List ℕ) E) (e : SliceError) → read_as message fault r ≡ Err e
+    (r : Result (List ℕ) E) (e : SliceError) → result_map_both message fault r ≡ Err e
     → (x : E) × (r ≡ Err x) × (e ≡ fault x)
 read_faulty message fault (Ok bytes) e is = cc
 read_faulty message fault (Err x) e is = (x, refl, sym (err_same {A = ReadMessage} _ _ is))
 
 message_by : (v4 seg dgram v6 : Bool) (n : ℕ) (bytes : List ℕ) (e : SliceError)
     → (n == icmpv4) ≡ v4 → (n == tcp) ≡ seg → (n == udp) ≡ dgram → (n == icmpv6) ≡ v6
-    → (if v4 then read_as (λ m. readable.Icmpv4 m) (λ x. Len x) (icmpv4_fault.message_at bytes)
-    else (if seg then read_as (λ m. readable.Tcp m) tcp_fault (segment_at bytes)
-    else (if dgram then read_as (λ m. readable.Udp m) (λ x. Len x) (udp_fault.udp_at bytes)
-    else (if v6 then read_as (λ m. readable.Icmpv6 m) (λ x. Len x) (icmpv6_fault.message_at bytes)
+    → (if v4 then result_map_both (λ m. readable.Icmpv4 m) (λ x. Len x) (icmpv4_fault.message_at bytes)
+    else (if seg then result_map_both (λ m. readable.Tcp m) tcp_fault (segment_at bytes)
+    else (if dgram then result_map_both (λ m. readable.Udp m) (λ x. Len x) (udp_fault.udp_at bytes)
+    else (if v6 then result_map_both (λ m. readable.Icmpv6 m) (λ x. Len x) (icmpv6_fault.message_at bytes)
     else Ok (readable.Raw bytes))))) ≡ Err e
     → IsMessageFault udp_fault.udp_at n bytes e
 message_by true seg dgram v6 n bytes e is4 isseg isudp is6 is =

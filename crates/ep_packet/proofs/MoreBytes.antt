@@ -6,6 +6,7 @@ use Rattle.std.specs.Prelude.{if◌then◌else◌, nat_lt, ⊤}
 use Rattle.std.specs.Option.{option_map}
 use Rattle.std.proofs.lemmas.Bool.Decides.{nat_tests}
 use Rattle.std.proofs.lemmas.List.{drop-append-le, get_or_append_left, take-append-le}
+use Rattle.std.specs.Result.{result_map_both}
 use Rattle.ep_base.specs.LenError.{too_few_bytes}
 use Rattle.ep_base.specs.declared.err.layer.Layer.{Layer}
 use Rattle.ep_base.specs.declared.err.layer.Layer.TheVariants.{Ethernet2Header, Icmpv4, Icmpv4Timestamp, Icmpv4TimestampReply}
@@ -55,7 +56,7 @@ use Rattle.ep_packet.specs.LaxSliced.{lax_sliced_ethernet, lax_sliced_linux_sll,
 use Rattle.ep_packet.specs.LaxSliced.{exts_stop, in_lax_version, lax_packet_of, lax_sliced_ip, message_or_stop, no_layers}
 use Rattle.ep_packet.specs.LaxTags.{LaxTagged, Stop, lax_tag_at, lax_tags_in}
 use Rattle.ep_packet.specs.Readable as number
-use Rattle.ep_packet.specs.Readable.{ReadMessage, read_as, tcp_fault}
+use Rattle.ep_packet.specs.Readable.{ReadMessage, tcp_fault}
 use Rattle.ep_packet.specs.Sliced.{arp_type, ether_payload, ipv4_type, ipv6_type, read_transport, result_within, transport_of}
 use Rattle.ep_packet.specs.Tags.{is_macsec_type, most_tags}
 use Rattle.ep_packet.specs.declared.err.packet.slice_error.SliceError.{SliceError}
@@ -190,22 +191,22 @@ udp_more bytes more m is =
 
 -- the bytes as a message of each protocol
 abbrev icmpv4_at : List ℕ → Result ReadMessage SliceError
-icmpv4_at bytes = read_as (λ m. number.Icmpv4 m) (λ e. fault.Len e) (icmpv4_fault.message_at bytes)
+icmpv4_at bytes = result_map_both (λ m. number.Icmpv4 m) (λ e. fault.Len e) (icmpv4_fault.message_at bytes)
 
 abbrev tcp_at : List ℕ → Result ReadMessage SliceError
-tcp_at bytes = read_as (λ m. number.Tcp m) tcp_fault (segment_at bytes)
+tcp_at bytes = result_map_both (λ m. number.Tcp m) tcp_fault (segment_at bytes)
 
 abbrev lax_datagram_at : List ℕ → Result ReadMessage SliceError
-lax_datagram_at bytes = read_as (λ m. number.Udp m) (λ e. fault.Len e) (lax_udp_at bytes)
+lax_datagram_at bytes = result_map_both (λ m. number.Udp m) (λ e. fault.Len e) (lax_udp_at bytes)
 
 abbrev icmpv6_at : List ℕ → Result ReadMessage SliceError
-icmpv6_at bytes = read_as (λ m. number.Icmpv6 m) (λ e. fault.Len e) (icmpv6_fault.message_at bytes)
+icmpv6_at bytes = result_map_both (λ m. number.Icmpv6 m) (λ e. fault.Len e) (icmpv6_fault.message_at bytes)
 
 ok_is : (x y : ReadMessage) → ◌≡◌ {A = Result ReadMessage SliceError} (Ok x) (Ok y) → x ≡ y
 ok_is x y is = cc
 
 icmpv4_read : (bytes more : List ℕ) (r : Result (List ℕ) LenError) (m : ReadMessage)
-    → icmpv4_fault.message_at bytes ≡ r → read_as (λ x. number.Icmpv4 x) (λ e. fault.Len e) r ≡ Ok m
+    → icmpv4_fault.message_at bytes ≡ r → result_map_both (λ x. number.Icmpv4 x) (λ e. fault.Len e) r ≡ Ok m
     → ReadKept m (icmpv4_at (bytes ++ more))
 icmpv4_read bytes more (Err e) m at is = cc
 icmpv4_read bytes more (Ok x) m at is =
@@ -214,7 +215,7 @@ icmpv4_read bytes more (Ok x) m at is =
     (bytes ++ more, rw found.1 refl, (more, ap (λ (xs : List ℕ). xs ++ more) (sym found.0))))
 
 tcp_read : (bytes more : List ℕ) (r : Result (List ℕ) (HeaderSliceError TcpFault)) (m : ReadMessage)
-    → segment_at bytes ≡ r → read_as (λ x. number.Tcp x) tcp_fault r ≡ Ok m
+    → segment_at bytes ≡ r → result_map_both (λ x. number.Tcp x) tcp_fault r ≡ Ok m
     → ReadKept m (tcp_at (bytes ++ more))
 tcp_read bytes more (Err e) m at is = cc
 tcp_read bytes more (Ok x) m at is =
@@ -223,7 +224,7 @@ tcp_read bytes more (Ok x) m at is =
     (bytes ++ more, rw found.1 refl, (more, ap (λ (xs : List ℕ). xs ++ more) (sym found.0))))
 
 udp_read : (bytes more : List ℕ) (r : Result (List ℕ) LenError) (m : ReadMessage)
-    → lax_udp_at bytes ≡ r → read_as (λ x. number.Udp x) (λ e. fault.Len e) r ≡ Ok m
+    → lax_udp_at bytes ≡ r → result_map_both (λ x. number.Udp x) (λ e. fault.Len e) r ≡ Ok m
     → ReadKept m (lax_datagram_at (bytes ++ more))
 udp_read bytes more (Err e) m at is = cc
 udp_read bytes more (Ok x) m at is =
@@ -231,7 +232,7 @@ udp_read bytes more (Ok x) m at is =
     (let found = udp_more bytes more x at in (found.0, rw found.1 refl, found.2))
 
 icmpv6_read : (bytes more : List ℕ) (r : Result (List ℕ) LenError) (m : ReadMessage)
-    → icmpv6_fault.message_at bytes ≡ r → read_as (λ x. number.Icmpv6 x) (λ e. fault.Len e) r ≡ Ok m
+    → icmpv6_fault.message_at bytes ≡ r → result_map_both (λ x. number.Icmpv6 x) (λ e. fault.Len e) r ≡ Ok m
     → ReadKept m (icmpv6_at (bytes ++ more))
 icmpv6_read bytes more (Err e) m at is = cc
 icmpv6_read bytes more (Ok x) m at is =
@@ -245,7 +246,7 @@ read_by u a b d bytes =
     if u then lax_datagram_at bytes
     else (if a then icmpv4_at bytes
     else (if b then tcp_at bytes
-    else (if u then read_as (λ m. number.Udp m) (λ e. fault.Len e) (udp_at bytes)
+    else (if u then result_map_both (λ m. number.Udp m) (λ e. fault.Len e) (udp_at bytes)
     else (if d then icmpv6_at bytes else Ok (number.Raw bytes)))))
 
 read_case : (u a b d : Bool) (bytes more : List ℕ) (m : ReadMessage) → read_by u a b d bytes ≡ Ok m

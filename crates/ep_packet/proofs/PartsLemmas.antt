@@ -5,6 +5,7 @@ use Rattle.std.proofs.Common.{subst, ◌∙◌, append_assoc, length-append}
 use Rattle.std.specs.Prelude.{MatchResult, nat_lt, option_map, unwrap_or}
 use Rattle.std.proofs.lemmas.Bool.{ltb-false}
 use Rattle.std.proofs.lemmas.List.{take-append-drop, append-nil, length-take-le}
+use Rattle.std.specs.Result.{result_map_both}
 use Rattle.ep_base.specs.declared.err.layer.Layer.{Layer}
 use Rattle.ep_base.specs.declared.err.layer.Layer.TheVariants.{Ethernet2Header, VlanHeader}
 use Rattle.ep_base.specs.declared.err.len_error.LenError.{LenError}
@@ -20,7 +21,7 @@ use Rattle.ep_link.specs.Ethernet.{ethernet_len}
 use Rattle.ep_link.specs.Frame.{EthernetFrame, frame_at, without_fcs}
 use Rattle.ep_packet.specs.Parts.{AreTagsAt, IsAt, IsTagAt, LayersIn, StandAt, TagsIn, macsec_bytes, tags_len}
 use Rattle.ep_packet.specs.Parts.{transport_bytes}
-use Rattle.ep_packet.specs.Readable.{ReadMessage, icmpv4, icmpv6, message_at, read_as, tcp, tcp_fault, udp}
+use Rattle.ep_packet.specs.Readable.{ReadMessage, icmpv4, icmpv6, message_at, tcp, tcp_fault, udp}
 use Rattle.ep_packet.specs.Readable.ReadMessage.{Icmpv4, Icmpv6, Tcp, Udp}
 use Rattle.ep_packet.specs.SliceFault.{fault_offset, offset_by, within}
 use Rattle.ep_packet.specs.Sliced.{read_transport, transport_of}
@@ -270,7 +271,7 @@ ReadIn bytes r = MatchResult r (λ message. MessageIn bytes (transport_of messag
 read_in : {E : Type 0} (bytes : List ℕ) (message : List ℕ → ReadMessage) (fault : E → SliceError)
     (r : Result (List ℕ) E) →
     ((m : List ℕ) → IsAt bytes 0 m → MessageIn bytes (transport_of (message m)))
-    → Reads bytes fault r → ReadIn bytes (read_as message fault r)
+    → Reads bytes fault r → ReadIn bytes (result_map_both message fault r)
 read_in bytes message fault (Ok m) each reads = each m reads
 read_in bytes message fault (Err e) each reads = reads
 

@@ -64,7 +64,7 @@ use Rattle.ep_packet.specs.LaxSliced.{of_ip_header, of_ipv6_header}
 use Rattle.ep_packet.specs.LaxTags.{LaxTagged, Stop, lax_tag_at, lax_tags_in, stop_by}
 use Rattle.ep_packet.specs.LayersAhead.{NoLengthStopped, counts_payload, is_passed_over, is_udp_length}
 use Rattle.ep_packet.specs.Readable as number
-use Rattle.ep_packet.specs.Readable.{ReadMessage, message_at, read_as, tcp_fault}
+use Rattle.ep_packet.specs.Readable.{ReadMessage, message_at, tcp_fault}
 use Rattle.ep_packet.specs.SliceFault.{bounded_by, of_linux_sll, of_macsec, within}
 use Rattle.ep_packet.specs.Sliced.{arp_type, ether_payload, ipv4_type, ipv6_type, read_transport, result_within}
 use Rattle.ep_packet.specs.Tags.{is_macsec_type, most_tags}
@@ -150,7 +150,7 @@ tags_stay (suc n) p = subst (λ (t : LaxTagged). NoLengthStopped t.stop) (sym (l
 -- messages
 read_stays : {E : Type 0} (message : List ℕ → ReadMessage) (fault : E → SliceError)
     (r : Result (List ℕ) E) (e : SliceError) → ((x : E) → r ≡ Err x → Stays (fault x))
-    → read_as message fault r ≡ Err e → Stays e
+    → result_map_both message fault r ≡ Err e → Stays e
 read_stays message fault (Ok bytes) e each is = cc
 read_stays message fault (Err x) e each is = subst Stays (err_same {A = ReadMessage} _ _ is) (each x refl)
 
@@ -185,9 +185,9 @@ icmpv6_stays : (bytes : List ℕ) (e : LenError) → icmpv6_fault.message_at byt
 icmpv6_stays bytes e is = grind arith
 
 other_stays : (a b d : Bool) (bytes : List ℕ) (e : SliceError) →
-    (if a then read_as (λ x. number.Icmpv4 x) (λ e. Len e) (icmpv4_fault.message_at bytes)
-    else (if b then read_as (λ x. number.Tcp x) tcp_fault (segment_at bytes)
-    else (if d then read_as (λ x. number.Icmpv6 x) (λ e. Len e)
+    (if a then result_map_both (λ x. number.Icmpv4 x) (λ e. Len e) (icmpv4_fault.message_at bytes)
+    else (if b then result_map_both (λ x. number.Tcp x) tcp_fault (segment_at bytes)
+    else (if d then result_map_both (λ x. number.Icmpv6 x) (λ e. Len e)
     (icmpv6_fault.message_at bytes) else Ok (number.Raw bytes)))) ≡ Err e → Stays e
 other_stays true b d bytes e is = read_stays _ _ (icmpv4_fault.message_at bytes) e (icmpv4_stays bytes) is
 other_stays false true d bytes e is = read_stays _ _ (segment_at bytes) e (tcp_stays bytes) is
@@ -202,7 +202,7 @@ message_by true k bytes e here is =
     (λ at. read_stays _ _ (lax_udp_at bytes) e (udp_stays bytes) at) is
 message_by false k bytes e not is =
     let strict : message_at k bytes ≡ Err e = sym (ap (λ (c : Bool). if c
-    then read_as (λ m. number.Udp m) (λ e. Len e) (lax_udp_at bytes) else message_at k bytes) not) ∙ is in
+    then result_map_both (λ m. number.Udp m) (λ e. Len e) (lax_udp_at bytes) else message_at k bytes) not) ∙ is in
     other_stays (k == number.icmpv4) (k == number.tcp) (k == number.icmpv6) bytes e
     (sym (ap (λ (c : Bool). rest_at c k bytes) not) ∙ strict)
 

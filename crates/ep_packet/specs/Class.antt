@@ -1,15 +1,14 @@
 -- The class of an Ethernet II frame: a whole message, a fragment, something else, or refused.
 use Rattle.std.specs.Prelude.{ℕ, ⊤, ◌<◌, ◌^◌, ◌==◌, if◌then◌else◌, Bool, List, Option, Some, None, Result, Ok, Err}
+use Rattle.std.specs.Option.{option_map_or}
+use Rattle.std.specs.Result.{result_ok}
 use Rattle.ep_base.specs.declared.err.layer.Layer.TheVariants.{Ethernet2Header}
-use Rattle.ep_base.specs.declared.err.len_error.LenError.{LenError}
 use Rattle.ep_ip.specs.Ipv4 as v4
 use Rattle.ep_ip.specs.Ipv6 as v6
 use Rattle.ep_ipslice.specs.Ipv4Packet.{ipv4_packet_at}
 use Rattle.ep_ipslice.specs.Ipv6Packet.{ipv6_packet_at, extensions_in}
 use Rattle.ep_ipslice.specs.Packet.{FragmentFields, IpPayload, Ipv4Packet, Ipv6Packet, ipv4_fragment_fields}
 use Rattle.ep_ipslice.specs.Packet.{ipv4_payload, ipv6_fragment_fields}
-use Rattle.ep_ipslice.specs.declared.err.ipv4.slice_error.SliceError.{SliceError as Ipv4Fault}
-use Rattle.ep_ipslice.specs.declared.err.ipv6.slice_error.SliceError.{SliceError as Ipv6Fault}
 use Rattle.ep_link.specs.Arp.{packet_at}
 use Rattle.ep_link.specs.Ethernet.{ethernet_len, payload_of}
 use Rattle.ep_packet.specs.Readable.{ReadMessage, as_read, message_at}
@@ -53,17 +52,10 @@ ipv4_addresses packet = V4 (v4.source_of packet.header) (v4.destination_of packe
 abbrev pub ipv6_addresses : Ipv6Packet → Addresses
 ipv6_addresses packet = V6 (v6.source_of packet.header) (v6.destination_of packet.header)
 
--- a message in a datagram that isn't fragmented
-abbrev pub read_class : Addresses → IpPayload → Result ReadMessage SliceError → Class
-read_class addresses p (Ok message) = Whole addresses p.ip_number.0 p.payload message
-read_class addresses p (Err e) = Refused
-
-abbrev pub message_class : Addresses → IpPayload → Class
-message_class addresses p = read_class addresses p (message_at p.ip_number.0 p.payload)
-
 -- a fragment, if these fields say so: after a fragment header that doesn't say so, another one may
-abbrev pub fragment_class : List ℕ → Addresses → IpPayload → FragmentFields → Class
-fragment_class vlan_ids addresses p fields =
+abbrev pub fragmented_class : List ℕ → Addresses → IpPayload → Option FragmentFields → Class
+fragmented_class vlan_ids addresses p None = Other
+fragmented_class vlan_ids addresses p (Some fields) =
     if v4.is_fragmenting fields.more fields.offset
     then Cut (record {
       vlan_ids = vlan_ids;
@@ -73,58 +65,32 @@ fragment_class vlan_ids addresses p fields =
     }) fields.offset fields.more p.payload
     else Other
 
-abbrev pub fragmented_class : List ℕ → Addresses → IpPayload → Option FragmentFields → Class
-fragmented_class vlan_ids addresses p (Some fields) = fragment_class vlan_ids addresses p fields
-fragmented_class vlan_ids addresses p None = Other
-
--- the class of an IP packet after VLAN tags with these identifiers: a fragment, or else a message,
--- if that can be read (RFC 791; RFC 8200, section 4.5)
-abbrev pub ipv4_class : List ℕ → Ipv4Packet → Class
-ipv4_class vlan_ids packet =
-    if (ipv4_payload packet).fragmented
-    then fragmented_class vlan_ids (ipv4_addresses packet) (ipv4_payload packet)
-    (Some (ipv4_fragment_fields packet.header))
-    else message_class (ipv4_addresses packet) (ipv4_payload packet)
-
-abbrev pub ipv6_class : List ℕ → Ipv6Packet → Class
-ipv6_class vlan_ids packet =
-    if packet.payload.fragmented then fragmented_class vlan_ids (ipv6_addresses packet) packet.payload
-    (ipv6_fragment_fields (extensions_in packet))
-    else message_class (ipv6_addresses packet) packet.payload
-
-abbrev pub ipv4_class_at : List ℕ → Result Ipv4Packet Ipv4Fault → Class
-ipv4_class_at vlan_ids (Ok packet) = ipv4_class vlan_ids packet
-ipv4_class_at vlan_ids (Err e) = Refused
-
-abbrev pub ipv6_class_at : List ℕ → Result Ipv6Packet Ipv6Fault → Class
-ipv6_class_at vlan_ids (Ok packet) = ipv6_class vlan_ids packet
-ipv6_class_at vlan_ids (Err e) = Refused
-
-abbrev pub arp_class_at : Result (List ℕ) LenError → Class
-arp_class_at (Ok packet) = Other
-arp_class_at (Err e) = Refused
+-- the class of an IP packet with this payload, after VLAN tags with these identifiers: a fragment,
+-- or else a message, if that can be read (RFC 791; RFC 8200, section 4.5)
+abbrev pub ip_class : List ℕ → Addresses → IpPayload → Option FragmentFields → Class
+ip_class vlan_ids addresses p fields =
+    if p.fragmented then fragmented_class vlan_ids addresses p fields
+    else option_map_or (λ message. Whole addresses p.ip_number.0 p.payload message)
+    (result_ok (message_at p.ip_number.0 p.payload)) Refused
 
 -- by what the last ether type names
 abbrev pub payload_class : List ℕ → EtherPayload → Class
 payload_class vlan_ids p =
-    if p.ether_type.0 == ipv4_type then ipv4_class_at vlan_ids (ipv4_packet_at p.payload)
-    else (if p.ether_type.0 == ipv6_type then ipv6_class_at vlan_ids (ipv6_packet_at p.payload)
-    else (if p.ether_type.0 == arp_type then arp_class_at (packet_at p.payload) else Other))
+    if p.ether_type.0 == ipv4_type
+    then option_map_or (λ packet. ip_class vlan_ids (ipv4_addresses packet) (ipv4_payload packet)
+    (Some (ipv4_fragment_fields packet.header))) (result_ok (ipv4_packet_at p.payload)) Refused
+    else (if p.ether_type.0 == ipv6_type
+    then option_map_or (λ packet. ip_class vlan_ids (ipv6_addresses packet) packet.payload
+    (ipv6_fragment_fields (extensions_in packet))) (result_ok (ipv6_packet_at p.payload)) Refused
+    else (if p.ether_type.0 == arp_type
+    then option_map_or (λ packet. Other) (result_ok (packet_at p.payload)) Refused else Other))
 
-abbrev pub last_class : List ℕ → Option EtherPayload → Class
-last_class vlan_ids None = Other
-last_class vlan_ids (Some p) = payload_class vlan_ids p
-
-abbrev pub tagged_class : Result Tagged SliceError → Class
-tagged_class (Ok t) = last_class (vlan_ids_of t.tags) t.last
-tagged_class (Err e) = Refused
-
-abbrev pub frame_class : Result (List ℕ) LenError → Class
-frame_class (Ok frame) = tagged_class (tags_in most_tags (payload_of frame))
-frame_class (Err e) = Refused
-
+-- by what follows the link header: tags, and what the last ether type names, if it names anything
 abbrev pub class_of : List ℕ → Class
-class_of frame = frame_class (whole_at Ethernet2Header ethernet_len frame)
+class_of bytes = option_map_or (λ frame. option_map_or (λ (tagged : Tagged).
+    option_map_or (λ p. payload_class (vlan_ids_of tagged.tags) p) tagged.last Other)
+    (result_ok (tags_in most_tags (payload_of frame))) Refused)
+    (result_ok (whole_at Ethernet2Header ethernet_len bytes)) Refused
 
 -- the class of a sliced packet: its message is the transport layer's, or else the bytes
 abbrev pub transport_message : List ℕ → Option TransportSlice → ReadMessage

@@ -2,6 +2,7 @@
 -- promises more than is there, the layer ends with the bytes, and reading stops at the first fault.
 use Rattle.std.specs.Prelude.{ℕ, ◌+◌, ◌==◌, if◌then◌else◌, List, [], length, Option, Some, None, Result, Ok, Err}
 use Rattle.std.specs.Option.{option_map}
+use Rattle.std.specs.Result.{result_map_both}
 use Rattle.ep_base.specs.declared.err.layer.Layer.{Layer}
 use Rattle.ep_base.specs.declared.err.layer.Layer.TheVariants as layer
 use Rattle.ep_base.specs.declared.err.len_error.LenError.{LenError}
@@ -33,7 +34,7 @@ use Rattle.ep_link.specs.declared.err.linux_sll.header_error.HeaderError.{Header
 use Rattle.ep_link.specs.declared.link.link_slice.LinkSlice.{LinkSlice}
 use Rattle.ep_link.specs.declared.link.link_slice.LinkSlice.TheVariants as link
 use Rattle.ep_packet.specs.LaxTags.{LaxTagged, Stop, lax_tags_in, stop_by}
-use Rattle.ep_packet.specs.Readable.{ReadMessage, icmpv4, message_at, read_as, tcp, udp}
+use Rattle.ep_packet.specs.Readable.{ReadMessage, icmpv4, message_at, tcp, udp}
 use Rattle.ep_packet.specs.Readable.ReadMessage.{Udp}
 use Rattle.ep_packet.specs.SliceFault.{offset_by}
 use Rattle.ep_packet.specs.Sliced.{arp_type, ether_payload, ipv4_type, ipv6_type, read_transport, result_within}
@@ -88,7 +89,7 @@ exts_stop e = (of_exts e.0, e.1)
 -- the message that bytes with this number are, or why they are none; of a UDP datagram what is there
 abbrev pub lax_message_at : ℕ → List ℕ → Result ReadMessage SliceError
 lax_message_at number bytes =
-    if number == udp then read_as (λ m. Udp m) (λ e. fault.Len e) (lax_udp_at bytes)
+    if number == udp then result_map_both (λ m. Udp m) (λ e. fault.Len e) (lax_udp_at bytes)
     else message_at number bytes
 
 -- the message in an IP payload: none if the payload is a fragment

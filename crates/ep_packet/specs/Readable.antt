@@ -1,6 +1,7 @@
 -- Messages of the protocols that are read: ICMP (RFC 792, RFC 4443), TCP (RFC 9293) and UDP (RFC
 -- 768).
 use Rattle.std.specs.Prelude.{ℕ, ◌==◌, is_ok, Bool, if◌then◌else◌, List, Result, Ok, Err}
+use Rattle.std.specs.Result.{result_map_both}
 use Rattle.ep_icmp.specs.Icmpv4Fault as icmpv4_fault
 use Rattle.ep_icmp.specs.Icmpv6Fault as icmpv6_fault
 use Rattle.ep_packet.specs.declared.err.packet.slice_error.SliceError.{SliceError}
@@ -35,12 +36,7 @@ pub data ReadMessage : Type 0 where
   Icmpv6 : List ℕ → ReadMessage
   Raw : List ℕ → ReadMessage
 
--- what is read of bytes, or the fault as one of all layers
-abbrev pub read_as : {E : Type 0} → (List ℕ → ReadMessage) → (E → SliceError) → Result (List ℕ) E
-    → Result ReadMessage SliceError
-read_as message fault (Ok bytes) = Ok (message bytes)
-read_as message fault (Err e) = Err (fault e)
-
+-- a fault of TCP as one of all layers
 abbrev pub tcp_fault : HeaderSliceError HeaderError → SliceError
 tcp_fault (tcp_error.Len e) = slice_error.Len e
 tcp_fault (tcp_error.Content e) = slice_error.Tcp e
@@ -49,11 +45,11 @@ tcp_fault (tcp_error.Content e) = slice_error.Tcp e
 -- bytes are a message
 abbrev pub message_at : ℕ → List ℕ → Result ReadMessage SliceError
 message_at number bytes =
-    if number == icmpv4 then read_as (λ m. Icmpv4 m) (λ e. slice_error.Len e)
+    if number == icmpv4 then result_map_both (λ m. Icmpv4 m) (λ e. slice_error.Len e)
     (icmpv4_fault.message_at bytes)
-    else (if number == tcp then read_as (λ m. Tcp m) tcp_fault (segment_at bytes)
-    else (if number == udp then read_as (λ m. Udp m) (λ e. slice_error.Len e) (udp_at bytes)
-    else (if number == icmpv6 then read_as (λ m. Icmpv6 m) (λ e. slice_error.Len e)
+    else (if number == tcp then result_map_both (λ m. Tcp m) tcp_fault (segment_at bytes)
+    else (if number == udp then result_map_both (λ m. Udp m) (λ e. slice_error.Len e) (udp_at bytes)
+    else (if number == icmpv6 then result_map_both (λ m. Icmpv6 m) (λ e. slice_error.Len e)
     (icmpv6_fault.message_at bytes) else Ok (Raw bytes))))
 
 abbrev pub is_readable : ℕ → List ℕ → Bool

@@ -1,7 +1,7 @@
 //! The class of a frame: a whole message, a fragment, something else, or refused.
 ghost use Rattle.std.specs.Prelude.{◌≡◌};
 ghost use Rattle.ep_ipslice.specs.Packet.{fragment_fields};
-ghost use Rattle.ep_packet.specs.Class.{IdentificationFits, ClassFits, as_class, class_of, fragment_class};
+ghost use Rattle.ep_packet.specs.Class.{IdentificationFits, ClassFits, as_class, class_of, fragmented_class};
 ghost use Rattle.ep_packet.specs.Class.{ipv4_addresses, ipv6_addresses, net_class, packet_parsed, whole_class};
 ghost use Rattle.ep_packet.specs.Tags.{vlan_ids_of};
 ghost use Rattle.ep_packet.specs.declared.net.net_slice.NetSlice.TheVariants as net;
@@ -161,8 +161,8 @@ impl<'a> SlicedPacket<'a> {
         fields: (u32, IpFragOffset, bool),
     ) -> Class<'a>
         requires { IdentificationFits addresses fields.0 }
-        ensures class { as_class result ≡ fragment_class
-            (vlan_ids_of self.now.link_exts.items) addresses payload.now (fragment_fields fields) }
+        ensures class { as_class result ≡ fragmented_class (vlan_ids_of self.now.link_exts.items)
+            addresses payload.now (Some (fragment_fields fields)) }
         ensures fits { ClassFits result }
     {
         let (identification, offset, more_fragments) = fields;

@@ -2,6 +2,7 @@
 
 mod cut;
 mod faults;
+mod found;
 pub mod hashes;
 mod headers;
 mod lax;
@@ -17,6 +18,10 @@ pub use cut::{
     more_bytes_keep_layers,
 };
 pub use faults::{offsets_at_literals, refusals_are_first_faults};
+pub use found::{
+    frames_without_packet_are_refused, ip_headers_are_their_parts, ip_packets_are_their_layers,
+    packets_are_their_layers,
+};
 pub use headers::{ipv6_headers_agree_with_view, ipv6_headers_at_a_literal};
 pub use lax::{cut_messages_are_found, payloads_of_whole_packets, whole_packets_are_lax_packets};
 pub use lax_headers::lax_headers_are_those_of_slices;

@@ -9,6 +9,7 @@ ghost use Rattle.ep_packet.specs.ReadIpHeaders.{IsIpHeaders};
 ghost use Rattle.ep_packet.specs.SliceFault.{fault_offset};
 
 use crate::err::packet::SliceError;
+use crate::laws::refusals_are_first_faults;
 use crate::{IpHeaders, NetHeaders, PayloadSlice, TransportHeader, slice_fault};
 use ep_base::{EtherType, IpNumber};
 use ep_icmp::{Icmpv4Slice, Icmpv6Slice};
@@ -80,6 +81,7 @@ impl<'a> LayerHeaders<'a> {
             → fault_offset e + n < 2 ^ 64) }
     {
         laws::faults_can_be_moved();
+        refusals_are_first_faults();
         match IpHeaders::from_ipv6_slice(slice) {
             Ok((headers, payload)) => Self::in_packet(headers, payload, slice),
             Err(error) => Err(slice_fault::of_ipv6(error)),

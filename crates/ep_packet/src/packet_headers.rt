@@ -1,6 +1,5 @@
 ghost use Rattle.std.specs.Prelude.{◌≡◌, ◌≤◌, ◌<◌, ◌+◌, ◌^◌, ℕ, length, map, IfErr, IfSome, Ok};
 ghost use Rattle.std.specs.Option.{option_map};
-ghost use Rattle.ep_packet.specs.FrameFault.{IsEtherTypeHeadersFault, IsFrameHeadersFault, IsIpPacketHeadersFault};
 ghost use Rattle.ep_packet.specs.PacketHeaders.{Headers, ether_type_headers, ethernet_headers, headers_after, ids_in};
 ghost use Rattle.ep_packet.specs.PacketHeaders.{ip_packet_headers, layers_after, modified_after, result_parsed};
 ghost use Rattle.ep_packet.specs.PacketHeaders.{vlan_headers, vlan_header_of};
@@ -12,7 +11,6 @@ ghost use Rattle.ep_packet.specs.declared.sliced_packet.SlicedPacket.{SlicedPack
 ghost use Rattle.ep_tag.specs.LinkExt.{fields_of};
 
 use crate::err::packet::SliceError;
-use crate::laws::refusals_are_first_faults;
 use crate::layer_headers::LayerHeaders;
 use crate::tagged_slice::{TaggedSlice, ether_payload, source_after};
 use crate::{NetHeaders, PayloadSlice, TransportHeader, slice_fault};
@@ -55,8 +53,7 @@ impl<'a> PacketHeaders<'a> {
     /// counts in bytes from the start of the frame. If a header in an IP payload has too few bytes,
     /// the error names the source of that payload's length.
     pub fn from_ethernet_slice(slice: &'a [u8]) -> Result<PacketHeaders<'a>, SliceError>
-        // An error is that of the first fault.
-        ensures first { IfErr result (λ e. IsFrameHeadersFault slice.now e) }
+        // The error is that of the first fault: `laws::refusals_are_first_faults`.
         ensures exact { result_parsed result ≡ ethernet_headers slice.now }
         // The result agrees with the slices: it is the headers that belong to the sliced packet.
         ensures agrees { (packet : SlicedPacket) (headers : Headers)
@@ -66,7 +63,6 @@ impl<'a> PacketHeaders<'a> {
         laws::rows_are_found();
         laws::rows_in_slots_are_views();
         laws::ipv6_packet_found_is_there();
-        refusals_are_first_faults();
         Self::in_frame(slice)
     }
 
@@ -87,8 +83,6 @@ impl<'a> PacketHeaders<'a> {
         ether_type: EtherType,
         slice: &'a [u8],
     ) -> Result<PacketHeaders<'a>, SliceError>
-        // An error is that of the first fault.
-        ensures first { IfErr result (λ e. IsEtherTypeHeadersFault ether_type slice.now e) }
         ensures exact { result_parsed result ≡ ether_type_headers ether_type slice.now }
         // The result agrees with the slices, as above.
         ensures agrees { (packet : SlicedPacket) (headers : Headers)
@@ -98,15 +92,12 @@ impl<'a> PacketHeaders<'a> {
         laws::rows_are_found();
         laws::rows_in_slots_are_views();
         laws::ipv6_packet_found_is_there();
-        refusals_are_first_faults();
         Self::after_link(None, ether_payload(ether_type, slice), 0)
     }
 
     /// The headers of an IP packet of the version in the upper half of its first byte, without a
     /// link header. The errors are as those of [`PacketHeaders::from_ethernet_slice`].
     pub fn from_ip_slice(slice: &'a [u8]) -> Result<PacketHeaders<'a>, SliceError>
-        // An error is that of the first fault.
-        ensures first { IfErr result (λ e. IsIpPacketHeadersFault slice.now e) }
         ensures exact { result_parsed result ≡ ip_packet_headers slice.now }
         // The result agrees with the slices, as above.
         ensures agrees { (packet : SlicedPacket) (headers : Headers)
@@ -116,7 +107,6 @@ impl<'a> PacketHeaders<'a> {
         laws::rows_are_found();
         laws::rows_in_slots_are_views();
         laws::ipv6_packet_found_is_there();
-        refusals_are_first_faults();
         Self::in_ip_packet(slice)
     }
 

@@ -1,23 +1,17 @@
-ghost use Rattle.std.specs.Prelude.{◌≡◌, ◌≤◌, ◌<◌, ◌+◌, ◌^◌, ◌↔◌, IfErr, IfOk, IfSome, IsErr, length, Ok, Some};
+ghost use Rattle.std.specs.Prelude.{◌≡◌, ◌<◌, ◌+◌, ◌^◌, IfOk, length};
 ghost use Rattle.std.specs.Option.{option_map};
-ghost use Rattle.ep_link.specs.Ethernet.{ethernet_len, payload_of};
-ghost use Rattle.ep_link.specs.Frame.{without_fcs};
+ghost use Rattle.ep_link.specs.Ethernet.{ethernet_len};
 ghost use Rattle.ep_link.specs.Sll.{sll_len};
-ghost use Rattle.ep_link.specs.SllPayload.{named_payload, payload_of as sll_payload_of};
-ghost use Rattle.ep_link.specs.declared.link.link_slice.LinkSlice.TheVariants as link_slice;
 ghost use Rattle.ep_packet.specs.Class.{class_of, sliced_class};
-ghost use Rattle.ep_packet.specs.Class.Class.{Refused};
-ghost use Rattle.ep_packet.specs.FrameFault.{IsCookedFault, IsEtherTypeFault, IsFrameFault, IsIpPacketFault};
 ghost use Rattle.ep_packet.specs.PacketView.{ether_payload_in, ip_payload_of, is_fragment, last_payload};
 ghost use Rattle.ep_packet.specs.PacketView.{payload_ether_type_in, vlan_slice_of, vlan_tags};
 ghost use Rattle.ep_packet.specs.Parts.{ArePartsOf};
 ghost use Rattle.ep_packet.specs.SliceFault.{later};
-ghost use Rattle.ep_packet.specs.Sliced.{IsSliced, IsSlicedIp, ether_payload, packet_after, sliced_ether_type};
-ghost use Rattle.ep_packet.specs.Sliced.{sliced_ethernet, sliced_ip, sliced_linux_sll};
+ghost use Rattle.ep_packet.specs.Sliced.{packet_after, sliced_ether_type, sliced_ethernet, sliced_ip};
+ghost use Rattle.ep_packet.specs.Sliced.{sliced_linux_sll};
 ghost use Rattle.ep_packet.specs.Tags.{vlan_ids_of};
 
 use crate::err::packet::SliceError;
-use crate::laws::refusals_are_first_faults;
 use crate::layer_slices::LayerSlices;
 use crate::tagged_slice::{TaggedSlice, ether_payload, source_after};
 use crate::{NetSlice, TransportSlice, slice_fault};
@@ -25,7 +19,6 @@ use arrayvec::ArrayVec;
 use ep_base::EtherType;
 use ep_ipslice::IpPayloadSlice;
 use ep_link::{Ethernet2Header, Ethernet2Slice, LinkSlice, LinuxSllHeader, LinuxSllSlice};
-use ep_tag::laws::macsec::payload_is_read;
 use ep_tag::{
     DoubleVlanSlice, EtherPayloadSlice, LinkExtSlice, SingleVlanSlice, VlanId, VlanSlice,
 };
@@ -57,23 +50,14 @@ impl<'a> SlicedPacket<'a> {
     /// counts in bytes from the start of the frame. If a header or a message in an IP payload has
     /// too few bytes, the error names the source of that payload's length.
     pub fn from_ethernet(slice: &'a [u8]) -> Result<SlicedPacket<'a>, SliceError>
-        // The tags and layers in the result are those after the link header.
-        ensures found { IfOk result (λ packet. IsSliced (payload_of slice.now) packet) }
-        // The packet with the tags and layers there is the result.
-        ensures only { (packet : SlicedPacket) → ethernet_len ≤ length slice.now
-            → packet.link ≡ Some (link_slice.Ethernet2 (without_fcs slice.now))
-            → IsSliced (payload_of slice.now) packet → result ≡ Ok packet }
         // Each part of the packet is at its offset in the frame.
         ensures parts { IfOk result (λ packet. ArePartsOf slice.now ethernet_len packet) }
-        // A frame is refused exactly if its class is `Refused`; else the packet has the class.
-        ensures refused { IsErr result ↔ (class_of slice.now ≡ Refused) }
+        // The packet has the class of the frame.
         ensures class { sliced_class result ≡ class_of slice.now }
-        // An error is that of the first fault, with its offset in the frame.
-        ensures first { IfErr result (λ e. IsFrameFault slice.now e) }
+        // What is found, and what is refused: `laws::packets_are_their_layers`,
+        // `laws::refusals_are_first_faults`.
         ensures exact { result ≡ sliced_ethernet slice.now }
     {
-        payload_is_read();
-        refusals_are_first_faults();
         let frame = match Ethernet2Slice::from_slice_without_fcs(slice) {
             Ok(frame) => frame,
             Err(error) => return Err(SliceError::Len(error)),
@@ -86,18 +70,10 @@ impl<'a> SlicedPacket<'a> {
     /// its protocol is an ether type, its payload is sliced as that of
     /// [`SlicedPacket::from_ethernet`]. The errors are of the same kind.
     pub fn from_linux_sll(slice: &'a [u8]) -> Result<SlicedPacket<'a>, SliceError>
-        // The tags and layers in the result are those after the header, if its protocol is an ether
-        // type.
-        ensures found { IfOk result
-            (λ packet. IfSome (named_payload (sll_payload_of slice.now)) (λ p. IsSliced p packet)) }
         // Each part of the packet is at its offset in the slice.
         ensures parts { IfOk result (λ packet. ArePartsOf slice.now sll_len packet) }
-        // An error is that of the first fault.
-        ensures first { IfErr result (λ e. IsCookedFault slice.now e) }
         ensures exact { result ≡ sliced_linux_sll slice.now }
     {
-        payload_is_read();
-        refusals_are_first_faults();
         let packet = match LinuxSllSlice::from_slice(slice) {
             Ok(packet) => packet,
             Err(error) => return Err(slice_fault::of_linux_sll(error)),
@@ -121,21 +97,10 @@ impl<'a> SlicedPacket<'a> {
         ether_type: EtherType,
         slice: &'a [u8],
     ) -> Result<SlicedPacket<'a>, SliceError>
-        // The tags and layers in the result are those in the slice.
-        ensures found { IfOk result
-            (λ packet. IsSliced (ether_payload ether_type slice.now) packet) }
-        // The packet with the tags and layers there is the result.
-        ensures only { (packet : SlicedPacket)
-            → packet.link ≡ Some (link_slice.EtherPayload (ether_payload ether_type slice.now))
-            → IsSliced (ether_payload ether_type slice.now) packet → result ≡ Ok packet }
         // Each part of the packet is at its offset in the slice.
         ensures parts { IfOk result (λ packet. ArePartsOf slice.now 0 packet) }
-        // An error is that of the first fault.
-        ensures first { IfErr result (λ e. IsEtherTypeFault ether_type slice.now e) }
         ensures exact { result ≡ sliced_ether_type ether_type slice.now }
     {
-        payload_is_read();
-        refusals_are_first_faults();
         let payload = ether_payload(ether_type, slice);
         let link = ether_payload(ether_type, slice);
         Self::after_link(LinkSlice::EtherPayload(link), payload, 0)
@@ -144,17 +109,11 @@ impl<'a> SlicedPacket<'a> {
     /// The layers of an IP packet of the version in the upper half of its first byte. `link` of the
     /// result is `None`. The errors are as those of [`SlicedPacket::from_ethernet`].
     pub fn from_ip(slice: &'a [u8]) -> Result<SlicedPacket<'a>, SliceError>
-        // The slice starts with the packet in the result.
-        ensures found { IfOk result (λ packet. IsSlicedIp slice.now packet) }
-        // A packet that it starts with is the result.
-        ensures only { (packet : SlicedPacket) → IsSlicedIp slice.now packet → result ≡ Ok packet }
         // Each part of the packet is at its offset in the slice.
         ensures parts { IfOk result (λ packet. ArePartsOf slice.now 0 packet) }
-        // An error is that of the first fault.
-        ensures first { IfErr result (λ e. IsIpPacketFault slice.now e) }
+        // What is found: `laws::ip_packets_are_their_layers`.
         ensures exact { result ≡ sliced_ip slice.now }
     {
-        refusals_are_first_faults();
         match LayerSlices::from_ip(slice) {
             Ok(layers) => Ok(SlicedPacket {
                 link: None,

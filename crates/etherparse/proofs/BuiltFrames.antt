@@ -23,7 +23,8 @@ use Rattle.ep_ipslice.specs.Ipv6Packet.{ipv6_packet_at, extensions_in}
 use Rattle.ep_ipslice.specs.Packet.{FragmentFields, IpPayload, Ipv6Packet, ipv6_fragment_fields}
 use Rattle.ep_ipslice.specs.Ipv6Exts.{is_fragmenting_piece}
 use Rattle.ep_link.specs.declared.link.ethernet2_header.Ethernet2Header.{Ethernet2Header}
-use Rattle.ep_packet.specs.Class.{class_of, ipv4_class_at, ipv6_class}
+use Rattle.ep_packet.proofs.ClassLemmas.{ipv4_class_at, ipv6_class}
+use Rattle.ep_packet.specs.Class.{class_of, ip_class}
 use Rattle.ep_packet.specs.Class.Class.{Refused, Whole}
 use Rattle.ep_packet.specs.IpHeaders.{is_fragmenting, with_exts}
 use Rattle.ep_packet.specs.Readable.{ReadMessage, message_at}
@@ -32,7 +33,6 @@ use Rattle.ep_packet.specs.declared.err.packet.slice_error.SliceError.{SliceErro
 use Rattle.ep_packet.specs.declared.net.ip_headers.IpHeaders.{IpHeaders}
 use Rattle.ep_packet.specs.declared.net.ip_headers.IpHeaders.TheVariants.{Ipv4, Ipv6}
 use Rattle.ep_tag.specs.declared.link.vlan_header.VlanHeader.{VlanHeader}
-use Rattle.etherparse.proofs.FrameClass.{class_with}
 use Rattle.etherparse.proofs.FrameTags.{class_framed}
 use Rattle.etherparse.proofs.FramedIpv4 as v4
 use Rattle.etherparse.proofs.FramedIpv6 as v6
@@ -74,7 +74,7 @@ abbrev pub ClassIs : Ethernet2Header → Option VlanHeader → IpHeaders → (nu
     → (payload : List ℕ) → Type 0
 ClassIs link vlan ip number payload = (source : LenSource)
     × (class_of (packet_with_number (ethernet_packet link vlan ip) number payload)
-    ≡ class_with (ids_in vlan) (addresses_in ip)
+    ≡ ip_class (ids_in vlan) (addresses_in ip)
     (payload_with ip number payload source) (fields_in ip))
 
 module _ (found : v4.Found) (link : Ethernet2Header) (vlan : Option VlanHeader) (h : Ipv4Header)
@@ -174,9 +174,9 @@ module _ (rows : v6.RowsFound) (ends : v6.RowEnds) (link : Ethernet2Header)
   fragmented_is = (stated_by (with_links e number)).1 ∙ fragments_are e.fragment _ frames.ip_fits.1
 
   class_is : ipv6_class (ids_in vlan) packet
-      ≡ class_with (ids_in vlan) (V6 h.source h.destination)
+      ≡ ip_class (ids_in vlan) (V6 h.source h.destination)
       (payload_with (Ipv6 h e) number payload packet.payload.len_source) (fields_in (Ipv6 h e))
-  class_is = λ i. class_with (ids_in vlan)
+  class_is = λ i. ip_class (ids_in vlan)
       (V6 (v6.source_is whole whole_fits i) (v6.destination_is whole whole_fits i))
       (record {
         ip_number = record { 0 = number };

@@ -22,9 +22,9 @@ use Rattle.ep_link.specs.SllPayload.{named_payload, payload_of}
 use Rattle.ep_link.specs.declared.link.link_slice.LinkSlice.{LinkSlice}
 use Rattle.ep_link.specs.declared.link.linux_sll_protocol_type.LinuxSllProtocolType.TheVariants.{EtherType}
 use Rattle.ep_link.specs.declared.link.linux_sll_protocol_type.LinuxSllProtocolType.TheVariants.{LinuxNonstandardEtherType}
-use Rattle.ep_packet.proofs.ClassLemmas.{ipv6_agrees, layers_class, tagged_agrees}
-use Rattle.ep_packet.specs.Class.{Class, class_of, sliced_class, ipv4_class_at, ipv6_class_at, payload_class}
-use Rattle.ep_packet.specs.Class.{tagged_class}
+use Rattle.ep_packet.proofs.ClassLemmas.{ipv4_class_at, ipv6_agrees, ipv6_class_at, layers_class, tagged_agrees}
+use Rattle.ep_packet.proofs.ClassLemmas.{tagged_class}
+use Rattle.ep_packet.specs.Class.{Class, class_of, sliced_class, payload_class}
 use Rattle.ep_packet.specs.IpHeaders.{ether_type_of}
 use Rattle.ep_packet.specs.Sliced.{Layers, in_ipv6, ip_layers, packet_with, sliced_ip, sliced_linux_sll}
 use Rattle.ep_packet.specs.Tags.{tags_in, vlan_ids_of}

@@ -11,7 +11,8 @@ use Rattle.ep_base.specs.declared.len_source.LenSource.TheVariants.{Slice}
 use Rattle.ep_link.specs.Ethernet.{Fits}
 use Rattle.ep_link.specs.declared.link.ethernet2_header.Ethernet2Header.{Ethernet2Header}
 use Rattle.ep_link.specs.declared.link.link_header.LinkHeader.TheVariants.{Ethernet2}
-use Rattle.ep_packet.specs.Class.{class_of, payload_class, tagged_class}
+use Rattle.ep_packet.proofs.ClassLemmas.{tagged_class}
+use Rattle.ep_packet.specs.Class.{class_of, payload_class}
 use Rattle.ep_packet.specs.Tags.{is_macsec_type, tag_at, tags_in}
 use Rattle.ep_packet.proofs.TagsLemmas.{from_tag, tags_turn, with_tag, without_tags}
 use Rattle.ep_tag.specs.Vlan.{is_vlan_type}

@@ -23,9 +23,9 @@ use Rattle.ep_ip.specs.Ipv4Checksum.{right_checksum}
 use Rattle.ep_ip.specs.declared.net.ipv4_header.Ipv4Header.{Ipv4Header}
 use Rattle.ep_ipslice.specs.Ipv4Packet.{ipv4_packet_at}
 use Rattle.ep_ipslice.specs.Packet.{Ipv4Packet}
-use Rattle.ep_packet.specs.Class.{ipv4_class}
+use Rattle.ep_packet.proofs.ClassLemmas.{ipv4_class}
+use Rattle.ep_packet.specs.Class.{ip_class}
 use Rattle.ep_packet.specs.declared.addresses.Addresses.TheVariants.{V4}
-use Rattle.etherparse.proofs.FrameClass.{class_with}
 use Rattle.etherparse.proofs.FrameTags.{two_bytes}
 use Rattle.etherparse.specs.BuiltFrames.{AuthFits}
 
@@ -174,7 +174,7 @@ module _ (found : Found) (h : Ipv4Header) (e : Ipv4Extensions) (number : ℕ) (m
 
   -- and has the class that the header determines
   pub class_is : (ids : List ℕ)
-      → ipv4_class ids packet ≡ class_with ids (V4 h.source h.destination)
+      → ipv4_class ids packet ≡ ip_class ids (V4 h.source h.destination)
       (record {
         ip_number = record { 0 = number };
         fragmented = is_fragmenting h.more_fragments h.fragment_offset;
@@ -186,7 +186,7 @@ module _ (found : Found) (h : Ipv4Header) (e : Ipv4Extensions) (number : ℕ) (m
         offset = h.fragment_offset;
         more = h.more_fragments;
       }))
-  class_is ids = λ i. class_with ids
+  class_is ids = λ i. ip_class ids
       (V4 (source_is whole whole_fits i) (destination_is whole whole_fits i))
       (record {
         ip_number = record { 0 = number_is e.auth number i };

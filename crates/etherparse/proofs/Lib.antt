@@ -21,7 +21,6 @@ mod BuiltPackets
 mod BuiltSums
 mod CallAnswers
 pub mod CallLemmas
-mod FrameClass
 mod FramedIpv4
 mod FramedIpv6
 mod Halving

@@ -2,6 +2,7 @@
 use Rattle.std.proofs.Common.{ℕ, ◌*◌, ◌==◌, ◌&&◌, not, Bool, true, false, cond, List, length, Option, Some, None, Result}
 use Rattle.std.proofs.Common.{Ok, Err, IfOk, IfSome}
 use Rattle.std.specs.Prelude.{nat_lt}
+use Rattle.std.specs.Result.{result_map_both}
 use Rattle.etherparse.specs.base.declared.err.layer.Layer.{Layer}
 use Rattle.etherparse.specs.base.declared.len_source.LenSource.{LenSource}
 use Rattle.etherparse.specs.icmp.Icmpv4.{is_timestamp_reply, is_timestamp_request}
@@ -11,7 +12,7 @@ use Rattle.etherparse.specs.ipslice.Packet.{IpPayload}
 use Rattle.etherparse.specs.packet.LaxSliced.{lax_message_at, lax_message_in, lax_transport_in, message_layer, message_or_stop}
 use Rattle.etherparse.specs.packet.LaxTags.{Stop}
 use Rattle.etherparse.specs.packet.Parts.{IsAt, transport_bytes}
-use Rattle.etherparse.specs.packet.Readable.{ReadMessage, icmpv4, icmpv6, message_at, read_as, tcp, tcp_fault, udp}
+use Rattle.etherparse.specs.packet.Readable.{ReadMessage, icmpv4, icmpv6, message_at, tcp, tcp_fault, udp}
 use Rattle.etherparse.specs.packet.Readable.ReadMessage.{Icmpv4, Icmpv6, Tcp, Udp}
 use Rattle.etherparse.specs.packet.Sliced.{read_transport, result_within, transport_of}
 use Rattle.etherparse.specs.packet.declared.err.packet.slice_error.SliceError.{SliceError}
@@ -69,7 +70,7 @@ ReadAt bytes r = IfOk r (λ message. MessageAt bytes (transport_of message))
 
 read_at : {E : Type 0} (bytes : List ℕ) (message : List ℕ → ReadMessage) (fault : E → SliceError)
     (r : Result (List ℕ) E) → ((m : List ℕ) → IsAt bytes 0 m → MessageAt bytes (transport_of (message m)))
-    → Reads bytes r → ReadAt bytes (read_as message fault r)
+    → Reads bytes r → ReadAt bytes (result_map_both message fault r)
 read_at bytes message fault (Ok m) each reads = each m reads
 read_at bytes message fault (Err e) each reads = tt
 

@@ -5,9 +5,8 @@ use Rattle.std.proofs.lemmas.Bool.{ltb-false}
 use Rattle.std.specs.List.{slice_get}
 use Rattle.std.specs.Option.{option_map}
 use Rattle.std.specs.Prelude.{unwrap_or}
-use Rattle.std.specs.Result.{result_map_both}
 use Rattle.etherparse.specs.base.declared.err.layer.Layer.{Layer}
-use Rattle.etherparse.specs.base.declared.err.layer.Layer.TheVariants.{MacsecHeader, VlanHeader}
+use Rattle.etherparse.specs.base.declared.err.layer.Layer.TheVariants.{VlanHeader}
 use Rattle.etherparse.specs.base.declared.err.len_error.LenError.{LenError}
 use Rattle.etherparse.specs.base.declared.err.slice_error.SliceError.{SliceError as HeaderSliceError}
 use Rattle.etherparse.specs.base.declared.len_source.LenSource.{LenSource}
@@ -24,9 +23,7 @@ use Rattle.etherparse.specs.packet.LaxTags.{LaxTagged, Stop, lax_tag_at, lax_tag
 use Rattle.etherparse.specs.packet.LaxView.{bound_after, bounded, lax_named_by}
 use Rattle.etherparse.specs.packet.Parts.{IsAt, StandAt, transport_bytes}
 use Rattle.etherparse.specs.packet.Sliced.{arp_type, ipv4_type, ipv6_type}
-use Rattle.etherparse.specs.packet.SliceFault.{of_macsec}
 use Rattle.etherparse.specs.packet.Tags.{find_tags, is_macsec_type, tags_from}
-use Rattle.etherparse.specs.packet.declared.err.packet.slice_error.SliceError.TheVariants.{Len}
 use Rattle.etherparse.specs.packet.declared.net.lax_net_slice.LaxNetSlice.{LaxNetSlice}
 use Rattle.etherparse.specs.packet.declared.net.lax_net_slice.LaxNetSlice.TheVariants as net
 use Rattle.etherparse.specs.packet.declared.transport.transport_slice.TransportSlice.{TransportSlice}
@@ -34,7 +31,7 @@ use Rattle.etherparse.specs.tag.Ether.{LaxEtherPayload}
 use Rattle.etherparse.specs.tag.LinkExt.{lax_payload_after, lax_tag_len}
 use Rattle.etherparse.specs.tag.Macsec.{header_len_of}
 use Rattle.etherparse.specs.tag.MacsecFault.{header_at}
-use Rattle.etherparse.specs.tag.MacsecLax.{LaxMacsec, LaxMacsecPayload, LaxModified, LaxUnmodified, lax_macsec_after}
+use Rattle.etherparse.specs.tag.MacsecLax.{LaxMacsecPayload, LaxModified, LaxUnmodified, lax_macsec_after}
 use Rattle.etherparse.specs.tag.MacsecLax.{lax_macsec_with, lax_named_payload}
 use Rattle.etherparse.specs.tag.Prefix.{whole_at}
 use Rattle.etherparse.specs.tag.Vlan.{is_vlan_type, vlan_len}
@@ -48,6 +45,7 @@ use Rattle.etherparse_structs.proofs.LaxNetParts.{arp_stands, ipv4_stands, ipv6_
 use Rattle.etherparse_structs.proofs.PartOffsets.{prefix_is, stand_later}
 use Rattle.ep_packet.proofs.ClassLemmas.{chosen}
 use Rattle.ep_packet.proofs.PartsLemmas.{at_whole, at_take, at_drop, at_same_position, at_later}
+use Rattle.ep_packet.proofs.LaxTagsLemmas.{lax_vlan_tag, lax_macsec_tag}
 
 -- network layer and transport layer from this offset on
 pub record LayersAt (frame : List ℕ) (position : ℕ) (packet : Option LaxNetSlice)
@@ -150,13 +148,6 @@ record TagAt (bytes : List ℕ) (t : LaxLinkExtSlice) : Type 0 where
 pub whole_is : (layer : Layer) (n : ℕ) (bytes taken : List ℕ) → whole_at layer n bytes ≡ Ok taken
     → (taken ≡ bytes) × (n ≤ length bytes)
 whole_is layer n bytes taken same = grind arith
-
-abbrev lax_vlan_tag : Result (List ℕ) LenError → Result (Option LaxLinkExtSlice) Stop
-lax_vlan_tag r = result_map_both (λ bytes. Some (tag.Vlan bytes)) (λ e. (Len e, VlanHeader)) r
-
-abbrev lax_macsec_tag : Result LaxMacsec (HeaderSliceError HeaderError)
-    → Result (Option LaxLinkExtSlice) Stop
-lax_macsec_tag r = result_map_both (λ macsec. Some (tag.Macsec macsec)) (λ e. (of_macsec e, MacsecHeader)) r
 
 vlan_case : (bytes : List ℕ) (r : Result (List ℕ) LenError) → whole_at VlanHeader vlan_len bytes ≡ r
     → IfOk (lax_vlan_tag r) (λ o. IfSome o (TagAt bytes))

@@ -4,13 +4,14 @@ use Rattle.std.proofs.Common.{length, Result, Ok, Err, subst, arith, append-nil}
 use Rattle.std.specs.Prelude.{◌&&◌, not, if◌then◌else◌}
 use Rattle.std.proofs.lemmas.Bool.{ltb-false}
 use Rattle.std.proofs.lemmas.List.{get_or_append_left, length-take-le, take_at}
+use Rattle.std.specs.Result.{result_map_both}
 use Rattle.etherparse.specs.base.declared.err.layer.Layer.TheVariants as layer
 use Rattle.etherparse.specs.base.declared.err.len_error.LenError.{LenError}
 use Rattle.etherparse.specs.packet.declared.err.packet.slice_error.SliceError.{SliceError}
 use Rattle.etherparse.specs.packet.declared.err.packet.slice_error.SliceError.TheVariants as slice_error
 use Rattle.etherparse.specs.tcpudp.Udp.{checksum_of, length_of, summed_udp}
 use Rattle.netlines.specs.ChangedWord.{DifferInOneWord, summed_bytes, verdict_after}
-use Rattle.etherparse.specs.packet.Readable.{ReadMessage, message_at, read_as}
+use Rattle.etherparse.specs.packet.Readable.{ReadMessage, message_at}
 use Rattle.etherparse.specs.packet.Readable.ReadMessage.{Icmpv4, Tcp, Udp, Icmpv6, Raw}
 use Rattle.netlines.specs.Sealed.{AddressesFit}
 use Rattle.checksum_verdicts.specs.Verdict.{is_unchecked, pseudo, summed_text, verdict_of}
@@ -23,7 +24,7 @@ use Rattle.netlines.proofs.SealedLemmas.{even_pseudo}
 -- a datagram as it is read: its length field is 0, or at least the header's length and at most the
 -- bytes that are there
 udp_cases : (a b c d : Bool) (e f g : LenError) (x y : List ℕ) (read : ReadMessage)
-    → read_as (λ m. Udp m) (λ e. slice_error.Len e)
+    → result_map_both (λ m. Udp m) (λ e. slice_error.Len e)
     (if a then Err e else (if b then Err f else (if not c && d then Err g
     else Ok (if c then x else y)))) ≡ Ok read
     → (read ≡ Udp (if c then x else y))

@@ -5,6 +5,7 @@ use Rattle.std.proofs.Common.{List, ◌++◌, length, Ok, Option, Some, None, ar
 use Rattle.std.specs.Prelude.{nat_lt, if◌then◌else◌}
 use Rattle.std.proofs.lemmas.Bool.{le-ltb, ne_eqb}
 use Rattle.std.proofs.lemmas.List.{take_all}
+use Rattle.std.specs.Result.{result_map_both}
 use Rattle.etherparse.specs.base.Sum.{all_ones, checksum, no_zero}
 use Rattle.etherparse.specs.icmp.Icmpv4 as icmpv4_spec
 use Rattle.etherparse.specs.icmp.Icmpv6 as icmpv6_spec
@@ -19,7 +20,7 @@ use Rattle.etherparse.specs.tcpudp.UdpChecksum as udp_checksum
 use Rattle.etherparse.specs.tcpudp.UdpFault.{udp_at}
 use Rattle.etherparse.specs.tcpudp.declared.transport.tcp_header.TcpHeader.{TcpHeader}
 use Rattle.etherparse.specs.tcpudp.declared.transport.udp_header.UdpHeader.{UdpHeader}
-use Rattle.etherparse.specs.packet.Readable.{ReadMessage, message_at, read_as}
+use Rattle.etherparse.specs.packet.Readable.{ReadMessage, message_at}
 use Rattle.etherparse.proofs.FrameTags.{two_bytes}
 use Rattle.netlines.proofs.ChangedWordLemmas.{by_sum}
 use Rattle.netlines.proofs.ReadLemmas.{icmpv6_is, segment_is}
@@ -105,7 +106,7 @@ udp_is_good laws addresses h payload read fit fits is =
     grind arith in
     let len : length bytes ≡ 8 + length payload = omega arith in
     let same : Ok (Udp bytes) ≡ Ok read =
-    sym (ap (read_as (λ m. Udp m) (λ e. slice_error.Len e))
+    sym (ap (result_map_both (λ m. Udp m) (λ e. slice_error.Len e))
     (read_datagram sealed payload refl fits)) ∙ is in
     let is_read : Udp bytes ≡ read = cc in
     let good : verdict_of addresses (Udp bytes) ≡ verdict.Good =

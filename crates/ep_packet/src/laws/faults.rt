@@ -3,11 +3,17 @@ ghost use Rattle.std.specs.Prelude.{◌≡◌, ℕ, List, Err};
 ghost use Rattle.ep_base.specs.declared.link.ether_type.EtherType.{EtherType};
 ghost use Rattle.ep_base.specs.declared.err.layer.Layer.TheVariants as layer;
 ghost use Rattle.ep_base.specs.declared.len_source.LenSource.TheVariants as source;
+ghost use Rattle.ep_ext.specs.Slot.{slot_of};
+ghost use Rattle.ep_ipslice.specs.Ipv6Fault.{IsFaultIn};
+ghost use Rattle.ep_ipslice.specs.declared.err.ip.headers_slice_error.HeadersSliceError.{HeadersSliceError};
+ghost use Rattle.ep_ipslice.specs.declared.err.ipv6.slice_error.SliceError.{SliceError as Ipv6Fault};
 ghost use Rattle.ep_packet.specs.Examples.{cut_after_auth, cut_after_macsec, cut_after_options, cut_after_tag};
 ghost use Rattle.ep_packet.specs.Examples.{cut_in_options, missing_bytes};
 ghost use Rattle.ep_packet.specs.FrameFault.{IsCookedFault, IsEtherTypeFault, IsEtherTypeHeadersFault, IsFrameFault};
 ghost use Rattle.ep_packet.specs.FrameFault.{IsFrameHeadersFault, IsIpPacketFault, IsIpPacketHeadersFault};
+ghost use Rattle.ep_packet.specs.IpHeadersAt.{ip_headers_at, ipv6_headers_at};
 ghost use Rattle.ep_packet.specs.PacketHeaders.{ether_type_headers, ethernet_headers, ip_packet_headers};
+ghost use Rattle.ep_packet.specs.ReadIpHeaders.{IsIpHeadersFault};
 ghost use Rattle.ep_packet.specs.Sliced.{sliced_ether_type, sliced_ethernet, sliced_ip, sliced_linux_sll};
 ghost use Rattle.ep_packet.specs.declared.err.packet.slice_error.SliceError.{SliceError};
 
@@ -31,6 +37,11 @@ pub fn refusals_are_first_faults()
         → ether_type_headers t bytes ≡ Err e → IsEtherTypeHeadersFault t bytes e }
     ensures ip_headers { (bytes : List ℕ) (e : SliceError) → ip_packet_headers bytes ≡ Err e
         → IsIpPacketHeadersFault bytes e }
+    // The same of IP headers alone.
+    ensures alone { (bytes : List ℕ) (e : HeadersSliceError) → ip_headers_at bytes ≡ Err e
+        → IsIpHeadersFault bytes e }
+    ensures ipv6_alone { (bytes : List ℕ) (e : Ipv6Fault) → ipv6_headers_at bytes ≡ Err e
+        → IsFaultIn slot_of bytes e }
 {
     payload_is_read();
     faults_found_are_first();

@@ -1,5 +1,5 @@
-ghost use Rattle.std.specs.Prelude.{◌≡◌, ◌≤◌, ◌<◌, ◌+◌, ℕ, List, length, Ok, Err, IfOk, IfErr, IsOkAnd, vec_len};
-ghost use Rattle.std.specs.Prelude.{vec_capacity};
+ghost use Rattle.std.specs.Prelude.{◌≡◌, ◌≤◌, ◌<◌, ◌+◌, ℕ, List, length, Ok, Err, IfOk, IfErr, IsOkAnd, MatchResult};
+ghost use Rattle.std.specs.Prelude.{vec_capacity, vec_len};
 ghost use Rattle.std.specs.Option.{option_map};
 ghost use Rattle.ep_ext.specs.Follow.{Follows, Names, header_len as exts_len};
 ghost use Rattle.ep_ext.specs.Ipv4Exts.{NamesAfter, ipv4_exts_encoding};
@@ -9,12 +9,8 @@ ghost use Rattle.ep_ext.specs.declared.net.ipv6_extensions.Ipv6Extensions.{Ipv6E
 ghost use Rattle.ep_ip.specs.Ipv4.{header_len};
 ghost use Rattle.ep_ip.specs.declared.net.ipv4_header.Ipv4Header.{Ipv4Header};
 ghost use Rattle.ep_ip.specs.declared.net.ipv6_header.Ipv6Header.{Ipv6Header};
-ghost use Rattle.ep_ext.specs.Slot.{slot_of};
 ghost use Rattle.ep_packet.specs.IpHeadersAt.{ip_headers_at, ipv4_headers_at, ipv6_headers_at};
-ghost use Rattle.ep_ipslice.specs.Ipv6Fault.{IsFaultIn};
-ghost use Rattle.ep_ipslice.specs.Packet.{IpPayload};
-ghost use Rattle.ep_packet.specs.ReadIpHeaders.{IsIpHeaders, IsIpHeadersFault, IsIpv4Headers, IsIpv6Headers};
-ghost use Rattle.ep_packet.specs.declared.net.ip_headers.IpHeaders.{IpHeaders};
+ghost use Rattle.ep_packet.specs.ReadIpHeaders.{IsIpHeaders, IsIpv4Headers, IsIpv6Headers};
 ghost use Rattle.ep_packet.specs.IpHeaders.{AppendsHeaders, AppendsIpv4, AppendsIpv6, IsLinked, ether_type_of};
 ghost use Rattle.ep_packet.specs.IpHeaders.{ip_headers_len, ipv4_in, ipv4_parts, ipv6_in, is_fragmenting, or_ipv4};
 ghost use Rattle.ep_packet.specs.IpHeaders.{or_ipv6, with_payload_len};
@@ -70,12 +66,8 @@ impl IpHeaders {
     pub fn from_slice(slice: &[u8]) -> Result<(IpHeaders, IpPayloadSlice<'_>), HeadersSliceError>
         // The slice starts with the result.
         ensures found { IfOk result (λ r. IsIpHeaders slice.now r.0 r.1) }
-        // Headers and a payload that the slice starts with are the result.
-        ensures only { (headers : IpHeaders) (payload : IpPayload)
-            → IsIpHeaders slice.now headers payload
-            → result ≡ Ok (headers, payload) }
-        // An error is that of the first fault.
-        ensures refused { IfErr result (λ e. IsIpHeadersFault slice.now e) }
+        // Else nothing is found, and why: `laws::ip_headers_are_their_parts`,
+        // `laws::refusals_are_first_faults`.
         ensures exact { result ≡ ip_headers_at slice.now }
     {
         if slice.is_empty() {
@@ -102,13 +94,10 @@ impl IpHeaders {
     /// The headers of the IP packet at the start of the slice, the IP number that they name last,
     /// and the bytes of the payload, as `from_slice` gives them.
     pub fn read_from_slice(slice: &[u8]) -> Result<(IpHeaders, IpNumber, &[u8]), HeadersSliceError>
-        ensures found { IfOk result (λ r. (payload : IpPayload) × IsIpHeaders slice.now r.0 payload
-            × (r.1 ≡ payload.ip_number) × (r.2.now ≡ payload.payload)) }
-        ensures only { (headers : IpHeaders) (payload : IpPayload)
-            → IsIpHeaders slice.now headers payload
-            → IsOkAnd result (λ r. (r.0 ≡ headers) × (r.1 ≡ payload.ip_number)
-            × (r.2.now ≡ payload.payload)) }
-        ensures refused { IfErr result (λ e. IsIpHeadersFault slice.now e) }
+        ensures { MatchResult (ip_headers_at slice.now)
+            (λ p. IsOkAnd result (λ r. (r.0 ≡ p.0) × (r.1 ≡ p.1.ip_number)
+            × (r.2.now ≡ p.1.payload)))
+            (λ e. result ≡ Err e) }
     {
         match IpHeaders::from_slice(slice) {
             Ok((headers, payload)) => Ok((headers, payload.ip_number, payload.payload)),
@@ -123,11 +112,6 @@ impl IpHeaders {
     ) -> Result<(IpHeaders, IpPayloadSlice<'_>), ipv4::SliceError>
         // The slice starts with the result.
         ensures found { IfOk result (λ r. IsIpv4Headers slice.now r.0 r.1) }
-        // Headers and a payload that the slice starts with are the result.
-        ensures only { (headers : IpHeaders) (payload : IpPayload)
-            → IsIpv4Headers slice.now headers payload
-            → result ≡ Ok (headers, payload) }
-        // An error is that of the first fault.
         ensures exact { result ≡ ipv4_headers_at slice.now }
     {
         match Ipv4Slice::from_slice(slice) {
@@ -149,12 +133,6 @@ impl IpHeaders {
     ) -> Result<(IpHeaders, IpPayloadSlice<'_>), ipv6::SliceError>
         // The slice starts with the result.
         ensures found { IfOk result (λ r. IsIpv6Headers slice.now r.0 r.1) }
-        // Headers and a payload that the slice starts with are the result.
-        ensures only { (headers : IpHeaders) (payload : IpPayload)
-            → IsIpv6Headers slice.now headers payload
-            → result ≡ Ok (headers, payload) }
-        // An error is that of the first fault.
-        ensures refused { IfErr result (λ e. IsFaultIn slot_of slice.now e) }
         ensures exact { result ≡ ipv6_headers_at slice.now }
     {
         laws::bodies_lie_within();

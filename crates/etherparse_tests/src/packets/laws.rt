@@ -5,4 +5,6 @@ use ep_packet::laws;
 fn laws_of_bytes() {
     laws::readable_messages(&[]);
     laws::ipv6_headers_agree_with_view(&[]);
+    laws::ip_packets_are_their_layers();
+    laws::ip_headers_are_their_parts(&[]);
 }

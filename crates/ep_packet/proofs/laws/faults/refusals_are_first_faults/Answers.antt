@@ -1,6 +1,6 @@
 use Rattle.ep_packet.proofs.FrameFaults.{FaultsAreFirst, cooked_fault, ether_type_fault, ether_type_headers_fault}
 use Rattle.ep_packet.proofs.FrameFaults.{ethernet_fault, ethernet_headers_fault, ip_packet_fault}
-use Rattle.ep_packet.proofs.FrameFaults.{ip_packet_headers_fault}
+use Rattle.ep_packet.proofs.FrameFaults.{ip_headers_fault, ip_packet_headers_fault, ipv6_in_slots}
 use Rattle.ep_packet.proofs.laws.faults.refusals_are_first_faults.Goals as goal
 
 first : (c : goal.After-faults_found_are_first) → FaultsAreFirst
@@ -32,3 +32,9 @@ returns-clause-ether_type_headers c = ether_type_headers_fault (first c)
 
 pub returns-clause-ip_headers : goal.returns-clause-ip_headers
 returns-clause-ip_headers c = ip_packet_headers_fault (first c)
+
+pub returns-clause-alone : goal.returns-clause-alone
+returns-clause-alone c = ip_headers_fault (first c)
+
+pub returns-clause-ipv6_alone : goal.returns-clause-ipv6_alone
+returns-clause-ipv6_alone c = ipv6_in_slots (first c)

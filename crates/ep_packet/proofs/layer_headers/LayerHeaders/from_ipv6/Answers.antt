@@ -1,4 +1,4 @@
-use Rattle.std.proofs.Common.{◌∙◌, ap, arith, length}
+use Rattle.std.proofs.Common.{◌∙◌, ap, arith, length, sym}
 use Rattle.ep_ext.specs.Slot.{slot_of as order}
 use Rattle.ep_packet.specs.SliceFault.{fault_offset}
 use Rattle.ep_packet.proofs.FaultLemmas.{offset_of_ipv6}
@@ -14,7 +14,8 @@ returns-in-Err-clause-offset c = λ n fits.
     omega (
       arith,
       c.faults_can_be_moved.ensures.ipv6_in order c.args.slice.now c.in-Err.error
-          c.in-Err.ensures.refused n fits,
+          (c.refusals_are_first_faults.ensures.ipv6_alone c.args.slice.now c.in-Err.error
+              (sym c.in-Err.ensures.exact)) n fits,
       ap fault_offset c.of_ipv6.ensures
           ∙ offset_of_ipv6 c.in-Err.error,
     )

@@ -1,9 +1,6 @@
 use Rattle.std.proofs.Common.{◌∙◌}
 use Rattle.ep_packet.proofs.HeadersOfPackets.{ip_packet_same}
 use Rattle.ep_packet.proofs.packet_headers.PacketHeaders.from_ip_slice.Goals as goal
-use Rattle.ep_packet.specs.FrameFault.{IsIpPacketHeadersFault}
-use Rattle.ep_packet.specs.PacketHeaders.{ip_packet_headers}
-use Rattle.ep_packet.proofs.FrameFaults.{if_err_agrees}
 
 pub returns-clause-agrees : goal.returns-clause-agrees
 returns-clause-agrees c = λ packet headers is are.
@@ -13,8 +10,3 @@ returns-clause-agrees c = λ packet headers is are.
       views = c.rows_in_slots_are_views.ensures;
       begins = c.ipv6_packet_found_is_there.ensures;
     }) c.args.slice.now packet headers is are
-
-pub returns-clause-first : goal.returns-clause-first
-returns-clause-first c = if_err_agrees (IsIpPacketHeadersFault c.args.slice.now)
-    c.in_ip_packet.result (ip_packet_headers c.args.slice.now) c.in_ip_packet.ensures
-    (c.refusals_are_first_faults.ensures.ip_headers c.args.slice.now)

@@ -1,11 +1,11 @@
-use Rattle.std.proofs.Common.{Err, Ok, sym, subst, ◌∙◌, ap, refl}
+use Rattle.std.proofs.Common.{Err, Ok, sym, subst, refl}
 use Rattle.ep_ext.specs.Slot.{slot_of}
 use Rattle.ep_ip.specs.Ipv6.{next_header_of}
 use Rattle.ep_ipslice.specs.Ipv6Fault.{IsFaultIn, IsRowFault, OfExtensions}
 use Rattle.ep_packet.specs.ReadIpHeaders.{IsIpv6Headers}
 use Rattle.ep_packet.specs.declared.net.ip_headers.IpHeaders.TheVariants.{Ipv6}
 use Rattle.ep_packet.proofs.HeadersAt.{found_exactly}
-use Rattle.ep_packet.proofs.ReadHeaders.{Parts, chain_same, prefix_fault, ipv6_found, ipv6_only, never_refused}
+use Rattle.ep_packet.proofs.ReadHeaders.{Parts, chain_same, prefix_fault, ipv6_found}
 use Rattle.ep_packet.proofs.net.ip_headers.IpHeaders.from_ipv6_slice.Goals as goal
 
 abbrev parts : goal.After-to_header → Parts
@@ -32,41 +32,10 @@ found c =
 pub returns-in-Ok-from_slice-clause-found : goal.returns-in-Ok-from_slice-clause-found
 returns-in-Ok-from_slice-clause-found c = found c
 
-pub returns-in-Err-clause-only : goal.returns-in-Err-clause-only
-returns-in-Err-clause-only c = λ headers payload is. absurd
-    (c.in-Err.ensures.only is.header is.body is.source is.begins)
-
-pub returns-in-Err-clause-refused : goal.returns-in-Err-clause-refused
-returns-in-Err-clause-refused c =
-    prefix_fault slot_of c.args.slice.now c.in-Err.error c.in-Err.ensures.refused
-
 pub returns-in-Err-clause-exact : goal.returns-in-Err-clause-exact
 returns-in-Err-clause-exact c = found_exactly c.rows_are_found.ensures c.args.slice.now
     (Err c.in-Err.error) tt
     (prefix_fault slot_of c.args.slice.now c.in-Err.error c.in-Err.ensures.refused)
-
-pub returns-in-Ok-from_slice-clause-only : goal.returns-in-Ok-from_slice-clause-only
-returns-in-Ok-from_slice-clause-only c = λ headers payload is.
-    let prefix = c.in-Ok.ensures.only is.header is.body is.source is.begins in
-    let chain = chain_same c.next_header.result.0
-    (next_header_of is.header) c.in-Ok.parts.2.now is.body is.pieces is.last payload.payload
-    (c.next_header.ensures ∙ ap next_header_of prefix.0) prefix.2 is.chain in
-    let answers = c.in-Ok-from_slice.ensures.only is.pieces is.last payload.payload chain in
-    ipv6_only c.args.slice.now headers payload is c.to_header.result c.in-Ok.parts.0
-    c.in-Ok-from_slice.extensions c.in-Ok-from_slice.ip_number
-    c.is_fragmenting_payload-fragmented.result c.in-Ok.parts.1 c.in-Ok-from_slice.payload.now
-    c.to_header.ensures prefix.0 answers.0 answers.1
-    c.is_fragmenting_payload-fragmented.ensures prefix.1 answers.2
-
-pub returns-in-Err-from_slice-clause-only : goal.returns-in-Err-from_slice-clause-only
-returns-in-Err-from_slice-clause-only c = λ headers payload is.
-    let prefix = c.in-Ok.ensures.only is.header is.body is.source is.begins in
-    let chain = chain_same c.next_header.result.0
-    (next_header_of is.header) c.in-Ok.parts.2.now is.body is.pieces is.last payload.payload
-    (c.next_header.ensures ∙ ap next_header_of prefix.0) prefix.2 is.chain in
-    let refused = c.in-Err-from_slice.ensures.only is.pieces is.last payload.payload chain in
-    absurd (never_refused is.pieces is.last payload.payload
-    (c.in-Err-from_slice.error, refused.0) is.ended refused.1)
 
 refused : (c : goal.After-of_extensions)
     → IsFaultIn slot_of c.args.slice.now c.of_extensions.result
@@ -81,9 +50,6 @@ refused c =
     c.in-Ok.ensures.found chain found.4.1 in
     OfExtensions header c.in-Ok.ensures.header
     (subst (IsRowFault slot_of c.args.slice.now header) (sym c.of_extensions.ensures) row)
-
-pub returns-in-Err-from_slice-clause-refused : goal.returns-in-Err-from_slice-clause-refused
-returns-in-Err-from_slice-clause-refused c = refused c
 
 pub returns-in-Err-from_slice-clause-exact : goal.returns-in-Err-from_slice-clause-exact
 returns-in-Err-from_slice-clause-exact c =

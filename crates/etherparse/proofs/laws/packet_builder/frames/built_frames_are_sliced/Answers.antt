@@ -1,4 +1,5 @@
 use Rattle.std.proofs.Common.{◌∙◌, ap}
+use Rattle.ep_packet.proofs.ClassLemmas.{refusal_agrees}
 use Rattle.ep_packet.specs.Class.{class_of}
 use Rattle.etherparse.proofs.laws.packet_builder.frames.built_frames_are_sliced.Goals as goal
 
@@ -10,7 +11,7 @@ returns-clause-whole c = λ link vlan ip number payload frames is read uncut mes
 
 pub returns-clause-refused : goal.returns-clause-refused
 returns-clause-refused c = λ link vlan ip number payload frames is e uncut message.
-    c.from_ethernet.ensures.refused.1
+    (refusal_agrees c.args.frame.now c.from_ethernet.result c.from_ethernet.ensures.exact).1
     (ap class_of is ∙ c.built_frames_are_read.ensures.refused link vlan ip number payload
     frames e uncut message)
 
