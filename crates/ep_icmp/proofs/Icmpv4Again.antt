@@ -7,7 +7,7 @@ use Rattle.ep_icmp.specs.Icmpv4.{is_listed, layout_of, problem_code, problem_fie
 use Rattle.ep_icmp.specs.Icmpv4.{unreachable_code, unreachable_fields}
 use Rattle.ep_icmp.specs.Layout.{bytes_of_layout, bytes_of_fields}
 use Rattle.ep_icmp.specs.declared.transport.icmpv4_header.Icmpv4Header.{Icmpv4Header}
-use Rattle.ep_icmp.proofs.Again.{bytes_again, echo_again, timestamp_again, two_again}
+use Rattle.ep_icmp.proofs.Again.{bytes_again, echo_again, timestamp_again}
 use Rattle.ep_icmp.proofs.Outcomes.{not_true}
 use Rattle.ep_icmp.proofs.Icmpv4Kinds.{StandsIn, header_len_at, kind_is}
 use Rattle.ep_icmp.specs.declared.transport.icmpv4.dest_unreachable_header.DestUnreachableHeader.{DestUnreachableHeader}
@@ -19,6 +19,7 @@ use Rattle.ep_icmp.specs.declared.transport.icmpv4_type.Icmpv4Type.TheVariants.{
 use Rattle.ep_icmp.specs.declared.transport.icmpv4_type.Icmpv4Type.TheVariants.{DestinationUnreachable, Redirect}
 use Rattle.ep_icmp.specs.declared.transport.icmpv4_type.Icmpv4Type.TheVariants.{EchoRequest, ParameterProblem}
 use Rattle.ep_icmp.specs.declared.transport.icmpv4_type.Icmpv4Type.TheVariants.{TimestampRequest, TimestampReply}
+use Rattle.ep_base.proofs.Numbers.{two_again}
 
 mtu_again : (header : DestUnreachableHeader) (a b c d : ℕ) (rest : List ℕ) → UnreachableFits header
     → HasNextHopMtu header (num (a ∷ b ∷ c ∷ d ∷ (bytes_of_fields (unreachable_fields header)

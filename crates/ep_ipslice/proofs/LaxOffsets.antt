@@ -27,11 +27,12 @@ use Rattle.ep_ipslice.specs.Ipv6Packet.{body_of, extensions_of, number_after, re
 use Rattle.ep_ipslice.specs.LaxPackets.{StoppedIpv4, StoppedIpv6, fault_within, is_ipv4_open, lax_ipv4_after}
 use Rattle.ep_ipslice.specs.LaxPackets.{lax_ipv4_body, lax_ipv4_packet_at, lax_ipv4_source, lax_ipv4_with}
 use Rattle.ep_ipslice.specs.LaxPackets.{lax_ipv6_after, lax_ipv6_packet_at, lax_ipv6_source, row_fault_within}
-use Rattle.ep_ipslice.proofs.FaultOffsets.{AuthMoves, RowMoves, body_fits, take_fits}
+use Rattle.ep_ipslice.proofs.FaultOffsets.{AuthMoves, RowMoves, body_fits}
 use Rattle.ep_ipslice.proofs.FirstFault.{RowEnds, row_chain}
 use Rattle.ep_ipslice.proofs.Found.{header_found, walk, fault_after}
 use Rattle.ep_ipslice.proofs.LaxIpv6.{fault_moves}
 use Rattle.ep_ipslice.proofs.LaxLaws.{auth_cut}
+use Rattle.ep_base.proofs.Cells.{take_fits}
 
 prefix_within : (bytes prefix rest : List ℕ) → bytes ≡ prefix ++ rest → length prefix ≤ length bytes
 prefix_within bytes prefix rest parts = omega (arith, ap length parts, length-append prefix rest)

@@ -2,14 +2,16 @@
 use Rattle.std.proofs.Common.{◌≡◌, ℕ, zero, suc, ◌+◌, ◌*◌, ◌≤◌, ◌==◌, ◌&&◌, not, Bool, true, false, cond, List, [], ◌∷◌, ◌++◌}
 use Rattle.std.proofs.Common.{length, take, drop, Option, Some, None, Result, Ok, Err, IfOk, IfSome, arith, refl, sym, ap}
 use Rattle.std.proofs.Common.{subst, ◌∙◌, append_assoc, length-append}
-use Rattle.std.specs.Prelude.{MatchResult, nat_lt, option_map, unwrap_or}
+use Rattle.std.specs.Prelude.{MatchResult, if◌then◌else◌, nat_lt, option_map, unwrap_or}
 use Rattle.std.proofs.lemmas.Bool.{ltb-false}
 use Rattle.std.proofs.lemmas.List.{take-append-drop, append-nil, length-take-le}
-use Rattle.std.specs.Result.{result_map_both}
+use Rattle.std.specs.Result.{result_flatten, result_map_both}
+use Rattle.ep_base.specs.LenError.{too_few_bytes}
 use Rattle.ep_base.specs.declared.err.layer.Layer.{Layer}
-use Rattle.ep_base.specs.declared.err.layer.Layer.TheVariants.{Ethernet2Header, VlanHeader}
+use Rattle.ep_base.specs.declared.err.layer.Layer.TheVariants.{Ethernet2Header, MacsecPacket, VlanHeader}
 use Rattle.ep_base.specs.declared.err.len_error.LenError.{LenError}
 use Rattle.ep_base.specs.declared.err.slice_error.SliceError.{SliceError as HeaderSliceError}
+use Rattle.ep_base.specs.declared.err.slice_error.SliceError.TheVariants as header_error
 use Rattle.ep_base.specs.declared.len_source.LenSource.{LenSource}
 use Rattle.ep_ext.specs.Ipv4Exts.{auth_bytes}
 use Rattle.ep_ext.specs.Value.{bytes_of}
@@ -38,7 +40,7 @@ use Rattle.ep_tag.specs.Prefix.{whole_at}
 use Rattle.ep_tag.specs.LinkExt.{payload_after, tag_len}
 use Rattle.ep_tag.specs.Macsec.{header_len_of, is_unmodified, short_len_of}
 use Rattle.ep_tag.specs.MacsecFault.{header_at}
-use Rattle.ep_tag.specs.MacsecPayload.{Macsec, MacsecPayload, Modified, Unmodified, bytes_under, macsec_after, macsec_with}
+use Rattle.ep_tag.specs.MacsecPayload.{Macsec, MacsecPayload, Modified, Unmodified, bytes_under}
 use Rattle.ep_tag.specs.MacsecPayload.{named_payload, payload_len_of, payload_under}
 use Rattle.ep_tag.specs.Vlan.{is_vlan_type, payload_of, vlan_len}
 use Rattle.ep_tag.specs.declared.err.macsec.header_error.HeaderError.{HeaderError}
@@ -136,6 +138,18 @@ under_at header rest =
 header_is : (bytes header : List ℕ) → header_at bytes ≡ Ok header
     → (header ≡ take (header_len_of bytes) bytes) × (header_len_of bytes ≤ length bytes)
 header_is bytes header at = grind (arith, ltb-false)
+
+-- what `macsec_at` makes of a header and the bytes after it
+abbrev macsec_with : List ℕ → List ℕ → Result Macsec (HeaderSliceError HeaderError)
+macsec_with header rest = if nat_lt (length rest) (payload_len_of header)
+    then Err (header_error.Len (too_few_bytes MacsecPacket (length header + payload_len_of header)
+    (length header + length rest)))
+    else Ok (record { header = header; payload = payload_under header (bytes_under header rest) })
+
+abbrev macsec_after : List ℕ → Result (List ℕ) (HeaderSliceError HeaderError)
+    → Result Macsec (HeaderSliceError HeaderError)
+macsec_after bytes h = result_flatten (result_map_both
+    (λ (header : List ℕ). macsec_with header (drop (length header) bytes)) (λ e. e) h)
 
 macsec_in : (bytes header : List ℕ) → header_at bytes ≡ Ok header
     → IfOk (macsec_tag (macsec_with header (drop (length header) bytes))) (λ o. IfSome o (TagIn bytes))

@@ -1,7 +1,8 @@
 use Rattle.std.proofs.Common.{ap, refl, sym, ◌∙◌}
 use Rattle.ep_icmp.specs.NdpOptions.{items_of}
-use Rattle.ep_icmp.proofs.NdpItems.{items-end, left_of, nothing_after, progress, step_err, step_ok}
+use Rattle.ep_icmp.proofs.NdpItems.{items-end, left_of, progress, step_err, step_ok}
 use Rattle.ep_icmp.proofs.transport.icmpv6.ndp.ndp_options_iterator.NdpOptionsIteratorIterator.next.Goals as goal
+use Rattle.ep_base.proofs.Cells.{nothing_after}
 
 pub returns-then-is_empty-clause-steps : goal.returns-then-is_empty-clause-steps
 returns-then-is_empty-clause-steps c =
