@@ -47,7 +47,7 @@ unfolding seen_slots
 seen_more [] slot = refl
 seen_more (p ∷ ps) slot = ap (λ (xs : List Ipv6ExtSlot). seen_at p ∷ xs) (seen_more ps slot)
 
-pub once_is : (taken : Bool) (slot found : Ipv6ExtSlot)
+once_is : (taken : Bool) (slot found : Ipv6ExtSlot)
     → cond taken None (Some slot) ≡ Some found → slot ≡ found
 once_is taken slot found is = grind arith
 

@@ -14,7 +14,7 @@ mod LaxLaws
 pub mod LaxOffsets
 mod Left
 mod MoreBytes
-pub mod InSlots
+mod InSlots
 mod SamePayloads
 mod SameViews
 mod ViewWalk

@@ -3,7 +3,7 @@ mod CutTags
 mod Prefix
 mod DoubleVlanPrefix
 mod MacsecPrefix
-pub mod MacsecRead
+mod MacsecRead
 mod MacsecEncoding
 mod MoreTags
 mod Numbers
