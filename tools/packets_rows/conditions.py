@@ -215,8 +215,8 @@ OF_MADE = {"icmp_errors": OF_ICMP_ERRORS}
 UNKNOWN = (
     "no protocol, and not `bad`, `refused`, `fragments`, `cut`, `host=ADDRESS` or `port=NUMBER`"
 )
-ADDRESS = "no IP address behind `host`"
-PORT = "no number up to 65535, and no range, behind `port`"
+ADDRESS = "no IP address after `host`"
+PORT = "no number up to 65535, and no range, after `port`"
 DEEP = 257
 NO_CONDITIONS = (
     ("tcq", 'at 1: no condition "tcq" (is "tcp" meant?)'),

@@ -80,28 +80,28 @@ pub enum WordError {
     #[error("no condition")]
     Unknown,
     /// What follows `host` is no IP address.
-    #[error("no IP address behind `host`")]
+    #[error("no IP address after `host`")]
     Address,
     /// What follows `net` is no network.
-    #[error("no network behind `net`, as 10.0.0.0/8")]
+    #[error("no network after `net`, as 10.0.0.0/8")]
     Network,
     /// What follows `src` or `dst` is no IP address and no network.
-    #[error("no IP address and no network behind `src` or `dst`")]
+    #[error("no IP address and no network after `src` or `dst`")]
     AddressOrNetwork,
     /// Bits of the address after the prefix of a network are not 0.
     #[error("bits after the prefix are not 0")]
     BitsAfterPrefix,
     /// What follows `port` is no number up to 65535, and no range of them.
-    #[error("no number up to 65535, and no range, behind `port`")]
+    #[error("no number up to 65535, and no range, after `port`")]
     Port,
     /// What follows `len` is no number up to 4294967295, and no range of them.
-    #[error("no number up to 4294967295, and no range, behind `len`")]
+    #[error("no number up to 4294967295, and no range, after `len`")]
     WireLen,
     /// What follows `vlan` is no number up to 4095, and no range of them.
-    #[error("no number up to 4095, and no range, behind `vlan`")]
+    #[error("no number up to 4095, and no range, after `vlan`")]
     VlanId,
     /// What follows `frame` is no number, and no range of them.
-    #[error("no number, and no range, behind `frame`")]
+    #[error("no number, and no range, after `frame`")]
     Number,
     /// The last number of a range is below the first.
     #[error("the range ends before it begins")]
