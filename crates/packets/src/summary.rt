@@ -5,6 +5,7 @@ pub(crate) mod lengths;
 pub(crate) mod numbers;
 pub(crate) mod period;
 pub(crate) mod rate;
+pub(crate) mod recent;
 pub(crate) mod report;
 pub(crate) mod sizes;
 pub(crate) mod summary;

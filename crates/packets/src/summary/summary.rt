@@ -7,6 +7,7 @@ use crate::summary::lengths::Lengths;
 use crate::summary::numbers::NumberTallies;
 use crate::summary::period::Period;
 use crate::summary::rate::Rate;
+use crate::summary::recent::{Recent, sender_bucket, talker_bucket};
 use crate::summary::sizes::Sizes;
 use crate::summary::table::Table;
 use crate::summary::tally::Tally;
@@ -45,6 +46,7 @@ pub struct Summary<S: BuildHasher = BuildHasherDefault<FoldHasher>> {
     pub talkers: Table<Addresses, S>,
     /// Those with a good or a bad checksum, by the sender and which it is.
     pub senders: Table<Verified, S>,
+    recent: Recent,
 }
 
 /// How many packets have a header of each protocol.
@@ -125,6 +127,7 @@ impl<S: BuildHasher> Summary<S> {
             reasons: Table::with_hasher(alloc, reasons),
             talkers: Table::with_hasher(alloc, addresses),
             senders: Table::with_hasher(alloc, senders),
+            recent: Recent::new(),
         }
     }
 
@@ -184,9 +187,16 @@ impl<S: BuildHasher> Summary<S> {
         self.rate.add(packet);
         self.period.add(packet);
         self.lengths.add(packet);
-        self.reasons.add_keyed(packet.refusal, packet);
-        self.talkers.add_keyed(packet.headers.addresses(), packet);
-        self.senders.add_keyed(Verified::of(packet), packet);
+        let reason = self.recent.reason;
+        self.recent.reason = self.reasons.add_keyed(packet.refusal, reason, packet);
+        let addresses = packet.headers.addresses();
+        let bucket = talker_bucket(addresses);
+        let talker = self.recent.talkers[bucket];
+        self.recent.talkers[bucket] = self.talkers.add_keyed(addresses, talker, packet);
+        let sender = Verified::of(packet);
+        let bucket = sender_bucket(sender);
+        let known = self.recent.senders[bucket];
+        self.recent.senders[bucket] = self.senders.add_keyed(sender, known, packet);
     }
 }
 

@@ -15,8 +15,6 @@ use std::marker::Model;
 #[derive(Drop)]
 pub struct Table<K: Eq + Hash, S: BuildHasher> {
     tallies: IndexMap<K, Tally, S>,
-    // The index of the key that was counted last.
-    last: usize,
 }
 
 impl<K: Eq + Hash, S: BuildHasher> Model for Table<K, S> {
@@ -42,7 +40,6 @@ impl<K: Eq + Hash + Drop, S: BuildHasher> Table<K, S> {
     {
         Table {
             tallies: IndexMap::with_hasher(alloc, state),
-            last: 0,
         }
     }
 
@@ -54,8 +51,9 @@ impl<K: Eq + Hash + Drop, S: BuildHasher> Table<K, S> {
         self.tallies.reserve(1)
     }
 
-    /// Counts a packet that has this key, or none.
-    pub(crate) fn add_keyed(&mut self, key: Option<K>, packet: &Outline)
+    /// Counts a packet that has this key, or none, and returns the index of the key. The key that has
+    /// the index `expected` is tried before this one is hashed.
+    pub(crate) fn add_keyed(&mut self, key: Option<K>, expected: usize, packet: &Outline) -> usize
         requires capacity { 0 < self.old.spare }
         // Keys are equal only where they are the same value.
         requires exact { (a b : K) → K.eq a b ≡ true → a ≡ b }
@@ -64,12 +62,12 @@ impl<K: Eq + Hash + Drop, S: BuildHasher> Table<K, S> {
             → CountsKeys K.eq key_of self.new (packets ++ packet.now ∷ []) }
     {
         match key {
-            Some(key) => self.add(key, packet),
-            None => {}
+            Some(key) => self.add(key, expected, packet),
+            None => expected,
         }
     }
 
-    fn add(&mut self, key: K, packet: &Outline)
+    fn add(&mut self, key: K, expected: usize, packet: &Outline) -> usize
         requires capacity { 0 < self.old.spare }
         // Keys are equal only where they are the same value.
         requires exact { (a b : K) → K.eq a b ≡ true → a ≡ b }
@@ -77,31 +75,31 @@ impl<K: Eq + Hash + Drop, S: BuildHasher> Table<K, S> {
             → key_of packet.now ≡ Some key → CountsKeys K.eq key_of self.old packets
             → CountsKeys K.eq key_of self.new (packets ++ packet.now ∷ []) }
     {
-        match self.index_of(&key) {
+        match self.index_of(&key, expected) {
             Some(index) => {
-                self.last = index;
                 let (_, tally) = self.tallies.pair_mut(index);
                 tally.add(packet);
+                index
             }
             None => {
+                let index = self.tallies.len();
                 let mut tally = Tally::NONE;
                 tally.add(packet);
-                self.last = self.tallies.len();
                 // The capacity is reserved.
                 self.tallies.insert(key, tally).unwrap();
+                index
             }
         }
     }
 
-    // The key that was counted last is tried first: packets of one sender often follow each other.
-    fn index_of(&self, key: &K) -> Option<usize>
+    fn index_of(&self, key: &K, expected: usize) -> Option<usize>
         requires exact { (a b : K) → K.eq a b ≡ true → a ≡ b }
         ensures found { IfSome result (λ i. (tally : Tally)
             × (slice_get self.now.entries i ≡ Some (key.now, tally))) }
         ensures absent { result ≡ None → lookup (K.eq key.now) self.now.entries ≡ None }
     {
-        match self.tallies.get_index(self.last) {
-            Some((last, _)) if last == key => Some(self.last),
+        match self.tallies.get_index(expected) {
+            Some((known, _)) if known == key => Some(expected),
             _ => match self.tallies.get_full(key) {
                 Some((index, _, _)) => Some(index),
                 None => None,

@@ -16,8 +16,8 @@ returns g c = λ packets old. record {
   rate = c.add-6.ensures packets old.rate;
   period = c.add-7.ensures packets old.period;
   lengths = c.add-8.ensures packets old.lengths;
-  reasons = c.add_keyed.ensures (λ (p : Outline). p.refusal) packets refl old.reasons;
-  talkers = c.add_keyed-2.ensures (λ (p : Outline). net_addresses p.headers.net) packets (sym
-      c.addresses.ensures) old.talkers;
-  senders = c.add_keyed-3.ensures verified_of packets (sym c.of.ensures) old.senders;
+  reasons = c.add_keyed-self.ensures (λ (p : Outline). p.refusal) packets refl old.reasons;
+  talkers = c.add_keyed.ensures (λ (p : Outline). net_addresses p.headers.net) packets (sym
+      c.addresses-addresses.ensures) old.talkers;
+  senders = c.add_keyed-2.ensures verified_of packets (sym c.of-sender.ensures) old.senders;
 }

@@ -4,13 +4,13 @@ use Rattle.packets.proofs.summary.table.Table.index_of.Goals as goal
 
 pub returns-in-Some-clause-found : goal.returns-in-Some-clause-found
 returns-in-Some-clause-found g c =
-    let stored = c.in-Some.last.now in
+    let stored = c.in-Some.known.now in
     let tally = c.in-Some.field-0-1.now in
     let same : stored ≡ c.args.key.now =
     c.requires.exact stored c.args.key.now (sym {b = g.K.PartialEq.eq stored c.args.key.now} c.if-eq.ensures) in (
       tally,
       sym (ap (λ k. Some (k, tally)) (sym same) ∙ c.in-Some.ensures.entry
-          ∙ (λ i. slice_get (c.self.view_is i).entries c.self.inside.last)),
+          ∙ (λ i. slice_get (c.self.view_is i).entries c.args.expected)),
     )
 
 pub returns-in-Some-get_full-clause-found : goal.returns-in-Some-get_full-clause-found

@@ -1,0 +1,82 @@
+//! Which keys of tables were counted last.
+ghost use Rattle.std.specs.Prelude.{◌<◌};
+
+use crate::Verified;
+use ep_packet::Addresses;
+
+/// The keys of a table are spread over so many buckets.
+pub(crate) const BUCKET_COUNT: usize = 1024;
+
+// Odd numbers without a pattern in their bits.
+const FIRST_FACTOR: u32 = 0x9e37_79b1;
+
+const SECOND_FACTOR: u32 = 0x27d4_eb2f;
+
+/// For each table of a summary, the index of the key that was counted last; of those with many keys
+/// for each bucket. Most packets have a key that is found there without a hash.
+#[derive(Drop)]
+pub(crate) struct Recent {
+    pub reason: usize,
+    pub talkers: [usize; BUCKET_COUNT],
+    pub senders: [usize; BUCKET_COUNT],
+}
+
+impl Recent {
+    /// Before the first packet.
+    pub(crate) fn new() -> Recent {
+        Recent {
+            reason: 0,
+            talkers: [0; BUCKET_COUNT],
+            senders: [0; BUCKET_COUNT],
+        }
+    }
+}
+
+/// The bucket of a pair of addresses. No count depends on which one it is.
+pub(crate) fn talker_bucket(addresses: Option<Addresses>) -> usize
+    ensures { result < BUCKET_COUNT }
+{
+    match addresses {
+        Some(
+            Addresses::V4 {
+                source,
+                destination,
+            },
+        ) => bucket(u32::from_be_bytes(source), u32::from_be_bytes(destination)),
+        Some(
+            Addresses::V6 {
+                source,
+                destination,
+            },
+        ) => bucket(folded(source), folded(destination)),
+        None => 0,
+    }
+}
+
+/// That of a sender.
+pub(crate) fn sender_bucket(sender: Option<Verified>) -> usize
+    ensures { result < BUCKET_COUNT }
+{
+    match sender {
+        Some(Verified::V4 { source, is_bad }) => bucket(u32::from_be_bytes(source), is_bad as u32),
+        Some(Verified::V6 { source, is_bad }) => bucket(folded(source), is_bad as u32),
+        None => 0,
+    }
+}
+
+// The highest ten bits of a sum of products depend on all bits of both numbers.
+fn bucket(first: u32, second: u32) -> usize
+    ensures { result < BUCKET_COUNT }
+{
+    let mixed = first
+        .wrapping_mul(FIRST_FACTOR)
+        .wrapping_add(second.wrapping_mul(SECOND_FACTOR));
+    (mixed >> 22) as usize
+}
+
+// The four words of an address, joined.
+fn folded(address: [u8; 16]) -> u32 {
+    let number = u128::from_be_bytes(address);
+    let halves = number ^ (number >> 64);
+    ((halves ^ (halves >> 32)) & 0xffff_ffff) as u32
+}
