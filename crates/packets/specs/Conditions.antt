@@ -31,7 +31,6 @@ use Rattle.packets.specs.Lengths.{is_cut}
 use Rattle.packets.specs.Outlines.{headers_of, refusal_of}
 use Rattle.packets.specs.declared.condition.Condition.{Condition}
 use Rattle.packets.specs.declared.condition.Condition.TheVariants as condition
-use Rattle.packets.specs.declared.condition.MessageHeader.{MessageHeader}
 use Rattle.packets.specs.declared.condition.Side.{Side}
 use Rattle.packets.specs.declared.condition.Side.TheVariants as side
 use Rattle.packets.specs.declared.condition.TcpFlag.{TcpFlag}
@@ -39,6 +38,7 @@ use Rattle.packets.specs.declared.condition.TcpFlag.TheVariants as tcp_flag
 use Rattle.packets.specs.declared.dissection.Dissection.{Dissection}
 use Rattle.packets.specs.declared.dissection.Fragment.{Fragment}
 use Rattle.packets.specs.declared.dissection.Fragment.TheVariants as fragment
+use Rattle.packets.specs.declared.message_header.MessageHeader.{MessageHeader}
 
 -- from the first to the last, both included
 abbrev pub is_within : (first last n : ℕ) → Bool

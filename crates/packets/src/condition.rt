@@ -2,25 +2,23 @@
 ghost use Rattle.std.specs.Prelude.{◌≡◌};
 ghost use Rattle.std.specs.Int.{w32, from_be_bytes};
 ghost use Rattle.std.specs.List.{list_any};
-ghost use Rattle.ep_packet.specs.Readable.{message_at};
-ghost use Rattle.packets.specs.Conditions.{are_within, arp_numbers, both_numbers, completed_header, datagram_header};
-ghost use Rattle.packets.specs.Conditions.{has_flag, has_host, has_port, has_vlan_id, holds_at, ipv4_bits_after, ipv4_numbers, ipv4_number};
-ghost use Rattle.packets.specs.Conditions.{ipv6_bits_after, ipv6_numbers, is_within, lax_has_vlan_id, lax_ipv4_numbers};
-ghost use Rattle.packets.specs.Conditions.{lax_ipv6_numbers, lax_net_ipv4_numbers, lax_net_ipv6_numbers, lax_transport_header};
-ghost use Rattle.packets.specs.Conditions.{message_header, net_ipv4_numbers, net_ipv6_numbers, packet_header, ports_of};
-ghost use Rattle.packets.specs.Conditions.{segment_header, transport_header};
+ghost use Rattle.packets.specs.Conditions.{are_within, arp_numbers, both_numbers, has_flag, has_host};
+ghost use Rattle.packets.specs.Conditions.{has_port, has_vlan_id, holds_at, ipv4_bits_after, ipv4_numbers};
+ghost use Rattle.packets.specs.Conditions.{ipv4_number, ipv6_bits_after, ipv6_numbers, is_within};
+ghost use Rattle.packets.specs.Conditions.{lax_has_vlan_id, lax_ipv4_numbers, lax_ipv6_numbers};
+ghost use Rattle.packets.specs.Conditions.{lax_net_ipv4_numbers, lax_net_ipv6_numbers, net_ipv4_numbers};
+ghost use Rattle.packets.specs.Conditions.{net_ipv6_numbers};
 ghost use Rattle.packets.specs.Counts.{is_bad};
 ghost use Rattle.packets.specs.LaxLayers.{lax_layers_of};
 
+use crate::message_header::{MessageHeader, ports_of};
 use crate::outline::refusal_of;
-use crate::{Dissection, Fragment, Headers, Protocol};
+use crate::{Dissection, Headers, Protocol};
 use checksum_verdicts::Verdict;
 use ep_base::EtherType;
 use ep_link::ArpPacketSlice;
-use ep_packet::{LaxNetSlice, LaxSlicedPacket, Message, NetSlice, TransportSlice, read_message};
+use ep_packet::{LaxNetSlice, LaxSlicedPacket, NetSlice};
 use ep_tag::VlanId;
-use ep_tcpudp::{TcpSlice, UdpSlice};
-use etherparse::defrag::IpDefragPayloadVec;
 use std::net::IpAddr;
 
 /// A condition on a packet. Numbers go from a first to a last, both included.
@@ -81,16 +79,6 @@ pub enum TcpFlag {
     Rst,
 }
 
-/// What conditions read of the header of a TCP or UDP message.
-#[derive(Clone, Copy)]
-pub(crate) struct MessageHeader {
-    source_port: u16,
-    destination_port: u16,
-    fin: bool,
-    syn: bool,
-    rst: bool,
-}
-
 impl Condition {
     ghost use Rattle.packets.specs.Conditions.{holds, ipv4_network, ipv6_network};
 
@@ -141,7 +129,7 @@ impl Condition {
             }
             Condition::Port(port) => has_port(dissection, *port, *port),
             Condition::Ports(first, last) => has_port(dissection, *first, *last),
-            Condition::Flag(flag) => has_flag(*flag, message_header(dissection)),
+            Condition::Flag(flag) => has_flag(*flag, MessageHeader::of(dissection)),
             Condition::VlanId(first, last) => has_vlan_id(dissection, *first, *last),
             Condition::WireLen(first, last) => {
                 *first <= dissection.wire_len && dissection.wire_len <= *last
@@ -195,7 +183,7 @@ fn has_port(dissection: &Dissection<'_>, first: u16, last: u16) -> bool
         Side::Either,
         u128::from(first),
         u128::from(last),
-        ports_of(message_header(dissection)),
+        ports_of(MessageHeader::of(dissection)),
     )
 }
 
@@ -370,92 +358,6 @@ fn ipv4_address(bytes: [u8; 4]) -> u128
     ensures { result ≡ from_be_bytes w32 bytes }
 {
     u128::from(u32::from_be_bytes(bytes))
-}
-
-fn message_header(dissection: &Dissection<'_>) -> Option<MessageHeader>
-    ensures { result ≡ message_header dissection.now.layers
-        (lax_layers_of dissection.now.header dissection.now.bytes) dissection.now.fragment }
-{
-    match &dissection.fragment {
-        Some(Fragment::Completes { message, .. }) => completed_header(message),
-        _ => packet_header(dissection),
-    }
-}
-
-fn completed_header(message: &IpDefragPayloadVec) -> Option<MessageHeader>
-    ensures { result ≡ completed_header
-        (message_at message.now.ip_number.0 message.now.payload.items) }
-{
-    match read_message(message.ip_number, message.payload.as_slice()) {
-        Ok(Message::Tcp(segment)) => Some(segment_header(&segment)),
-        Ok(Message::Udp(datagram)) => Some(datagram_header(&datagram)),
-        _ => None,
-    }
-}
-
-fn packet_header(dissection: &Dissection<'_>) -> Option<MessageHeader>
-    ensures { result ≡ packet_header dissection.now.layers
-        (lax_layers_of dissection.now.header dissection.now.bytes) }
-{
-    match &dissection.layers {
-        Ok(packet) => transport_header(&packet.transport),
-        Err(_) => lax_transport_header(&dissection.lax_layers()),
-    }
-}
-
-fn lax_transport_header(layers: &Option<LaxSlicedPacket<'_>>) -> Option<MessageHeader>
-    ensures { result ≡ lax_transport_header layers.now }
-{
-    match layers {
-        Some(packet) => transport_header(&packet.transport),
-        None => None,
-    }
-}
-
-fn transport_header(transport: &Option<TransportSlice<'_>>) -> Option<MessageHeader>
-    ensures { result ≡ transport_header transport.now }
-{
-    match transport {
-        Some(TransportSlice::Tcp(segment)) => Some(segment_header(segment)),
-        Some(TransportSlice::Udp(datagram)) => Some(datagram_header(datagram)),
-        _ => None,
-    }
-}
-
-fn segment_header(segment: &TcpSlice<'_>) -> MessageHeader
-    ensures { result ≡ segment_header segment.now }
-{
-    MessageHeader {
-        source_port: segment.source_port(),
-        destination_port: segment.destination_port(),
-        fin: segment.fin(),
-        syn: segment.syn(),
-        rst: segment.rst(),
-    }
-}
-
-fn datagram_header(datagram: &UdpSlice<'_>) -> MessageHeader
-    ensures { result ≡ datagram_header datagram.now }
-{
-    MessageHeader {
-        source_port: datagram.source_port(),
-        destination_port: datagram.destination_port(),
-        fin: false,
-        syn: false,
-        rst: false,
-    }
-}
-
-fn ports_of(header: Option<MessageHeader>) -> Option<(u128, u128)>
-    ensures { result ≡ ports_of header }
-{
-    match header {
-        Some(header) => Some((
-            u128::from(header.source_port),
-            u128::from(header.destination_port),
-        )),
-        None => None,
-    }
 }
 
 fn has_flag(flag: TcpFlag, header: Option<MessageHeader>) -> bool
