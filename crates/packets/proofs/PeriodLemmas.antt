@@ -1,5 +1,5 @@
 -- The least and the greatest time of packets and one more.
-use Rattle.std.proofs.Common.{◌≡◌, ℕ, List, [], ◌∷◌, ◌++◌, Option, Some, None, refl, arith, ap, min, max, ◌∙◌}
+use Rattle.std.proofs.Common.{◌≡◌, ℕ, List, [], ◌∷◌, ◌++◌, Option, Some, None, refl, arith, min, max}
 use Rattle.packets.specs.Period.{earliest_of, latest_of, max_with, min_with}
 use Rattle.packets.specs.declared.outline.Outline.{Outline}
 
