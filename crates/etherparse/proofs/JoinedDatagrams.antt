@@ -1,6 +1,6 @@
 -- Lists of accepted fragments, and the datagrams that are joined from them.
 use Rattle.std.proofs.Common.{arith, ◌≡◌, ◌∙◌, sym, subst, refl, ℕ, Bool, true, false, cond, inl, inr, Option, Some}
-use Rattle.std.proofs.Common.{None, option_map, List, [], ◌∷◌, ◌++◌}
+use Rattle.std.proofs.Common.{option_map, List, [], ◌∷◌, ◌++◌}
 use Rattle.std.specs.Prelude.{◌==◌, ◌&&◌, nat_lt}
 use Rattle.ep_packet.specs.Class.{Class, FragmentName, class_of}
 use Rattle.ep_packet.specs.Class.Class.{Whole, Cut, Other, Refused as Faulty}
