@@ -1,10 +1,9 @@
 -- What is read of bytes, as far as it is there, lies within them.
-use Rattle.std.proofs.Common.{◌≡◌, sym, ap, subst, refl, ℕ, zero, suc, ◌+◌, ◌-◌, ◌≤◌, ◌<◌, ◌^◌, Bool, true, false, List, []}
+use Rattle.std.proofs.Common.{◌≡◌, sym, ap, subst, refl, ℕ, zero, suc, ◌+◌, ◌≤◌, Bool, true, false, List, []}
 use Rattle.std.proofs.Common.{◌∷◌, length, take, drop, Option, Some, None, Result, Ok, Err, IfOk, IfErr, IfSome, arith}
 use Rattle.std.specs.Option.{option_map}
 use Rattle.std.proofs.lemmas.Bool.{ltb-false}
 use Rattle.std.proofs.lemmas.List.{length-drop, length-take-le}
-use Rattle.std.proofs.Common.{◌++◌}
 use Rattle.ep_base.specs.declared.err.layer.Layer.{Layer}
 use Rattle.ep_base.specs.declared.err.slice_error.SliceError.{SliceError as HeaderSliceError}
 use Rattle.ep_packet.specs.LaxFits.{StopFits, TagsFit}
@@ -15,8 +14,8 @@ use Rattle.ep_base.specs.declared.err.layer.Layer.TheVariants.{VlanHeader}
 use Rattle.ep_base.specs.declared.err.len_error.LenError.{LenError}
 use Rattle.ep_packet.specs.SliceFault.{fault_offset, offset_by}
 use Rattle.ep_packet.specs.declared.err.packet.slice_error.SliceError.{SliceError}
-use Rattle.ep_packet.proofs.LaxTagsLemmas.{joined, lax_from_tag, lax_macsec_tag, lax_read_further, lax_tags_turn, lax_vlan_tag}
-use Rattle.ep_packet.proofs.LaxTagsLemmas.{tag_fault_at_start}
+use Rattle.ep_packet.proofs.LaxTagsLemmas.{joined, lax_from_tag, lax_macsec_tag, lax_read_further, lax_tags_turn}
+use Rattle.ep_packet.proofs.LaxTagsLemmas.{lax_vlan_tag, tag_fault_at_start}
 use Rattle.ep_tag.specs.Ether.{LaxEtherPayload}
 use Rattle.ep_tag.specs.LinkExt.{lax_payload_after, lax_tag_len}
 use Rattle.ep_tag.specs.Macsec.{header_len_of}

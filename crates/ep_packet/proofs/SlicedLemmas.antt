@@ -1,5 +1,5 @@
 -- The layers of a packet together.
-use Rattle.std.proofs.Common.{◌≡◌, ℕ, ◌≤◌, drop, ◌+◌, List, ◌∷◌, length, Option, Some, [], None, Result, Ok, Err, IfOk}
+use Rattle.std.proofs.Common.{◌≡◌, ℕ, ◌≤◌, drop, ◌+◌, List, length, Option, Some, None, Result, Ok, Err, IfOk}
 use Rattle.std.proofs.Common.{IfSome, IsSome, ◌<◌, ◌^◌, arith, sym, subst}
 use Rattle.std.specs.Option.{ok_or}
 use Rattle.ep_base.specs.declared.len_source.LenSource.TheVariants as source
@@ -10,7 +10,7 @@ use Rattle.ep_link.specs.SllPayload.{ether_payload_of, named_payload, payload_of
 use Rattle.ep_link.specs.declared.link.linux_sll_protocol_type.LinuxSllProtocolType.{LinuxSllProtocolType}
 use Rattle.ep_link.specs.declared.link.linux_sll_protocol_type.LinuxSllProtocolType.TheVariants as protocol
 use Rattle.ep_link.specs.declared.link.link_slice.LinkSlice.{LinkSlice}
-use Rattle.ep_packet.specs.Parts.{AreTagsAt, ArePartsOf, IsAt, IsNetAt, LayersIn, StandAt, TagsIn, headers_len}
+use Rattle.ep_packet.specs.Parts.{ArePartsOf, IsAt, IsNetAt, LayersIn, StandAt, TagsIn, headers_len}
 use Rattle.ep_packet.specs.Parts.{tags_len, transport_bytes}
 use Rattle.ep_packet.specs.SliceFault.{later, offset_by, fault_offset}
 use Rattle.ep_packet.specs.Sliced.{Layers, layers_in, no_layers, packet_after, packet_of}
@@ -22,8 +22,6 @@ use Rattle.ep_packet.specs.declared.sliced_packet.SlicedPacket.{SlicedPacket}
 use Rattle.ep_packet.specs.declared.transport.transport_slice.TransportSlice.{TransportSlice}
 use Rattle.ep_packet.proofs.PartsLemmas.{at_drop, at_fits, at_later, tags_later}
 use Rattle.ep_tag.specs.Ether.{EtherPayload}
-use Rattle.ep_tag.specs.LinkExt.{tag_len}
-use Rattle.ep_tag.specs.declared.link.link_ext_slice.LinkExtSlice.{LinkExtSlice}
 
 -- the results for a packet after a link header
 pub faulty_tags : (link : LinkSlice) (p : EtherPayload) (n : ℕ) (e returned : SliceError)
