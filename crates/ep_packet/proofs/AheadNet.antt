@@ -56,7 +56,7 @@ use Rattle.ep_packet.specs.LaxSliced.{no_layers}
 use Rattle.ep_packet.specs.LaxSliced.{of_auth, of_ipv4_header, of_ipv6_exts, of_ipv6_header, with_transport}
 use Rattle.ep_packet.specs.LaxTags.{Stop}
 use Rattle.ep_packet.specs.LaxWhole.{whole_net}
-use Rattle.ep_packet.specs.LayersAhead.{IsAuthFault, IsIpv4Ahead, IsIpv6Ahead, IsNetAhead, is_passed_over}
+use Rattle.ep_packet.specs.LayersAhead.{IsAuthFault, IsNetAhead, is_passed_over}
 use Rattle.ep_packet.specs.LayersAhead as layers_ahead
 use Rattle.ep_packet.specs.SliceFault.{of_ipv4, of_ipv6}
 use Rattle.ep_packet.specs.Sliced as strict

@@ -6,7 +6,6 @@ use Rattle.std.specs.Option.{option_map_or}
 use Rattle.std.specs.Prelude.{⊤}
 use Rattle.std.specs.Result.{result_ok}
 use Rattle.ep_base.specs.declared.err.len_error.LenError.{LenError}
-use Rattle.ep_ip.specs.Ipv4 as v4
 use Rattle.ep_ipslice.specs.Ipv6Packet.{extensions_in}
 use Rattle.ep_ipslice.specs.Packet.{FragmentFields, IpPayload, Ipv4Packet, Ipv6Packet, IsWholeIpv6}
 use Rattle.ep_ipslice.specs.Packet.{ipv4_fragment_fields, ipv4_payload, ipv6_fragment_fields}
@@ -14,7 +13,6 @@ use Rattle.ep_ipslice.specs.declared.err.ipv4.slice_error.SliceError.{SliceError
 use Rattle.ep_ipslice.specs.declared.err.ipv6.slice_error.SliceError.{SliceError as Ipv6Fault}
 use Rattle.ep_link.specs.Ethernet.{payload_of}
 use Rattle.ep_link.specs.declared.link.link_slice.LinkSlice.{LinkSlice}
-use Rattle.ep_link.specs.declared.link.link_slice.LinkSlice.TheVariants as link
 use Rattle.ep_packet.specs.Class.{Class, class_of, fragmented_class, ip_class, ipv4_addresses, ipv6_addresses}
 use Rattle.ep_packet.specs.Class.{net_class, payload_class, sliced_class, whole_class}
 use Rattle.ep_packet.specs.Class.Class.{Other, Refused, Whole}
@@ -26,7 +24,6 @@ use Rattle.ep_packet.specs.Sliced.{packet_tagged, packet_with, read_transport, s
 use Rattle.ep_packet.specs.Tags.{Tagged, most_tags, tags_in, vlan_ids_of}
 use Rattle.ep_packet.specs.declared.addresses.Addresses.{Addresses}
 use Rattle.ep_packet.specs.declared.err.packet.slice_error.SliceError.{SliceError}
-use Rattle.ep_packet.specs.declared.net.net_slice.NetSlice.{NetSlice}
 use Rattle.ep_packet.specs.declared.net.net_slice.NetSlice.TheVariants as net
 use Rattle.ep_packet.specs.declared.sliced_packet.SlicedPacket.{SlicedPacket}
 use Rattle.ep_packet.specs.declared.transport.transport_slice.TransportSlice.{TransportSlice}

@@ -1,11 +1,8 @@
 -- Faults with offsets from an earlier start.
 use Rattle.std.proofs.Common.{◌≡◌, ℕ, ◌+◌, ◌≤◌, arith}
 use Rattle.ep_ipslice.specs.FaultOffset.{ip_offset, ipv6_offset}
-use Rattle.ep_ipslice.specs.declared.err.ip.headers_error.HeadersError.TheVariants as headers
 use Rattle.ep_ipslice.specs.declared.err.ip.slice_error.SliceError.{SliceError as IpFault}
-use Rattle.ep_ipslice.specs.declared.err.ip.slice_error.SliceError.TheVariants as ip
 use Rattle.ep_ipslice.specs.declared.err.ipv6.slice_error.SliceError.{SliceError as Ipv6Fault}
-use Rattle.ep_ipslice.specs.declared.err.ipv6.slice_error.SliceError.TheVariants as ipv6
 use Rattle.ep_packet.specs.SliceFault.{offset_by, of_ip, of_ipv6, fault_offset}
 use Rattle.ep_packet.specs.declared.err.packet.slice_error.SliceError.{SliceError}
 

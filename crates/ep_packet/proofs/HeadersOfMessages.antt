@@ -14,7 +14,6 @@ use Rattle.ep_ipslice.specs.Packet.{IpPayload}
 use Rattle.ep_packet.specs.HeaderLayers.{MessageParts, icmpv4_parts, icmpv6_parts, message_in, message_parts, tcp_parts}
 use Rattle.ep_packet.specs.HeaderLayers.{udp_parts}
 use Rattle.ep_packet.specs.Payload.{Payload}
-use Rattle.ep_packet.specs.Payload as payload
 use Rattle.ep_packet.specs.Readable.{ReadMessage, message_at, tcp_fault}
 use Rattle.ep_packet.specs.Readable.ReadMessage.{Icmpv4, Icmpv6, Raw, Tcp, Udp}
 use Rattle.ep_packet.specs.Readable as number
@@ -24,7 +23,6 @@ use Rattle.ep_packet.specs.Sliced.{result_within, read_transport, transport_in, 
 use Rattle.ep_packet.specs.declared.err.packet.slice_error.SliceError.{SliceError}
 use Rattle.ep_packet.specs.declared.err.packet.slice_error.SliceError.TheVariants.{Len}
 use Rattle.ep_packet.specs.declared.transport.transport_header.TransportHeader.{TransportHeader}
-use Rattle.ep_packet.specs.declared.transport.transport_header.TransportHeader.TheVariants as transport
 use Rattle.ep_packet.specs.declared.transport.transport_slice.TransportSlice.{TransportSlice}
 use Rattle.ep_packet.specs.declared.transport.transport_slice.TransportSlice.TheVariants as slice
 use Rattle.ep_tcpudp.specs.TcpFault.{segment_at}

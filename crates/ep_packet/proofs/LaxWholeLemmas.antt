@@ -61,7 +61,6 @@ use Rattle.ep_tag.specs.MacsecLax.{complete, lax_macsec_at}
 use Rattle.ep_tag.specs.MacsecPayload.{Macsec, macsec_at}
 use Rattle.ep_tag.specs.Prefix.{whole_at}
 use Rattle.ep_tag.specs.declared.link.link_ext_slice.LinkExtSlice.{LinkExtSlice}
-use Rattle.ep_tag.specs.declared.link.link_ext_slice.LinkExtSlice.TheVariants as tag
 use Rattle.ep_tcpudp.specs.UdpFault.{lax_udp_at, udp_at}
 
 -- tags and layers that are there, as those that are there as far as they go

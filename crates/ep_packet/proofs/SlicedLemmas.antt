@@ -2,13 +2,11 @@
 use Rattle.std.proofs.Common.{◌≡◌, ℕ, ◌≤◌, drop, ◌+◌, List, length, Option, Some, None, Result, Ok, Err, IfOk}
 use Rattle.std.proofs.Common.{IfSome, IsSome, ◌<◌, ◌^◌, arith, sym, subst}
 use Rattle.std.specs.Option.{ok_or}
-use Rattle.ep_base.specs.declared.len_source.LenSource.TheVariants as source
 use Rattle.ep_ext.specs.Ipv4Exts.{auth_bytes}
 use Rattle.ep_link.specs.Sll.{sll_len}
 use Rattle.ep_link.specs.SllFault.{whole_at as sll_at}
 use Rattle.ep_link.specs.SllPayload.{ether_payload_of, named_payload, payload_of}
 use Rattle.ep_link.specs.declared.link.linux_sll_protocol_type.LinuxSllProtocolType.{LinuxSllProtocolType}
-use Rattle.ep_link.specs.declared.link.linux_sll_protocol_type.LinuxSllProtocolType.TheVariants as protocol
 use Rattle.ep_link.specs.declared.link.link_slice.LinkSlice.{LinkSlice}
 use Rattle.ep_packet.specs.Parts.{ArePartsOf, IsAt, IsNetAt, LayersIn, StandAt, TagsIn, headers_len}
 use Rattle.ep_packet.specs.Parts.{tags_len, transport_bytes}

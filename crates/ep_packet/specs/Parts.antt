@@ -1,7 +1,7 @@
 -- The offsets in a frame of its parts: tags, headers and payloads.
 use Rattle.std.specs.Prelude.{◌≡◌, ℕ, ◌+◌, ⊤, List, [], ◌∷◌, ◌++◌, length, Option, Some, None, IfSome}
 use Rattle.ep_ext.specs.Ipv4Exts.{auth_bytes}
-use Rattle.ep_packet.specs.Sliced.{Layers, no_layers}
+use Rattle.ep_packet.specs.Sliced.{Layers}
 use Rattle.ep_packet.specs.Tags.{Tagged}
 use Rattle.ep_packet.specs.declared.net.net_slice.NetSlice.{NetSlice}
 use Rattle.ep_packet.specs.declared.net.net_slice.NetSlice.TheVariants as net

@@ -2,7 +2,7 @@
 ghost use Rattle.std.specs.Prelude.{◌≡◌};
 ghost use Rattle.ep_ipslice.specs.Packet.{fragment_fields};
 ghost use Rattle.ep_packet.specs.Class.{IdentificationFits, ClassFits, as_class, class_of, fragmented_class};
-ghost use Rattle.ep_packet.specs.Class.{ipv4_addresses, ipv6_addresses, net_class, packet_parsed, whole_class};
+ghost use Rattle.ep_packet.specs.Class.{net_class, packet_parsed, whole_class};
 ghost use Rattle.ep_packet.specs.Tags.{vlan_ids_of};
 ghost use Rattle.ep_packet.specs.declared.net.net_slice.NetSlice.TheVariants as net;
 

@@ -1,7 +1,6 @@
 //! The headers of the network and the transport layer in a payload, as far as they are there.
 ghost use Rattle.std.specs.Prelude.{◌≡◌, ◌<◌, ◌^◌, ◌+◌, length, IfSome};
 ghost use Rattle.std.specs.Option.{option_map};
-ghost use Rattle.ep_ext.specs.Ipv4Exts.{auth_bytes};
 ghost use Rattle.ep_ipslice.specs.Compared.{lax_value};
 ghost use Rattle.ep_ipslice.specs.LaxPackets.{lax_ipv4_packet_at};
 ghost use Rattle.ep_link.specs.Arp.{packet_at};
@@ -12,7 +11,7 @@ ghost use Rattle.ep_packet.specs.LaxPacketHeaders.{lax_after_message, lax_arp_he
 ghost use Rattle.ep_packet.specs.LaxPacketHeaders.{lax_ipv4_headers, lax_ipv6_headers, no_lax_headers};
 ghost use Rattle.ep_packet.specs.LaxPacketHeaders.{with_lax_message};
 ghost use Rattle.ep_packet.specs.LaxPayload.{lax_payload_parsed};
-ghost use Rattle.ep_packet.specs.LaxSliced.{auth_stop, ipv6_exts_stop, lax_transport_in};
+ghost use Rattle.ep_packet.specs.LaxSliced.{auth_stop, lax_transport_in};
 ghost use Rattle.ep_packet.specs.SameHeaders.{transport_fields};
 
 use crate::err::packet::SliceError;

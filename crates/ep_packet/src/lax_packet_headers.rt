@@ -6,7 +6,6 @@ ghost use Rattle.ep_packet.specs.LaxPacketHeaders.{lax_last_of, lax_linux_sll_he
 ghost use Rattle.ep_packet.specs.LaxPacketHeaders.{lax_named_after, lax_result_parsed};
 ghost use Rattle.ep_packet.specs.LaxPayload.{lax_payload_parsed};
 ghost use Rattle.ep_packet.specs.PacketHeaders.{ids_in, vlan_headers, vlan_header_of};
-ghost use Rattle.ep_tag.specs.Ether.{complete_ether};
 ghost use Rattle.ep_tag.specs.LinkExt.{lax_fields_of};
 
 use crate::err::packet::SliceError;

@@ -1,5 +1,5 @@
 //! The headers of the network and the transport layer, after the tags.
-ghost use Rattle.std.specs.Prelude.{◌≡◌, ◌≤◌, ◌<◌, ◌+◌, ◌^◌, ℕ, length, IfErr, IfOk, Ok, Err};
+ghost use Rattle.std.specs.Prelude.{◌≡◌, ◌≤◌, ◌<◌, ◌+◌, ◌^◌, ℕ, length, IfErr, Ok, Err};
 ghost use Rattle.ep_packet.specs.HeaderLayers.{HeaderLayers, in_packet, ip_layers, ipv4_layers, ipv6_layers, layers_of};
 ghost use Rattle.ep_packet.specs.HeaderLayers.{message_in, message_parts, of_headers, packet_len};
 ghost use Rattle.ep_packet.specs.IpHeadersAt.{ip_headers_at, ipv4_headers_at, ipv6_headers_at};

@@ -1,6 +1,6 @@
 //! Laws that relate headers to the slices of the same packet, at values worked out by hand after
 //! IEEE 802.3 and 802.1AE, and RFC 768, 791, 792, 826, 4443 and 9293.
-ghost use Rattle.std.specs.Prelude.{◌≡◌, [], ◌∷◌, ◌++◌, true, false, Some, None};
+ghost use Rattle.std.specs.Prelude.{◌≡◌, [], ◌∷◌, ◌++◌, false, Some, None};
 ghost use Rattle.ep_base.specs.declared.len_source.LenSource.TheVariants as source;
 ghost use Rattle.ep_link.specs.Frame.{without_fcs};
 ghost use Rattle.ep_link.specs.declared.link.link_header.LinkHeader.TheVariants as link_header;

@@ -15,7 +15,7 @@ returns-in-Err-clause-offset c = λ n fits.
       arith,
       c.faults_can_be_moved.ensures.ipv6_in order c.args.slice.now c.in-Err.error
           (c.refusals_are_first_faults.ensures.ipv6_alone c.args.slice.now c.in-Err.error
-              (sym c.in-Err.ensures.exact)) n fits,
+          (sym c.in-Err.ensures.exact)) n fits,
       ap fault_offset c.of_ipv6.ensures
           ∙ offset_of_ipv6 c.in-Err.error,
     )
