@@ -2,10 +2,10 @@
 
 mod buffer_scripts;
 mod buffers;
+mod colliding_names;
 mod errors;
 mod fragments;
 mod frames;
-mod hasher_states;
 mod late_fragments;
 mod lengths;
 mod memory;

@@ -3,6 +3,7 @@
 pub(crate) mod bars;
 pub(crate) mod lengths;
 pub(crate) mod numbers;
+pub(crate) mod offload;
 pub(crate) mod period;
 pub(crate) mod rate;
 pub(crate) mod recent;

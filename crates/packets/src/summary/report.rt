@@ -2,13 +2,13 @@
 
 use crate::summary::bars::{Bar, column, steps_of};
 use crate::summary::lengths::Lengths;
+use crate::summary::offload::write_offload;
 use crate::summary::period::Period;
 use crate::summary::rate::Rate;
 use crate::summary::sizes::Sizes;
 use crate::summary::summary::{ChecksumTallies, ProtocolTallies, Summary};
 use crate::summary::table::Table;
 use crate::summary::tally::Tally;
-use crate::summary::verified::Verified;
 use crate::{Protocol, Reason};
 use captures::Skipped;
 use ep_base::IpNumber;
@@ -137,44 +137,6 @@ fn write_lengths<W: fmt::Write>(
         writeln!(f)?;
     }
     writeln!(f, "bytes on the wire: {wire}, captured: {captured}")
-}
-
-// That a capture was probably taken on the one host whose checksums are bad, if most of them are: a
-// network card fills them in after the host captured its packets.
-fn write_offload<W: fmt::Write, S: BuildHasher>(
-    f: &mut fmt::Formatter<W>,
-    senders: &Table<Verified, S>,
-) -> fmt::Result {
-    let Some((sender, bad)) = only_bad(senders) else {
-        return Ok(());
-    };
-    let good = senders.tally_at(&sender.with_good_checksum()).packets;
-    if bad <= good {
-        return Ok(());
-    }
-    let all = bad.saturating_add(good);
-    let host = sender.source();
-    writeln!(
-        f,
-        "checksums: {bad} of {all} of {host} are bad, and none of others: probably captured on \
-        that host before its network card filled them in (--no-checksums)"
-    )
-}
-
-// The one sender with bad checksums, if there is one and no other, and how many there are.
-fn only_bad<S: BuildHasher>(senders: &Table<Verified, S>) -> Option<(Verified, u64)> {
-    let mut found = None;
-    for index in 0..senders.len() {
-        if let Some((sender, tally)) = senders.get(index) {
-            if sender.is_bad() {
-                if found.is_some() {
-                    return None;
-                }
-                found = Some((*sender, tally.packets));
-            }
-        }
-    }
-    found
 }
 
 // The verdicts on checksums, if a message was read.
