@@ -235,7 +235,7 @@ fn a_copy_is_equal(rt: HostRuntime) {
         fail(rt, "no memory for a copy");
     };
     equal(rt, &copy, &buf);
-    goes(rt, "behind the copy", &mut buf, &AT_ZERO);
+    goes(rt, "after the copy", &mut buf, &AT_ZERO);
     holds(rt, copy != buf);
 }
 
@@ -244,7 +244,7 @@ const AGAIN: &[(Step, Script)] = &[
     (
         Step(0, false, &[0; 9], Whole, 9),
         Script {
-            name: "behind a whole message",
+            name: "after a whole message",
             rule: OverlapRule::Overwrites,
             steps: &[Step(1, true, &[0; 8], Open, 16)],
             left: Left {

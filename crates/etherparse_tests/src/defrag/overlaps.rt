@@ -180,7 +180,7 @@ const NO_OVERLAPS: &[Script] = &[
         },
     },
     Script {
-        name: "behind the end",
+        name: "after the end",
         rule: OverlapRule::Refuses,
         steps: &[MIDDLE, Step(3, true, BYTES_24_32, Open, 32)],
         left: Left {
@@ -190,7 +190,7 @@ const NO_OVERLAPS: &[Script] = &[
         },
     },
     Script {
-        name: "a last one behind the end",
+        name: "a last one after the end",
         rule: OverlapRule::Refuses,
         steps: &[MIDDLE, Step(3, false, BYTES_24_32, Open, 32)],
         left: Left {
@@ -308,7 +308,7 @@ const DATAGRAMS: &[Script] = &[
         },
     },
     Script {
-        name: "a message behind the refusals",
+        name: "a message after the refusals",
         rule: OverlapRule::Refuses,
         steps: &[
             Step(1, false, BYTES_8_16, Open, 16),
