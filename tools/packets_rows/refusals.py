@@ -59,7 +59,7 @@ def reasons():
     packet = v6(51, empty + message)
     yield refused(frame(IPV6, packet), line, error, line, ip_there(packet, "AH", "AH"))
     hops = b"\x00\0\1\4\0\0\0\0" + b"\x11\0\1\4\0\0\0\0"
-    line = "hop-by-hop options behind another header"
+    line = "hop-by-hop options after another header"
     error = {"error": {"Ipv6Exts": "HopByHopNotAtStart"}}
     packet = v6(60, hops + message)
     # The first header is of destination options.
@@ -95,7 +95,7 @@ def fragments():
     outcome = refused_fragment({"UnalignedFragmentPayloadLen": {"offset": 0, "payload_len": 11}})
     yield fragment4(one, 17, 0, 11, 1, line, outcome, "UDP", refused="fragment of no multiple of 8 bytes")
     line = "UDP fragment at 65528 len 8, last (id 0x0001) "
-    line += "refused: ends behind the 65535 bytes of the longest message"
+    line += "refused: ends beyond the 65535 bytes of the longest message"
     outcome = refused_fragment({"SegmentTooBig": {"offset": 8191, "payload_len": 8, "max": 65535}})
     long = bytes(65528) + b"01234567"
     yield fragment4(long, 17, 65528, 65536, 1, line, outcome, "UDP", refused="fragment beyond 65535 bytes")

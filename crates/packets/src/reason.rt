@@ -150,7 +150,7 @@ impl fmt::Display for Reason {
             Reason::IpVersion => f.write_str("IP header of another version"),
             Reason::Ipv4HeaderLen => f.write_str("IPv4 header length below 5"),
             Reason::AuthHeaderLen => f.write_str("authentication header of length 0"),
-            Reason::HopByHopNotFirst => f.write_str("hop-by-hop options behind another header"),
+            Reason::HopByHopNotFirst => f.write_str("hop-by-hop options after another header"),
             Reason::TcpDataOffset => f.write_str("TCP data offset below 5"),
             Reason::FragmentUnaligned => f.write_str("fragment of no multiple of 8 bytes"),
             Reason::FragmentTooLong => f.write_str("fragment beyond 65535 bytes"),

@@ -162,7 +162,7 @@ const TEXTS_OF_REASONS: &[(Reason, &str)] = &[
     (Reason::IpVersion, "IP header of another version"),
     (Reason::Ipv4HeaderLen, "IPv4 header length below 5"),
     (Reason::AuthHeaderLen, "authentication header of length 0"),
-    (Reason::HopByHopNotFirst, "hop-by-hop options behind another header"),
+    (Reason::HopByHopNotFirst, "hop-by-hop options after another header"),
     (Reason::TcpDataOffset, "TCP data offset below 5"),
     (Reason::FragmentUnaligned, "fragment of no multiple of 8 bytes"),
     (Reason::FragmentTooLong, "fragment beyond 65535 bytes"),

@@ -93,7 +93,7 @@ pub fn ip_auth(line: &mut Line<'_>, error: &ip_auth::HeaderError) -> Result<(), 
 pub fn ipv6_exts(line: &mut Line<'_>, error: &ipv6_exts::HeaderError) -> Result<(), AllocError> {
     match error {
         ipv6_exts::HeaderError::HopByHopNotAtStart => {
-            line.text("hop-by-hop options behind another header")
+            line.text("hop-by-hop options after another header")
         }
         ipv6_exts::HeaderError::IpAuth(error) => ip_auth(line, error),
     }

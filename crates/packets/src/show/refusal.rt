@@ -42,7 +42,7 @@ pub(crate) fn fragment(line: &mut Line<'_>, error: &IpDefragError) -> Result<(),
             line.text(" bytes are no multiple of 8")
         }
         IpDefragError::SegmentTooBig { max, .. } => {
-            line.counted("ends behind the ", u64::from(*max))?;
+            line.counted("ends beyond the ", u64::from(*max))?;
             line.text(" bytes of the longest message")
         }
         IpDefragError::ConflictingEnd {
