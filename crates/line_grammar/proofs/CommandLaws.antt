@@ -15,8 +15,9 @@ use Rattle.hex.specs.Hex.{decode_of}
 use Rattle.hex.proofs.HexLemmas.{decode_of-ok}
 use Rattle.hex.specs.declared.error.FromHexError.{FromHexError}
 use Rattle.lines.specs.declared.limits.TheConstants.{LINE_LIMIT}
-use Rattle.line_grammar.specs.Commands.{Command, command_of, frame_command_of, frame_on, is_number, is_space}
-use Rattle.line_grammar.specs.Commands.{ForgetLinesAreTheGrammar, FrameLinesAreTheGrammar, IsForgetLine, IsFrameLine}
+use Rattle.line_grammar.specs.Commands.{Command, command_of, frame_command_of, frame_on, is_channel, is_number}
+use Rattle.line_grammar.specs.Commands.{is_space, ForgetLinesAreTheGrammar, FrameLinesAreTheGrammar, IsForgetLine}
+use Rattle.line_grammar.specs.Commands.{IsFrameLine}
 use Rattle.line_grammar.specs.Commands.Command.{Frame, Forget, Bad}
 use Rattle.line_grammar.proofs.CommandLemmas.{command_of-forget, command_of-frame, decode_of-nil, none_on}
 
@@ -83,9 +84,8 @@ has_parts line channel bytes is =
     (frame_command_of text) (digits_value 10 (drop 7 line)) channel bytes is in
     let number : List ℕ = before_first is_space text in
     let digits : List ℕ = after_first is_space text in
-    let inner = if_is (is_number 10 4294967295 number)
-    (frame_on (digits_value 10 number) (decode_of digits)) (Frame channel bytes)
-    (no_frame channel bytes) begins.2 in
+    let inner = if_is (is_channel number) (frame_on (digits_value 10 number) (decode_of digits))
+    (Frame channel bytes) (no_frame channel bytes) begins.2 in
     let found = on_frame (digits_value 10 number) channel (decode_of digits) bytes inner.1 in
     let tests = number_tests 10 4294967295 number inner.0 in
     let there = space_there text channel bytes begins.2 in
@@ -134,7 +134,7 @@ on_bytes channel bytes some = grind arith
 
 -- what a line that has the head of a frame's line requests
 pub frame_text : (line number digits : List ℕ) → length line ≤ LINE_LIMIT
-    → line ≡ codes "frame " ++ (number ++ 32 ∷ digits) → is_number 10 4294967295 number ≡ true
+    → line ≡ codes "frame " ++ (number ++ 32 ∷ digits) → is_channel number ≡ true
     → command_of line ≡ frame_on (digits_value 10 number) (decode_of digits)
 frame_text line number digits short parts tested =
     grind (arith, number_tests, command_of-frame, starts_is, number_first, digits_after)
@@ -154,7 +154,7 @@ frame_lines_are_the_grammar line channel bytes =
     (has_parts line channel bytes, is_frame line channel bytes)
 
 -- a frame's line by its channel and its digits
-pub frame_has_line : (channel digits frame : List ℕ) → is_number 10 4294967295 channel ≡ true
+pub frame_has_line : (channel digits frame : List ℕ) → is_channel channel ≡ true
     → decode_of digits ≡ Ok frame → 1 ≤ length frame
     → 7 + length channel + 2 * length frame ≤ LINE_LIMIT
     → command_of (codes "frame " ++ channel ++ codes " " ++ digits)
@@ -181,7 +181,7 @@ has_number line number is =
     let begins = chosen_forget (nat_le (length line) LINE_LIMIT)
     (starts_with nat_eq line (codes "frame ")) (starts_with nat_eq line (codes "forget "))
     (is_number 20 18446744073709551615 digits) (frame_command_of text) (digits_value 10 digits) number
-    (frame_no_forget (is_number 10 4294967295 (before_first is_space text))
+    (frame_no_forget (is_channel (before_first is_space text))
     (digits_value 10 (before_first is_space text)) number
     (decode_of (after_first is_space text))) is in
     let tests = number_tests 20 18446744073709551615 digits begins.1 in

@@ -13,7 +13,7 @@ use Rattle.std.proofs.lemmas.Slice.Eq.{starts_is}
 use Rattle.hex.specs.Hex.{decode_of}
 use Rattle.hex.specs.declared.error.FromHexError.{FromHexError}
 use Rattle.hex.proofs.HexLemmas.{decode_of-ok}
-use Rattle.line_grammar.specs.Commands.{Command, command_of, frame_on, is_number, is_space}
+use Rattle.line_grammar.specs.Commands.{Command, command_of, frame_on, is_channel, is_space}
 use Rattle.line_grammar.specs.Commands.Command.{Frame, Bad}
 use Rattle.line_grammar.specs.TimedLines.{channel_frame, digits_before, digits_frame, frame_at, frame_before, no_time}
 use Rattle.line_grammar.specs.TimedLines.{text_before, text_frame, third_space, time_of, timed_frame_of}
@@ -30,7 +30,7 @@ no_frame_at : (time : Option Time) (c : Command)
 no_frame_at time c none = grind arith
 
 module _ (line : List ℕ) (none : (number digits : List ℕ)
-    → line ≡ codes "frame " ++ (number ++ 32 ∷ digits) → is_number 10 4294967295 number ≡ true → ⊥) where
+    → line ≡ codes "frame " ++ (number ++ 32 ∷ digits) → is_channel number ≡ true → ⊥) where
   prefix_no_frame : (prefix more : List ℕ) → line ≡ prefix ++ more → (channel : ℕ) (bytes : List ℕ)
       → command_of prefix ≡ Frame channel bytes → ⊥
   prefix_no_frame prefix more cut channel bytes is =
@@ -62,7 +62,7 @@ space_some : (text : List ℕ) (n : ℕ) → position_or_len is_space text ≡ n
     → position is_space text ≡ Some n
 space_some text n at lt = grind arith
 
-space_at : (number digits text : List ℕ) → text ≡ number ++ 32 ∷ digits → is_number 10 4294967295 number ≡ true
+space_at : (number digits text : List ℕ) → text ≡ number ++ 32 ∷ digits → is_channel number ≡ true
     → position is_space text ≡ Some (length number)
 space_at number digits text parts tested =
     grind (arith, space_some, first_space, number_tests, length-append)
@@ -95,7 +95,7 @@ long_none (Some time) channel digits (Ok (byte ∷ bytes)) is long =
 long_none (Some time) channel digits (Err e) is long = refl
 long_none None channel digits d is long = refl
 
-module _ (number : List ℕ) (tested : is_number 10 4294967295 number ≡ true) where
+module _ (number : List ℕ) (tested : is_channel number ≡ true) where
   abbrev channel : ℕ
   channel = digits_value 10 number
 
@@ -153,7 +153,7 @@ module _ (number : List ℕ) (tested : is_number 10 4294967295 number ≡ true) 
 -- ---- what follows `frame `
 
 by_test : (text : List ℕ) (space : ℕ) → position is_space text ≡ Some space → (b : Bool)
-    → is_number 10 4294967295 (take space text) ≡ b
+    → is_channel (take space text) ≡ b
     → timed_frame_of (codes "frame " ++ text)
     ≡ channel_frame (if b then Some (digits_value 10 (take space text)) else None)
     (drop (space + 1) text)

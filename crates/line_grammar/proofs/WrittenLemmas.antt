@@ -12,7 +12,7 @@ use Rattle.hex.specs.Hex.{IsBytes, encode_lower, is_hex_digit}
 use Rattle.hex.proofs.HexLemmas.{decode_of-encode_lower, decode_of-ok}
 use Rattle.lines.specs.Lines.{HasNoNewline}
 use Rattle.lines.proofs.SplitLemmas.{HasNoNewline-append}
-use Rattle.line_grammar.specs.Commands.{IsForgetLine, command_of, is_number}
+use Rattle.line_grammar.specs.Commands.{IsForgetLine, command_of, is_channel}
 use Rattle.line_grammar.specs.Commands.Command.{Forget, Frame}
 use Rattle.line_grammar.specs.Written.{written_forget, written_frame}
 use Rattle.line_grammar.specs.declared.frame_limits.TheConstants.{FRAME_LIMIT}
@@ -52,8 +52,8 @@ hex_one_line frame bytes = no_newlines is_hex_digit (λ x d. hex_other 10 x refl
 
 -- ---- the line of a frame
 
-is_number-decimal : (n : ℕ) → n < 2 ^ 32 → is_number 10 4294967295 (decimal n) ≡ true
-is_number-decimal n fits =
+is_channel-decimal : (n : ℕ) → n < 2 ^ 32 → is_channel (decimal n) ≡ true
+is_channel-decimal n fits =
     let numeral = decimal_is_IsNumeral n (omega arith) in
     let short = length-decimal-le 10 n (omega arith) (omega arith) (omega arith) in
     let some = numeral.0.0 in
@@ -74,7 +74,7 @@ written_frame-requests channel frame fits bytes some size =
       decimal_is_IsNumeral,
       length-decimal-le,
       frame_has_line,
-      is_number-decimal,
+      is_channel-decimal,
       decode_of-encode_lower,
     )
 

@@ -24,18 +24,21 @@ is_number most greatest digits =
     nat_le 1 (length digits) && nat_le (length digits) most && list_all is_ascii_digit digits
     && nat_le (digits_value 10 digits) greatest
 
+-- one to ten decimal digits, of a number that fits 32 bits
+abbrev pub is_channel : List ℕ → Bool
+is_channel digits = is_number 10 4294967295 digits
+
 -- a frame has a byte at least
 abbrev pub frame_on : ℕ → Result (List ℕ) FromHexError → Command
 frame_on channel (Ok []) = Bad
 frame_on channel (Ok (byte ∷ bytes)) = Frame channel (byte ∷ bytes)
 frame_on channel (Err e) = Bad
 
--- what follows `frame `: a channel, which is one to ten decimal digits of a number that fits 32 bits,
--- a space, and hex digits
+-- what follows `frame `: a channel, a space, and hex digits
 abbrev pub frame_command_of : List ℕ → Command
 frame_command_of text =
     let number = before_first is_space text in
-    if is_number 10 4294967295 number then frame_on (digits_value 10 number)
+    if is_channel number then frame_on (digits_value 10 number)
     (decode_of (after_first is_space text)) else Bad
 
 -- what a line requests that is not too long. What follows `forget ` is the number of a line: one to

@@ -3,7 +3,7 @@ use Rattle.std.specs.Prelude.{◌≡◌, ℕ, ◌<◌, ◌≤◌, ◌+◌, ◌*�
 use Rattle.std.specs.Prelude.{None, Ok}
 use Rattle.std.specs.Str.Parse.{digits_value}
 use Rattle.hex.specs.Hex.{decode_of}
-use Rattle.line_grammar.specs.Commands.{command_of, is_number}
+use Rattle.line_grammar.specs.Commands.{command_of, is_channel}
 use Rattle.line_grammar.specs.Commands.Command.{Bad}
 use Rattle.line_grammar.specs.declared.hex_digits.HexDigits.{HexDigits}
 use Rattle.line_grammar.specs.declared.line_head.WordMatch.{WordMatch}
@@ -19,7 +19,7 @@ use Rattle.lines.specs.declared.limits.TheConstants.{LINE_LIMIT}
 pub record IsFramePrefix (prefix : List ℕ) (channel : ℕ) (digits : List ℕ) : Type 0 where
   pub number : List ℕ
   pub parts : prefix ≡ codes "frame " ++ (number ++ 32 ∷ digits)
-  pub fits : is_number 10 4294967295 number ≡ true
+  pub fits : is_channel number ≡ true
   pub value : channel ≡ digits_value 10 number
 
 -- it has a word, and then digits of a number

@@ -6,7 +6,7 @@ use Rattle.std.specs.Prelude.{Option, Some, None, option_map}
 use Rattle.std.specs.List.{after_first}
 use Rattle.std.specs.Str.Parse.{digits_value}
 use Rattle.hex.specs.Hex.{decode_of}
-use Rattle.line_grammar.specs.Commands.{Command, command_of, frame_on, is_number, is_space}
+use Rattle.line_grammar.specs.Commands.{Command, command_of, frame_on, is_channel, is_space}
 use Rattle.line_grammar.specs.Commands.Command.{Frame, Forget, Bad}
 use Rattle.line_grammar.specs.declared.frame_limits.TheConstants.{FRAME_LIMIT}
 use Rattle.line_grammar.specs.declared.timed_line.Time.{Time}
@@ -19,7 +19,7 @@ pub record TimedFrame : Type 0 where
 
 -- numbers of a time are digits as a channel's are
 abbrev pub number_of_digits : List ℕ → Option ℕ
-number_of_digits digits = if is_number 10 4294967295 digits then Some (digits_value 10 digits) else None
+number_of_digits digits = if is_channel digits then Some (digits_value 10 digits) else None
 
 abbrev pub below : ℕ → Option ℕ → Option ℕ
 below limit (Some n) = if nat_lt n limit then Some n else None

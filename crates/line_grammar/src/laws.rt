@@ -6,7 +6,7 @@ ghost use Rattle.hex.specs.Hex.{IsBytes, encode_lower, encode_upper};
 ghost use Rattle.lines.specs.Lines.{HasNoNewline};
 ghost use Rattle.lines.specs.declared.limits.TheConstants.{LINE_LIMIT};
 ghost use Rattle.line_grammar.specs.Commands.{FrameLinesAreTheGrammar, ForgetLinesAreTheGrammar, command_of};
-ghost use Rattle.line_grammar.specs.Commands.{is_number};
+ghost use Rattle.line_grammar.specs.Commands.{is_channel};
 ghost use Rattle.line_grammar.specs.Commands.Command.{Forget, Frame};
 ghost use Rattle.line_grammar.specs.TimedLines.{timed_frame_of};
 ghost use Rattle.line_grammar.specs.Written.{written_forget, written_frame, written_timed_frame};
@@ -25,12 +25,12 @@ pub fn forget_lines_are_the_grammar()
 /// Every frame of at least a byte that fits a line can be given, by lines with its digits in lower
 /// case and in upper case.
 pub fn frames_can_be_given()
-    ensures lower { (channel frame : List ℕ) → IsTrue (is_number 10 4_294_967_295 channel)
-        → IsBytes frame → 1 ≤ length frame → 7 + length channel + 2 * length frame ≤ LINE_LIMIT
+    ensures lower { (channel frame : List ℕ) → IsTrue (is_channel channel) → IsBytes frame
+        → 1 ≤ length frame → 7 + length channel + 2 * length frame ≤ LINE_LIMIT
         → command_of (codes "frame " ++ channel ++ codes " " ++ encode_lower frame)
         ≡ Frame (digits_value 10 channel) frame }
-    ensures upper { (channel frame : List ℕ) → IsTrue (is_number 10 4_294_967_295 channel)
-        → IsBytes frame → 1 ≤ length frame → 7 + length channel + 2 * length frame ≤ LINE_LIMIT
+    ensures upper { (channel frame : List ℕ) → IsTrue (is_channel channel) → IsBytes frame
+        → 1 ≤ length frame → 7 + length channel + 2 * length frame ≤ LINE_LIMIT
         → command_of (codes "frame " ++ channel ++ codes " " ++ encode_upper frame)
         ≡ Frame (digits_value 10 channel) frame }
     ensures worked { (command_of (codes "frame 7 00ff") ≡ Frame 7 (0 ∷ 255 ∷ []))
