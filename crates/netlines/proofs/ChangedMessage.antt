@@ -21,6 +21,17 @@ use Rattle.netlines.proofs.ChangedWordLemmas.{IsChanged, kept, nothing_after, sa
 use Rattle.netlines.proofs.ReadLemmas.{icmpv4_is, icmpv6_is, segment_is}
 use Rattle.netlines.proofs.SealedLemmas.{even_pseudo}
 
+-- what the checksum of a message covers, after the pseudo header where it has one
+pub summed_is : (addresses : Addresses) (message : ReadMessage)
+    → (summed_text addresses message ≡ summed_bytes message) ⊎ ((number : ℕ)
+    × (summed_text addresses message ≡ pseudo addresses number (length (summed_bytes message))
+    ++ summed_bytes message))
+summed_is addresses (Icmpv4 bytes) = inl refl
+summed_is addresses (Tcp bytes) = inr (6, refl)
+summed_is addresses (Udp bytes) = inr (17, refl)
+summed_is addresses (Icmpv6 bytes) = inr (58, refl)
+summed_is addresses (Raw bytes) = inl refl
+
 -- a datagram as it is read: its length field is 0, or at least the header's length and at most the
 -- bytes that are there
 udp_cases : (a b c d : Bool) (e f g : LenError) (x y : List ℕ) (read : ReadMessage)

@@ -1,6 +1,6 @@
 //! Laws of checksums. All addresses and headers meet their conditions (`super::values`).
-ghost use Rattle.std.specs.Prelude.{◌≡◌, ◌≢◌, ◌↔◌, ◌+◌, ◌*◌, ◌≤◌, ◌<◌, ℕ, true, false, List, [], ◌∷◌, ◌++◌, length};
-ghost use Rattle.std.specs.Prelude.{None, Some, Ok};
+ghost use Rattle.std.specs.Prelude.{◌≡◌, ◌≢◌, ◌⊎◌, ◌↔◌, ◌+◌, ◌*◌, ◌≤◌, ◌<◌, ℕ, true, false, List, [], ◌∷◌, ◌++◌};
+ghost use Rattle.std.specs.Prelude.{length, None, Some, Ok};
 ghost use Rattle.netlines.specs.Alone.{answers_after};
 ghost use Rattle.netlines.specs.Answers.{answer_after, message_answer};
 ghost use Rattle.netlines.specs.Arrivals.{HasFragment};
@@ -18,7 +18,7 @@ ghost use Rattle.etherparse.specs.packet.declared.net.ip_headers.IpHeaders.{IpHe
 ghost use Rattle.etherparse.specs.packet.declared.transport.transport_header.TransportHeader.{TransportHeader};
 ghost use Rattle.netlines.specs.Sealed.{AddressesFit, HeaderFits, IsSealable, addresses_of, is_icmp_of_other_version};
 ghost use Rattle.netlines.specs.Sealed.{seal_refusal, sealed_message_bytes, version_id_of};
-ghost use Rattle.checksum_verdicts.specs.Verdict.{summed_text, verdict_of};
+ghost use Rattle.checksum_verdicts.specs.Verdict.{pseudo, summed_text, verdict_of};
 ghost use Rattle.netlines.specs.Waiting.{Completes, ReturnsMessage, ReturnsChanged, lines_for, texts_for};
 ghost use Rattle.netlines.specs.Waiting.{waiting_lines};
 ghost use Rattle.netlines.specs.declared.seal_error.SealError.TheVariants.{IcmpOfOtherVersion, TooLong};
@@ -91,6 +91,11 @@ pub fn one_changed_word()
         → message_at number (new ++ following) ≡ Ok changed
         → verdict_of addresses changed
         ≡ verdict_after words.old_word words.new_word (summed_text addresses changed) }
+    // Its checksum covers exactly these bytes, after the pseudo header for so many, if it has one.
+    ensures summed { (addresses : Addresses) (message : ReadMessage)
+        → (summed_text addresses message ≡ summed_bytes message) ⊎ ((number : ℕ)
+        × (summed_text addresses message ≡ pseudo addresses number (length (summed_bytes message))
+        ++ summed_bytes message)) }
     // The same holds of two messages that came in fragments under one name, however they were cut.
     ensures reassembled { (name : FragmentName) (channel other : ℕ)
         (earlier others : List (List ℕ)) (line changed_line text following new : List ℕ)

@@ -1,7 +1,7 @@
 use Rattle.std.proofs.Common.{◌++◌}
 use Rattle.netlines.specs.ChangedWord.{verdict_after}
 use Rattle.checksum_verdicts.specs.Verdict.{summed_text}
-use Rattle.netlines.proofs.ChangedMessage.{changed_word}
+use Rattle.netlines.proofs.ChangedMessage.{changed_word, summed_is}
 use Rattle.netlines.proofs.ChangedReplay.{replayed_with_change}
 use Rattle.netlines.proofs.Reassembled.{answered_by_verdict, was_good}
 use Rattle.netlines.proofs.laws.checksums.one_changed_word.Goals as goal
@@ -10,6 +10,9 @@ pub returns-clause-message : goal.returns-clause-message
 returns-clause-message c =
     λ addresses number bytes following new message changed fit.
     changed_word addresses fit number bytes following new message changed
+
+pub returns-clause-summed : goal.returns-clause-summed
+returns-clause-summed c = summed_is
 
 pub returns-clause-reassembled : goal.returns-clause-reassembled
 returns-clause-reassembled c name channel other earlier others line changed_line text following new
