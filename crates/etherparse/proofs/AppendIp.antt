@@ -45,7 +45,8 @@ pub ipv6_len : (e new : Ipv6Extensions) (last : ℕ) (middle whole : List ℕ) �
     → length whole ≡ length middle + header_len e
 ipv6_len e new last middle whole links exts = grind (arith, length-append, pieces_len, linked_len)
 
--- an IPv4 header that names the first number, and the extension header after it
+-- an IPv4 header that names the first number, and the extension header after it. 51: an
+-- authentication header (RFC 4302).
 pub ipv4_appended : (h : Ipv4Header) (e new : Ipv4Extensions) (first : IpNumber) (last : ℕ)
     (prefix middle whole : List ℕ)
     → new ≡ ipv4_with_link e last → first.0 ≡ (if is_some e.auth then 51 else last)

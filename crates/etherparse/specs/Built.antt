@@ -89,7 +89,7 @@ with_lengths (Ipv4 h e) len =
 with_lengths (Ipv6 h e) len = Ipv6 (record h { payload_length = exts.header_len e + len }) e
 
 -- the IP headers, each naming the next in the order of RFC 8200, section 4.1, and the last one this
--- number
+-- number. 51: an authentication header (RFC 4302).
 abbrev pub with_last_number : IpHeaders → ℕ → IpHeaders
 with_last_number (Ipv4 h e) last =
     Ipv4 (record h { protocol = record { 0 = if is_some e.auth then 51 else last } })

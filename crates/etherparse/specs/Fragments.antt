@@ -86,12 +86,12 @@ EndsBelow fs f = (p : ℕ) × (end_of f ≤ p) × Covered fs p
 abbrev pub Clashes : List Fragment → Fragment → Type 0
 Clashes fs f = ((IsRepeat fs f → ⊥) × SharesOffset fs f) ⊎ ((f.more ≡ false) × EndsBelow fs f)
 
--- the tests of these propositions
+-- whether it is a repeat
 abbrev pub is_repeat : List Fragment → Fragment → Bool
 is_repeat fs f = list_any (λ g. (g.offset == f.offset)
     && (beq g.more f.more && pointwise nat_eq g.bytes f.bytes)) fs
 
--- whether a fragment clashes where a clash ends its datagram
+-- whether a fragment clashes (`Clashes`), where a clash ends its datagram
 abbrev pub overlaps : OverlapRule → List Fragment → Fragment → Bool
 overlaps Overwrites fs f = false
 overlaps Refuses fs f =
