@@ -12,8 +12,8 @@ const FIRST_FACTOR: u32 = 0x9e37_79b1;
 
 const SECOND_FACTOR: u32 = 0x27d4_eb2f;
 
-/// For each table of a summary, the index of the key that was counted last; of those with many keys
-/// for each bucket. Most packets have a key that is found there without a hash.
+/// The index of the key that was counted last: one for reasons, and one a bucket for pairs and for
+/// senders. Most packets have a key that is found there without a hash.
 #[derive(Drop)]
 pub(crate) struct Recent {
     pub reason: usize,

@@ -51,8 +51,8 @@ impl<K: Eq + Hash + Drop, S: BuildHasher> Table<K, S> {
         self.tallies.reserve(1)
     }
 
-    /// Counts a packet that has this key, or none, and returns the index of the key. The key that has
-    /// the index `expected` is tried before this one is hashed.
+    /// Counts a packet that has this key, or none, and returns the index of the key, or `expected`
+    /// where there is none. The key that has the index `expected` is tried before this one is hashed.
     pub(crate) fn add_keyed(&mut self, key: Option<K>, expected: usize, packet: &Outline) -> usize
         requires capacity { 0 < self.old.spare }
         // Keys are equal only where they are the same value.
