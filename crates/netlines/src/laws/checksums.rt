@@ -91,11 +91,6 @@ pub fn one_changed_word()
         → message_at number (new ++ following) ≡ Ok changed
         → verdict_of addresses changed
         ≡ verdict_after words.old_word words.new_word (summed_text addresses changed) }
-    // Its checksum covers exactly these bytes, after the pseudo header for so many, if it has one.
-    ensures summed { (addresses : Addresses) (message : ReadMessage)
-        → (summed_text addresses message ≡ summed_bytes message) ⊎ ((number : ℕ)
-        × (summed_text addresses message ≡ pseudo addresses number (length (summed_bytes message))
-        ++ summed_bytes message)) }
     // The same holds of two messages that came in fragments under one name, however they were cut.
     ensures reassembled { (name : FragmentName) (channel other : ℕ)
         (earlier others : List (List ℕ)) (line changed_line text following new : List ℕ)
@@ -125,6 +120,12 @@ pub fn one_changed_word()
         → ReturnsChanged name (8 * f.offset + length change.words.prefix)
         (answer_after earlier last) (waiting_lines name channel earlier)
         (texts_for name channel between (answers_after others between)) }
+    // A message's checksum covers exactly these bytes of it, after the pseudo header for so many
+    // bytes where there is one.
+    ensures summed { (addresses : Addresses) (message : ReadMessage)
+        → (summed_text addresses message ≡ summed_bytes message) ⊎ ((number : ℕ)
+        × (summed_text addresses message ≡ pseudo addresses number (length (summed_bytes message))
+        ++ summed_bytes message)) }
 {
     equal_names::<u32>();
     fragments_agree();

@@ -11,9 +11,6 @@ returns-clause-message c =
     λ addresses number bytes following new message changed fit.
     changed_word addresses fit number bytes following new message changed
 
-pub returns-clause-summed : goal.returns-clause-summed
-returns-clause-summed c = summed_is
-
 pub returns-clause-reassembled : goal.returns-clause-reassembled
 returns-clause-reassembled c name channel other earlier others line changed_line text following new
     message changed fit completes read good cut words fields changed_completes changed_read =
@@ -30,3 +27,6 @@ returns-clause-fragment c name channel earlier others between prefix rest last l
     replayed_with_change c.equal_names.ensures.same name channel c.fragments_agree.ensures earlier
     others between prefix rest last line changed f g h over has out lines_are line_has
     changed_has change none is
+
+pub returns-clause-summed : goal.returns-clause-summed
+returns-clause-summed c = summed_is
