@@ -103,12 +103,11 @@ after_routing (Some h) pieces header stated = stated
 at_fragment : (o : Option (List ℕ)) (pieces : List Piece) → Reported pieces None
     → Reported (piece_if Fragment o pieces) o
 at_fragment None pieces stated = stated
-at_fragment (Some h) pieces stated =
-    (
-      refl,
-      ap (λ b. fragments (fragment_header_of h) || b) stated.1
-          ∙ or_none (fragments (fragment_header_of h)),
-    )
+at_fragment (Some h) pieces stated = (
+  refl,
+  ap (λ b. fragments (fragment_header_of h) || b) stated.1
+      ∙ or_none (fragments (fragment_header_of h)),
+)
   where
     or_none : (b : Bool) → (b || false) ≡ b
     or_none true = refl
