@@ -4,20 +4,12 @@ use Rattle.std.proofs.lemmas.List.{take-append-drop, length-take-le}
 use Rattle.etherparse.specs.packet.Parts.{IsAt, StandAt}
 use Rattle.ep_packet.proofs.PartsLemmas.{at_later}
 
-}
-
-}
-
-}
-
 -- the first n bytes, and those after them
 pub prefix_is : (n : ℕ) (bytes part : List ℕ) → part ≡ take n bytes → n ≤ length bytes
     → (length part ≡ n) × (bytes ≡ part ++ drop n bytes)
 prefix_is n bytes part is fits = (
   ap length is ∙ length-take-le n bytes fits,
   sym (take-append-drop n bytes) ∙ ap (λ (xs : List ℕ). xs ++ drop n bytes) (sym is),
-)
-
 )
 
 -- such parts, in bytes that are at this offset

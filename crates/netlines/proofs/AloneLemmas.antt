@@ -39,7 +39,7 @@ module _ (same : (a b : FragmentName) → IsTrue (same_name a b) ↔ (a ≡ b)) 
       let both = and_parts (same_name own name) (other == channel) t in
       let own_list : lists own other ≡ lists name channel =
       rw ((same own name).0 both.0, eqb-true other channel both.1) refl in
-      ap (λ (h : Held). outcome_answer own
+      ap (λ (h : Held). outcome_answer own.addresses own.number
       (outcome (rule_over own.addresses) h.fragments (fragment offset more bytes))) own_list
   class_by_own lists (Whole addresses number bytes message) other t = cc
   class_by_own lists Other other t = cc

@@ -67,7 +67,10 @@ class_stays name channel class other h n off = grind arith
 command_stays : (name : FragmentName) (channel : ℕ) (command : Command) (h : Held) (n : ℕ)
     → ((number : ℕ) → command ≡ Forget number → ⊥) → command_on channel command ≡ false
     → held_with_line name channel n command h ≡ h
-command_stays name channel command h n none off = grind arith
+command_stays name channel (Frame other bytes) h n none off =
+    class_stays name channel (class_of bytes) other h n off
+command_stays name channel (Forget number) h n none off = absurd (none number refl)
+command_stays name channel Bad h n none off = refl
 
 -- the answer to a frame on the channel
 class_reported : (channel : ℕ) (lists others : Lists) (class : Class)

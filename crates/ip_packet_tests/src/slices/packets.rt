@@ -159,9 +159,9 @@ fn no_headers(rt: HostRuntime) {
         extensions.is_empty(),
         number,
         rest,
-        extensions.iter().count(),
+        extensions.iter().next().is_none(),
     );
-    assert!(rt; found == (None, true, IpNumber::TCP, bytes.as_slice(), 0));
+    assert!(rt; found == (None, true, IpNumber::TCP, bytes.as_slice(), true));
 }
 
 // Why the headers from this number on are refused, if they are; and so after an IPv4 header.

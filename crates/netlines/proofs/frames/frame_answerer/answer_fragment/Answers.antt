@@ -1,4 +1,4 @@
-use Rattle.std.proofs.Common.{◌∙◌, ap, refl, ℕ, nat_eq, Option, IfSome, IfErr, Result, Ok}
+use Rattle.std.proofs.Common.{rules, ◌∙◌, ap, refl, ℕ, nat_eq, Option, IfSome, IfErr, Result, Ok}
 use Rattle.etherparse.specs.IpDefragPool.{Accepts, Refuses, same_id}
 use Rattle.etherparse.specs.IpFragId.{fragment_in, id_named}
 use Rattle.etherparse.specs.Processed.{Processed}
@@ -76,3 +76,8 @@ returns-in-None-clause-answers g c lists shows =
     (processed c.args.pool.now c.process_fragment.new.self c.args.message c.args.number c.args.channel
     c.process_fragment.result e.accepted e.refused e.others e.err) lists shows _
     c.in-Err.is c.in-None.ensures.text
+
+pub returns-in-Some-clause-buffers : goal.returns-in-Some-clause-buffers
+returns-in-Some-clause-buffers g c =
+    let text = c.in-Some.ensures.text.1 c.args.message.addresses 0 in
+    search rules
