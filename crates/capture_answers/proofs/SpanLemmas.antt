@@ -88,15 +88,15 @@ module _ (line first lines number : ℕ) (h g : Held) (a : Alike line first line
         (outcome_alike (outcome rule h.fragments f))
     tested_alike rule f false = stays_alike
 
-    class_alike : (name : FragmentName) (channel other : ℕ) (class : Class)
+    frame_alike : (name : FragmentName) (channel other : ℕ) (class : Class)
         → Alike line first (lines + 1) (number + 1)
         (after_frame name channel class (lines + 1) other h) (after_frame name channel class number other g)
-    class_alike name channel other (Cut own offset more bytes) =
+    frame_alike name channel other (Cut own offset more bytes) =
         tested_alike (rule_over name.addresses) (fragment offset more bytes)
         (same_name own name && (other == channel))
-    class_alike name channel other (Whole addresses protocol bytes message) = stays_alike
-    class_alike name channel other Other = stays_alike
-    class_alike name channel other Refused = stays_alike
+    frame_alike name channel other (Whole addresses protocol bytes message) = stays_alike
+    frame_alike name channel other Other = stays_alike
+    frame_alike name channel other Refused = stays_alike
 
   -- a span has passed, and the next line and packet begin another
   dropped_alike : (b c : Bool) → b ≡ c
@@ -193,7 +193,7 @@ packet_come left line first number earlier own packet fits named started few ali
           (lists_with_packet own number packet name channel)) count
           (subst (λ (l : Lists). Alike line first (length earlier + 1) (number + 1) (l name channel)
           (lists_with_packet own number packet name channel)) (sym (packet_listed earlier packet fits))
-          (class_alike line first (length earlier) number _ _ (alike name channel) named started
+          (frame_alike line first (length earlier) number _ _ (alike name channel) named started
           name channel packet.origin.channel (class_of packet.frame)));
     }
 
