@@ -18,6 +18,28 @@
 extern "C" {
 #endif
 
+/* No message, since there are too few bytes, or not the 20 of a timestamp message. */
+#define EP_ICMP_NONE 0
+/* A type and code that have no other kind. */
+#define EP_ICMP_UNKNOWN 1
+/* An echo request. */
+#define EP_ICMP_ECHO_REQUEST 2
+/* The reply to one. */
+#define EP_ICMP_ECHO_REPLY 3
+/* A packet couldn't be delivered. */
+#define EP_ICMP_DESTINATION_UNREACHABLE 4
+/* Of ICMPv4: another gateway is the better one. */
+#define EP_ICMP_REDIRECT 5
+/* A packet or its fragments took too long. */
+#define EP_ICMP_TIME_EXCEEDED 6
+/* A packet's header has a fault. */
+#define EP_ICMP_PARAMETER_PROBLEM 7
+/* Of ICMPv4: a request for the receiver's time. */
+#define EP_ICMP_TIMESTAMP_REQUEST 8
+/* Of ICMPv4: the reply to one. */
+#define EP_ICMP_TIMESTAMP_REPLY 9
+/* Of ICMPv6: a packet is bigger than the next link takes. */
+#define EP_ICMP_PACKET_TOO_BIG 10
 /* It is done, or there was nothing to do. */
 #define EP_DONE 0
 /* The output is too short. */
@@ -175,6 +197,112 @@ typedef struct {
     size_t len;
 } ep_built;
 
+/* Where bytes are in those that were passed. */
+typedef struct {
+    /* The offset of the first byte. */
+    size_t offset;
+    /* How many bytes. */
+    size_t len;
+} ep_part;
+
+/* The extension headers of an IP packet that are left. */
+typedef struct {
+    /* Where they are. */
+    ep_part left;
+    /* The number of the first of them. */
+    uint8_t next_header;
+} ep_extensions;
+
+/* An extension header of IPv6 (RFC 8200, section 4), or the authentication header of IPv4 (RFC
+   4302). The fields of other kinds are 0. */
+typedef struct {
+    /* The header. */
+    ep_part header;
+    /* Of options and routing: what follows the first two bytes. Of authentication: the integrity
+       check value. */
+    ep_part payload;
+    /* Which header it is, numbered as the layer of a refusal: EP_LAYER_IPV6_HOP_BY_HOP_HEADER,
+       EP_LAYER_IPV6_DEST_OPTIONS_HEADER, EP_LAYER_IPV6_ROUTE_HEADER, EP_LAYER_IPV6_FRAG_HEADER or
+       EP_LAYER_IP_AUTH_HEADER; 0 none, since none is left. */
+    uint32_t layer;
+    /* Of a fragment header: the identification, which the fragments of one datagram share. */
+    uint32_t identification;
+    /* Of authentication: the security parameters index. */
+    uint32_t spi;
+    /* Of authentication: the sequence number. */
+    uint32_t sequence_number;
+    /* Of a fragment header: the offset of the payload in the datagram, in units of 8 bytes. */
+    uint16_t fragment_offset;
+    /* Its number: 0 hop-by-hop options, 43 routing, 44 fragment, 51 authentication, 60 destination
+       options. */
+    uint8_t number;
+    /* The number of what follows it. */
+    uint8_t next_header;
+    /* Of a fragment header: whether other fragments follow. */
+    bool more_fragments;
+} ep_extension;
+
+/* What an ICMP message says beside its type and code, by its kind. The fields of other kinds are
+   0. */
+typedef struct {
+    /* The kind, one of EP_ICMP_.. */
+    uint32_t kind;
+    /* Of a packet too big: the greatest packet in bytes that the next link takes. Also of a
+       destination unreachable of ICMPv4 with code 4, where nodes that don't report it write 0. */
+    uint32_t mtu;
+    /* Of a parameter problem: the offset of the fault in the packet. With ICMPv4 only code 0 has
+       one. */
+    uint32_t pointer;
+    /* Of timestamps: when the request was last touched by its sender, in milliseconds since midnight
+       UT. */
+    uint32_t originate_timestamp;
+    /* Of timestamps: when the request was first touched by its receiver. */
+    uint32_t receive_timestamp;
+    /* Of timestamps: when the reply was last touched by its sender. */
+    uint32_t transmit_timestamp;
+    /* Of echoes and timestamps: the identifier, which the reply repeats. */
+    uint16_t id;
+    /* Of echoes and timestamps: the sequence number, which the reply repeats. */
+    uint16_t sequence_number;
+    /* Of a redirect: the address of the better gateway. */
+    uint8_t gateway[4];
+} ep_icmp_fields;
+
+/* A message of neighbor discovery for IPv6 (RFC 4861, section 4). The fields of other types are
+   0. */
+typedef struct {
+    /* Where its options start in the message. */
+    size_t options_offset;
+    /* Of a router advertisement: how long a neighbor is reachable after a confirmation, in
+       milliseconds; 0: not given. */
+    uint32_t reachable_time;
+    /* Of a router advertisement: the time between repeated solicitations, in milliseconds; 0: not
+       given. */
+    uint32_t retrans_timer;
+    /* Of a router advertisement: how long the router is a default router, in seconds; 0: it is none. */
+    uint16_t router_lifetime;
+    /* The type: 133 router solicitation, 134 router advertisement, 135 neighbor solicitation, 136
+       neighbor advertisement, 137 redirect; 0 none of these, or too few bytes for it. */
+    uint8_t icmp_type;
+    /* Of a router advertisement: the hop limit for packets to send, 0 where the router gives none. */
+    uint8_t hop_limit;
+    /* Of a router advertisement: bit M: addresses are available by DHCPv6. */
+    bool managed;
+    /* Of a router advertisement: bit O: other configuration is available by DHCPv6. */
+    bool other;
+    /* Of a neighbor advertisement: bit R: the sender is a router. */
+    bool router;
+    /* Of a neighbor advertisement: bit S: it answers a solicitation. */
+    bool solicited;
+    /* Of a neighbor advertisement: bit O: it overrides the link-layer address that is cached. */
+    bool overrides;
+    /* Of neighbor solicitations and advertisements: the address whose link-layer address it is
+       about; of a redirect: the better first hop. */
+    uint8_t target[16];
+    /* Of a redirect: the address whose packets go there. */
+    uint8_t destination[16];
+} ep_ndp;
+
 /* A link header. The fields of other kinds are 0. */
 typedef struct {
     /* 0 none, 1 Ethernet II, 2 a Linux cooked capture. */
@@ -194,14 +322,6 @@ typedef struct {
     /* Of a cooked capture: the sender's address, and bytes without meaning after it. */
     uint8_t address[8];
 } ep_link;
-
-/* Where bytes are in those that were passed. */
-typedef struct {
-    /* The offset of the first byte. */
-    size_t offset;
-    /* How many bytes. */
-    size_t len;
-} ep_part;
 
 /* A tag between link header and packet. The fields of other kinds are 0. */
 typedef struct {
@@ -545,6 +665,43 @@ typedef struct {
     void *held;
 } ep_pool;
 
+/* A block of bytes that arrived after a gap (RFC 2018, section 3). */
+typedef struct {
+    /* The sequence number of its first byte. */
+    uint32_t left_edge;
+    /* The sequence number of the byte after its last one. */
+    uint32_t right_edge;
+} ep_tcp_block;
+
+/* An option of a TCP header, or why the bytes are none. The fields of other kinds are 0. */
+typedef struct {
+    /* Of kind 5: the blocks, of which `block_count` are there. */
+    ep_tcp_block blocks[4];
+    /* Of fault 1: how many bytes are left. */
+    size_t there;
+    /* Of kind 8: the sender's clock. */
+    uint32_t timestamp;
+    /* Of kind 8: the clock value that it replies to. */
+    uint32_t echoed_timestamp;
+    /* 0 none; 1 fewer bytes are left than the option needs; 2 its length byte isn't one that its
+       kind has; 3 the kind is unknown. After a fault nothing is read. */
+    uint32_t fault;
+    /* Of kind 5: how many blocks there are, 1 to 4. */
+    uint32_t block_count;
+    /* Of kind 2: the greatest segment that the sender takes. */
+    uint16_t maximum_segment_size;
+    /* The kind of the option: 0 none, since the list has ended; 1 no operation, 2 maximum segment
+       size, 3 window scale, 4 selective acknowledgements are permitted, 5 a selective
+       acknowledgement, 8 timestamps. Of a fault any but 0. */
+    uint8_t kind;
+    /* Of kind 3: by how many bits window sizes are shifted. */
+    uint8_t window_scale;
+    /* Of fault 1: how many bytes it needs. */
+    uint8_t needed;
+    /* Of fault 2: its length byte. */
+    uint8_t stated_len;
+} ep_tcp_option;
+
 /* Builds the packet of a plan with this payload, at the start of the output. The status is 0
    where it is built, 1 where the output is shorter than the packet, 2 where there is no memory,
    and 3 where a field of the plan, or the payload, is refused. Where it isn't 0 the output is as
@@ -556,6 +713,38 @@ uint16_t ep_checksum(const uint8_t *bytes, size_t bytes_len);
 
 /* Whether the words of the bytes sum to all ones, as those of bytes with a right checksum do. */
 bool ep_checksum_is_right(const uint8_t *bytes, size_t bytes_len);
+
+/* Where the options of the packet's TCP header are. All fields are 0 where it has none. */
+ep_part ep_tcp_options(const ep_packet *packet);
+
+/* Takes the next option from those that are left in a part of the bytes, which begins as the
+   part that `ep_tcp_options` returns. Each call returns one, in their order, and takes its bytes
+   from the part. `kind` is 0 where none is left: at the end of the list, or after a fault. */
+ep_tcp_option ep_tcp_option_next(const uint8_t *bytes, size_t bytes_len, ep_part *left);
+
+/* Where the options of the packet's IPv4 header are. All fields are 0 where it has none. */
+ep_part ep_ipv4_options(const ep_packet *packet);
+
+/* The extension headers of the packet, where it is one of IP: the authentication header of IPv4,
+   or all of IPv6. All fields are 0 where it is another. */
+ep_extensions ep_ip_extensions(const ep_packet *packet);
+
+/* Takes the next header from those that are left in a part of the bytes, which begin as those
+   that `ep_ip_extensions` returns. Each call returns one, in their order, and takes it from
+   those that are left. `layer` is 0 where none is left: where the number names no extension
+   header, or the bytes don't start with a whole one. */
+ep_extension ep_extension_next(const uint8_t *bytes, size_t bytes_len, ep_extensions *left);
+
+/* What an ICMPv4 message says beside its type and code: the bytes of a packet from the header of
+   the message on, header and payload. */
+ep_icmp_fields ep_icmpv4_fields(const uint8_t *message, size_t message_len);
+
+/* The same of an ICMPv6 message. One of neighbor discovery is EP_ICMP_UNKNOWN. */
+ep_icmp_fields ep_icmpv6_fields(const uint8_t *message, size_t message_len);
+
+/* The message of neighbor discovery that an ICMPv6 message is. `icmp_type` is 0 where it is
+   none. */
+ep_ndp ep_ndp_message(const uint8_t *message, size_t message_len);
 
 /* Opens a pool without fragments. The result is 0 where it is open, 2 where there is no memory,
    and 4 where it was open before. Where it isn't 0 nothing is changed. */

@@ -1,5 +1,4 @@
-/* The fields of an ep_packet, of an ep_lax_packet (but its packet's) and of an ep_plan by their names. Written by
-   tools/bindings. */
+/* The fields of structs by their names; of an ep_lax_packet without its packet's. Written by tools/bindings. */
 struct field {
     const char *path;
     size_t offset, size;
@@ -194,4 +193,66 @@ static const struct field plan_fields[] = {
     {"cwr", 120, 1, 'n'},
     {"options_len", 128, 8, 'n'},
     {"options", 136, 40, 'b'},
+};
+
+static const struct field tcp_option_fields[] = {
+    {"blocks.0.left_edge", 0, 4, 'n'},
+    {"blocks.0.right_edge", 4, 4, 'n'},
+    {"blocks.1.left_edge", 8, 4, 'n'},
+    {"blocks.1.right_edge", 12, 4, 'n'},
+    {"blocks.2.left_edge", 16, 4, 'n'},
+    {"blocks.2.right_edge", 20, 4, 'n'},
+    {"blocks.3.left_edge", 24, 4, 'n'},
+    {"blocks.3.right_edge", 28, 4, 'n'},
+    {"there", 32, 8, 'n'},
+    {"timestamp", 40, 4, 'n'},
+    {"echoed_timestamp", 44, 4, 'n'},
+    {"fault", 48, 4, 'n'},
+    {"block_count", 52, 4, 'n'},
+    {"maximum_segment_size", 56, 2, 'n'},
+    {"kind", 58, 1, 'n'},
+    {"window_scale", 59, 1, 'n'},
+    {"needed", 60, 1, 'n'},
+    {"stated_len", 61, 1, 'n'},
+};
+
+static const struct field extension_fields[] = {
+    {"header", 0, 16, 'p'},
+    {"payload", 16, 16, 'p'},
+    {"layer", 32, 4, 'n'},
+    {"identification", 36, 4, 'n'},
+    {"spi", 40, 4, 'n'},
+    {"sequence_number", 44, 4, 'n'},
+    {"fragment_offset", 48, 2, 'n'},
+    {"number", 50, 1, 'n'},
+    {"next_header", 51, 1, 'n'},
+    {"more_fragments", 52, 1, 'n'},
+};
+
+static const struct field icmp_fields[] = {
+    {"kind", 0, 4, 'n'},
+    {"mtu", 4, 4, 'n'},
+    {"pointer", 8, 4, 'n'},
+    {"originate_timestamp", 12, 4, 'n'},
+    {"receive_timestamp", 16, 4, 'n'},
+    {"transmit_timestamp", 20, 4, 'n'},
+    {"id", 24, 2, 'n'},
+    {"sequence_number", 26, 2, 'n'},
+    {"gateway", 28, 4, 'b'},
+};
+
+static const struct field ndp_fields[] = {
+    {"options_offset", 0, 8, 'n'},
+    {"reachable_time", 8, 4, 'n'},
+    {"retrans_timer", 12, 4, 'n'},
+    {"router_lifetime", 16, 2, 'n'},
+    {"icmp_type", 18, 1, 'n'},
+    {"hop_limit", 19, 1, 'n'},
+    {"managed", 20, 1, 'n'},
+    {"other", 21, 1, 'n'},
+    {"router", 22, 1, 'n'},
+    {"solicited", 23, 1, 'n'},
+    {"overrides", 24, 1, 'n'},
+    {"target", 25, 16, 'b'},
+    {"destination", 41, 16, 'b'},
 };

@@ -11,6 +11,39 @@ The libraries libetherparse and libnetlines are looked for in the folder that ET
 the folder that it was installed beside, and where the loader looks, which chooses those for the processor.
 """
 
+from ._fields import (
+    Authentication,
+    DestinationOptions,
+    DestinationUnreachable,
+    EchoReply,
+    EchoRequest,
+    Extension,
+    Fragment,
+    GatewayRedirect,
+    HopByHopOptions,
+    IcmpMessage,
+    MaximumSegmentSize,
+    NdpMessage,
+    NeighborAdvertisement,
+    NeighborRedirect,
+    NeighborSolicitation,
+    NoOperation,
+    PacketTooBig,
+    ParameterProblem,
+    RouterAdvertisement,
+    RouterSolicitation,
+    Routing,
+    Sack,
+    SackPermitted,
+    TcpOption,
+    TimeExceeded,
+    TimestampReply,
+    TimestampRequest,
+    Timestamps,
+    UnknownIcmp,
+    UnreadableOption,
+    WindowScale,
+)
 from ._handles import InUse, Message, PartRefused, Pool, Session, answers
 from ._layers import Arp, Icmp, Ipv4, Ipv6, Link, Tag, Tcp, Udp
 from ._packets import (
@@ -35,13 +68,18 @@ from ._plans import BuildRefused, PlannedCapture, PlannedEcho, PlannedEthernet, 
 __version__ = "1.0.0"
 
 __all__ = [
-    "Arp", "BuildRefused", "Icmp", "InUse", "Ipv4", "Ipv6", "LaxPacket", "Link", "Message", "Packet", "PartRefused",
-    "PlannedCapture", "PlannedEcho", "PlannedEthernet", "PlannedTcp", "PlannedUdp", "Pool", "Refused", "Session", "Tag",
-    "Tcp", "Udp", "Verdict", "answers", "build", "checksum", "checksum_is_right", "slice_ethernet", "slice_ethernet_lax",
-    "slice_ip", "slice_ip_lax", "slice_linux_sll", "slice_linux_sll_lax", "verdict_ethernet", "verdict_ip",
-    "verdict_linux_sll",
+    "Arp", "Authentication", "BuildRefused", "DestinationOptions", "DestinationUnreachable", "EchoReply", "EchoRequest",
+    "Extension", "Fragment", "GatewayRedirect", "HopByHopOptions", "Icmp", "IcmpMessage", "InUse", "Ipv4", "Ipv6",
+    "LaxPacket", "Link", "MaximumSegmentSize", "Message", "NdpMessage", "NeighborAdvertisement", "NeighborRedirect",
+    "NeighborSolicitation", "NoOperation", "Packet", "PacketTooBig", "ParameterProblem", "PartRefused", "PlannedCapture",
+    "PlannedEcho", "PlannedEthernet", "PlannedTcp", "PlannedUdp", "Pool", "Refused", "RouterAdvertisement",
+    "RouterSolicitation", "Routing", "Sack", "SackPermitted", "Session", "Tag", "Tcp", "TcpOption", "TimeExceeded",
+    "TimestampReply", "TimestampRequest", "Timestamps", "Udp", "UnknownIcmp", "UnreadableOption", "Verdict", "WindowScale",
+    "answers", "build", "checksum", "checksum_is_right", "slice_ethernet", "slice_ethernet_lax", "slice_ip", "slice_ip_lax",
+    "slice_linux_sll", "slice_linux_sll_lax", "verdict_ethernet", "verdict_ip", "verdict_linux_sll",
 ]  # fmt: skip
 
 # In errors and pickles each is named by the package, whatever module of it has it.
 for _name in __all__:
-    globals()[_name].__module__ = __name__
+    if hasattr(globals()[_name], "__qualname__"):
+        globals()[_name].__module__ = __name__

@@ -3,10 +3,21 @@
 import enum
 import struct
 from dataclasses import dataclass
-from typing import Any, Callable, Dict, Optional, Tuple, Type, TypeVar
+from typing import Any, Callable, Dict, List, Optional, Tuple, Type, TypeVar
 
 from . import _raw
 from ._arguments import Buffer, bytes_of
+from ._fields import (
+    Extension,
+    IcmpMessage,
+    NdpMessage,
+    TcpOption,
+    extensions_of,
+    icmp_message_of,
+    ipv4_options_of,
+    ndp_message_of,
+    tcp_options_of,
+)
 from ._layers import Arp, Icmp, Ipv4, Ipv6, Link, Tag, Tcp, Udp
 from ._lazy import Lazy, Reader, part, reads
 from ._libraries import etherparse
@@ -146,6 +157,33 @@ class Packet(Lazy):
     tcp: Optional[Tcp]
     icmp: Optional[Icmp]
     payload: bytes
+
+    def _sliced(self) -> Tuple[bytes, _raw.EpPacket]:
+        """The frame and the struct that it was sliced into. ValueError where nothing was."""
+        if "_bytes" not in self.__dict__:
+            raise ValueError("this packet was made by hand, and not sliced")
+        frame, raw, _ = self.__dict__["_bytes"]
+        return frame, _raw.EpPacket.from_buffer_copy(raw)
+
+    def tcp_options(self) -> List[TcpOption]:
+        """The options of the TCP header; a last one may be an UnreadableOption."""
+        return tcp_options_of(*self._sliced())
+
+    def ipv4_options(self) -> bytes:
+        """The options of the IPv4 header."""
+        return ipv4_options_of(*self._sliced())
+
+    def extensions(self) -> List[Extension]:
+        """The extension headers of the IP packet: all of IPv6, or the authentication header of IPv4."""
+        return extensions_of(*self._sliced())
+
+    def icmp_message(self) -> Optional[IcmpMessage]:
+        """What the ICMP message says, if there is one."""
+        return icmp_message_of(*self._sliced())
+
+    def ndp_message(self) -> Optional[NdpMessage]:
+        """The message of neighbor discovery, if there is one."""
+        return ndp_message_of(*self._sliced())
 
 
 def _stop(_: bytes, raw: bytes, at: int) -> Optional[Refused]:

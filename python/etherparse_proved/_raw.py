@@ -2,6 +2,28 @@
 
 import ctypes as c
 
+# No message, since there are too few bytes, or not the 20 of a timestamp message.
+ICMP_NONE = 0
+# A type and code that have no other kind.
+ICMP_UNKNOWN = 1
+# An echo request.
+ICMP_ECHO_REQUEST = 2
+# The reply to one.
+ICMP_ECHO_REPLY = 3
+# A packet couldn't be delivered.
+ICMP_DESTINATION_UNREACHABLE = 4
+# Of ICMPv4: another gateway is the better one.
+ICMP_REDIRECT = 5
+# A packet or its fragments took too long.
+ICMP_TIME_EXCEEDED = 6
+# A packet's header has a fault.
+ICMP_PARAMETER_PROBLEM = 7
+# Of ICMPv4: a request for the receiver's time.
+ICMP_TIMESTAMP_REQUEST = 8
+# Of ICMPv4: the reply to one.
+ICMP_TIMESTAMP_REPLY = 9
+# Of ICMPv6: a packet is bigger than the next link takes.
+ICMP_PACKET_TOO_BIG = 10
 # It is done, or there was nothing to do.
 DONE = 0
 # The output is too short.
@@ -153,6 +175,77 @@ class EpBuilt(c.Structure):
     ]
 
 
+class EpPart(c.Structure):
+    """Where bytes are in those that were passed."""
+
+    _fields_ = [
+        ("offset", c.c_size_t),
+        ("len", c.c_size_t),
+    ]
+
+
+class EpExtensions(c.Structure):
+    """The extension headers of an IP packet that are left."""
+
+    _fields_ = [
+        ("left", EpPart),
+        ("next_header", c.c_uint8),
+    ]
+
+
+class EpExtension(c.Structure):
+    """An extension header of IPv6 (RFC 8200, section 4), or the authentication header of IPv4 (RFC 4302). The fields of other kinds are 0."""
+
+    _fields_ = [
+        ("header", EpPart),
+        ("payload", EpPart),
+        ("layer", c.c_uint32),
+        ("identification", c.c_uint32),
+        ("spi", c.c_uint32),
+        ("sequence_number", c.c_uint32),
+        ("fragment_offset", c.c_uint16),
+        ("number", c.c_uint8),
+        ("next_header", c.c_uint8),
+        ("more_fragments", c.c_bool),
+    ]
+
+
+class EpIcmpFields(c.Structure):
+    """What an ICMP message says beside its type and code, by its kind. The fields of other kinds are 0."""
+
+    _fields_ = [
+        ("kind", c.c_uint32),
+        ("mtu", c.c_uint32),
+        ("pointer", c.c_uint32),
+        ("originate_timestamp", c.c_uint32),
+        ("receive_timestamp", c.c_uint32),
+        ("transmit_timestamp", c.c_uint32),
+        ("id", c.c_uint16),
+        ("sequence_number", c.c_uint16),
+        ("gateway", c.c_uint8 * 4),
+    ]
+
+
+class EpNdp(c.Structure):
+    """A message of neighbor discovery for IPv6 (RFC 4861, section 4). The fields of other types are 0."""
+
+    _fields_ = [
+        ("options_offset", c.c_size_t),
+        ("reachable_time", c.c_uint32),
+        ("retrans_timer", c.c_uint32),
+        ("router_lifetime", c.c_uint16),
+        ("icmp_type", c.c_uint8),
+        ("hop_limit", c.c_uint8),
+        ("managed", c.c_bool),
+        ("other", c.c_bool),
+        ("router", c.c_bool),
+        ("solicited", c.c_bool),
+        ("overrides", c.c_bool),
+        ("target", c.c_uint8 * 16),
+        ("destination", c.c_uint8 * 16),
+    ]
+
+
 class EpLink(c.Structure):
     """A link header. The fields of other kinds are 0."""
 
@@ -165,15 +258,6 @@ class EpLink(c.Structure):
         ("hardware_type", c.c_uint16),
         ("address_len", c.c_uint16),
         ("address", c.c_uint8 * 8),
-    ]
-
-
-class EpPart(c.Structure):
-    """Where bytes are in those that were passed."""
-
-    _fields_ = [
-        ("offset", c.c_size_t),
-        ("len", c.c_size_t),
     ]
 
 
@@ -396,6 +480,33 @@ class EpPool(c.Structure):
     ]
 
 
+class EpTcpBlock(c.Structure):
+    """A block of bytes that arrived after a gap (RFC 2018, section 3)."""
+
+    _fields_ = [
+        ("left_edge", c.c_uint32),
+        ("right_edge", c.c_uint32),
+    ]
+
+
+class EpTcpOption(c.Structure):
+    """An option of a TCP header, or why the bytes are none. The fields of other kinds are 0."""
+
+    _fields_ = [
+        ("blocks", EpTcpBlock * 4),
+        ("there", c.c_size_t),
+        ("timestamp", c.c_uint32),
+        ("echoed_timestamp", c.c_uint32),
+        ("fault", c.c_uint32),
+        ("block_count", c.c_uint32),
+        ("maximum_segment_size", c.c_uint16),
+        ("kind", c.c_uint8),
+        ("window_scale", c.c_uint8),
+        ("needed", c.c_uint8),
+        ("stated_len", c.c_uint8),
+    ]
+
+
 class NetlinesSession(c.Structure):
     """Lines that come in chunks. It starts as zeros, and is changed by these calls alone."""
 
@@ -409,8 +520,12 @@ assert c.sizeof(EpPartRefusal) == 24
 assert c.sizeof(EpMessage) == 56
 assert c.sizeof(EpAdded) == 128
 assert c.sizeof(EpBuilt) == 16
-assert c.sizeof(EpLink) == 32
 assert c.sizeof(EpPart) == 16
+assert c.sizeof(EpExtensions) == 24
+assert c.sizeof(EpExtension) == 56
+assert c.sizeof(EpIcmpFields) == 32
+assert c.sizeof(EpNdp) == 64
+assert c.sizeof(EpLink) == 32
 assert c.sizeof(EpTag) == 48
 assert c.sizeof(EpIpv4) == 72
 assert c.sizeof(EpIpv6) == 104
@@ -422,6 +537,8 @@ assert c.sizeof(EpPacket) == 656
 assert c.sizeof(EpLaxPacket) == 704
 assert c.sizeof(EpPlan) == 176
 assert c.sizeof(EpPool) == 16
+assert c.sizeof(EpTcpBlock) == 8
+assert c.sizeof(EpTcpOption) == 64
 
 assert c.sizeof(NetlinesSession) == 16
 
@@ -434,6 +551,22 @@ def declare_etherparse(library: c.CDLL) -> None:
     library.ep_checksum.restype = c.c_uint16
     library.ep_checksum_is_right.argtypes = [c.c_char_p, c.c_size_t]
     library.ep_checksum_is_right.restype = c.c_bool
+    library.ep_tcp_options.argtypes = [c.POINTER(EpPacket)]
+    library.ep_tcp_options.restype = EpPart
+    library.ep_tcp_option_next.argtypes = [c.c_char_p, c.c_size_t, c.POINTER(EpPart)]
+    library.ep_tcp_option_next.restype = EpTcpOption
+    library.ep_ipv4_options.argtypes = [c.POINTER(EpPacket)]
+    library.ep_ipv4_options.restype = EpPart
+    library.ep_ip_extensions.argtypes = [c.POINTER(EpPacket)]
+    library.ep_ip_extensions.restype = EpExtensions
+    library.ep_extension_next.argtypes = [c.c_char_p, c.c_size_t, c.POINTER(EpExtensions)]
+    library.ep_extension_next.restype = EpExtension
+    library.ep_icmpv4_fields.argtypes = [c.c_char_p, c.c_size_t]
+    library.ep_icmpv4_fields.restype = EpIcmpFields
+    library.ep_icmpv6_fields.argtypes = [c.c_char_p, c.c_size_t]
+    library.ep_icmpv6_fields.restype = EpIcmpFields
+    library.ep_ndp_message.argtypes = [c.c_char_p, c.c_size_t]
+    library.ep_ndp_message.restype = EpNdp
     library.ep_pool_new.argtypes = [c.POINTER(EpPool)]
     library.ep_pool_new.restype = c.c_uint32
     library.ep_pool_add.argtypes = [c.POINTER(EpPool), c.c_char_p, c.c_size_t, c.c_uint64, c.c_uint32, c.POINTER(c.c_uint8), c.c_size_t]

@@ -310,6 +310,9 @@ class Documentation(unittest.TestCase):
     def test_public_calls_have_hints_and_a_text(self):
         for name in ep.__all__:
             item = getattr(ep, name)
+            # A union of public classes has no text of its own.
+            if typing.get_origin(item) is typing.Union:
+                continue
             self.assertTrue(item.__doc__, name)
             self.assertEqual(item.__module__, "etherparse_proved")
             calls = [item] if inspect.isfunction(item) else []

@@ -47,6 +47,16 @@ def why(error: ep.Refused) -> Tuple[str, int]:
     return error.reason, error.needed
 
 
+def segment_size(frame: bytes) -> Optional[int]:
+    options: List[ep.TcpOption] = ep.slice_ethernet(frame).tcp_options()
+    sizes = [option.size for option in options if isinstance(option, ep.MaximumSegmentSize)]
+    return sizes[0] if sizes else None
+
+
+def headers(packet: ep.Packet) -> Tuple[List[ep.Extension], Optional[ep.IcmpMessage], Optional[ep.NdpMessage], bytes]:
+    return packet.extensions(), packet.icmp_message(), packet.ndp_message(), packet.ipv4_options()
+
+
 version: str = ep.__version__
 verdict: Optional[ep.Verdict] = ep.verdict_ip(b"")
 cut: ep.Packet = ep.slice_ip_lax(b"")
@@ -69,4 +79,5 @@ ep.Pool().tiem = 1  # type: ignore[attr-defined]
 ep.PlannedUdp("1", 2)  # type: ignore[arg-type]
 ep.PlannedTcp(1, 2, syns=True)  # type: ignore[call-arg]
 ep.build(b"", source="::1", destination="::2", transport="udp")  # type: ignore[arg-type]
+ep.slice_ethernet(b"").tcp_options()[0].size  # type: ignore[union-attr]
 ep.no_such_call  # type: ignore[attr-defined]

@@ -8,6 +8,7 @@
 
 #![deny(missing_docs)]
 
+mod fields;
 mod packet;
 mod plan;
 mod planned_tcp;
@@ -15,6 +16,10 @@ mod pool;
 pub mod raw;
 mod refusal;
 
+pub use fields::{
+    AuthenticationExtension, Extension, Extensions, FragmentExtension, IcmpEchoHeader, IcmpType, NdpMessage, RawExtension,
+    TcpOptionElement, TcpOptionReadError, TcpOptionsIterator, TimestampMessage,
+};
 pub use packet::{LaxPacket, Link, Net, Packet, Stop, Transport};
 pub use plan::{
     build, BuildError, Plan, PlanField, PlannedAddresses, PlannedEcho, PlannedLink, PlannedTransport,

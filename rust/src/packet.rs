@@ -100,6 +100,12 @@ impl<'a> Packet<'a> {
         }
     }
 
+    /// The bytes that it was sliced from.
+    #[must_use]
+    pub fn bytes(&self) -> &'a [u8] {
+        self.bytes
+    }
+
     /// All fields.
     #[must_use]
     pub fn fields(&self) -> &EpPacket {

@@ -1,6 +1,28 @@
 //! The exports and their structs. Written by `tools/bindings`.
 #![allow(dead_code)]
 
+/// No message, since there are too few bytes, or not the 20 of a timestamp message.
+pub const ICMP_NONE: u32 = 0;
+/// A type and code that have no other kind.
+pub const ICMP_UNKNOWN: u32 = 1;
+/// An echo request.
+pub const ICMP_ECHO_REQUEST: u32 = 2;
+/// The reply to one.
+pub const ICMP_ECHO_REPLY: u32 = 3;
+/// A packet couldn't be delivered.
+pub const ICMP_DESTINATION_UNREACHABLE: u32 = 4;
+/// Of ICMPv4: another gateway is the better one.
+pub const ICMP_REDIRECT: u32 = 5;
+/// A packet or its fragments took too long.
+pub const ICMP_TIME_EXCEEDED: u32 = 6;
+/// A packet's header has a fault.
+pub const ICMP_PARAMETER_PROBLEM: u32 = 7;
+/// Of ICMPv4: a request for the receiver's time.
+pub const ICMP_TIMESTAMP_REQUEST: u32 = 8;
+/// Of ICMPv4: the reply to one.
+pub const ICMP_TIMESTAMP_REPLY: u32 = 9;
+/// Of ICMPv6: a packet is bigger than the next link takes.
+pub const ICMP_PACKET_TOO_BIG: u32 = 10;
 /// It is done, or there was nothing to do.
 pub const DONE: u32 = 0;
 /// The output is too short.
@@ -246,6 +268,119 @@ pub struct EpBuilt {
     pub len: usize,
 }
 
+/// Where bytes are in those that were passed.
+#[repr(C)]
+#[derive(Clone, Copy, Debug, PartialEq, Eq)]
+pub struct EpPart {
+    /// The offset of the first byte.
+    pub offset: usize,
+    /// How many bytes.
+    pub len: usize,
+}
+
+/// The extension headers of an IP packet that are left.
+#[repr(C)]
+#[derive(Clone, Copy, Debug, PartialEq, Eq)]
+pub struct EpExtensions {
+    /// Where they are.
+    pub left: EpPart,
+    /// The number of the first of them.
+    pub next_header: u8,
+}
+
+/// An extension header of IPv6 (RFC 8200, section 4), or the authentication header of IPv4 (RFC 4302).
+/// The fields of other kinds are 0.
+#[repr(C)]
+#[derive(Clone, Copy, Debug, PartialEq, Eq)]
+pub struct EpExtension {
+    /// The header.
+    pub header: EpPart,
+    /// Of options and routing: what follows the first two bytes. Of authentication: the integrity
+    /// check value.
+    pub payload: EpPart,
+    /// Which header it is, numbered as the layer of a refusal: EP_LAYER_IPV6_HOP_BY_HOP_HEADER,
+    /// EP_LAYER_IPV6_DEST_OPTIONS_HEADER, EP_LAYER_IPV6_ROUTE_HEADER, EP_LAYER_IPV6_FRAG_HEADER or
+    /// EP_LAYER_IP_AUTH_HEADER; 0 none, since none is left.
+    pub layer: u32,
+    /// Of a fragment header: the identification, which the fragments of one datagram share.
+    pub identification: u32,
+    /// Of authentication: the security parameters index.
+    pub spi: u32,
+    /// Of authentication: the sequence number.
+    pub sequence_number: u32,
+    /// Of a fragment header: the offset of the payload in the datagram, in units of 8 bytes.
+    pub fragment_offset: u16,
+    /// Its number: 0 hop-by-hop options, 43 routing, 44 fragment, 51 authentication, 60 destination
+    /// options.
+    pub number: u8,
+    /// The number of what follows it.
+    pub next_header: u8,
+    /// Of a fragment header: whether other fragments follow.
+    pub more_fragments: bool,
+}
+
+/// What an ICMP message says beside its type and code, by its kind. The fields of other kinds are 0.
+#[repr(C)]
+#[derive(Clone, Copy, Debug, PartialEq, Eq)]
+pub struct EpIcmpFields {
+    /// The kind, one of EP_ICMP_..
+    pub kind: u32,
+    /// Of a packet too big: the greatest packet in bytes that the next link takes. Also of a
+    /// destination unreachable of ICMPv4 with code 4, where nodes that don't report it write 0.
+    pub mtu: u32,
+    /// Of a parameter problem: the offset of the fault in the packet. With ICMPv4 only code 0 has one.
+    pub pointer: u32,
+    /// Of timestamps: when the request was last touched by its sender, in milliseconds since
+    /// midnight UT.
+    pub originate_timestamp: u32,
+    /// Of timestamps: when the request was first touched by its receiver.
+    pub receive_timestamp: u32,
+    /// Of timestamps: when the reply was last touched by its sender.
+    pub transmit_timestamp: u32,
+    /// Of echoes and timestamps: the identifier, which the reply repeats.
+    pub id: u16,
+    /// Of echoes and timestamps: the sequence number, which the reply repeats.
+    pub sequence_number: u16,
+    /// Of a redirect: the address of the better gateway.
+    pub gateway: [u8; 4],
+}
+
+/// A message of neighbor discovery for IPv6 (RFC 4861, section 4). The fields of other types are 0.
+#[repr(C)]
+#[derive(Clone, Copy, Debug, PartialEq, Eq)]
+pub struct EpNdp {
+    /// Where its options start in the message.
+    pub options_offset: usize,
+    /// Of a router advertisement: how long a neighbor is reachable after a confirmation, in
+    /// milliseconds; 0: not given.
+    pub reachable_time: u32,
+    /// Of a router advertisement: the time between repeated solicitations, in milliseconds; 0: not
+    /// given.
+    pub retrans_timer: u32,
+    /// Of a router advertisement: how long the router is a default router, in seconds; 0: it is none.
+    pub router_lifetime: u16,
+    /// The type: 133 router solicitation, 134 router advertisement, 135 neighbor solicitation, 136
+    /// neighbor advertisement, 137 redirect; 0 none of these, or too few bytes for it.
+    pub icmp_type: u8,
+    /// Of a router advertisement: the hop limit for packets to send, 0 where the router gives none.
+    pub hop_limit: u8,
+    /// Of a router advertisement: bit M: addresses are available by DHCPv6.
+    pub managed: bool,
+    /// Of a router advertisement: bit O: other configuration is available by DHCPv6.
+    pub other: bool,
+    /// Of a neighbor advertisement: bit R: the sender is a router.
+    pub router: bool,
+    /// Of a neighbor advertisement: bit S: it answers a solicitation.
+    pub solicited: bool,
+    /// Of a neighbor advertisement: bit O: it overrides the link-layer address that is cached.
+    pub overrides: bool,
+    /// Of neighbor solicitations and advertisements: the address whose link-layer address it is about;
+    /// of a redirect: the better first hop.
+    pub target: [u8; 16],
+    /// Of a redirect: the address whose packets go there.
+    pub destination: [u8; 16],
+}
+
 /// A link header. The fields of other kinds are 0.
 #[repr(C)]
 #[derive(Clone, Copy, Debug, PartialEq, Eq)]
@@ -266,16 +401,6 @@ pub struct EpLink {
     pub address_len: u16,
     /// Of a cooked capture: the sender's address, and bytes without meaning after it.
     pub address: [u8; 8],
-}
-
-/// Where bytes are in those that were passed.
-#[repr(C)]
-#[derive(Clone, Copy, Debug, PartialEq, Eq)]
-pub struct EpPart {
-    /// The offset of the first byte.
-    pub offset: usize,
-    /// How many bytes.
-    pub len: usize,
 }
 
 /// A tag between link header and packet. The fields of other kinds are 0.
@@ -643,6 +768,47 @@ pub struct EpPool {
     pub held: *mut std::ffi::c_void,
 }
 
+/// A block of bytes that arrived after a gap (RFC 2018, section 3).
+#[repr(C)]
+#[derive(Clone, Copy, Debug, PartialEq, Eq)]
+pub struct EpTcpBlock {
+    /// The sequence number of its first byte.
+    pub left_edge: u32,
+    /// The sequence number of the byte after its last one.
+    pub right_edge: u32,
+}
+
+/// An option of a TCP header, or why the bytes are none. The fields of other kinds are 0.
+#[repr(C)]
+#[derive(Clone, Copy, Debug, PartialEq, Eq)]
+pub struct EpTcpOption {
+    /// Of kind 5: the blocks, of which `block_count` are there.
+    pub blocks: [EpTcpBlock; 4],
+    /// Of fault 1: how many bytes are left.
+    pub there: usize,
+    /// Of kind 8: the sender's clock.
+    pub timestamp: u32,
+    /// Of kind 8: the clock value that it replies to.
+    pub echoed_timestamp: u32,
+    /// 0 none; 1 fewer bytes are left than the option needs; 2 its length byte isn't one that its
+    /// kind has; 3 the kind is unknown. After a fault nothing is read.
+    pub fault: u32,
+    /// Of kind 5: how many blocks there are, 1 to 4.
+    pub block_count: u32,
+    /// Of kind 2: the greatest segment that the sender takes.
+    pub maximum_segment_size: u16,
+    /// The kind of the option: 0 none, since the list has ended; 1 no operation, 2 maximum segment
+    /// size, 3 window scale, 4 selective acknowledgements are permitted, 5 a selective
+    /// acknowledgement, 8 timestamps. Of a fault any but 0.
+    pub kind: u8,
+    /// Of kind 3: by how many bits window sizes are shifted.
+    pub window_scale: u8,
+    /// Of fault 1: how many bytes it needs.
+    pub needed: u8,
+    /// Of fault 2: its length byte.
+    pub stated_len: u8,
+}
+
 /// Lines that come in chunks. It starts as zeros, and is changed by these calls alone.
 #[repr(C)]
 #[derive(Clone, Copy, Debug, PartialEq, Eq)]
@@ -657,6 +823,14 @@ extern "C" {
     pub(crate) fn ep_build(plan: *const EpPlan, payload: *const u8, payload_len: usize, output: *mut u8, output_len: usize) -> EpBuilt;
     pub(crate) fn ep_checksum(bytes: *const u8, bytes_len: usize) -> u16;
     pub(crate) fn ep_checksum_is_right(bytes: *const u8, bytes_len: usize) -> bool;
+    pub(crate) fn ep_tcp_options(packet: *const EpPacket) -> EpPart;
+    pub(crate) fn ep_tcp_option_next(bytes: *const u8, bytes_len: usize, left: *mut EpPart) -> EpTcpOption;
+    pub(crate) fn ep_ipv4_options(packet: *const EpPacket) -> EpPart;
+    pub(crate) fn ep_ip_extensions(packet: *const EpPacket) -> EpExtensions;
+    pub(crate) fn ep_extension_next(bytes: *const u8, bytes_len: usize, left: *mut EpExtensions) -> EpExtension;
+    pub(crate) fn ep_icmpv4_fields(message: *const u8, message_len: usize) -> EpIcmpFields;
+    pub(crate) fn ep_icmpv6_fields(message: *const u8, message_len: usize) -> EpIcmpFields;
+    pub(crate) fn ep_ndp_message(message: *const u8, message_len: usize) -> EpNdp;
     pub(crate) fn ep_pool_new(pool: *mut EpPool) -> u32;
     pub(crate) fn ep_pool_add(pool: *mut EpPool, frame: *const u8, frame_len: usize, time: u64, channel: u32, output: *mut u8, output_len: usize) -> EpAdded;
     pub(crate) fn ep_pool_add_linux_sll(pool: *mut EpPool, packet: *const u8, packet_len: usize, time: u64, channel: u32, output: *mut u8, output_len: usize) -> EpAdded;
@@ -687,8 +861,12 @@ const _: () = assert!(std::mem::size_of::<EpPartRefusal>() == 24);
 const _: () = assert!(std::mem::size_of::<EpMessage>() == 56);
 const _: () = assert!(std::mem::size_of::<EpAdded>() == 128);
 const _: () = assert!(std::mem::size_of::<EpBuilt>() == 16);
-const _: () = assert!(std::mem::size_of::<EpLink>() == 32);
 const _: () = assert!(std::mem::size_of::<EpPart>() == 16);
+const _: () = assert!(std::mem::size_of::<EpExtensions>() == 24);
+const _: () = assert!(std::mem::size_of::<EpExtension>() == 56);
+const _: () = assert!(std::mem::size_of::<EpIcmpFields>() == 32);
+const _: () = assert!(std::mem::size_of::<EpNdp>() == 64);
+const _: () = assert!(std::mem::size_of::<EpLink>() == 32);
 const _: () = assert!(std::mem::size_of::<EpTag>() == 48);
 const _: () = assert!(std::mem::size_of::<EpIpv4>() == 72);
 const _: () = assert!(std::mem::size_of::<EpIpv6>() == 104);
@@ -700,4 +878,6 @@ const _: () = assert!(std::mem::size_of::<EpPacket>() == 656);
 const _: () = assert!(std::mem::size_of::<EpLaxPacket>() == 704);
 const _: () = assert!(std::mem::size_of::<EpPlan>() == 176);
 const _: () = assert!(std::mem::size_of::<EpPool>() == 16);
+const _: () = assert!(std::mem::size_of::<EpTcpBlock>() == 8);
+const _: () = assert!(std::mem::size_of::<EpTcpOption>() == 64);
 const _: () = assert!(std::mem::size_of::<NetlinesSession>() == 16);

@@ -4,6 +4,7 @@
 
 mod build;
 mod checksum;
+mod fields;
 mod pool;
 mod slice;
 mod verdict;

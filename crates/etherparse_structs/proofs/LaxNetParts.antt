@@ -47,15 +47,15 @@ ipv6_header_is : (bytes header : List ℕ) → v6.header_at bytes ≡ Ok header
     → (header ≡ take 40 bytes) × (40 ≤ length bytes)
 ipv6_header_is bytes header at = grind (arith, ltb-false)
 
-auth_is : (bytes auth : List ℕ) → auth_at bytes ≡ Ok auth
+pub auth_is : (bytes auth : List ℕ) → auth_at bytes ≡ Ok auth
     → (auth ≡ take (auth_len bytes) bytes) × (auth_len bytes ≤ length bytes)
 auth_is bytes auth at = grind (arith, ltb-false)
 
-raw_is : (bytes header : List ℕ) → raw_at bytes ≡ Ok header
+pub raw_is : (bytes header : List ℕ) → raw_at bytes ≡ Ok header
     → (header ≡ take (raw_len bytes) bytes) × (raw_len bytes ≤ length bytes)
 raw_is bytes header at = grind (arith, ltb-false)
 
-fragment_is : (bytes header : List ℕ) → fragment_at bytes ≡ Ok header
+pub fragment_is : (bytes header : List ℕ) → fragment_at bytes ≡ Ok header
     → (header ≡ take 8 bytes) × (8 ≤ length bytes)
 fragment_is bytes header at = grind (arith, ltb-false)
 

@@ -5,7 +5,10 @@ mod LaxFrameParts
 mod LaxMessageParts
 mod LaxNetParts
 mod LaxPartsLemmas
+mod OptionLemmas
+mod NextExtension
 pub mod Offsets
+mod PacketFields
 mod PartOffsets
 mod PlanLemmas
 mod PoolLemmas

@@ -1,5 +1,7 @@
 pub mod Build
+pub mod Extension
 pub mod FramePool
+pub mod IcmpFields
 pub mod LaxPacket
 pub mod LaxParts
 pub mod Link
@@ -11,5 +13,6 @@ pub mod PartRefusal
 pub mod Plan
 pub mod Pool
 pub mod Refusal
+pub mod TcpOption
 pub mod Transport
 pub mod Verdict

@@ -4,8 +4,11 @@
 
 mod added;
 mod build;
+mod extension;
 mod frame_pool;
+mod header_parts;
 mod held;
+mod icmp_fields;
 pub mod laws;
 mod lax_packet;
 mod link;
@@ -18,12 +21,16 @@ mod plan;
 mod planned;
 mod pool;
 mod refusal;
+mod tcp_option;
 mod transport;
 mod verdict;
 
 pub use added::EpAdded;
 pub use build::{EpBuilt, build_packet};
+pub use extension::{EpExtension, EpExtensions, next_extension};
+pub use header_parts::{ip_extensions, ipv4_options, tcp_options};
 pub use held::Held;
+pub use icmp_fields::{EpIcmpFields, EpNdp, icmpv4_fields, icmpv6_fields, ndp_message};
 pub use lax_packet::{EpLaxPacket, sliced_lax_ethernet, sliced_lax_ip, sliced_lax_linux_sll};
 pub use link::{EpLink, EpTag};
 pub use message::EpMessage;
@@ -34,6 +41,7 @@ pub use part_refusal::EpPartRefusal;
 pub use plan::EpPlan;
 pub use pool::EpPool;
 pub use refusal::EpRefusal;
+pub use tcp_option::{EpTcpBlock, EpTcpOption, next_tcp_option};
 pub use transport::{EpIcmp, EpTcp, EpUdp};
 pub use verdict::verdict_on;
 
