@@ -13,7 +13,6 @@ mod FoundTagsLemmas
 mod FrameFaults
 mod HeaderLemmas
 mod HeadersAt
-mod HeadersFound
 mod HeadersOfLayers
 mod HeadersOfMessages
 mod HeadersOfPackets
