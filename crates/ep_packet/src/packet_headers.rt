@@ -62,6 +62,7 @@ impl<'a> PacketHeaders<'a> {
     {
         laws::rows_are_found();
         laws::rows_in_slots_are_views();
+        laws::ipv6_packet_found_is_there();
         Self::in_frame(slice)
     }
 
@@ -90,6 +91,7 @@ impl<'a> PacketHeaders<'a> {
     {
         laws::rows_are_found();
         laws::rows_in_slots_are_views();
+        laws::ipv6_packet_found_is_there();
         Self::after_link(None, ether_payload(ether_type, slice), 0)
     }
 
@@ -104,6 +106,7 @@ impl<'a> PacketHeaders<'a> {
     {
         laws::rows_are_found();
         laws::rows_in_slots_are_views();
+        laws::ipv6_packet_found_is_there();
         Self::in_ip_packet(slice)
     }
 

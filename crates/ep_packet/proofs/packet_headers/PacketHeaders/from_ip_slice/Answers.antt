@@ -1,5 +1,4 @@
 use Rattle.std.proofs.Common.{◌∙◌}
-use Rattle.ep_ipslice.proofs.Found.{packet_found}
 use Rattle.ep_packet.proofs.HeadersOfPackets.{ip_packet_same}
 use Rattle.ep_packet.proofs.packet_headers.PacketHeaders.from_ip_slice.Goals as goal
 
@@ -9,5 +8,5 @@ returns-clause-agrees c = λ packet headers is are.
     (record {
       found = c.rows_are_found.ensures;
       views = c.rows_in_slots_are_views.ensures;
-      begins = packet_found;
+      begins = c.ipv6_packet_found_is_there.ensures;
     }) c.args.slice.now packet headers is are
