@@ -78,7 +78,8 @@ def ip_packet(
     data = frame(outer, tags[2:] + (struct.pack("!H", ether_type) if tags else b"") + bytes(ip))
     net = net or (fields.ipv4(ip) if is_v4 else fields.ipv6(ip))
     fragment = known.pop("fragment", None)
-    members = fields.members(link(outer), list(exts), net, transport, payload, fragment)
+    other = known.pop("other", None)
+    members = fields.members(link(outer), list(exts), net, transport, payload, fragment, other)
     kinds = ("Ethernet", *known.pop("tag_kinds", ()), "IPv4" if is_v4 else "IPv6", *kinds)
     talk = f"{ip.src} > {ip.dst}"
     return Packet(data, line, members, kinds, check=check, talk=talk, **known)

@@ -211,7 +211,16 @@ OF_ICMP_ERRORS = (
     (("icmp", "host=10.0.0.2"), tuple(range(1, 46))),
 )
 # Of captures of scapy's packets.
-OF_MADE = {"icmp_errors": OF_ICMP_ERRORS}
+# By the types of messages, also of those that are cut off or have options that can't be read.
+OF_NEIGHBORS = (
+    (("ndp",), (*range(1, 11), *range(16, 22))),
+    (("NDP", "icmp6"), (*range(1, 11), *range(16, 22))),
+    (("mld",), (*range(11, 16), *range(22, 25))),
+    (("not (ndp or mld)",), ()),
+    (("igmp",), ()),
+)
+OF_GROUPS = ((("igmp",), tuple(range(1, 12))), (("mld",), ()), (("ndp",), ()))
+OF_MADE = {"icmp_errors": OF_ICMP_ERRORS, "neighbors": OF_NEIGHBORS, "groups": OF_GROUPS}
 UNKNOWN = (
     "no protocol, and not `bad`, `refused`, `fragments`, `cut`, `host=ADDRESS` or `port=NUMBER`"
 )

@@ -18,7 +18,7 @@ COLORED = (
 )
 FILE = "forms.pcap"
 # How the lines of conditions begin in the help.
-CONDITIONS = ("eth, vlan, macsec, arp, ip4, ip6", "icmp, icmp6, udp, tcp, sctp", "0 to 255", "bad", "refused", "fragments", "cut")
+CONDITIONS = ("eth, vlan, macsec, arp, ip4, ip6", "icmp, icmp6, udp, tcp, sctp", "0 to 255", "bad", "refused", "fragments", "cut", "ndp, mld")
 CONDITIONS += ("host=ADDRESS", "net=NETWORK", "src=FROM, dst=TO", "port=N", "syn, fin, rst", "vlan=N", "len=N", "frame=N")
 # Words for a file, the status, and what is written after the program's name. The cause is in the C library's words.
 REFUSED = (

@@ -4,12 +4,14 @@ import dataclasses
 import datetime
 import decimal
 import json
+import socket
+import struct
 
 BEGIN = 1_700_000_000 * 10**9
 TITLES = "   packets   share           bytes   share     first  "
 # The rows of protocols in their order. Those over IP follow by their numbers.
 LINKS = ("Ethernet", "VLAN", "MACsec", "ARP", "IPv4", "IPv6")
-OVER_IP = {"ICMP": 1, "TCP": 6, "UDP": 17, "GRE": 47, "ICMPv6": 58, "IPv6-NoNxt": 59, "SCTP": 132}
+OVER_IP = {"ICMP": 1, "IGMP": 2, "TCP": 6, "UDP": 17, "GRE": 47, "ICMPv6": 58, "IPv6-NoNxt": 59, "SCTP": 132}
 OVER_IP |= {"IP protocol 253": 253}
 # Extension headers that aren't there: what they are is the protocol of the packet.
 OVER_IP |= {"HOPOPT": 0, "IPv6-Frag": 44, "AH": 51, "IPv6-Opts": 60}
@@ -66,6 +68,20 @@ class Packet:
         return len(self.data) < self.wire_len
 
 
+def header_verdict(members):
+    """Whether the words of an IPv4 header sum to all ones (RFC 1071, section 1); none of a packet that is refused."""
+    it = members.get("net", {}).get("Ipv4")
+    if not it or "error" in members:
+        return None
+    options = bytes.fromhex(it["options"])
+    flags = it["dont_fragment"] << 14 | it["more_fragments"] << 13 | it["fragment_offset"]
+    tos = it["dscp"] << 2 | it["ecn"]
+    start = struct.pack("!BBHHHBBH", 0x45 + len(options) // 4, tos, it["total_len"], it["identification"], flags, it["time_to_live"], it["protocol"], it["header_checksum"])
+    header = start + b"".join(socket.inet_aton(it[end]) for end in ("source", "destination")) + options
+    total = sum(struct.unpack(f"!{len(header) // 2}H", header))
+    return "Bad" if total % 65535 else "Good"
+
+
 def seconds_between(start, end):
     """Seconds to the microsecond, cut towards zero."""
     seconds = decimal.Decimal(end - start) / 10**9
@@ -95,7 +111,8 @@ def shown(packets, form="relative"):
         }
         before = it
         cut = f"{it.gap}cut at {len(it.data)} of {it.wire_len} bytes" if it.cut else ""
-        yield f"{it.number:5} {times[form]:>10} {it.line}{cut}"
+        bad = "  header checksum bad" if header_verdict(it.members) == "Bad" else ""
+        yield f"{it.number:5} {times[form]:>10} {it.line}{bad}{cut}"
 
 
 def objects(packets, link_type):
@@ -109,6 +126,8 @@ def objects(packets, link_type):
             "wire_len": it.wire_len,
         }
         members |= it.members | ({"verdict": VERDICTS[it.check]} if it.check else {})
+        header = header_verdict(it.members)
+        members |= {"header_verdict": header} if header else {}
         yield json.dumps(members, separators=(",", ":"))
 
 

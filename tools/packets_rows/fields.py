@@ -17,11 +17,11 @@ def number(data, at, size=2):
     return int.from_bytes(data[at : at + size], "big")
 
 
-def members(link, exts, net=None, transport=None, payload=b"", fragment=None):
+def members(link, exts, net=None, transport=None, payload=b"", fragment=None, other=None):
     """The members of a packet's object after `len`."""
     packet = {"link": link, "link_exts": exts}
     packet |= {"net": net} if net else {}
-    packet |= {"transport": transport} if transport else {}
+    packet |= {"transport": transport} if transport else other or {}
     packet |= {"payload_len": len(payload), "payload": payload.hex()}
     return packet | ({"fragment": fragment} if fragment else {})
 
@@ -86,7 +86,8 @@ def tcp(it, options=()):
     header |= {"acknowledgment_number": it.ack, "data_offset": it.dataofs}
     header |= {name: letter in str(it.flags) for name, letter in FLAGS.items()}
     header |= {"window_size": it.window, "checksum": it.chksum, "urgent_pointer": it.urgptr}
-    return {"Tcp": header | {"options": list(options)}}
+    read = bytes(it.original)[20 : 4 * it.dataofs].hex()
+    return {"Tcp": header | {"options": list(options)} | ({"options_bytes": read} if read else {})}
 
 
 def icmp(name, data, more):

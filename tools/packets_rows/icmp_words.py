@@ -82,14 +82,14 @@ OVER_IPV6 = (
     (128, 1, "00010002", "echo request code 1"),
     (129, 0, "00010002", "echo reply id 1 seq 2"),
     (129, 1, "00010002", "echo reply code 1"),
-    (130, 0, "00000000", "listener query"),
-    (131, 0, "00000000", "listener report"),
-    (132, 0, "00000000", "listener done"),
+    (130, 0, "00000000", "listener query, cut off: 24 bytes needed, 8 there"),
+    (131, 0, "00000000", "listener report, cut off: 24 bytes needed, 8 there"),
+    (132, 0, "00000000", "listener done, cut off: 24 bytes needed, 8 there"),
     (133, 0, "00000000", "router solicitation"),
-    (134, 0, "00000000", "router advertisement"),
-    (135, 0, "00000000", "neighbor solicitation"),
-    (136, 0, "00000000", "neighbor advertisement"),
-    (137, 0, "00000000", "redirect"),
+    (134, 0, "00000000", "router advertisement, cut off: 16 bytes needed, 8 there"),
+    (135, 0, "00000000", "neighbor solicitation, cut off: 24 bytes needed, 8 there"),
+    (136, 0, "00000000", "neighbor advertisement, cut off: 24 bytes needed, 8 there"),
+    (137, 0, "00000000", "redirect, cut off: 40 bytes needed, 8 there"),
     (143, 0, "00000000", "listener report v2"),
     (200, 0, "00000000", "type 200"),
 )
@@ -98,7 +98,9 @@ OVER_IPV6 = (
 def over_ipv4(rows):
     for kind, code, rest, _ in rows:
         size = 24 + len(rest) // 2
-        yield f"4500{size:04x}00010000400100000a0000010a000002{kind:02x}{code:02x}0000{rest}"
+        # The words of the header sum to all ones, which is right.
+        right = 0xFFFF - (0x4500 + size + 1 + 0x4001 + 2 * 0x0A00 + 1 + 2) % 0xFFFF
+        yield f"4500{size:04x}000100004001{right:04x}0a0000010a000002{kind:02x}{code:02x}0000{rest}"
 
 
 def over_ipv6(rows):
@@ -107,9 +109,14 @@ def over_ipv6(rows):
         yield f"6000000000083a40{ends}{kind:02x}{code:02x}0000{rest}"
 
 
-def shown_rows(sent, rows):
+# Types of neighbor discovery and multicast listener discovery, which have no length.
+WITHOUT_LEN = (130, 131, 132, 133, 134, 135, 136, 137, 143)
+
+
+def shown_rows(sent, rows, without_len=()):
     """The checksum is 0, which is wrong."""
-    return [(["show"], shown(f"{sent} {row[3]} len 0  bad checksum" for row in rows))]
+    ends = ("" if row[0] in without_len else " len 0" for row in rows)
+    return [(["show"], shown(f"{sent} {row[3]}{end}  bad checksum" for row, end in zip(rows, ends)))]
 
 
 CAPTURES = (
@@ -120,6 +127,6 @@ CAPTURES = (
         "icmp6_words",
         101,
         over_ipv6(OVER_IPV6),
-        shown_rows("2001:db8::1 > 2001:db8::2 ICMPv6", OVER_IPV6),
+        shown_rows("2001:db8::1 > 2001:db8::2 ICMPv6", OVER_IPV6, WITHOUT_LEN),
     ),
 )

@@ -1,6 +1,8 @@
 """Lines of packets, written by hand from the RFCs of their protocols. The frames are scapy's
 (2.5.0)."""
 
+import re
+
 import frames
 from worked import Worked, shown
 
@@ -40,7 +42,7 @@ MESSAGES = (
     (
         "02000000000202000000000186dd600000000012004020010db800000000000000000000000120010d"
         "b800000000000000000000000211000104000000000009000a000a42f06162",
-        "2001:db8::1.9 > 2001:db8::2.10 UDP len 2  good",
+        "2001:db8::1.9 > 2001:db8::2.10 headers [hop-by-hop] UDP len 2  good",
     ),
     (
         "ffffffffffff020000000001080600010800060400010200000000010a0000010000000000000a000002",
@@ -101,7 +103,7 @@ ICMP = (
     (
         "02000000000202000000000186dd6000000000183afffe800000000000000000000000000001ff0200"
         "000000000000000001ff00000287007da100000000fe800000000000000000000000000002",
-        "fe80::1 > ff02::1:ff00:2 ICMPv6 neighbor solicitation len 16  good",
+        "fe80::1 > ff02::1:ff00:2 ICMPv6 neighbor solicitation, who has fe80::2  good",
     ),
     (
         "02000000000202000000000186dd60000000000a3a4020010db800000000000000000000000120010d"
@@ -190,11 +192,21 @@ def ether_types():
         yield f"020000000002020000000001{ether_type:04x}6162", line
 
 
+def linked(link_type, frame, line):
+    """The line with the hardware addresses of the frame, which stand after the VLANs, and in lines of what isn't IP or ARP already."""
+    if link_type != 1:
+        return line
+    to, sender = (bytes.fromhex(frame[at : at + 12]).hex(":") for at in (0, 12))
+    ends = f"{sender} > {to} "
+    before, after = re.fullmatch(r"((?:vlan \d+ |macsec an \d pn \d+ (?:sci \w+ )?)*)(.*)", line).groups()
+    return line if after.startswith(ends) else before + ends + after
+
+
 def worked(name, link_type, rows):
-    """A capture of frames, and the line of each after its number and its time."""
+    """A capture of frames, and the line of each after its number and its time, also with hardware addresses."""
     rows = list(rows)
-    lines = shown(line for _, line in rows)
-    return Worked(name, link_type, [frame for frame, _ in rows], [(["show"], lines)])
+    lines, others = shown(line for _, line in rows), shown(linked(link_type, *row) for row in rows)
+    return Worked(name, link_type, [frame for frame, _ in rows], [(["show"], lines), (["show", "-e"], others)])
 
 
 def spans(name, numbered, lines, still_open=()):

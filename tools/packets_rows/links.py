@@ -126,13 +126,18 @@ def other():
         members = fields.members(link(ether_type), [], None, None, body)
         yield Packet(frame(ether_type, body), f"{MACS} {name} len {len(body)}", members, ("Ethernet",))
     for number, name, kind, body in (
-        (132, "SCTP", "SCTP", bytes(12)),
+        # One byte less than the header of an SCTP packet (RFC 9260, section 3.1).
+        (132, "SCTP", "SCTP", bytes(11)),
         (47, "GRE", "GRE", b"\0\0\x08\0"),
         (253, "protocol 253", "IP protocol 253", b"x"),
     ):
         yield ip_packet(
             v4(number, body), f"{A4} > {B4} {name} len {len(body)}", (kind,), "none", payload=body
         )
+    body = struct.pack("!HHII", 5000, 6000, 1, 0) + b"data"
+    ports = {"sctp": {"source_port": 5000, "destination_port": 6000}}
+    line = f"{A4}.5000 > {B4}.6000 SCTP len 16"
+    yield ip_packet(v4(132, body), line, ("SCTP",), "none", payload=body, other=ports)
     yield ip_packet(v6(59, b""), f"{A6} > {B6} IPv6-NoNxt len 0", ("IPv6-NoNxt",), "none")
     # ICMP of the other IP version has no checksum that would be defined there.
     ping = icmp(8, 0, b"\0\7\0\2ping")

@@ -67,9 +67,8 @@ def ipv4_udp():
     good = udp(b"abc")
     yield packet(good, f"{PORTS4} UDP len 3  good", "good", b"abc")
     # A router alert (RFC 2113) and the end of the options.
-    yield packet(
-        good, f"{PORTS4} UDP len 3  good", "good", b"abc", options=bytes.fromhex("9404000000000000")
-    )
+    alert = bytes.fromhex("9404000000000000")
+    yield packet(good, f"{PORTS4} options [router alert] UDP len 3  good", "good", b"abc", options=alert)
     unsent = good[:6] + b"\0\0" + good[8:]
     yield packet(unsent, f"{PORTS4} UDP len 3  no checksum", "none", b"abc")
     changed = good[:8] + b"abd"
@@ -88,8 +87,17 @@ def ipv4_udp():
     header = struct.pack("!BBHII", 17, 4, 0, 0x1001, 7) + b"0123456789ab"
     ip = v4(51, header + back, src=B4, dst=A4)
     net = fields.ipv4(ip, fields.auth(17, 0x1001, 7, b"0123456789ab"))
-    line = f"{B4}.4000 > {A4}.53 UDP len 4  good"
+    line = f"{B4}.4000 > {A4}.53 headers [authentication] UDP len 4  good"
     yield ip_packet(ip, line, ("UDP",), "good", net, fields.udp(back), b"back")
+
+
+HEADER_NAMES = {
+    "HopByHop": "hop-by-hop",
+    "Routing": "routing",
+    "Fragment": "fragment",
+    "DestinationOptions": "destination options",
+    "Authentication": "authentication",
+}
 
 
 def ipv6_udp():
@@ -110,7 +118,8 @@ def ipv6_udp():
 
     def packet(first, headers, extensions, message=good, check="good", text="good", **known):
         ip = v6(first, headers + message, **known)
-        line = f"{PORTS6} UDP len 3  {text}"
+        names = ",".join(HEADER_NAMES[name] for it in extensions for name in it)
+        line = f"{PORTS6}{f' headers [{names}]' if names else ''} UDP len 3  {text}"
         net = fields.ipv6(ip, extensions)
         return ip_packet(ip, line, ("UDP",), check, net, fields.udp(message), message[8:])
 
@@ -201,16 +210,17 @@ def tcp_segments():
     yield packet(
         "[F.] seq 23 ack 1 win 502 len 0", flags="FA", seq=23, ack=1, window=502, check="bad"
     )
-    # The first option that can't be read ends them: an unknown one, one of another length, and one
-    # that is cut off.
-    yield packet(
-        "[R] seq 9 win 0 len 0 options [nop,option 30]",
-        options=b"\1\x1e\4\0\1\1\1\1",
-        elements=["Noop", {"UnknownId": 30}],
-        flags="R",
-        seq=9,
-        window=0,
-    )
+    # An unknown option is passed over by its length, unless that is below 2 or too long. The first other one that can't be read
+    # ends them: one of another length, and one that is cut off.
+    for words, options, elements in (
+        ("nop,option 30,nop,mss 1460", b"\1\x1e\2\1\2\4\5\xb4", ["Noop", {"UnknownId": 30}, "Noop", {"MaximumSegmentSize": 1460}]),
+        ("option 30,option 31", b"\x1e\5abc\x1f\3d", [{"UnknownId": 30}, {"UnknownId": 31}]),
+        ("option 30 of length 1", b"\x1e\1\1\1", [{"UnknownId": 30}]),
+        ("nop,option 30 cut off", b"\1\x1e\4\1", ["Noop", {"UnknownId": 30}]),
+        ("nop,nop,nop,option 30 cut off", b"\1\1\1\x1e", ["Noop", "Noop", "Noop", {"UnknownId": 30}]),
+    ):
+        line = f"[R] seq 9 win 0 len 0 options [{words}]"
+        yield packet(line, options=options, elements=elements, flags="R", seq=9, window=0)
     yield packet(
         "[S] seq 9 win 1 len 0 options [option 2 of length 5]",
         options=b"\2\5\5\xb4\0\0\0\0",
@@ -301,7 +311,9 @@ def icmp6_messages():
     problem = icmp(4, 1, b"\0\0\0\x28" + original, A6)
     yield packet(f"unknown next header at byte 40 {shown}", problem, {"pointer": 40} | about, original)
     target = bytes.fromhex("20010db8000000000000000000000002")
-    yield packet("neighbor solicitation len 16", icmp(135, 0, bytes(4) + target, A6), {}, target)
+    solicitation = {"ndp": {"NeighborSolicitation": {"target": "2001:db8::2", "options": []}}}
+    words = "neighbor solicitation, who has 2001:db8::2"
+    yield packet(words, icmp(135, 0, bytes(4) + target, A6), solicitation, target)
     yield packet("type 200 code 1 len 2", icmp(200, 1, b"\1\2\3\4xy", A6), {}, b"xy")
     wrong = icmp(128, 0, b"\0\1\0\4", A6)
     wrong = wrong[:3] + bytes([wrong[3] ^ 1]) + wrong[4:]

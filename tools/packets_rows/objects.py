@@ -19,7 +19,8 @@ HEADERS = (
         'nt_fragment":false,"more_fragments":false,"fragment_offset":0,"time_to_live":64,"p'
         'rotocol":17,"header_checksum":26315,"source":"10.0.0.1","destination":"10.0.0.2",'
         '"options":""}},"transport":{"Udp":{"source_port":53,"destination_port":4000,"lengt'
-        'h":11,"checksum":6046}},"payload_len":3,"payload":"616263","verdict":"Good"',
+        'h":11,"checksum":6046}},"payload_len":3,"payload":"616263","verdict":"Good",'
+        '"header_verdict":"Good"',
     ),
     (
         "02000000000202000000000108004500004c00010000400666a90a0000010a00000201bbc822000000"
@@ -34,8 +35,9 @@ HEADERS = (
         '00,"acknowledgment_number":200,"data_offset":13,"ns":false,"fin":false,"syn":false'
         ',"rst":false,"psh":false,"ack":true,"urg":false,"ece":false,"cwr":false,"window_si'
         'ze":1000,"checksum":30907,"urgent_pointer":0,"options":["Noop","Noop",'
-        '{"Timestamp":[5,6]},"Noop","Noop",{"SelectiveAcknowledgement":[[1,2],[5,9]]}]}},'
-        '"payload_len":4,"payload":"61626364","verdict":"Good"',
+        '{"Timestamp":[5,6]},"Noop","Noop",{"SelectiveAcknowledgement":[[1,2],[5,9]]}],'
+        '"options_bytes":"0101080a000000050000000601010512000000010000000200000005'
+        '00000009"}},"payload_len":4,"payload":"61626364","verdict":"Good","header_verdict":"Good"',
     ),
     (
         "02000000000202000000000186dd600000000012004020010db800000000000000000000000120010d"
@@ -84,7 +86,7 @@ FRAGMENTS = (
         '"net":{"Ipv4":{"dscp":0,"ecn":0,"total_len":36,"identification":4660,"dont_fragmen'
         't":false,"more_fragments":true,"fragment_offset":0,"time_to_live":64,"protocol":17'
         ',"header_checksum":13459,"source":"10.0.0.1","destination":"10.0.0.2",'
-        '"options":""}},"payload_len":16,"fragment":{"Waits":{"begun":1}}',
+        '"options":""}},"payload_len":16,"fragment":{"Waits":{"begun":1}},"header_verdict":"Good"',
     ),
     (
         frames.FRAGMENTS[2],
@@ -95,7 +97,7 @@ FRAGMENTS = (
         '7,"header_checksum":21653,"source":"10.0.0.1","destination":"10.0.0.2",'
         '"options":""}},"payload_len":12,"fragment":{"Completes":{"begun":1,"ip_number":17,'
         '"len":28,"transport":{"Udp":{"source_port":53,"destination_port":4000,"length":28,'
-        '"checksum":45996}}}},"verdict":"Good"',
+        '"checksum":45996}}}},"verdict":"Good","header_verdict":"Good"',
     ),
 )
 

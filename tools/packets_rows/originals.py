@@ -34,7 +34,7 @@ OVER_IPV6 = (
 )
 # No errors, though a datagram follows.
 OTHERS_OVER_IPV4 = ((0, 1, bytes(4), "echo reply code 1", {}), (6, 0, bytes(4), "type 6", {}), (10, 0, bytes(4), "router solicitation", {}))
-OTHERS_OVER_IPV6 = ((5, 0, bytes(4), "type 5", {}), (129, 1, bytes(4), "echo reply code 1", {}), (137, 0, bytes(4), "redirect", {}))
+OTHERS_OVER_IPV6 = ((5, 0, bytes(4), "type 5", {}), (129, 1, bytes(4), "echo reply code 1", {}), (138, 0, bytes(4), "type 138", {}))
 
 VERDICTS = {"good": "good", "bad": "bad checksum"}
 

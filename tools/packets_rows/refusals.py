@@ -65,7 +65,7 @@ def reasons():
     # The first header is of destination options.
     options = {"DestinationOptions": {"next_header": 0, "payload": "010400000000"}}
     net = fields.ipv6(packet, [options])
-    there = ip_there(packet, "HOPOPT", "HOPOPT", net=net)
+    there = ip_there(packet, "headers [destination options] HOPOPT", "HOPOPT", net=net)
     yield refused(frame(IPV6, packet), line, error, line, there)
     packet = v4(6, tcp(b"", flags="S", dataofs=4))
     yield refused(

@@ -2,6 +2,7 @@
 section 8.1). The checksum of each datagram is right for the destination with which it was made."""
 
 import ipaddress
+import re
 import struct
 
 from expected import BEGIN
@@ -84,16 +85,18 @@ def echo(version, destination):
 
 
 VIA4, VIA6 = "10.0.0.3", "2001:db8::3"
-# An option, and the verdicts on datagrams that were made for 10.0.0.9 and for 10.0.0.2.
+# An option, and the verdicts on datagrams that were made for 10.0.0.9 and for 10.0.0.2. After a length that is a byte too low the last
+# byte of the address, 9, is an option, and the padding after it its length.
+LOOSE, STRICT, SHORT = "loose source route", "strict source route", "option 9 of length 0"
 OPTIONS = (
-    (route(131, 4, VIA4, END[4]), GOOD, BAD),
-    (route(137, 8, VIA4, END[4]), GOOD, BAD),
-    (b"\x94\x04\0\0" + route(131, 4, END[4]), GOOD, BAD),
-    (route(131, 12, VIA4, END[4]), BAD, GOOD),
-    (route(7, 4, VIA4, END[4]), BAD, GOOD),
-    (b"\x01\0" + route(131, 4, END[4]), BAD, GOOD),
-    (route(131, 4, VIA4, END[4], size=10), UNKNOWN, UNKNOWN),
-    (route(137, 5, VIA4, END[4]), UNKNOWN, UNKNOWN),
+    (route(131, 4, VIA4, END[4]), LOOSE, GOOD, BAD),
+    (route(137, 8, VIA4, END[4]), STRICT, GOOD, BAD),
+    (b"\x94\x04\0\0" + route(131, 4, END[4]), f"router alert,{LOOSE}", GOOD, BAD),
+    (route(131, 12, VIA4, END[4]), LOOSE, BAD, GOOD),
+    (route(7, 4, VIA4, END[4]), "record route", BAD, GOOD),
+    (b"\x01\0" + route(131, 4, END[4]), "nop", BAD, GOOD),
+    (route(131, 4, VIA4, END[4], size=10), f"{LOOSE},{SHORT}", UNKNOWN, UNKNOWN),
+    (route(137, 5, VIA4, END[4]), STRICT, UNKNOWN, UNKNOWN),
 )
 # A routing header, and the verdicts on datagrams that were made for 2001:db8::9 and 2001:db8::2.
 HEADERS = (
@@ -116,8 +119,9 @@ def udp():
     for version, made, cases in ((4, ipv4, OPTIONS), (6, ipv6, HEADERS)):
         source, destination = ENDS[version]
         for headers, *verdicts in cases:
+            words = f"options [{verdicts.pop(0)}]" if version == 4 else "headers [routing]"
             for end, verdict in zip((END[version], destination), verdicts):
-                line = f"{source}.53 > {destination}.4000 UDP len 3  {verdict}"
+                line = f"{source}.53 > {destination}.4000 {words} UDP len 3  {verdict}"
                 yield made(headers, datagram(version, end)), line
 
 
@@ -126,24 +130,26 @@ def others():
     loose, broken = route(131, 4, VIA4, END[4]), route(131, 4, VIA4, END[4], size=10)
     tcp, tcp6 = routing(0, 1, 0, END[6], after=6), routing(5, 1, 0, END[6], after=6)
     icmp, icmp6 = routing(4, 1, 0, END[6], after=58), routing(5, 1, 0, END[6], after=58)
-    syn = "10.0.0.1.443 > 10.0.0.2.51234 TCP [S] seq 17 win 65535 len 0  "
-    syn6 = "2001:db8::1.443 > 2001:db8::2.51234 TCP [S] seq 17 win 65535 len 0  "
-    ping = "10.0.0.1 > 10.0.0.2 ICMP echo request id 7 seq 2 len 0  "
-    ping6 = "2001:db8::1 > 2001:db8::2 ICMPv6 echo request id 7 seq 2 len 0  "
+    to, to6 = f"options [{LOOSE}]", "headers [routing]"
+    syn = f"10.0.0.1.443 > 10.0.0.2.51234 {to} TCP [S] seq 17 win 65535 len 0  "
+    syn6 = f"2001:db8::1.443 > 2001:db8::2.51234 {to6} TCP [S] seq 17 win 65535 len 0  "
+    ping = f"10.0.0.1 > 10.0.0.2 {to} ICMP echo request id 7 seq 2 len 0  "
+    ping6 = f"2001:db8::1 > 2001:db8::2 {to6} ICMPv6 echo request id 7 seq 2 len 0  "
     yield ipv4(loose, segment(4, END[4]), 6), syn + GOOD
     yield ipv4(loose, segment(4, ENDS[4][1]), 6), syn + BAD
-    yield ipv4(broken, segment(4, END[4]), 6), syn + UNKNOWN
+    cut = f"options [{LOOSE},{SHORT}]"
+    yield ipv4(broken, segment(4, END[4]), 6), syn.replace(to, cut) + UNKNOWN
     yield ipv6(tcp, segment(6, END[6])), syn6 + GOOD
     yield ipv6(tcp6, segment(6, END[6])), syn6 + UNKNOWN
     yield ipv6(icmp, echo(6, END[6])), ping6 + GOOD
     yield ipv6(icmp6, echo(6, END[6])), ping6 + UNKNOWN
     # ICMP over IPv4 has no pseudo header (RFC 792).
     yield ipv4(loose, echo(4, END[4]), 1), ping + GOOD
-    yield ipv4(broken, echo(4, END[4]), 1), ping + GOOD
+    yield ipv4(broken, echo(4, END[4]), 1), ping.replace(to, cut) + GOOD
     unsummed = struct.pack(">HHHH", 53, 4000, 11, 0) + b"abc"
-    yield ipv4(broken, unsummed), "10.0.0.1.53 > 10.0.0.2.4000 UDP len 3  no checksum"
+    yield ipv4(broken, unsummed), f"10.0.0.1.53 > 10.0.0.2.4000 {cut} UDP len 3  no checksum"
     # GRE has a checksum of its own, which isn't read.
-    yield ipv4(broken, b"\0\0\x08\0", 47), "10.0.0.1 > 10.0.0.2 GRE len 4"
+    yield ipv4(broken, b"\0\0\x08\0", 47), f"10.0.0.1 > 10.0.0.2 {cut} GRE len 4"
 
 
 def fragments():
@@ -194,7 +200,7 @@ ROUTED = (
         '"header_checksum":54449,"source":"10.0.0.1","destination":"10.0.0.2",'
         '"options":"8307040a00000900"}},"final_destination":"10.0.0.9",'
         '"transport":{"Udp":{"source_port":53,"destination_port":4000,"length":11,'
-        '"checksum":6039}},"payload_len":3,"verdict":"Good"',
+        '"checksum":6039}},"payload_len":3,"verdict":"Good","header_verdict":"Good"',
     ),
     (
         ipv6(routing(0, 1, 0, END[6]), datagram(6, END[6])),
@@ -228,7 +234,7 @@ def objects():
         f'{{"number":{at + 1},"time":{BEGIN + at * STEP},"interface":0,"link_type":{members}}}'
         for at, (_, members) in enumerate(ROUTED)
     ]
-    unverified = [line.replace(',"verdict":"Good"', "").replace(',"verdict":"None"', "") for line in lines]
+    unverified = [re.sub(r',"(header_)?verdict":"\w+"', "", line) for line in lines]
     rows = [
         (("json",), lines),
         (("json", "--no-checksums"), unverified),

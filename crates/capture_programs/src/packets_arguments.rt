@@ -22,6 +22,7 @@ tighter than and, and and tighter than or; !, && and || mean the same:
   src=FROM, dst=TO                  from this address or network, or to it
   port=N                            from or to this port of TCP or UDP
   syn, fin, rst                     whose TCP segment has this flag
+  ndp, mld                          whose ICMPv6 message is of neighbor or listener discovery
   vlan=N                            with a VLAN tag of this identifier
   len=N                             with so many bytes on the wire
   frame=N                           with this number in the capture
@@ -81,6 +82,12 @@ fn with_show<'a>(alloc: Global, command: Command<'a>) -> Result<Command<'a>, All
         .arg(time(alloc))?
         .arg(utc(alloc)?)?
         .arg(number(alloc, "width", "COLUMNS", "Cuts each line to COLUMNS"))?
+        .arg(flag(
+            alloc,
+            "link",
+            "Shows hardware addresses, also of IP packets",
+        )
+        .short('e'))?
         .arg(color(alloc))?;
     with_input(alloc, command)
 }

@@ -4,9 +4,12 @@
 pub mod addresses;
 pub mod arp;
 pub mod faults;
+pub mod groups;
 pub mod icmp;
+pub mod ip;
 mod line;
 pub mod names;
+mod ndp;
 pub mod seconds;
 mod style;
 pub mod tags;
@@ -14,5 +17,5 @@ pub mod tcp;
 pub mod time;
 
 pub use line::Line;
-pub(crate) use line::digit;
+pub(crate) use line::{cut_off, digit};
 pub use style::{Style, TimeForm, Tone};

@@ -26,6 +26,7 @@ use Rattle.ep_tcpudp.specs.Tcp as tcp
 use Rattle.ep_tcpudp.specs.Udp as udp
 use Rattle.packets.specs.Counts.{is_bad}
 use Rattle.packets.specs.Headers.{has_header}
+use Rattle.packets.specs.Icmpv6Types.{icmpv6_type, is_mld, is_ndp}
 use Rattle.packets.specs.LaxLayers.{lax_layers_of}
 use Rattle.packets.specs.Lengths.{is_cut}
 use Rattle.packets.specs.Outlines.{headers_of, refusal_of}
@@ -245,6 +246,10 @@ holds (condition.Ports first last) packet =
     has_port packet.layers (lax_layers_of packet.header packet.bytes) packet.fragment first last
 holds (condition.Flag flag) packet = has_flag flag
     (message_header packet.layers (lax_layers_of packet.header packet.bytes) packet.fragment)
+holds condition.Ndp packet = is_ndp
+    (icmpv6_type packet.layers (lax_layers_of packet.header packet.bytes) packet.fragment)
+holds condition.Mld packet = is_mld
+    (icmpv6_type packet.layers (lax_layers_of packet.header packet.bytes) packet.fragment)
 holds (condition.VlanId first last) packet =
     has_vlan_id packet.layers (lax_layers_of packet.header packet.bytes) first last
 holds (condition.WireLen first last) packet = is_within first last packet.wire_len

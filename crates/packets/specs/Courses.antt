@@ -141,6 +141,7 @@ pub record IsDissected (checksums : Bool) (course : Course) (packet : Packet) (r
       (fault_in reported.layers)
   pub started : ReportsStarted course.lists course.started (sliced_class reported.layers) packet.interface
       reported.number reported.fragment
+  pub verified : reported.checksums ≡ checksums
   pub verdict : reported.verdict ≡ verdict_on (verification_of checksums reported.layers)
       (sliced_class reported.layers) (fragment_result reported.fragment)
 

@@ -250,6 +250,7 @@ eighth = record {
   wire_len = 54;
   layers = Err (Tcp (DataOffsetTooSmall 4));
   fragment = None;
+  checksums = true;
   verdict = None;
 }
 

@@ -7,7 +7,9 @@ pub mod Courses
 pub mod Dissected
 pub mod Examples
 pub mod Forgetting
+pub mod HeaderVerdict
 pub mod Headers
+pub mod Icmpv6Types
 pub mod Inputs
 pub mod LaxLayers
 pub mod Layers

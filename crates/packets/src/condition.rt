@@ -11,6 +11,7 @@ ghost use Rattle.packets.specs.Conditions.{net_ipv6_numbers};
 ghost use Rattle.packets.specs.Counts.{is_bad};
 ghost use Rattle.packets.specs.LaxLayers.{lax_layers_of};
 
+use crate::icmpv6_type::{icmpv6_type, is_mld, is_ndp};
 use crate::message_header::{MessageHeader, ports_of};
 use crate::outline::refusal_of;
 use crate::{Dissection, Headers, Protocol};
@@ -49,6 +50,11 @@ pub enum Condition {
     Ports(u16, u16),
     /// Its TCP segment, or the one that it completes, has this flag, if that header is there.
     Flag(TcpFlag),
+    /// Its ICMPv6 message, or the one that it completes, is of a type of neighbor discovery (133 to
+    /// 137), if that header is there.
+    Ndp,
+    /// The same of multicast listener discovery (130 to 132, 143).
+    Mld,
     /// One of its VLAN tags has one of these identifiers.
     VlanId(u16, u16),
     /// It had one of these numbers of bytes on the wire.
@@ -130,6 +136,8 @@ impl Condition {
             Condition::Port(port) => has_port(dissection, *port, *port),
             Condition::Ports(first, last) => has_port(dissection, *first, *last),
             Condition::Flag(flag) => has_flag(*flag, MessageHeader::of(dissection)),
+            Condition::Ndp => is_ndp(icmpv6_type(dissection)),
+            Condition::Mld => is_mld(icmpv6_type(dissection)),
             Condition::VlanId(first, last) => has_vlan_id(dissection, *first, *last),
             Condition::WireLen(first, last) => {
                 *first <= dissection.wire_len && dissection.wire_len <= *last

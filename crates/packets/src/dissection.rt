@@ -1,12 +1,14 @@
 //! A packet, dissected.
 ghost use Rattle.std.specs.Prelude.{◌≡◌};
+ghost use Rattle.packets.specs.HeaderVerdict.{header_verdict, net_header_verdict, sum_verdict};
 ghost use Rattle.packets.specs.Lengths.{is_cut};
 
 use crate::lax_layers::FrameBytes;
 use captures::{Header, Link};
 use checksum_verdicts::Verdict;
-use ep_packet::SlicedPacket;
+use ep_base::checksum::Sum16BitWords;
 use ep_packet::err::packet::SliceError;
+use ep_packet::{NetSlice, SlicedPacket};
 use etherparse::defrag::{IpDefragError, IpDefragPayloadVec};
 
 /// A packet, dissected: what its capture states of it, its headers, and what became of it.
@@ -40,6 +42,8 @@ pub struct Dissection<'a> {
     pub layers: Result<SlicedPacket<'a>, SliceError>,
     /// What became of it, if it is a fragment.
     pub fragment: Option<Fragment>,
+    /// Whether checksums are verified.
+    pub checksums: bool,
     /// The verdict on the checksum of its message, or of that which it completes. `None` where no
     /// message was read.
     pub verdict: Option<Verdict>,
@@ -51,6 +55,39 @@ impl Dissection<'_> {
         ensures { result ≡ is_cut self.now.captured_len self.now.wire_len }
     {
         self.captured_len < self.wire_len as usize
+    }
+
+    /// The verdict on the checksum of its IPv4 header (RFC 791, section 3.1), if it has one, isn't
+    /// refused, and checksums are verified.
+    pub fn header_verdict(&self) -> Option<Verdict>
+        ensures { result ≡ header_verdict self.now.checksums self.now.layers }
+    {
+        if !self.checksums {
+            return None;
+        }
+        match &self.layers {
+            Ok(packet) => net_header_verdict(&packet.net),
+            Err(_) => None,
+        }
+    }
+}
+
+fn net_header_verdict(net: &Option<NetSlice<'_>>) -> Option<Verdict>
+    ensures { result ≡ net_header_verdict net.now }
+{
+    match net {
+        Some(NetSlice::Ipv4(packet)) => Some(sum_verdict(packet.header().slice())),
+        _ => None,
+    }
+}
+
+fn sum_verdict(header: &[u8]) -> Verdict
+    ensures { result ≡ sum_verdict header.now }
+{
+    if Sum16BitWords::new().add_slice(header).ones_complement() == 0 {
+        Verdict::Good
+    } else {
+        Verdict::Bad
     }
 }
 

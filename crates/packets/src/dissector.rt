@@ -123,6 +123,7 @@ impl<S: BuildHasher> Dissector<S> {
             (sliced_class d.layers) packet.now.interface order))
             (λ e. ShowsOrder self.new.datagrams order) }
         ensures dropped { self.new.dropped ≡ self.old.dropped }
+        ensures checksums { IfOk result (λ d. d.checksums ≡ checksums) }
         ensures verdict { IfOk result
             (λ d. d.verdict ≡ verdict_on (verification_of checksums d.layers) (sliced_class d.layers)
             (fragment_result d.fragment)) }
@@ -163,6 +164,7 @@ impl<S: BuildHasher> Dissector<S> {
                     wire_len: packet.wire_len,
                     layers,
                     fragment,
+                    checksums,
                     verdict,
                 })
             }

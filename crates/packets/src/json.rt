@@ -7,5 +7,6 @@ mod headers;
 mod icmp;
 mod link;
 mod net;
+mod other;
 pub(crate) mod packet;
 mod transport;

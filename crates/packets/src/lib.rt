@@ -9,6 +9,7 @@ mod dissector;
 mod expression;
 mod expression_words;
 mod filter;
+mod icmpv6_type;
 mod json;
 pub mod laws;
 mod lax_layers;
@@ -22,6 +23,7 @@ mod run;
 mod show;
 mod source_route;
 mod summary;
+mod unread_message;
 mod verification;
 
 pub use captures::{Frame, Header, Link, Packet};

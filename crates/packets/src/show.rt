@@ -6,6 +6,7 @@ mod fragment_headers;
 mod icmp;
 mod link;
 mod message;
+mod net_headers;
 pub(crate) mod options;
 pub(crate) mod packet_line;
 mod refusal;

@@ -43,11 +43,12 @@ fn run(rt: &HostRuntime) -> anyhow::Result<ExitCode> {
 fn run_on_files(rt: &HostRuntime, requested: &Requested<'_>) -> anyhow::Result<ExitCode> {
     let mut output = ClosableWriter::new(rt.stdout());
     match &requested.output {
-        Output::Show(time, width, coloring) => {
+        Output::Show(time, width, coloring, link) => {
             let lines = ShowOptions {
                 style: style_of(rt, *coloring),
                 time: *time,
                 width: *width,
+                link: *link,
             };
             write_files(rt, requested, &lines, &mut output)
         }

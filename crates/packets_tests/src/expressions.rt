@@ -152,6 +152,8 @@ fn words_of_a_condition(rt: HostRuntime) {
 
 const WORDS: &[(&str, Result<Condition, WordError>)] = &[
     ("BAD", Ok(Condition::Bad)),
+    ("ndp", Ok(Condition::Ndp)),
+    ("MLD", Ok(Condition::Mld)),
     ("syn", Ok(Condition::Flag(TcpFlag::Syn))),
     ("Port 53", Ok(Condition::Port(53))),
     ("vlan=5", Ok(Condition::VlanId(5, 5))),

@@ -17,6 +17,7 @@ pub(super) const LINES: ShowOptions = ShowOptions {
     style: Style::Plain,
     time: TimeForm::SinceFirst,
     width: Some(12),
+    link: false,
 };
 
 /// All packets of a capture of nothing unfit.

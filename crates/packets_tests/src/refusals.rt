@@ -21,6 +21,7 @@ const PLAIN: ShowOptions = ShowOptions {
     style: Style::Plain,
     time: TimeForm::SinceFirst,
     width: None,
+    link: false,
 };
 
 // An error, its line, its object and the reason.
@@ -72,6 +73,7 @@ fn refused(error: SliceError) -> Dissection<'static> {
         wire_len: 6,
         layers: Err(error),
         fragment: None,
+        checksums: true,
         verdict: None,
     }
 }

@@ -3,8 +3,9 @@
 use crate::show::addresses::ipv4_text;
 use crate::show::digit;
 use serde::Serializer;
-use std::fmt;
 use std::fmt::{Debug, Display};
+use std::net::Ipv6Addr;
+use std::{fmt, str};
 
 /// Begins an object that is a member. It has no contract: tests compare the texts.
 pub fn begin<S: Serializer>(out: &mut S, name: &str) -> Result<(), S::Error> {
@@ -101,7 +102,22 @@ pub fn ipv4_address<S: Serializer>(
     name: &str,
     address: [u8; 4],
 ) -> Result<(), S::Error> {
-    text(out, name, ipv4_text(address).as_str())
+    out.key(name)?;
+    ipv4_string(out, address)
+}
+
+/// An IPv4 address as a text. It has no contract: tests compare the texts.
+pub(crate) fn ipv4_string<S: Serializer>(out: &mut S, address: [u8; 4]) -> Result<(), S::Error> {
+    out.str(str::from_utf8(ipv4_text(address).as_slice()).unwrap_or(""))
+}
+
+/// A member that is an IPv6 address (RFC 5952). It has no contract: tests compare the texts.
+pub fn ipv6_address<S: Serializer>(
+    out: &mut S,
+    name: &str,
+    address: [u8; 16],
+) -> Result<(), S::Error> {
+    printed(out, name, &Ipv6Addr::from(address))
 }
 
 /// A member that is a hardware address, by its bytes in hex with colons between them. It has no

@@ -1,7 +1,10 @@
 //! ICMP messages.
 
 use crate::json::fields::{Hex, begin, ipv4_address, number, numbers, printed};
+use crate::json::{groups, ndp};
 use ep_icmp::icmpv4::{DestUnreachableHeader, ParameterProblemHeader, TimestampMessage};
+use ep_icmp::icmpv6::mld::MldMessage;
+use ep_icmp::icmpv6::ndp::NdpSlice;
 use ep_icmp::{IcmpEchoHeader, Icmpv4Slice, Icmpv4Type, Icmpv6Slice, Icmpv6Type};
 use serde::Serializer;
 
@@ -69,7 +72,23 @@ pub fn begin_over_ipv6<S: Serializer>(
     ];
     numbers(out, &members)?;
     printed(out, "bytes5to8", &Hex(&message.bytes5to8()))?;
-    fields_of_icmpv6(out, message.icmp_type())
+    fields_of_icmpv6(out, message.icmp_type())?;
+    neighbors_or_groups(out, message)
+}
+
+// What a message of neighbor discovery or multicast listener discovery has.
+#[inline(never)]
+fn neighbors_or_groups<S: Serializer>(
+    out: &mut S,
+    message: &Icmpv6Slice<'_>,
+) -> Result<(), S::Error> {
+    if let Some(read) = NdpSlice::from_icmpv6(message) {
+        return ndp::member(out, &read);
+    }
+    match MldMessage::from_icmpv6(message) {
+        Some(read) => groups::mld(out, read),
+        None => Ok(()),
+    }
 }
 
 fn fields_of_icmpv6<S: Serializer>(out: &mut S, icmp_type: Icmpv6Type) -> Result<(), S::Error> {

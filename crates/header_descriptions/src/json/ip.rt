@@ -1,11 +1,10 @@
 //! IP headers.
 
 use crate::json::extensions::{auth, list};
-use crate::json::fields::{Hex, begin, flag, ipv4_address, numbers, printed};
+use crate::json::fields::{Hex, begin, flag, ipv4_address, ipv6_address, numbers, printed};
 use ep_ip::{Ipv4HeaderSlice, Ipv6HeaderSlice};
 use ep_ipslice::{Ipv4ExtensionsSlice, Ipv6ExtensionsSlice};
 use serde::Serializer;
-use std::net::Ipv6Addr;
 
 /// An IPv4 header (RFC 791), and an authentication header after it. It has no contract: tests
 /// compare the texts.
@@ -68,6 +67,6 @@ fn ipv6_header<S: Serializer>(out: &mut S, header: &Ipv6HeaderSlice<'_>) -> Resu
         ("hop_limit", header.hop_limit().into()),
     ];
     numbers(out, &members)?;
-    printed(out, "source", &Ipv6Addr::from(header.source()))?;
-    printed(out, "destination", &Ipv6Addr::from(header.destination()))
+    ipv6_address(out, "source", header.source())?;
+    ipv6_address(out, "destination", header.destination())
 }

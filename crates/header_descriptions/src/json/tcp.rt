@@ -1,6 +1,6 @@
 //! TCP segments (RFC 9293), with their options.
 
-use crate::json::fields::{begin, flags, number, numbers};
+use crate::json::fields::{Hex, begin, flags, number, numbers, printed};
 use ep_tcpudp::{TcpOptionElement, TcpOptionReadError, TcpOptions, TcpOptionsIterator, TcpSlice};
 use serde::Serializer;
 
@@ -44,27 +44,52 @@ fn control_bits<S: Serializer>(out: &mut S, segment: &TcpSlice<'_>) -> Result<()
     flags(out, &members)
 }
 
-// The options in their order. The first that can't be read ends them.
+// The options in their order, and their bytes, if there are any. One that is unknown is passed over by
+// its length; the first other one that can't be read ends them.
 fn options<S: Serializer>(out: &mut S, segment: &TcpSlice<'_>) -> Result<(), S::Error> {
+    let bytes = segment.options();
     out.key("options")?;
     out.begin_seq(None)?;
-    let mut elements = segment.options_iterator();
+    let mut left = bytes;
     // Each has a byte at least.
-    for _ in 0..TcpOptions::MAX_LEN {
-        next_option(out, &mut elements)?;
+    'options: for _ in 0..TcpOptions::MAX_LEN {
+        let Some(rest) = option_at(out, left)? else {
+            break 'options;
+        };
+        left = rest;
     }
-    out.end_seq()
+    out.end_seq()?;
+    if bytes.is_empty() {
+        return Ok(());
+    }
+    printed(out, "options_bytes", &Hex(bytes))
 }
 
-// The first option that is left, if there is one.
-fn next_option<S: Serializer>(
+// The first of these options, or why it can't be read. It returns those that follow, and `None` at the
+// end.
+fn option_at<'a, S: Serializer>(
     out: &mut S,
-    elements: &mut TcpOptionsIterator<'_>,
-) -> Result<(), S::Error> {
+    bytes: &'a [u8],
+) -> Result<Option<&'a [u8]>, S::Error> {
+    let mut elements = TcpOptionsIterator::from_slice(bytes);
     match elements.next() {
-        Some(Ok(element)) => option(out, &element),
-        Some(Err(error)) => unread(out, &error),
-        None => Ok(()),
+        Some(Ok(element)) => {
+            option(out, &element)?;
+            Ok(Some(elements.rest()))
+        }
+        Some(Err(error)) => {
+            unread(out, &error)?;
+            Ok(after_unknown(&error, bytes))
+        }
+        None => Ok(None),
+    }
+}
+
+// What follows an unknown option by its length, which is its second byte.
+fn after_unknown<'a>(error: &TcpOptionReadError, bytes: &'a [u8]) -> Option<&'a [u8]> {
+    match (error, bytes.get(1).copied()) {
+        (TcpOptionReadError::UnknownId(_), Some(len)) if len >= 2 => bytes.get(usize::from(len)..),
+        _ => None,
     }
 }
 

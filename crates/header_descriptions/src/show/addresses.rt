@@ -1,7 +1,7 @@
 //! Addresses in their usual text.
 
 use crate::show::line::Line;
-use arrayvec::ArrayString;
+use arrayvec::{ArrayString, ArrayVec};
 use std::alloc::AllocError;
 use std::fmt::Write;
 use std::net::Ipv6Addr;
@@ -9,25 +9,25 @@ use std::net::Ipv6Addr;
 /// An IPv4 address, by its bytes with dots between them. It has no contract: tests compare the
 /// texts.
 pub fn ipv4(line: &mut Line<'_>, address: &[u8; 4]) -> Result<(), AllocError> {
-    line.text(ipv4_text(*address).as_str())
+    line.bytes(ipv4_text(*address).as_slice())
 }
 
-/// The text of an IPv4 address: outputs have many, and by `Display` each costs more. It has no
-/// contract: tests compare the texts.
-pub(crate) fn ipv4_text(address: [u8; 4]) -> ArrayString<16> {
+/// The text of an IPv4 address, which is ASCII: outputs have many, and by `Display` each costs more. It
+/// has no contract: tests compare the texts.
+pub(crate) fn ipv4_text(address: [u8; 4]) -> ArrayVec<u8, 16> {
     // The longest has 15 bytes.
-    let mut text = ArrayString::new();
+    let mut text = ArrayVec::new();
     let [a, b, c, d] = address;
     push_decimal(&mut text, a);
     for byte in [b, c, d] {
-        let _ = text.try_push('.');
+        let _ = text.try_push(b'.');
         push_decimal(&mut text, byte);
     }
     text
 }
 
 // A byte in decimal.
-fn push_decimal(text: &mut ArrayString<16>, byte: u8) {
+fn push_decimal(text: &mut ArrayVec<u8, 16>, byte: u8) {
     if byte >= 100 {
         push_digit(text, byte / 100);
     }
@@ -38,8 +38,8 @@ fn push_decimal(text: &mut ArrayString<16>, byte: u8) {
 }
 
 // The remainder, since any other byte could overflow.
-fn push_digit(text: &mut ArrayString<16>, digit: u8) {
-    let _ = text.try_push(char::from(b'0' + digit % 10));
+fn push_digit(text: &mut ArrayVec<u8, 16>, digit: u8) {
+    let _ = text.try_push(b'0' + digit % 10);
 }
 
 /// An IPv6 address (RFC 5952). It has no contract: tests compare the texts.

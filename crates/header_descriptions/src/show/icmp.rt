@@ -1,10 +1,13 @@
 //! ICMP messages in words.
 
-use crate::show::addresses;
 use crate::show::line::Line;
+use crate::show::ndp::ndp;
+use crate::show::{addresses, cut_off, groups};
 use ep_icmp::icmpv4::{
     DestUnreachableHeader, ParameterProblemHeader, RedirectCode, TimeExceededCode,
 };
+use ep_icmp::icmpv6::mld::MldMessage;
+use ep_icmp::icmpv6::ndp::NdpSlice;
 use ep_icmp::{IcmpEchoHeader, Icmpv4Slice, Icmpv4Type, Icmpv6Slice, Icmpv6Type, icmpv6};
 use std::alloc::AllocError;
 
@@ -51,6 +54,38 @@ fn kind_v4(line: &mut Line<'_>, icmp_type: Icmpv4Type) -> Result<(), AllocError>
 pub fn over_ipv6(line: &mut Line<'_>, message: &Icmpv6Slice<'_>) -> Result<(), AllocError> {
     line.text(" ")?;
     kind_v6(line, message.icmp_type())
+}
+
+/// What a message of neighbor discovery or multicast listener discovery says after its kind, or how
+/// many bytes are missing. `false` where it is of another kind: then nothing is shown. It has no
+/// contract: tests compare the texts.
+#[inline(never)]
+pub fn neighbors_or_groups(
+    line: &mut Line<'_>,
+    message: &Icmpv6Slice<'_>,
+) -> Result<bool, AllocError> {
+    match NdpSlice::from_icmpv6(message) {
+        Some(Ok(message)) => {
+            ndp(line, &message)?;
+            return Ok(true);
+        }
+        Some(Err(error)) => {
+            cut_off(line, error.required_len, error.len)?;
+            return Ok(true);
+        }
+        None => {}
+    }
+    match MldMessage::from_icmpv6(message) {
+        Some(Ok(message)) => {
+            groups::mld(line, message)?;
+            Ok(true)
+        }
+        Some(Err(error)) => {
+            groups::too_short(line, &error)?;
+            Ok(true)
+        }
+        None => Ok(false),
+    }
 }
 
 fn kind_v6(line: &mut Line<'_>, icmp_type: Icmpv6Type) -> Result<(), AllocError> {

@@ -108,6 +108,17 @@ impl<'o> Line<'o> {
     }
 }
 
+/// That a message has fewer bytes than it needs. It has no contract: tests compare the texts.
+pub(crate) fn cut_off(
+    line: &mut Line<'_>,
+    needed_len: usize,
+    actual_len: usize,
+) -> Result<(), AllocError> {
+    line.counted(", cut off: ", needed_len as u64)?;
+    line.counted(" bytes needed, ", actual_len as u64)?;
+    line.text(" there")
+}
+
 /// The hex digit of a number below 16.
 pub(crate) fn digit(value: u8) -> &'static str {
     const DIGITS: &str = "0123456789abcdef";

@@ -1,7 +1,9 @@
 //! TCP segments (RFC 9293).
 
+use crate::show::ip::after_sized;
 use crate::show::line::Line;
-use ep_tcpudp::{TcpOptionElement, TcpOptionReadError, TcpSlice};
+use arrayvec::ArrayVec;
+use ep_tcpudp::{TcpOptionElement, TcpOptionReadError, TcpOptions, TcpOptionsIterator, TcpSlice};
 use std::alloc::AllocError;
 
 /// Flags, numbers, window and options of a segment whose payload has so many bytes. It has no
@@ -28,43 +30,72 @@ pub fn segment(
 // A letter for each flag that is set, and a dot for ack.
 fn flags(line: &mut Line<'_>, segment: &TcpSlice<'_>) -> Result<(), AllocError> {
     let letters = [
-        (segment.fin(), "F"),
-        (segment.syn(), "S"),
-        (segment.rst(), "R"),
-        (segment.psh(), "P"),
-        (segment.ack(), "."),
-        (segment.urg(), "U"),
-        (segment.ece(), "E"),
-        (segment.cwr(), "W"),
-        (segment.ns(), "N"),
+        (segment.fin(), b'F'),
+        (segment.syn(), b'S'),
+        (segment.rst(), b'R'),
+        (segment.psh(), b'P'),
+        (segment.ack(), b'.'),
+        (segment.urg(), b'U'),
+        (segment.ece(), b'E'),
+        (segment.cwr(), b'W'),
+        (segment.ns(), b'N'),
     ];
-    line.text("[")?;
+    let mut text = ArrayVec::<u8, 16>::new();
+    let _ = text.try_push(b'[');
     for (is_set, letter) in letters {
         if is_set {
-            line.text(letter)?;
+            let _ = text.try_push(letter);
         }
     }
-    line.text("]")
+    let _ = text.try_push(b']');
+    line.bytes(text.as_slice())
 }
 
+// The options in their order. One that is unknown is passed over by its length; the first other one
+// that can't be read ends them.
 fn options(line: &mut Line<'_>, segment: &TcpSlice<'_>) -> Result<(), AllocError> {
-    let mut is_first = true;
-    for element in segment.options_iterator() {
-        line.text(if is_first { " options [" } else { "," })?;
-        option_or_error(line, &element)?;
-        is_first = false;
+    let mut left = segment.options();
+    let mut before = " options [";
+    // Each has a byte at least.
+    'options: for _ in 0..TcpOptions::MAX_LEN {
+        let Some(rest) = option_at(line, before, left)? else {
+            break 'options;
+        };
+        left = rest;
+        before = ",";
     }
-    if is_first { Ok(()) } else { line.text("]") }
+    if before == "," {
+        line.text("]")
+    } else {
+        Ok(())
+    }
 }
 
-// An option, or why none can be read.
-fn option_or_error(
+// The first of these options, after this text, or why it can't be read. It returns those that follow,
+// and `None` at the end.
+fn option_at<'a>(
     line: &mut Line<'_>,
-    element: &Result<TcpOptionElement, TcpOptionReadError>,
-) -> Result<(), AllocError> {
-    match element {
-        Ok(element) => option(line, element),
-        Err(error) => unread(line, error),
+    before: &str,
+    bytes: &'a [u8],
+) -> Result<Option<&'a [u8]>, AllocError> {
+    let mut elements = TcpOptionsIterator::from_slice(bytes);
+    let Some(element) = elements.next() else {
+        return Ok(None);
+    };
+    line.text(before)?;
+    match &element {
+        Ok(element) => {
+            option(line, element)?;
+            Ok(Some(elements.rest()))
+        }
+        Err(TcpOptionReadError::UnknownId(id)) => {
+            line.counted("option ", u64::from(*id))?;
+            Ok(Some(after_sized(line, bytes)?))
+        }
+        Err(error) => {
+            unread(line, error)?;
+            Ok(Some(&[]))
+        }
     }
 }
 

@@ -20,6 +20,8 @@ pub(crate) const WORDS: &[(&str, Word)] = &[
     ("refused", Word::Test(Condition::Refused)),
     ("fragments", Word::Test(Condition::Fragment)),
     ("cut", Word::Test(Condition::Cut)),
+    ("ndp", Word::Test(Condition::Ndp)),
+    ("mld", Word::Test(Condition::Mld)),
     ("fin", Word::Test(Condition::Flag(TcpFlag::Fin))),
     ("syn", Word::Test(Condition::Flag(TcpFlag::Syn))),
     ("rst", Word::Test(Condition::Flag(TcpFlag::Rst))),
@@ -68,8 +70,8 @@ pub(crate) enum Comparison {
 impl FromStr for Condition {
     type Err = WordError;
 
-    /// Reads a condition in letters of either case: `bad`, `refused`, `fragments`, `cut`, `fin`,
-    /// `syn`, `rst` or the name of a protocol ([`Protocol::named`]), or `host`, `net`, `src`, `dst`,
+    /// Reads a condition in letters of either case: `bad`, `refused`, `fragments`, `cut`, `ndp`,
+    /// `mld`, `fin`, `syn`, `rst` or the name of a protocol ([`Protocol::named`]), or `host`, `net`, `src`, `dst`,
     /// `port`, `len`, `vlan` or `frame` with a `=` or a space and a value. It has no contract: tests
     /// compare the texts.
     fn from_str(word: &str) -> Result<Condition, WordError> {

@@ -1,6 +1,6 @@
 //! The members of an object for the headers of a packet.
 
-use crate::json::{link, net, transport};
+use crate::json::{link, net, other, transport};
 use captures::Header;
 use ep_packet::{LaxSlicedPacket, SlicedPacket};
 use header_descriptions::json::link::{lax_tags, tags};
@@ -17,7 +17,10 @@ pub(crate) fn members<S: Serializer>(
     tags(out, layers.link_exts.as_slice())?;
     net::member(out, layers)?;
     net::final_destination(out, layers)?;
-    transport::member(out, layers.transport.as_ref())
+    match &layers.transport {
+        Some(transport) => transport::member(out, transport),
+        None => other::payload(out, &layers.net),
+    }
 }
 
 /// The headers that are there of a packet that is refused. It has no contract: tests compare the
@@ -30,5 +33,8 @@ pub(crate) fn lax_headers<S: Serializer>(
     link::header(out, layers.link.as_ref(), made)?;
     lax_tags(out, layers.link_exts.as_slice())?;
     net::lax_net(out, layers)?;
-    transport::member(out, layers.transport.as_ref())
+    match &layers.transport {
+        Some(transport) => transport::member(out, transport),
+        None => other::lax_payload(out, &layers.net),
+    }
 }

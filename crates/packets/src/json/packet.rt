@@ -50,7 +50,7 @@ impl Serialize for PacketObject<'_, '_> {
         out.begin_map(None)?;
         self.record(out)?;
         self.content(out)?;
-        self.verdict(out)?;
+        self.verdicts(out)?;
         out.end_map()
     }
 }
@@ -86,9 +86,12 @@ impl PacketObject<'_, '_> {
         }
     }
 
-    fn verdict<S: Serializer>(&self, out: &mut S) -> Result<(), S::Error> {
-        match self.packet.verdict {
-            Some(verdict) => named(out, "verdict", verdict),
+    fn verdicts<S: Serializer>(&self, out: &mut S) -> Result<(), S::Error> {
+        if let Some(verdict) = self.packet.verdict {
+            named(out, "verdict", verdict)?;
+        }
+        match self.packet.header_verdict() {
+            Some(verdict) => named(out, "header_verdict", verdict),
             None => Ok(()),
         }
     }

@@ -1,6 +1,6 @@
 //! Messages of the transport layer.
 
-use crate::json::{errors, icmp};
+use crate::json::{errors, icmp, other};
 use ep_base::IpNumber;
 use ep_packet::{Message, TransportSlice, read_message};
 use header_descriptions::json::fields::{begin, number};
@@ -9,15 +9,11 @@ use header_descriptions::json::tcp::tcp;
 use header_descriptions::json::udp::udp;
 use serde::Serializer;
 
-/// The message of a packet, if there is one that is read. It has no contract: tests compare the
-/// texts.
+/// The message of a packet. It has no contract: tests compare the texts.
 pub(crate) fn member<S: Serializer>(
     out: &mut S,
-    transport: Option<&TransportSlice<'_>>,
+    transport: &TransportSlice<'_>,
 ) -> Result<(), S::Error> {
-    let Some(transport) = transport else {
-        return Ok(());
-    };
     begin(out, "transport")?;
     slice(out, transport)?;
     out.end_map()
@@ -58,15 +54,19 @@ pub(crate) fn completed<S: Serializer>(
     number(out, "ip_number", ip_number.0.into())?;
     number(out, "len", bytes.len() as u64)?;
     match read_message(ip_number, bytes) {
-        Ok(read) => message(out, &read),
+        Ok(read) => message(out, ip_number, &read),
         Err(error) => errors::member(out, "error", &error),
     }
 }
 
 // Its header, if its protocol is one that is read.
-fn message<S: Serializer>(out: &mut S, message: &Message<'_>) -> Result<(), S::Error> {
-    if let Message::Raw(_) = message {
-        return Ok(());
+fn message<S: Serializer>(
+    out: &mut S,
+    ip_number: IpNumber,
+    message: &Message<'_>,
+) -> Result<(), S::Error> {
+    if let Message::Raw(bytes) = message {
+        return other::message(out, ip_number, bytes);
     }
     begin(out, "transport")?;
     message_header(out, message)?;

@@ -3,7 +3,9 @@
 
 pub mod conditions;
 pub mod counts;
+pub mod header_verdicts;
 pub mod headers;
+pub mod icmpv6_types;
 pub mod lax_layers;
 pub mod layers;
 pub mod memory;

@@ -49,8 +49,9 @@ pub enum SizeError {
 /// What is written of a capture.
 #[derive(Debug, Drop)]
 pub enum Output {
-    /// A line for each packet, with such times, cut to so many columns, in colours.
-    Show(TimeForm, Option<usize>, Coloring),
+    /// A line for each packet, with such times, cut to so many columns, in colours, and with hardware
+    /// addresses or without.
+    Show(TimeForm, Option<usize>, Coloring, bool),
     /// A JSON object for each packet, with the bytes of its payload or without.
     Json(bool),
     /// What is in it, counted.
@@ -61,7 +62,7 @@ impl Output {
     /// The command that requests it. It has no contract: tests compare the texts.
     pub fn command(&self) -> &'static str {
         match self {
-            Output::Show(_, _, _) => "show",
+            Output::Show(_, _, _, _) => "show",
             Output::Json(_) => "json",
             Output::Summary => "summary",
         }
@@ -122,7 +123,12 @@ fn names<'m>(words: &'m ArgMatches) -> &'m [&'m str] {
 }
 
 fn show(words: &ArgMatches) -> Output {
-    Output::Show(time_form(words), width(words), when_colored(words))
+    Output::Show(
+        time_form(words),
+        width(words),
+        when_colored(words),
+        words.get_flag("link"),
+    )
 }
 
 fn filter_of(alloc: Global, texts: &[&str], checksums: bool) -> Result<Filter, RequestError> {

@@ -22,7 +22,8 @@ pub(crate) fn over_ipv4(
     original_or_len(line, original_in_icmpv4(message), payload_len)
 }
 
-/// The same of one over IPv6. It has no contract: tests compare the texts.
+/// The same of one over IPv6; of neighbor discovery and multicast listener discovery what it says. It
+/// has no contract: tests compare the texts.
 #[inline(never)]
 pub(crate) fn over_ipv6(
     line: &mut Line<'_>,
@@ -30,6 +31,9 @@ pub(crate) fn over_ipv6(
     payload_len: usize,
 ) -> Result<(), AllocError> {
     icmp::over_ipv6(line, message)?;
+    if icmp::neighbors_or_groups(line, message)? {
+        return Ok(());
+    }
     original_or_len(line, original_in_icmpv6(message), payload_len)
 }
 

@@ -11,6 +11,20 @@ use ep_tag::{
 use header_descriptions::show::{Line, addresses, names};
 use std::alloc::AllocError;
 
+/// The addresses of the link of a packet, by its own header or by that which was made, whose address
+/// isn't shown where it is all zeros. It has no contract: tests compare the texts.
+pub(crate) fn link_addresses(
+    line: &mut Line<'_>,
+    link: Option<&LinkSlice<'_>>,
+    made: Option<&Header>,
+) -> Result<(), AllocError> {
+    ethernet(line, link)?;
+    match made {
+        Some(header) if header.source != [0; 6] => source_of(line, made),
+        _ => Ok(()),
+    }
+}
+
 /// A packet that has nothing of the network layer that is looked into: its addresses and what it
 /// is. It has no contract: tests compare the texts.
 pub(crate) fn other(
@@ -24,20 +38,14 @@ pub(crate) fn other(
     line.counted(" len ", payload_of(layers).len() as u64)
 }
 
-/// The same of one that is refused, by the headers that are there, without its length. The address of
-/// a header that was made isn't shown where it is all zeros. It has no contract: tests compare the
-/// texts.
+/// The same of one that is refused, by the headers that are there, without its length, and with
+/// [`link_addresses`]. It has no contract: tests compare the texts.
 pub(crate) fn lax_other(
     line: &mut Line<'_>,
     layers: &LaxSlicedPacket<'_>,
     made: Option<&Header>,
 ) -> Result<(), AllocError> {
-    ethernet(line, layers.link.as_ref())?;
-    if let Some(header) = made {
-        if header.source != [0; 6] {
-            source_of(line, made)?;
-        }
-    }
+    link_addresses(line, layers.link.as_ref(), made)?;
     content(line, layers.payload_ether_type(), lax_hidden(layers))
 }
 

@@ -1,22 +1,31 @@
 //! Messages of the transport layer.
 
 use crate::show::endpoints::{Ports, endpoints};
+use crate::show::net_headers::{lax_net_headers, net_headers};
 use crate::show::{icmp, refusal};
+use crate::unread_message::sctp_ports;
 use checksum_verdicts::{Verdict, judge};
 use ep_base::IpNumber;
-use ep_packet::{Addresses, Message, WholeMessage, read_message};
+use ep_packet::{Addresses, LaxNetSlice, Message, NetSlice, WholeMessage, read_message};
 use ep_tcpudp::{UdpHeader, UdpSlice};
-use header_descriptions::show::{Line, Tone, names, tcp};
+use header_descriptions::show::{Line, Tone, groups, names, tcp};
 use std::alloc::AllocError;
 
-/// A message that is whole in a packet: where it came from and went to, its protocol, what its
-/// header says, and the verdict on its checksum. It has no contract: tests compare the texts.
+/// A message that is whole in a packet: where it came from and went to, what else its IP header
+/// has, its protocol, what its header says, and the verdict on its checksum. It has no contract: tests
+/// compare the texts.
 pub(crate) fn whole(
     line: &mut Line<'_>,
+    net: &Option<NetSlice<'_>>,
     whole: &WholeMessage<'_>,
     checked: Option<Verdict>,
 ) -> Result<(), AllocError> {
-    endpoints(line, &whole.addresses, ports_of(&whole.message))?;
+    endpoints(
+        line,
+        &whole.addresses,
+        ports_of(whole.ip_number, &whole.message),
+    )?;
+    net_headers(line, net)?;
     line.text(" ")?;
     message(line, whole.ip_number, &whole.message, whole.bytes.len())?;
     verdict(line, checked, &whole.addresses, &whole.message)
@@ -26,22 +35,22 @@ pub(crate) fn whole(
 /// isn't there as a whole only the protocol. It has no contract: tests compare the texts.
 pub(crate) fn lax_message(
     line: &mut Line<'_>,
+    net: &Option<LaxNetSlice<'_>>,
     addresses: &Addresses,
     ip_number: IpNumber,
     read: Option<&Message<'_>>,
     len: usize,
 ) -> Result<(), AllocError> {
+    let ports = match read {
+        Some(read) => ports_of(ip_number, read),
+        None => None,
+    };
+    endpoints(line, addresses, ports)?;
+    lax_net_headers(line, net)?;
+    line.text(" ")?;
     match read {
-        Some(read) => {
-            endpoints(line, addresses, ports_of(read))?;
-            line.text(" ")?;
-            message(line, ip_number, read, len)
-        }
-        None => {
-            endpoints(line, addresses, None)?;
-            line.text(" ")?;
-            names::protocol(line, ip_number)
-        }
+        Some(read) => message(line, ip_number, read, len),
+        None => names::protocol(line, ip_number),
     }
 }
 
@@ -56,7 +65,7 @@ pub(crate) fn completed(
 ) -> Result<(), AllocError> {
     match read_message(ip_number, bytes) {
         Ok(read) => {
-            if let Some(ports) = ports_of(&read) {
+            if let Some(ports) = ports_of(ip_number, &read) {
                 line.number(ports.source.into())?;
                 line.counted(" > ", ports.destination.into())?;
                 line.text(" ")?;
@@ -69,7 +78,7 @@ pub(crate) fn completed(
 }
 
 // The ports between which a message goes.
-fn ports_of(message: &Message<'_>) -> Option<Ports> {
+fn ports_of(number: IpNumber, message: &Message<'_>) -> Option<Ports> {
     match message {
         Message::Tcp(segment) => Some(Ports {
             source: segment.source_port(),
@@ -79,6 +88,7 @@ fn ports_of(message: &Message<'_>) -> Option<Ports> {
             source: datagram.source_port(),
             destination: datagram.destination_port(),
         }),
+        Message::Raw(bytes) if number == IpNumber::SCTP => sctp_ports(bytes),
         _ => None,
     }
 }
@@ -106,8 +116,23 @@ fn message(
         Message::Icmpv6(message) => {
             icmp::over_ipv6(line, message, len.saturating_sub(message.header_len()))
         }
-        Message::Raw(_) => line.counted(" len ", len as u64),
+        Message::Raw(bytes) => other(line, number, bytes, len),
     }
+}
+
+// What an IGMP message says, or the length of another one.
+fn other(
+    line: &mut Line<'_>,
+    number: IpNumber,
+    bytes: &[u8],
+    len: usize,
+) -> Result<(), AllocError> {
+    if number == IpNumber::IGMP {
+        if groups::igmp(line, bytes)? {
+            return Ok(());
+        }
+    }
+    line.counted(" len ", len as u64)
 }
 
 // The length of the payload of a datagram by its length field, or where that is 0 (RFC 2675) by how

@@ -11,4 +11,6 @@ pub struct ShowOptions {
     pub time: TimeForm,
     /// How many columns it has at most, if it is cut.
     pub width: Option<usize>,
+    /// Whether it has the hardware addresses of the link also where it has others.
+    pub link: bool,
 }

@@ -4,11 +4,12 @@ use crate::show::fragment_headers::two_fragment_headers;
 use crate::show::options::ShowOptions;
 use crate::show::{fragment, link, message, refused};
 use crate::{Dissection, Headers};
+use checksum_verdicts::Verdict;
 use ep_packet::{Class, NetSlice, SlicedPacket};
-use header_descriptions::show::Line;
 use header_descriptions::show::arp::arp;
 use header_descriptions::show::tags::tags;
 use header_descriptions::show::time::{Times, number_and_time};
+use header_descriptions::show::{Line, Tone};
 use std::alloc::AllocError;
 
 impl ShowOptions {
@@ -27,10 +28,11 @@ impl ShowOptions {
         number_and_time(&mut line, self.time, packet.number, &times)?;
         let separator = match &packet.layers {
             Ok(layers) => {
-                body(&mut line, packet, layers)?;
+                self.body(&mut line, packet, layers)?;
+                header_checksum(&mut line, packet)?;
                 ", "
             }
-            Err(error) => refused::refused(&mut line, packet, *error)?,
+            Err(error) => refused::refused(&mut line, packet, *error, self.link)?,
         };
         if packet.is_cut() {
             line.text(separator)?;
@@ -39,6 +41,41 @@ impl ShowOptions {
             Ok(())
         }
     }
+
+    fn body(
+        &self,
+        line: &mut Line<'_>,
+        packet: &Dissection<'_>,
+        layers: &SlicedPacket<'_>,
+    ) -> Result<(), AllocError> {
+        tags(line, layers.link_exts.as_slice())?;
+        if self.link && layers.net.is_some() {
+            link::link_addresses(line, layers.link.as_ref(), packet.header.as_ref())?;
+        }
+        match layers.class() {
+            Class::Whole(whole) => message::whole(line, &layers.net, &whole, packet.verdict),
+            Class::Cut(cut) => fragment::fragment(
+                line,
+                packet.number,
+                &cut,
+                packet.fragment.as_ref(),
+                packet.verdict,
+            ),
+            Class::Other => other(line, packet, layers),
+            Class::Refused => Ok(()),
+        }
+    }
+}
+
+// That the checksum of the IPv4 header is wrong.
+fn header_checksum(line: &mut Line<'_>, packet: &Dissection<'_>) -> Result<(), AllocError> {
+    match packet.header_verdict() {
+        Some(Verdict::Bad) => {
+            line.text("  ")?;
+            line.toned(Tone::Bad, "header checksum bad")
+        }
+        _ => Ok(()),
+    }
 }
 
 // How much there is of a packet that was cut as it was captured.
@@ -46,26 +83,6 @@ fn cut(line: &mut Line<'_>, packet: &Dissection<'_>) -> Result<(), AllocError> {
     line.counted("cut at ", packet.captured_len as u64)?;
     line.counted(" of ", packet.wire_len.into())?;
     line.text(" bytes")
-}
-
-fn body(
-    line: &mut Line<'_>,
-    packet: &Dissection<'_>,
-    layers: &SlicedPacket<'_>,
-) -> Result<(), AllocError> {
-    tags(line, layers.link_exts.as_slice())?;
-    match layers.class() {
-        Class::Whole(whole) => message::whole(line, &whole, packet.verdict),
-        Class::Cut(cut) => fragment::fragment(
-            line,
-            packet.number,
-            &cut,
-            packet.fragment.as_ref(),
-            packet.verdict,
-        ),
-        Class::Other => other(line, packet, layers),
-        Class::Refused => Ok(()),
-    }
 }
 
 fn other(

@@ -14,19 +14,20 @@ use header_descriptions::show::tags::lax_tags;
 use std::alloc::AllocError;
 
 /// The headers that are there of a packet that is refused, and the fault that is shown of it, if one
-/// is. It returns what separates them from what follows. It has no contract: tests compare the
-/// texts.
+/// is; the addresses of the link too, or only where there are no others. It returns what separates them
+/// from what follows. It has no contract: tests compare the texts.
 #[inline(never)]
 pub(crate) fn refused(
     line: &mut Line<'_>,
     packet: &Dissection<'_>,
     error: SliceError,
+    shows_link: bool,
 ) -> Result<&'static str, AllocError> {
     let layers = packet.lax_layers();
     let fault = packet.shown_fault(error, &layers);
     let gap = match layers {
         Some(layers) => {
-            headers(line, packet, layers)?;
+            headers(line, packet, layers, shows_link)?;
             "  "
         }
         None => "",
@@ -45,10 +46,14 @@ fn headers(
     line: &mut Line<'_>,
     packet: &Dissection<'_>,
     layers: LaxSlicedPacket<'_>,
+    shows_link: bool,
 ) -> Result<(), AllocError> {
     lax_tags(line, layers.link_exts.as_slice())?;
     if layers.net.is_none() {
         return link::lax_other(line, &layers, packet.header.as_ref());
+    }
+    if shows_link {
+        link::link_addresses(line, layers.link.as_ref(), packet.header.as_ref())?;
     }
     let len = promised_len(&layers.net);
     let LaxSlicedPacket {
@@ -61,11 +66,11 @@ fn headers(
         Some(LaxNetSlice::Arp(packet)) => arp(line, packet),
         Some(LaxNetSlice::Ipv4(packet)) => {
             let read = read_in(transport, stop_err.is_some(), packet.payload().payload);
-            over_ipv4(line, packet, read.as_ref(), len)
+            over_ipv4(line, &net, packet, read.as_ref(), len)
         }
         Some(LaxNetSlice::Ipv6(packet)) => {
             let read = read_in(transport, stop_err.is_some(), packet.payload().payload);
-            over_ipv6(line, packet, read.as_ref(), len)
+            over_ipv6(line, &net, packet, read.as_ref(), len)
         }
         None => Ok(()),
     }
@@ -74,6 +79,7 @@ fn headers(
 // An IPv4 packet, its message if its header is there, and the length of its payload.
 fn over_ipv4(
     line: &mut Line<'_>,
+    net: &Option<LaxNetSlice<'_>>,
     packet: &LaxIpv4Slice<'_>,
     read: Option<&Message<'_>>,
     len: usize,
@@ -87,11 +93,13 @@ fn over_ipv4(
         source: header.source(),
         destination: header.destination(),
     };
-    message::lax_message(line, &addresses, packet.payload_ip_number(), read, len)
+    let number = packet.payload_ip_number();
+    message::lax_message(line, net, &addresses, number, read, len)
 }
 
 fn over_ipv6(
     line: &mut Line<'_>,
+    net: &Option<LaxNetSlice<'_>>,
     packet: &LaxIpv6Slice<'_>,
     read: Option<&Message<'_>>,
     len: usize,
@@ -106,7 +114,7 @@ fn over_ipv6(
         let fragment = FragmentHeaders::over_ipv6(packet, len);
         return fragment_over_ipv6(line, fragment, addresses, number);
     }
-    message::lax_message(line, &addresses, number, read, len)
+    message::lax_message(line, net, &addresses, number, read, len)
 }
 
 fn fragment_over_ipv6(

@@ -182,6 +182,7 @@ pub fn outlines_of_the_page()
         layer_start_offset = 14;
       }));
       fragment = None;
+      checksums = true;
       verdict = None;
     }) ≡ refused 7 6 21 (reason.CutOff layer.Ipv4Header) }
     ensures sixth { (message : IpDefragPayloadVec) → message.ip_number ≡ record { 0 = 17 }
@@ -208,6 +209,7 @@ pub fn outlines_of_the_page()
             transport = None;
           });
           fragment = Some (fragment.Completes 5 message);
+          checksums = true;
           verdict = Some verdict.Good;
         }) ≡ outline_of_fragment 6 5 state.Completes (Some verdict.Good) }
     ensures second { outline_of (record {
@@ -233,6 +235,7 @@ pub fn outlines_of_the_page()
         transport = None;
       });
       fragment = None;
+      checksums = true;
       verdict = Some verdict.Bad;
     }) ≡ message 2 1 46 (headers_over ipv4_ends 17) (Some verdict.Bad) }
 {}

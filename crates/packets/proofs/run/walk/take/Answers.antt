@@ -58,6 +58,7 @@ returns g c course start seen memory has goes =
         layers = c.in-Ok.ensures.layers;
         answered = answered.0;
         started = started.0;
+        verified = c.in-Ok.ensures.checksums;
         verdict = c.in-Ok.ensures.verdict;
       },
       elim c.if-matches.branch [

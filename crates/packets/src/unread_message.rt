@@ -1,0 +1,15 @@
+//! What is shown of messages that the library doesn't read.
+
+use crate::show::endpoints::Ports;
+
+/// The ports of an SCTP packet, which begins with a header of 12 bytes (RFC 9260, section 3.1). It has
+/// no contract: tests compare the texts.
+pub(crate) fn sctp_ports(bytes: &[u8]) -> Option<Ports> {
+    if bytes.len() < 12 {
+        return None;
+    }
+    Some(Ports {
+        source: u16::from_be_bytes([bytes[0], bytes[1]]),
+        destination: u16::from_be_bytes([bytes[2], bytes[3]]),
+    })
+}
