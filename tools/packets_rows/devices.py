@@ -2,6 +2,7 @@
 grows, outputs that take nothing more or that nobody reads, and files that aren't there."""
 
 import contextlib
+import json
 import os
 import pty
 import re
@@ -81,7 +82,7 @@ def inputs(program, folder):
     for words in (["--payload", "show"], ["show", "--width"], ["json", "--utc"], ["summary", "--only", "tcq"]):
         done = run(program, folder, *words)
         yield f"no command: {words}", done.returncode == 2 and done.stderr.startswith(b"error: ")
-    for words in (["--help"], ["show", "--help"], ["json", "--help"], ["summary", "--help"]):
+    for words in (["--help"], ["show", "--help"], ["json", "--help"], ["summary", "--help"], ["flows", "--help"]):
         done = run(program, folder, *words)
         usage = "\nUsage: " + " ".join(["packets", *words[:-1]])
         yield f"help: {words}", done.returncode == 0 and usage.encode() in done.stdout
@@ -116,6 +117,8 @@ def several(program, folder):
         done = run(program, folder, "summary", *names)
         first = done.stdout.decode().split("\n")[1]
         yield f"counts of {names}", (done.returncode, first.split()[0]) == (status, "11")
+    found = json.loads(run(program, folder, "flows", "--json", FILE, "nothing.pcap", FILE).stdout)
+    yield "a conversation of two files", [it["forward"]["packets"] for it in found["conversations"]] == [2]
     done = run(program, folder, "summary", "empty.pcap", "nothing.pcap")
     yield "no counts", (done.returncode, done.stdout) == (3, b"")
 
@@ -126,7 +129,7 @@ def compressed(program, folder):
         with tempfile.NamedTemporaryFile(suffix=f".{suffix}") as file:
             file.write(prefix)
             file.flush()
-            for command in ("show", "json", "summary"):
+            for command in ("show", "json", "summary", "flows"):
                 done = run(program, folder, command, file.name)
                 words = f"`{opener} {file.name} | packets {command}` reads it"
                 wanted = f"packets: {file.name}: no capture file: the input is compressed, {words}\n"
@@ -163,7 +166,7 @@ def progress(program, folder):
 
 def takers(program, folder):
     """Outputs that are full, that nobody reads, and whose reader ends."""
-    shown = (["show", FILE], ["json", FILE], ["summary", FILE])
+    shown = (["show", FILE], ["json", FILE], ["summary", FILE], ["flows", FILE])
     wanted = 4, b"packets: the output cannot be written\n"
     for words in (*shown, ["--help"], ["--version"]):
         yield f"a full output: {words}", outputs.on_full_device(program, words, folder) == wanted

@@ -34,7 +34,7 @@ def examples():
         text = page.read()
     (rest,) = re.findall(r"\(line 6 continues: `(.+)`\)", text)
     found = re.findall(EXAMPLE, text)
-    assert [words.split()[0] for words, _ in found] == ["show", "json", "summary"]
+    assert [words.split()[0] for words, _ in found] == ["show", "json", "summary", "flows"]
     for words, block in found:
         lines = [line[4:] for line in block.rstrip("\n").split("\n")]
         yield words.split(), whole(lines, rest)

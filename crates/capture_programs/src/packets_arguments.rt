@@ -53,6 +53,12 @@ Examples:
   packets summary --only host=10.0.0.2 x.pcap       the same of the packets of a host
   tcpdump -U -w - | packets summary --duration 60   of what comes in a minute";
 
+const EXAMPLES_OF_FLOWS: &str = "\
+Examples:
+  packets flows x.pcap                              who spoke with whom, the most bytes first
+  packets flows --top 10 --by duration x.pcap       the ten longest conversations
+  packets flows --json --only tcp x.pcap | jq .     those over TCP, for programs";
+
 /// The command line. Without a command it is that of `show`. It has no contract: tests compare what
 /// words request.
 pub fn command<'a>(alloc: Global) -> Result<Command<'a>, AllocError> {
@@ -67,7 +73,8 @@ pub fn command<'a>(alloc: Global) -> Result<Command<'a>, AllocError> {
     let program = with_show(alloc, program)?;
     let program = with_command(program, show(alloc))?;
     let program = with_command(program, json(alloc))?;
-    with_command(program, summary(alloc))
+    let program = with_command(program, summary(alloc))?;
+    with_command(program, flows(alloc))
 }
 
 fn show<'a>(alloc: Global) -> Result<Command<'a>, AllocError> {
@@ -134,6 +141,25 @@ fn summary<'a>(alloc: Global) -> Result<Command<'a>, AllocError> {
         .about("Counts packets by protocol, refusal, checksum, fragment, addresses, size and time")
         .after_help(EXAMPLES_OF_SUMMARY);
     with_input(alloc, command)
+}
+
+fn flows<'a>(alloc: Global) -> Result<Command<'a>, AllocError> {
+    let command = Command::new(alloc, "flows")
+        .about("Counts the packets of each conversation, in both directions")
+        .after_help(EXAMPLES_OF_FLOWS)
+        .arg(by(alloc))?
+        .arg(number(alloc, "top", "N", "Lists the first N conversations"))?
+        .arg(flag(alloc, "json", "Writes a JSON object in place of a table"))?;
+    with_input(alloc, command)
+}
+
+fn by<'a>(alloc: Global) -> Arg<'a> {
+    Arg::new(alloc, "by")
+        .long("by")
+        .value_name("KEY")
+        .help("Lists those with the most bytes or packets first, the earliest or the longest")
+        .value_parser(["bytes", "packets", "first", "duration"].as_slice())
+        .default_value("bytes")
 }
 
 // What each command takes: which packets are reported, and of which file.

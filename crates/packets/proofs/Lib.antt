@@ -1,7 +1,9 @@
 mod StartedLemmas
 mod BucketLemmas
+mod ConversationLemmas
 mod CourseLemmas
 mod EndLemmas
+mod FlowLemmas
 mod ForgetLemmas
 mod HeldLemmas
 mod KeepLemmas

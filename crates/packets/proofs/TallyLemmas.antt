@@ -29,7 +29,7 @@ count_by-more p xs x h =
 filter-end : {X : Type 0} (p : X → Bool) (x : X) → p x ≡ true → filter p (x ∷ []) ≡ x ∷ []
 filter-end p x h = rw h refl
 
-filter-more : {X : Type 0} (p : X → Bool) (xs : List X) (x : X) → p x ≡ true
+pub filter-more : {X : Type 0} (p : X → Bool) (xs : List X) (x : X) → p x ≡ true
     → filter p (xs ++ x ∷ []) ≡ filter p xs ++ x ∷ []
 filter-more p xs x h = filter-append p xs (x ∷ []) ∙ ap (λ ys. filter p xs ++ ys) (filter-end p x h)
 
@@ -44,7 +44,7 @@ sum_by-more : {X : Type 0} (f : X → ℕ) (p : X → Bool) (xs : List X) (x : X
     → capped (sum_by f (filter p (xs ++ x ∷ []))) ≡ capped (capped (sum_by f (filter p xs)) + f x)
 sum_by-more f p xs x h = rw (filter-more p xs x h) (sum_by-end f (filter p xs) x)
 
-first-or : {X : Type 0} (f : X → ℕ) (found : Option X) (x : X)
+first-or : {X Y : Type 0} (f : X → Y) (found : Option X) (x : X)
     → option_map f (option_or found (Some x)) ≡ Some (unwrap_or (option_map f found) (f x))
 first-or f None x = refl
 first-or f (Some y) x = refl
@@ -52,7 +52,7 @@ first-or f (Some y) x = refl
 find-end : {X : Type 0} (p : X → Bool) (x : X) → p x ≡ true → find p (x ∷ []) ≡ Some x
 find-end p x h = rw h refl
 
-find-more : {X : Type 0} (f : X → ℕ) (p : X → Bool) (xs : List X) (x : X) → p x ≡ true
+pub find-more : {X Y : Type 0} (f : X → Y) (p : X → Bool) (xs : List X) (x : X) → p x ≡ true
     → option_map f (find p (xs ++ x ∷ [])) ≡ Some (unwrap_or (option_map f (find p xs)) (f x))
 find-more f p xs x h =
     ap (option_map f) (find-append p xs (x ∷ [])
@@ -68,7 +68,7 @@ pub tally_of-more : (kind : Outline
 tally_of-more kind packets packet old m b f e h em eb ef =
     grind (arith, count_by-more, sum_by-more, find-more)
 
-filter-none : {X : Type 0} (p : X → Bool) (xs : List X) (x : X) → p x ≡ false
+pub filter-none : {X : Type 0} (p : X → Bool) (xs : List X) (x : X) → p x ≡ false
     → filter p (xs ++ x ∷ []) ≡ filter p xs
 filter-none p xs x h =
     let none : filter p (x ∷ []) ≡ [] = rw h refl in

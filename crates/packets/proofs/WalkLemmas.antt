@@ -19,8 +19,11 @@ use Rattle.packets.specs.Expressions.{lets_through}
 use Rattle.packets.specs.Courses.{AreDissected, Course, IsDissected, course_after, forgotten, next_course, shown}
 use Rattle.packets.specs.PacketRuns.{AreButLast, AreFirst, EndsBy, Unbroken}
 use Rattle.packets.specs.Counts.{Counts}
-use Rattle.packets.specs.Outlines.{outline_of}
+use Rattle.packets.specs.Flows.{CountsFlows}
 use Rattle.packets.specs.declared.dissection.Dissection.{Dissection}
+use Rattle.packets.specs.declared.flows.conversation.Conversation.{Conversation}
+use Rattle.packets.specs.declared.flows.flows.Flows.{Flows}
+use Rattle.packets.specs.declared.flows.transfer.Transfer.{Transfer}
 use Rattle.packets.specs.declared.filter.Filter.{Filter}
 use Rattle.packets.specs.declared.outline.Outline.{Outline}
 use Rattle.packets.specs.declared.summary.summary.Summary.{Summary}
@@ -124,24 +127,28 @@ pub shown_more : (conditions : Filter) (reported : List Dissection) (last : Diss
     ≡ shown conditions reported ++ filter (lets_through conditions) (last ∷ [])
 shown_more conditions reported last = filter-append (lets_through conditions) reported (last ∷ [])
 
+-- what holds of packets that are counted holds of them with none more
+none_more : {X : Type 0} (Holds : List X → Type 0) (counted : List X) → Holds counted
+    → Holds (counted ++ [])
+none_more Holds counted = subst Holds (sym (append-nil counted))
+
 pub counted_none : {S H : Type 0} (same_reason : Reason → Reason → Bool)
     (same_addresses : Addresses → Addresses → Bool)
     (same_verified : Verified → Verified → Bool) (summary : Summary S H)
     (counted : List Outline) → Counts same_reason same_addresses same_verified summary counted
     → Counts same_reason same_addresses same_verified summary (counted ++ [])
-counted_none same_reason same_addresses same_verified summary counted =
-    subst (λ (packets : List Outline). Counts same_reason same_addresses same_verified summary packets)
-    (sym (append-nil counted))
+counted_none same_reason same_addresses same_verified summary =
+    none_more (Counts same_reason same_addresses same_verified summary)
 
-pub counted_more : {S H : Type 0} (same_reason : Reason → Reason → Bool)
-    (same_addresses : Addresses → Addresses → Bool)
-    (same_verified : Verified → Verified → Bool) (summary : Summary S H)
-    (counted : List Outline) (seen : List Dissection) (packet : Dissection)
-    → Counts same_reason same_addresses same_verified summary
-    ((counted ++ map outline_of seen) ++ outline_of packet ∷ [])
-    → Counts same_reason same_addresses same_verified summary
-    (counted ++ map outline_of (seen ++ packet ∷ []))
-counted_more same_reason same_addresses same_verified summary counted seen packet =
-    subst (λ (packets : List Outline). Counts same_reason same_addresses same_verified summary packets)
-    (sym (ap (λ (l : List Outline). counted ++ l) (map-append outline_of seen (packet ∷ []))
-    ∙ sym (append_assoc counted (map outline_of seen) (outline_of packet ∷ []))))
+pub flows_none : {S H : Type 0} (same : Conversation → Conversation → Bool) (flows : Flows S H)
+    (counted : List Transfer) → CountsFlows same flows counted
+    → CountsFlows same flows (counted ++ [])
+flows_none same flows = none_more (CountsFlows same flows)
+
+-- and of them with one more
+pub counted_more : {X : Type 0} (Holds : List X → Type 0) (of : Dissection → X) (counted : List X)
+    (seen : List Dissection) (packet : Dissection) → Holds ((counted ++ map of seen) ++ of packet ∷ [])
+    → Holds (counted ++ map of (seen ++ packet ∷ []))
+counted_more {X} Holds of counted seen packet = subst Holds
+    (sym (ap (λ (l : List X). counted ++ l) (map-append of seen (packet ∷ []))
+    ∙ sym (append_assoc counted (map of seen) (of packet ∷ []))))

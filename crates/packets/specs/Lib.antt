@@ -1,11 +1,13 @@
 pub mod SourceRoute
 pub mod Started
 pub mod Conditions
+pub mod Conversations
 pub mod Expressions
 pub mod Counts
 pub mod Courses
 pub mod Dissected
 pub mod Examples
+pub mod Flows
 pub mod Forgetting
 pub mod HeaderVerdict
 pub mod Headers
@@ -22,8 +24,10 @@ pub mod PacketRuns
 pub mod Period
 pub mod Rate
 pub mod ReassemblyMemory
+pub mod Reported
 pub mod Reasons
 pub mod Sizes
 pub mod Table
 pub mod Tally
+pub mod Transfers
 pub mod Written

@@ -1,5 +1,5 @@
 //! What `Clone`, `PartialEq` and `Hash` of the types here mean, and what runs drop and count.
-ghost use Rattle.std.specs.Prelude.{◌≡◌, ◌≤◌, ◌<◌, ◌+◌, ◌-◌, ◌*◌, ◌^◌, ℕ, true, false, not, is_some, pos, List, [], ◌∷◌};
+ghost use Rattle.std.specs.Prelude.{◌≡◌, ◌⊎◌, ◌≤◌, ◌<◌, ◌+◌, ◌-◌, ◌*◌, ◌^◌, ℕ, true, false, not, is_some, pos, List, [], ◌∷◌};
 ghost use Rattle.std.specs.Prelude.{◌++◌, Bool, Option, Some, None, Ok};
 ghost use Rattle.std.specs.Hash as fed;
 ghost use Rattle.captures.specs.declared.link.header.Header.{Header};
@@ -13,6 +13,7 @@ ghost use Rattle.ep_packet.specs.LaxWhole.{whole_packet};
 ghost use Rattle.ep_packet.specs.declared.sliced_packet.SlicedPacket.{SlicedPacket};
 ghost use Rattle.packets.specs.Conditions.{has_vlan_id, ipv4_numbers, ipv6_numbers, lax_has_vlan_id, lax_ipv4_numbers};
 ghost use Rattle.packets.specs.Conditions.{lax_ipv6_numbers, lax_transport_header, packet_header};
+ghost use Rattle.packets.specs.Conversations.{from_lower, turned};
 ghost use Rattle.packets.specs.Courses.{Course, course_after, lists_at, next_course, no_course};
 ghost use Rattle.packets.specs.LaxLayers.{lax_layers_of};
 ghost use Rattle.packets.specs.ReassemblyMemory.{Tracks, taken};
@@ -21,20 +22,25 @@ ghost use Rattle.packets.specs.Layers.{layers_of};
 ghost use Rattle.packets.specs.Limits.{AreFewer, AreInTime, is_late};
 ghost use Rattle.packets.specs.Outlines.{headers_of, lax_headers_of};
 ghost use Rattle.packets.specs.Tally.{tally_of};
+ghost use Rattle.packets.specs.declared.flows.conversation.Conversation.{Conversation};
 ghost use Rattle.packets.specs.declared.outline.Outline.{Outline};
 ghost use Rattle.packets.specs.declared.reason.Reason.TheVariants as reason;
+ghost use Rattle.packets.specs.declared.show.endpoints.Ports.{Ports};
 ghost use Rattle.packets.specs.declared.summary.verified.Verified.TheVariants as verified;
 
 pub mod examples;
 
 use crate::program::{Coloring, SizeError};
 use crate::{
-    ChecksumTallies, Condition, Ending, FragmentState, FragmentTallies, GrammarError, Headers,
-    Lengths, Net, NoProgress, Omitted, Outline, Period, Reason, ShowOptions, Side, Sizes, Tally,
-    TcpFlag, Verified, Word, WordError,
+    By, ChecksumTallies, Condition, Connection, Conversation, Direction, Ending, Flags, Flow,
+    FragmentState, FragmentTallies, GrammarError, Headers, Lengths, Listing, Net, NoProgress,
+    Omitted, Outline, Period, Ports, Reason, Row, ShowOptions, Side, Sizes, Tally, TcpFlag,
+    Transfer, Verified, Word, WordError,
 };
+use ep_base::IpNumber;
 use ep_base::err::Layer;
 use ep_base::laws::traits::Value;
+use ep_packet::Addresses;
 use std::hash::Hash;
 
 /// A copy is the value and takes no memory. Equal are the values that are the same.
@@ -56,6 +62,10 @@ pub fn types_are_plain_data()
     ensures period { IsPlainData ⟦<Period as Value>⟧ }
     ensures tally { IsPlainData ⟦<Tally as Value>⟧ }
     ensures verified { IsPlainData ⟦<Verified as Value>⟧ }
+    ensures ports { IsPlainData ⟦<Ports as Value>⟧ }
+    ensures flags { IsPlainData ⟦<Flags as Value>⟧ }
+    ensures connection { IsPlainData ⟦<Connection as Value>⟧ }
+    ensures by { IsPlainData ⟦<By as Value>⟧ }
 {}
 
 /// The same of values that hold some of these.
@@ -66,6 +76,9 @@ pub fn holders_are_plain_data()
     ensures parts { IsPlainData ⟦<FragmentTallies as Value>⟧ }
     ensures ending { IsPlainData ⟦<Ending as Value>⟧ }
     ensures omitted { IsPlainData ⟦<Omitted as Value>⟧ }
+    ensures conversation { IsPlainData ⟦<Conversation as Value>⟧ }
+    ensures direction { IsPlainData ⟦<Direction as Value>⟧ }
+    ensures listing { IsPlainData ⟦<Listing as Value>⟧ }
 {
     types_are_plain_data();
     captures::laws::types_are_plain_data();
@@ -78,6 +91,17 @@ pub fn outlines_are_plain_data()
     types_are_plain_data();
     holders_are_plain_data();
     checksum_verdicts::laws::verdicts_are_plain_data();
+}
+
+/// The same of what is counted of conversations.
+pub fn flows_are_plain_data()
+    ensures transfer { IsPlainData ⟦<Transfer as Value>⟧ }
+    ensures flow { IsPlainData ⟦<Flow as Value>⟧ }
+    ensures row { IsPlainData ⟦<Row as Value>⟧ }
+{
+    types_are_plain_data();
+    holders_are_plain_data();
+    outlines_are_plain_data();
 }
 
 /// A reason feeds a hasher its index in the declaration, and then the layer that it names.
@@ -98,6 +122,17 @@ pub fn senders_hash_all_fields()
     ensures v6 { (source : List ℕ) (is_bad : Bool) → ⟦<Verified as Hash>⟧.hash_input
         (verified.V6 source is_bad)
         ≡ fed.isize (pos 1) ++ fed.slice fed.u8 source ++ fed.bool is_bad }
+{}
+
+/// A conversation feeds a hasher its addresses, its ports and its protocol, ports their numbers.
+pub fn conversations_hash_all_fields()
+    ensures conversation { (conversation : Conversation)
+        → ⟦<Conversation as Hash>⟧.hash_input conversation
+        ≡ ⟦<Addresses as Hash>⟧.hash_input conversation.addresses
+        ++ ⟦<Option<Ports> as Hash>⟧.hash_input conversation.ports
+        ++ ⟦<IpNumber as Hash>⟧.hash_input conversation.protocol }
+    ensures ports { (ports : Ports) → ⟦<Ports as Hash>⟧.hash_input ports
+        ≡ fed.u16 ports.source ++ fed.u16 ports.destination }
 {}
 
 /// While each packet comes less than so many seconds after the last fragment of a datagram that was
@@ -223,4 +258,12 @@ pub fn refused_and_others_are_all()
         → (tally_of (λ packet. true) packets).bytes
         ≡ (tally_of (λ packet. is_some packet.refusal) packets).bytes
         + (tally_of (λ packet. not (is_some packet.refusal)) packets).bytes }
+{}
+
+/// Both directions are of one conversation, and no others are.
+pub fn conversations_have_two_directions()
+    ensures turned { (conversation : Conversation)
+        → from_lower (turned conversation) ≡ from_lower conversation }
+    ensures alone { (one other : Conversation) → from_lower one ≡ from_lower other
+        → (one ≡ other) ⊎ (one ≡ turned other) }
 {}

@@ -2,6 +2,7 @@
 ghost use Rattle.std.specs.Prelude.{◌≡◌};
 ghost use Rattle.std.specs.List.{list_any};
 ghost use Rattle.ep_packet.specs.Readable.{message_at};
+ghost use Rattle.packets.specs.Conversations.{is_left_out, is_without_ip};
 ghost use Rattle.packets.specs.Headers.{has_header, net_addresses, net_number};
 ghost use Rattle.packets.specs.LaxLayers.{lax_layers_of};
 ghost use Rattle.packets.specs.Lengths.{is_cut};
@@ -96,6 +97,20 @@ impl Outline {
         ensures { result ≡ is_cut self.now.captured_len self.now.wire_len }
     {
         self.captured_len < self.wire_len as usize
+    }
+
+    /// Whether it is refused and wasn't cut.
+    pub(crate) fn is_left_out(&self) -> bool
+        ensures { result ≡ is_left_out self.now }
+    {
+        self.refusal.is_some() && !self.is_cut()
+    }
+
+    /// Whether it isn't such a packet, and has no IP header.
+    pub(crate) fn is_without_ip(&self) -> bool
+        ensures { result ≡ is_without_ip self.now }
+    {
+        !self.is_left_out() && self.headers.addresses().is_none()
     }
 }
 

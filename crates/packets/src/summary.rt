@@ -1,6 +1,7 @@
 //! What is in a capture, counted.
 
 pub(crate) mod bars;
+pub(crate) mod count;
 pub(crate) mod lengths;
 pub(crate) mod numbers;
 pub(crate) mod offload;

@@ -1,4 +1,4 @@
-//! Shows what is in a capture file: `packets [show|json|summary] [FILE|-]..`.
+//! Shows what is in a capture file: `packets [show|json|summary|flows] [FILE|-]..`.
 #![tactic(auto)]
 
 mod progress_line;
@@ -11,9 +11,12 @@ use capture_programs::{
 use captures::RunError;
 use packets::program::{
     Coloring, Output, RequestError, Requested, command, exit_code, goes_on, report_dropped,
-    requested_by, write_flushed, write_report,
+    requested_by, write_flows, write_flushed, write_report,
 };
-use packets::{JsonLines, LineWriter, Omitted, Report, ShowOptions, Style, Summary, summarize};
+use packets::{
+    Ending, Flows, JsonLines, LineWriter, Listing, Omitted, Report, Rules, ShowOptions, Style,
+    Summary, count_flows, summarize,
+};
 use std::env::{self, VarError};
 use std::fs::File;
 use std::hash::RandomState;
@@ -56,7 +59,24 @@ fn run_on_files(rt: &HostRuntime, requested: &Requested<'_>) -> anyhow::Result<E
             let lines = JsonLines::new(rt.alloc(), *payload);
             write_files(rt, requested, &lines, &mut output)
         }
-        Output::Summary => count_files(rt, requested, &mut output),
+        Output::Summary => {
+            let mut counts = SummaryCounts {
+                summary: Summary::with_hashers(
+                    rt.alloc(),
+                    RandomState::new(rt)?,
+                    RandomState::new(rt)?,
+                    RandomState::new(rt)?,
+                ),
+            };
+            count_files(rt, requested, &mut counts, &mut output)
+        }
+        Output::Flows(listing) => {
+            let mut counts = FlowCounts {
+                flows: Flows::with_hasher(rt.alloc(), RandomState::new(rt)?),
+                listing: *listing,
+            };
+            count_files(rt, requested, &mut counts, &mut output)
+        }
     }
 }
 
@@ -196,22 +216,114 @@ impl<L: LineWriter, W: Write> Task for Writing<'_, L, W> {
     }
 }
 
-fn count_files<W: Write>(
+// What is counted of all files.
+trait Counts {
+    // Counts the packets of a file.
+    fn count<R: Read + Drop>(
+        &mut self,
+        rt: &HostRuntime,
+        rules: &Rules,
+        input: R,
+        progress: &mut ProgressLine<'_>,
+    ) -> anyhow::Result<Ending>;
+
+    // How many packets were counted.
+    fn packets(&self) -> u64;
+
+    // Writes the report, with how many messages were open, and what was left out.
+    fn write<W: Write>(
+        &self,
+        rt: &HostRuntime,
+        open: usize,
+        omitted: Omitted,
+        output: &mut W,
+    ) -> Result<(), RunError>;
+}
+
+#[derive(Drop)]
+struct SummaryCounts {
+    summary: Summary<RandomState>,
+}
+
+impl Counts for SummaryCounts {
+    fn count<R: Read + Drop>(
+        &mut self,
+        rt: &HostRuntime,
+        rules: &Rules,
+        input: R,
+        progress: &mut ProgressLine<'_>,
+    ) -> anyhow::Result<Ending> {
+        let state = RandomState::new(rt)?;
+        let summary = &mut self.summary;
+        Ok(summarize(rt.alloc(), state, rules, summary, input, progress))
+    }
+
+    fn packets(&self) -> u64 {
+        self.summary.all.packets
+    }
+
+    fn write<W: Write>(
+        &self,
+        rt: &HostRuntime,
+        open: usize,
+        omitted: Omitted,
+        output: &mut W,
+    ) -> Result<(), RunError> {
+        let report = Report {
+            summary: &self.summary,
+            open,
+            dropped: omitted.dropped,
+            skipped: omitted.skipped,
+        };
+        write_report(rt.alloc(), &report, output)
+    }
+}
+
+#[derive(Drop)]
+struct FlowCounts {
+    flows: Flows<RandomState>,
+    listing: Listing,
+}
+
+impl Counts for FlowCounts {
+    fn count<R: Read + Drop>(
+        &mut self,
+        rt: &HostRuntime,
+        rules: &Rules,
+        input: R,
+        progress: &mut ProgressLine<'_>,
+    ) -> anyhow::Result<Ending> {
+        let state = RandomState::new(rt)?;
+        let flows = &mut self.flows;
+        Ok(count_flows(rt.alloc(), state, rules, flows, input, progress))
+    }
+
+    fn packets(&self) -> u64 {
+        self.flows.all.packets
+    }
+
+    fn write<W: Write>(
+        &self,
+        rt: &HostRuntime,
+        _open: usize,
+        omitted: Omitted,
+        output: &mut W,
+    ) -> Result<(), RunError> {
+        write_flows(rt.alloc(), &self.flows, &self.listing, omitted.skipped, output)
+    }
+}
+
+fn count_files<C: Counts, W: Write>(
     rt: &HostRuntime,
     requested: &Requested<'_>,
+    counts: &mut C,
     output: &mut ClosableWriter<W>,
 ) -> anyhow::Result<ExitCode> {
-    let summary = Summary::with_hashers(
-        rt.alloc(),
-        RandomState::new(rt)?,
-        RandomState::new(rt)?,
-        RandomState::new(rt)?,
-    );
     let mut counting = Counting {
         rt,
         requested,
         output,
-        summary,
+        counts,
         open: 0,
         omitted: Omitted::NOTHING,
         left: requested.names.len(),
@@ -225,17 +337,18 @@ fn count_files<W: Write>(
         input: "-",
     };
     let closed = counting.output.is_closed();
-    let code = exit_code(rt, subject, "summary", written, closed, Look::Other);
+    let command = requested.output.command();
+    let code = exit_code(rt, subject, command, written, closed, Look::Other);
     Ok(failed.unwrap_or(code))
 }
 
 // Counts the packets of all files.
 #[derive(Drop)]
-struct Counting<'a, W> {
+struct Counting<'a, C, W> {
     rt: &'a HostRuntime,
     requested: &'a Requested<'a>,
     output: &'a mut ClosableWriter<W>,
-    summary: Summary<RandomState>,
+    counts: &'a mut C,
     open: usize,
     omitted: Omitted,
     // How many files weren't taken yet.
@@ -243,27 +356,22 @@ struct Counting<'a, W> {
     is_reported: bool,
 }
 
-impl<W: Write> Counting<'_, W> {
+impl<C: Counts, W: Write> Counting<'_, C, W> {
     // Writes the report, if it isn't written yet; where no packet was counted, only if nothing failed.
     fn report(&mut self, failed: bool) -> Result<(), RunError> {
         if self.is_reported {
             return Ok(());
         }
         self.is_reported = true;
-        if failed && self.summary.all.packets == 0 {
+        if failed && self.counts.packets() == 0 {
             return Ok(());
         }
-        let report = Report {
-            summary: &self.summary,
-            open: self.open,
-            dropped: self.omitted.dropped,
-            skipped: self.omitted.skipped,
-        };
-        write_report(self.rt.alloc(), &report, self.output)
+        self.counts
+            .write(self.rt, self.open, self.omitted, self.output)
     }
 }
 
-impl<W: Write> Task for Counting<'_, W> {
+impl<C: Counts, W: Write> Task for Counting<'_, C, W> {
     // With the last file the report is written, before anything about that file is.
     fn take<R: Read + Drop>(
         &mut self,
@@ -273,14 +381,8 @@ impl<W: Write> Task for Counting<'_, W> {
     ) -> anyhow::Result<FileEnd> {
         let look = input.look();
         let mut progress = ProgressLine::new(self.rt, len);
-        let ending = summarize(
-            self.rt.alloc(),
-            RandomState::new(self.rt)?,
-            &self.requested.rules,
-            &mut self.summary,
-            input,
-            &mut progress,
-        );
+        let rules = &self.requested.rules;
+        let ending = self.counts.count(self.rt, rules, input, &mut progress)?;
         progress.end();
         let omitted = Omitted {
             skipped: ending.skipped,

@@ -15,6 +15,8 @@ mod expressions;
 #[cfg(test)]
 mod faults;
 #[cfg(test)]
+mod flows;
+#[cfg(test)]
 mod frames;
 #[cfg(test)]
 mod limits;

@@ -4,8 +4,10 @@ ghost use Rattle.device_runs.specs.Endings.{EndsFlushed};
 ghost use Rattle.captures.specs.declared.translation.run_error.RunError.{RunError};
 ghost use Rattle.packets.specs.Written.{WritesLines};
 
-use crate::{LineWriter, Omitted, Report, Rules, write_lines};
-use captures::RunError;
+use crate::{
+    FlowObject, FlowTable, Flows, LineWriter, Listing, Omitted, Report, Rules, write_lines,
+};
+use captures::{RunError, Skipped};
 use device_runs::flush_after;
 use std::alloc::Global;
 use std::hash::BuildHasher;
@@ -39,7 +41,53 @@ pub fn write_report<S: BuildHasher, W: Write>(
     let Ok(text) = format!(in alloc; "{report}") else {
         return Err(RunError::Memory);
     };
-    match writer.write_all(text.as_bytes()) {
+    write_whole_flushed(text.as_bytes(), writer)
+}
+
+/// Writes the conversations that are listed, as a table or as a JSON object in one line. It has no
+/// contract: tests compare the texts.
+pub fn write_flows<S: BuildHasher, W: Write>(
+    alloc: Global,
+    flows: &Flows<S>,
+    listing: &Listing,
+    skipped: Skipped,
+    writer: &mut W,
+) -> Result<(), RunError> {
+    let Ok(indices) = listing.indices(alloc, flows) else {
+        return Err(RunError::Memory);
+    };
+    let indices = indices.as_slice();
+    if listing.json {
+        return write_object(alloc, &FlowObject { flows, indices }, writer);
+    }
+    let table = FlowTable {
+        flows,
+        indices,
+        skipped,
+    };
+    let Ok(text) = format!(in alloc; "{table}") else {
+        return Err(RunError::Memory);
+    };
+    write_whole_flushed(text.as_bytes(), writer)
+}
+
+fn write_object<S: BuildHasher, W: Write>(
+    alloc: Global,
+    object: &FlowObject<'_, S>,
+    writer: &mut W,
+) -> Result<(), RunError> {
+    // The only error is that memory ran out.
+    let Ok(mut bytes) = serde_json::to_vec(alloc, object) else {
+        return Err(RunError::Memory);
+    };
+    match bytes.push(b'\n') {
+        Ok(()) => write_whole_flushed(bytes.as_slice(), writer),
+        Err(_) => Err(RunError::Memory),
+    }
+}
+
+fn write_whole_flushed<W: Write>(bytes: &[u8], writer: &mut W) -> Result<(), RunError> {
+    match writer.write_all(bytes) {
         Ok(()) => flush_after(writer, Ok(()), RunError::Write),
         Err(error) if error.kind() == ErrorKind::WriteZero => Err(RunError::WriteZero),
         Err(_) => Err(RunError::Write),

@@ -1,5 +1,5 @@
 //! What the words of the command line request.
-use crate::{Condition, Expression, ExpressionError, Filter, Rules, TimeForm, Words};
+use crate::{By, Condition, Expression, ExpressionError, Filter, Listing, Rules, TimeForm, Words};
 use captures::Unfit;
 use clap::ArgMatches;
 use std::alloc::{AllocError, Global};
@@ -56,6 +56,8 @@ pub enum Output {
     Json(bool),
     /// What is in it, counted.
     Summary,
+    /// Its conversations, counted.
+    Flows(Listing),
 }
 
 impl Output {
@@ -65,6 +67,7 @@ impl Output {
             Output::Show(_, _, _, _) => "show",
             Output::Json(_) => "json",
             Output::Summary => "summary",
+            Output::Flows(_) => "flows",
         }
     }
 }
@@ -89,6 +92,7 @@ pub fn requested_by<'m>(
     let (output, words) = match matches.subcommand() {
         Some(("json", words)) => (Output::Json(words.get_flag("payload")), words),
         Some(("summary", words)) => (Output::Summary, words),
+        Some(("flows", words)) => (Output::Flows(listing(words)), words),
         Some((_, words)) => (show(words), words),
         None => (show(matches), matches),
     };
@@ -129,6 +133,19 @@ fn show(words: &ArgMatches) -> Output {
         when_colored(words),
         words.get_flag("link"),
     )
+}
+
+fn listing(words: &ArgMatches) -> Listing {
+    Listing {
+        by: match words.get_str("by") {
+            Some("packets") => By::Packets,
+            Some("first") => By::First,
+            Some("duration") => By::Duration,
+            _ => By::Bytes,
+        },
+        top: words.get_one::<u32>("top"),
+        json: words.get_flag("json"),
+    }
 }
 
 fn filter_of(alloc: Global, texts: &[&str], checksums: bool) -> Result<Filter, RequestError> {

@@ -12,27 +12,14 @@ ghost use Rattle.packets.specs.declared.outline.Outline.{Outline};
 
 use crate::run::progress::Progress;
 use crate::run::rules::Rules;
-use crate::run::walk::{Visitor, walk};
-use crate::{Dissection, Dissector, Reason, Summary, Verified};
-use captures::{PacketReader, RunError, Skipped};
+use crate::run::visit_all::{Ending, visit_all};
+use crate::run::walk::Visitor;
+use crate::{Dissection, Reason, Summary, Verified};
+use captures::RunError;
 use ep_packet::Addresses;
 use std::alloc::{AllocError, Global};
 use std::hash::BuildHasher;
 use std::io::Read;
-
-/// How a run over a capture ended.
-#[derive(Clone, Copy, Debug, PartialEq, Eq)]
-pub struct Ending {
-    /// How many datagrams were not complete.
-    pub open: usize,
-    /// How many datagrams were dropped, so that the others take no more than
-    /// [`Rules::reassembly_memory`] bytes; up to the greatest number of 64 bits.
-    pub dropped: u64,
-    /// How many packets were passed over by then.
-    pub skipped: Skipped,
-    /// Whether the whole capture was read, or up to a limit of the rules, or why not.
-    pub result: Result<(), RunError>,
-}
 
 /// Counts the packets that the filter lets through, up to the end of the capture, to where it is
 /// refused or to a limit. The names of datagrams are hashed by this state, as in
@@ -60,22 +47,7 @@ pub fn summarize<R: Read + Drop, S: BuildHasher + Drop, P: Progress>(
         × (result.dropped
         ≡ (course_after rules.now.forget (no_course rules.now.reassembly_memory) given).dropped) }
 {
-    let mut dissector = Dissector::with_hasher(alloc, state);
-    let Ok(mut packets) = PacketReader::new(alloc, rules.unfit, reader) else {
-        return Ending {
-            open: 0,
-            dropped: 0,
-            skipped: Skipped::NONE,
-            result: Err(RunError::Memory),
-        };
-    };
-    let result = walk(rules, &mut packets, &mut dissector, summary, progress);
-    Ending {
-        open: dissector.open(),
-        dropped: dissector.dropped(),
-        skipped: packets.skipped(),
-        result,
-    }
+    visit_all(alloc, state, rules, summary, reader, progress)
 }
 
 impl<S: BuildHasher> Visitor for Summary<S> {

@@ -6,9 +6,11 @@ use header_descriptions::show::addresses::{ipv4, ipv6};
 use std::alloc::AllocError;
 
 /// The ports of a message.
-#[derive(Clone, Copy)]
-pub(crate) struct Ports {
+#[derive(Clone, Copy, Debug, PartialEq, Eq, Hash)]
+pub struct Ports {
+    /// The source port.
     pub source: u16,
+    /// The destination port.
     pub destination: u16,
 }
 

@@ -1,7 +1,7 @@
 //! Which keys of tables were counted last.
 ghost use Rattle.std.specs.Prelude.{◌<◌};
 
-use crate::Verified;
+use crate::{Conversation, Verified};
 use ep_packet::Addresses;
 
 /// The keys of a table are spread over so many buckets.
@@ -37,18 +37,23 @@ pub(crate) fn talker_bucket(addresses: Option<Addresses>) -> usize
     ensures { result < BUCKET_COUNT }
 {
     match addresses {
-        Some(
-            Addresses::V4 {
-                source,
-                destination,
-            },
-        ) => bucket(u32::from_be_bytes(source), u32::from_be_bytes(destination)),
-        Some(
-            Addresses::V6 {
-                source,
-                destination,
-            },
-        ) => bucket(folded(source), folded(destination)),
+        Some(addresses) => bucket_of(mixed_addresses(addresses)),
+        None => 0,
+    }
+}
+
+/// That of a conversation.
+pub(crate) fn conversation_bucket(conversation: Option<Conversation>) -> usize
+    ensures { result < BUCKET_COUNT }
+{
+    match conversation {
+        Some(conversation) => {
+            let ports = match conversation.ports {
+                Some(ports) => (u32::from(ports.source) << 16) | u32::from(ports.destination),
+                None => 0,
+            };
+            bucket_of(mixed(mixed_addresses(conversation.addresses), ports))
+        }
         None => 0,
     }
 }
@@ -58,20 +63,40 @@ pub(crate) fn sender_bucket(sender: Option<Verified>) -> usize
     ensures { result < BUCKET_COUNT }
 {
     match sender {
-        Some(Verified::V4 { source, is_bad }) => bucket(u32::from_be_bytes(source), is_bad as u32),
-        Some(Verified::V6 { source, is_bad }) => bucket(folded(source), is_bad as u32),
+        Some(Verified::V4 { source, is_bad }) => bucket_of(mixed(
+            u32::from_be_bytes(source),
+            is_bad as u32,
+        )),
+        Some(Verified::V6 { source, is_bad }) => bucket_of(mixed(folded(source), is_bad as u32)),
         None => 0,
     }
 }
 
-// The highest ten bits of a sum of products depend on all bits of both numbers.
-fn bucket(first: u32, second: u32) -> usize
+// The highest ten bits of such a sum depend on all bits of both numbers.
+fn bucket_of(mixed: u32) -> usize
     ensures { result < BUCKET_COUNT }
 {
-    let mixed = first
-        .wrapping_mul(FIRST_FACTOR)
-        .wrapping_add(second.wrapping_mul(SECOND_FACTOR));
     (mixed >> 22) as usize
+}
+
+fn mixed_addresses(addresses: Addresses) -> u32 {
+    match addresses {
+        Addresses::V4 {
+            source,
+            destination,
+        } => mixed(u32::from_be_bytes(source), u32::from_be_bytes(destination)),
+        Addresses::V6 {
+            source,
+            destination,
+        } => mixed(folded(source), folded(destination)),
+    }
+}
+
+// A sum of products.
+fn mixed(first: u32, second: u32) -> u32 {
+    first
+        .wrapping_mul(FIRST_FACTOR)
+        .wrapping_add(second.wrapping_mul(SECOND_FACTOR))
 }
 
 // The four words of an address, joined.

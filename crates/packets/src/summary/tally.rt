@@ -4,6 +4,7 @@ ghost use Rattle.packets.specs.Tally.{tally_of};
 ghost use Rattle.packets.specs.declared.outline.Outline.{Outline};
 
 use crate::Outline;
+use crate::summary::count::Count;
 
 /// How many packets there are of a kind, how many bytes they have, and which came first. Counts
 /// stop at the greatest number of 64 bits, so that none wraps around.
@@ -45,5 +46,17 @@ impl Tally {
         if is_of_kind {
             self.add(packet);
         }
+    }
+}
+
+impl Count<Outline> for Tally {
+    ghost of = { tally_of };
+
+    fn nothing() -> Tally {
+        Tally::NONE
+    }
+
+    fn count(&mut self, packet: &Outline) {
+        self.add(packet);
     }
 }

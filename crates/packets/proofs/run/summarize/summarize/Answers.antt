@@ -1,43 +1,18 @@
-use Rattle.std.proofs.Common.{◌∙◌, refl, sym, subst, [], false, inl}
-use Rattle.std.proofs.KnownBytes.{Consumes-nil}
-use Rattle.std.specs.Io.KnownBytes.{Consumes}
-use Rattle.captures.specs.Readers.{source_of}
-use Rattle.packets.specs.PacketRuns.{EndsWithin}
-use Rattle.packets.proofs.EndLemmas.{nothing_first, unbroken_always, weaker_out_of_memory}
-use Rattle.packets.proofs.LimitLemmas.{none_fewer}
-use Rattle.packets.proofs.WalkLemmas.{counted_none}
+use Rattle.packets.proofs.EndLemmas.{unbroken_always}
 use Rattle.packets.proofs.run.summarize.summarize.Goals as goal
-
-pub returns-in_default : goal.returns-in_default
-returns-in_default g c = (
-  [],
-  g.R.Read.remaining c.args.reader,
-  [],
-  [],
-  Consumes-nil (g.R.Read.remaining c.args.reader),
-  (tt, inl (none_fewer c.args.rules.now.count, nothing_first c.args.rules.now.unfit)),
-  refl,
-  λ counted was. counted_none _ _ _ c.args.summary.now counted was,
-  tt,
-  refl,
-)
 
 pub returns : goal.returns
 returns g c =
-    let rules = c.args.rules.now in
-    let result = c.walk-result.result in
-    let walked = c.walk-result.ensures in
-    let left = g.R.Read.remaining (source_of c.walk-result.new.packets) in (
-      walked.0,
-      left,
-      walked.1,
-      walked.2,
-      subst (λ reader. Consumes (g.R.Read.remaining reader) left walked.0) c.in-Ok.ensures.source
-          walked.3,
-      subst (λ skipped. EndsWithin false rules skipped left walked.0 walked.1 result)
-          (sym c.skipped.ensures) walked.4,
-      walked.5,
-      unbroken_always result _ walked.6,
-      weaker_out_of_memory result _ _ (λ shows. c.open.ensures _ shows) walked.7,
-      c.dropped.ensures ∙ walked.8,
+    let visited = c.visit_all.ensures in
+    let reports = visited.1 in (
+      reports.0,
+      reports.1,
+      reports.2,
+      visited.0,
+      reports.3,
+      reports.4,
+      reports.5,
+      unbroken_always c.visit_all.result.result _ visited.2,
+      reports.6.0,
+      reports.6.1,
     )

@@ -2,7 +2,17 @@ use Rattle.std.proofs.Common.{refl, sym, true, is_some}
 use Rattle.packets.specs.Counts.{verified_of}
 use Rattle.packets.specs.Headers.{net_addresses}
 use Rattle.packets.specs.declared.outline.Outline.{Outline}
+use Rattle.packets.proofs.TallyLemmas.{tally_of-other}
 use Rattle.packets.proofs.summary.summary.Summary.count.Goals as goal
+
+pub add_keyed-self-requires-clause-others : goal.add_keyed-self-requires-clause-others
+add_keyed-self-requires-clause-others g c = tally_of-other
+
+pub add_keyed-requires-clause-others : goal.add_keyed-requires-clause-others
+add_keyed-requires-clause-others g c = tally_of-other
+
+pub add_keyed-requires-2-clause-others : goal.add_keyed-requires-2-clause-others
+add_keyed-requires-2-clause-others g c = tally_of-other
 
 pub returns : goal.returns
 returns g c = λ packets old. record {

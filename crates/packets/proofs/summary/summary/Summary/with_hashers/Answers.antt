@@ -14,7 +14,7 @@ returns g c = record {
   rate = c.new.ensures;
   period = record { earliest = refl; latest = refl };
   lengths = record { cut = refl; wire = refl; captured = refl };
-  reasons = keys-none c.with_hasher.result c.with_hasher.ensures;
-  talkers = keys-none c.with_hasher-2.result c.with_hasher-2.ensures;
-  senders = keys-none c.with_hasher-3.result c.with_hasher-3.ensures;
+  reasons = keys-none c.with_hasher.result (λ kind. refl) c.with_hasher.ensures;
+  talkers = keys-none c.with_hasher-2.result (λ kind. refl) c.with_hasher-2.ensures;
+  senders = keys-none c.with_hasher-3.result (λ kind. refl) c.with_hasher-3.ensures;
 }

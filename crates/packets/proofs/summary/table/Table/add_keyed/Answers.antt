@@ -8,4 +8,4 @@ returns-in-Some g c = λ key_of packets keyed counted.
 
 pub returns-in-None : goal.returns-in-None
 returns-in-None g c = λ key_of packets keyed counted.
-    keys-same c.args.self.now packets c.args.packet.now (keyed ∙ c.in-None.is) counted
+    keys-same c.args.self.now packets c.args.packet.now c.requires.others (keyed ∙ c.in-None.is) counted

@@ -1,0 +1,120 @@
+//! What is reported of a conversation.
+ghost use Rattle.std.specs.Prelude.{◌≡◌, ◌+◌};
+ghost use Rattle.packets.specs.Flows.{connection_in, connection_of, duration_of, row_of};
+ghost use Rattle.captures.specs.Numbers.{capped};
+
+use crate::Period;
+use crate::flows::conversation::Conversation;
+use crate::flows::flow::{Direction, Flow};
+use crate::flows::transfer::Flags;
+use ep_base::IpNumber;
+
+/// A conversation, with what is counted of it. Its first packet goes forward.
+#[derive(Clone, Copy, Debug, PartialEq, Eq)]
+pub struct Row {
+    /// The ends, in the direction of the first packet, and the protocol.
+    pub conversation: Conversation,
+    /// The packets that go in this direction.
+    pub forward: Direction,
+    /// Those that go in the other one.
+    pub backward: Direction,
+    /// When they came.
+    pub period: Period,
+}
+
+/// How far a TCP connection came, by the flags that were seen.
+#[derive(Clone, Copy, Debug, PartialEq, Eq)]
+pub enum Connection {
+    /// A segment with RST was seen.
+    Reset,
+    /// Otherwise, SYN and FIN were seen in both directions.
+    Ended,
+    /// Otherwise, all segments have SYN.
+    SynOnly,
+    /// Otherwise.
+    Open,
+}
+
+impl Row {
+    /// The row of a conversation from the lower end.
+    pub(crate) fn of(conversation: &Conversation, flow: &Flow) -> Row
+        ensures { result ≡ row_of (conversation.now, flow.now) }
+    {
+        if flow.begins_ascending.unwrap_or(true) {
+            Row {
+                conversation: *conversation,
+                forward: flow.ascending,
+                backward: flow.descending,
+                period: flow.period,
+            }
+        } else {
+            Row {
+                conversation: conversation.turned(),
+                forward: flow.descending,
+                backward: flow.ascending,
+                period: flow.period,
+            }
+        }
+    }
+
+    /// The packets in both directions, up to the greatest number of 64 bits.
+    pub fn packets(&self) -> u64
+        ensures { result ≡ capped (self.now.forward.packets + self.now.backward.packets) }
+    {
+        self.forward.packets.saturating_add(self.backward.packets)
+    }
+
+    /// Their bytes on the wire, up to the same number.
+    pub fn bytes(&self) -> u64
+        ensures { result ≡ capped (self.now.forward.bytes + self.now.backward.bytes) }
+    {
+        self.forward.bytes.saturating_add(self.backward.bytes)
+    }
+
+    /// The nanoseconds from the earliest packet to the latest.
+    pub fn duration(&self) -> u64
+        ensures { result ≡ duration_of self.now.period }
+    {
+        match (self.period.earliest, self.period.latest) {
+            (Some(earliest), Some(latest)) => latest.saturating_sub(earliest),
+            _ => 0,
+        }
+    }
+
+    /// Of TCP segments whose headers are there, how far their connection came.
+    pub fn connection(&self) -> Option<Connection>
+        ensures { result ≡ connection_of self.now }
+    {
+        if self.conversation.protocol == IpNumber::TCP && self.conversation.ports.is_some() {
+            Some(connection_in(self.forward.flags, self.backward.flags))
+        } else {
+            None
+        }
+    }
+}
+
+fn connection_in(forward: Flags, backward: Flags) -> Connection
+    ensures { result ≡ connection_in forward backward }
+{
+    if forward.rst || backward.rst {
+        Connection::Reset
+    } else if forward.syn && backward.syn && forward.fin && backward.fin {
+        Connection::Ended
+    } else if forward.no_syn || backward.no_syn {
+        Connection::Open
+    } else {
+        Connection::SynOnly
+    }
+}
+
+impl Connection {
+    /// How it is written. It has no contract: tests compare the texts.
+    pub fn name(self) -> &'static str {
+        match self {
+            Connection::Reset => "R",
+            Connection::Ended => "SF",
+            Connection::SynOnly => "S",
+            Connection::Open => "open",
+        }
+    }
+}

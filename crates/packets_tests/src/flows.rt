@@ -1,0 +1,179 @@
+//! Conversations at literal values.
+
+use crate::captured::{captured, dissected, first};
+use crate::checks::{equal, fail, holds, is_text};
+use crate::frames::FRAMES;
+use crate::outcomes::every_packet;
+use captures::{RunError, Skipped};
+use etherparse::{Addresses, IpNumber};
+use fault_devices::UnflushableWriter;
+use packets::program::write_flows;
+use packets::{
+    By, Connection, Conversation, Direction, Dissector, Flags, Flow, Flows, Listing, NoProgress,
+    Period, Ports, Row, Transfer, count_flows,
+};
+use std::alloc::Global;
+use std::hash::RandomState;
+use std::process::Abort;
+
+const ENDS: Addresses = Addresses::V4 {
+    source: [10, 0, 0, 1],
+    destination: [10, 0, 0, 2],
+};
+
+const SERVER_FIRST: Conversation = Conversation {
+    addresses: ENDS,
+    ports: Some(Ports {
+        source: 53,
+        destination: 5353,
+    }),
+    protocol: IpNumber::UDP,
+};
+
+// A datagram, and the fragment that completes another one.
+const DATAGRAMS: Direction = Direction {
+    packets: 2,
+    bytes: 96,
+    flags: Flags {
+        syn: false,
+        no_syn: true,
+        fin: false,
+        rst: false,
+    },
+};
+
+// The conversations of all frames, under these hashers.
+fn counted(
+    rt: impl Abort + Copy,
+    alloc: Global,
+    names: RandomState,
+    state: RandomState,
+) -> Flows<RandomState> {
+    let capture = captured(rt, alloc, 1, FRAMES);
+    let mut flows = Flows::with_hasher(alloc, state);
+    let (rules, reader) = (every_packet(alloc), capture.as_slice());
+    let ending = count_flows(alloc, names, &rules, &mut flows, reader, &mut NoProgress);
+    holds(rt, ending.result.is_ok());
+    equal(rt, ending.open, 1);
+    flows
+}
+
+#[test]
+fn conversations(rt: HostRuntime) {
+    let (Ok(names), Ok(state)) = (RandomState::new(&rt), RandomState::new(&rt)) else {
+        fail(rt, "no random numbers");
+    };
+    let flows = counted(rt, rt.alloc(), names, state);
+    let left_out = (flows.refused.packets, flows.without_ip.packets);
+    equal(rt, (flows.all.packets, left_out), (10, (2, 1)));
+    equal(rt, (flows.len(), flows.is_empty()), (5, false));
+    let Some(row) = flows.row(1) else {
+        fail(rt, "no row");
+    };
+    let counts = (row.conversation, row.forward, row.backward);
+    equal(rt, counts, (SERVER_FIRST, DATAGRAMS, Direction::NONE));
+    equal(
+        rt,
+        (row.packets(), row.bytes(), row.connection()),
+        (2, 96, None),
+    );
+    let times = (row.period.earliest, row.period.latest);
+    holds(rt, times.0 < times.1 && row.duration() > 0);
+}
+
+fn flags_of(bits: u8) -> Flags {
+    Flags {
+        syn: bits & 1 > 0,
+        no_syn: bits & 2 > 0,
+        fin: bits & 4 > 0,
+        rst: bits & 8 > 0,
+    }
+}
+
+// SYN, no SYN, FIN and RST as bits, forward and backward.
+const CONNECTIONS: &[(u8, u8, Connection, &str)] = &[
+    (1, 0, Connection::SynOnly, "S"),
+    (1, 1, Connection::SynOnly, "S"),
+    (3, 3, Connection::Open, "open"),
+    (7, 3, Connection::Open, "open"),
+    (7, 7, Connection::Ended, "SF"),
+    (7, 6, Connection::Open, "open"),
+    (1, 10, Connection::Reset, "R"),
+    (15, 7, Connection::Reset, "R"),
+];
+
+fn direction_with(bits: u8) -> Direction {
+    Direction {
+        packets: 1,
+        bytes: 60,
+        flags: flags_of(bits),
+    }
+}
+
+fn row_with(forward: u8, backward: u8, ports: Option<Ports>) -> Row {
+    Row {
+        conversation: Conversation {
+            addresses: ENDS,
+            ports,
+            protocol: IpNumber::TCP,
+        },
+        forward: direction_with(forward),
+        backward: direction_with(backward),
+        period: Period::NONE,
+    }
+}
+
+#[test]
+fn connections(rt: HostRuntime) {
+    for (forward, backward, wanted, name) in CONNECTIONS {
+        let row = row_with(*forward, *backward, SERVER_FIRST.ports);
+        equal(rt, row.connection(), Some(*wanted));
+        is_text(rt, wanted.name().as_bytes(), *name);
+    }
+    equal(rt, row_with(7, 7, None).connection(), None);
+}
+
+// A datagram goes from the lower end, and one with its ends turned from the higher one.
+#[test]
+fn directions(rt: HostRuntime) {
+    let capture = captured(rt, rt.alloc(), 1, &FRAMES[1..2]);
+    let packet = first(rt, capture.as_slice());
+    let sent = Transfer::of(&dissected(rt, &mut Dissector::new(rt.alloc()), &packet));
+    equal(
+        rt,
+        (sent.conversation, sent.ascends),
+        (Some(SERVER_FIRST), true),
+    );
+    let mut answered = sent;
+    answered.ascends = false;
+    let mut flow = Flow::NONE;
+    flow.add(&answered);
+    flow.add(&sent);
+    flow.add(&answered);
+    let packets = (flow.ascending.packets, flow.descending.packets);
+    equal(rt, (packets, flow.begins_ascending), ((1, 2), Some(false)));
+    equal(rt, SERVER_FIRST.turned().turned(), SERVER_FIRST);
+    holds(rt, SERVER_FIRST.turned() != SERVER_FIRST);
+}
+
+fn written(alloc: Global, listing: &Listing, capacity: usize) -> Result<(), RunError> {
+    let flows = Flows::new(alloc);
+    let mut writer = UnflushableWriter::new(alloc, capacity);
+    write_flows(alloc, &flows, listing, Skipped::NONE, &mut writer)
+}
+
+// The text has 17 bytes.
+#[test]
+fn flows_that_cannot_be_written(rt: HostRuntime) {
+    let listing = Listing {
+        by: By::Bytes,
+        top: None,
+        json: false,
+    };
+    equal(
+        rt,
+        written(rt.alloc(), &listing, 16),
+        Err(RunError::WriteZero),
+    );
+    equal(rt, written(rt.alloc(), &listing, 17), Err(RunError::Write));
+}
