@@ -1,0 +1,5 @@
+mod BufLemmas
+mod GapLemmas
+mod LawLemmas
+mod SegmentLemmas
+mod SparseLemmas
