@@ -12,14 +12,14 @@ use Rattle.tcp_streams.specs.declared.refusal.Refused.TheVariants.{OutOfMemory}
 use Rattle.tcp_streams.specs.declared.sequence_numbers.Distance.{Distance}
 use Rattle.tcp_streams.specs.declared.sequence_numbers.Distance.TheVariants.{After, Before}
 use Rattle.tcp_streams.specs.declared.stream_buf.Added.{Added}
-use Rattle.tcp_streams.specs.declared.stream_buf.Place.{Place}
+use Rattle.tcp_streams.specs.declared.stream_buf.Location.{Location}
 use Rattle.tcp_streams.specs.Gaps.{AreGapsIn, first_gap, is_missing}
-use Rattle.tcp_streams.specs.Placing.{Segment, next_after, next_position, place, placed_at, distance_from, start_number}
+use Rattle.tcp_streams.specs.Placing.{Segment, next_after, next_position, placed, placed_at, distance_from, start_number}
 use Rattle.tcp_streams.specs.Refusals.{fin_refusal, refusal_by, refusal_of, window_end}
 use Rattle.tcp_streams.specs.Segments.{Placed, end_of, byte_from, byte_at, last_end, bytes_from, text_of, fin_of, is_reset}
 use Rattle.tcp_streams.specs.Segments.{clashes, conflicts_with, conflicts_of, differs}
 use Rattle.tcp_streams.specs.SparseBytes.{Sparse, sparse, IsSparse, AddsBytes, byte_in, held_end, available_end, counted}
-use Rattle.tcp_streams.specs.StreamBuf.{Contents, Shows, IsSound, IsFirstGap, IsLocated, IsAdded, AnswersAdd, Accepts, available_in, next_in, place_in, refusal_in}
+use Rattle.tcp_streams.specs.StreamBuf.{Contents, Shows, IsSound, IsFirstGap, IsLocated, IsAdded, AnswersAdd, Accepts, available_in, next_in, placed_in, refusal_in}
 use Rattle.tcp_streams.proofs.SegmentLemmas.{byte_at-push, last_end-push, fin_of-push, is_reset-push, conflicts_after-push}
 use Rattle.tcp_streams.proofs.SegmentLemmas.{byte_from-none, bytes_from-is, drop-bytes_from, length-bytes_from, byte_at-past, clashes_same}
 use Rattle.tcp_streams.proofs.GapLemmas.{gaps_end}
@@ -79,8 +79,8 @@ module _ (buf : Contents) (ss : List Placed) (sound : IsSparse buf.held) (shows 
   pub shows_next : next_position ss ≡ next_in buf
   shows_next = rw (shows_length, shows.fin)
 
-  pub shows_place : (s : Segment) → place buf.start buf.held.taken ss s ≡ place_in buf s
-  shows_place s = rw shows_next
+  pub shows_placed : (s : Segment) → placed buf.start buf.held.taken ss s ≡ placed_in buf s
+  shows_placed s = rw shows_next
 
   pub shows_refusal : (s : Placed) → refusal_of buf.window buf.held.taken ss s ≡ refusal_in buf s
   shows_refusal s = rw (shows.fin, shows.last, shows.reset)
@@ -227,61 +227,61 @@ placed_after : (d : Distance) (next taken : ℕ) (a : Segment) → taken ≤ nex
 placed_after (After n) next taken a h = omega arith
 placed_after (Before n) next taken a h = omega arith
 
-pub placed_low : (buf : Contents) (a : Segment) → IsSound buf → buf.held.taken ≤ (place_in buf a).position
+pub placed_low : (buf : Contents) (a : Segment) → IsSound buf → buf.held.taken ≤ (placed_in buf a).position
 placed_low buf a sound =
     placed_after (distance_from (next_in buf) (start_number buf.start a.number a.flags) a) (next_in buf)
     buf.held.taken a (next_bounds buf sound.sparse).0
 
-pub located_after : (buf : Contents) (a : Segment) (p : Place) (rest : List ℕ) → IsSound buf
-    → IsLocated p rest (place_in buf a) → buf.held.taken ≤ p.position
+pub located_after : (buf : Contents) (a : Segment) (p : Location) (rest : List ℕ) → IsSound buf
+    → IsLocated p rest (placed_in buf a) → buf.held.taken ≤ p.position
 located_after buf a p rest sound located = rw located.position (placed_low buf a sound)
 
-pub located_within : (buf : Contents) (a : Segment) (p : Place) (rest : List ℕ)
-    → IsLocated p rest (place_in buf a) → refusal_in buf (place_in buf a) ≡ None
+pub located_within : (buf : Contents) (a : Segment) (p : Location) (rest : List ℕ)
+    → IsLocated p rest (placed_in buf a) → refusal_in buf (placed_in buf a) ≡ None
     → p.position + length rest ≤ window_end buf.window buf.held.taken
 located_within buf a p rest located none =
-    let fine = not_refused _ _ _ _ (place_in buf a) none in
+    let fine = not_refused _ _ _ _ (placed_in buf a) none in
     rw (located.position, located.bytes) fine.0
 
 module _ (buf : Contents) (ss : List Placed) (a : Segment) (sound : IsSound buf) (shows : Shows buf ss) where
-  pub placed : place buf.start buf.held.taken ss a ≡ place_in buf a
-  placed = shows_place buf ss sound.sparse shows a
+  pub placed_same : placed buf.start buf.held.taken ss a ≡ placed_in buf a
+  placed_same = shows_placed buf ss sound.sparse shows a
 
-  pub refusal_placed : refusal_of buf.window buf.held.taken ss (place buf.start buf.held.taken ss a)
-      ≡ refusal_in buf (place_in buf a)
-  refusal_placed = rw placed (shows_refusal buf ss sound.sparse shows (place_in buf a))
+  pub refusal_placed : refusal_of buf.window buf.held.taken ss (placed buf.start buf.held.taken ss a)
+      ≡ refusal_in buf (placed_in buf a)
+  refusal_placed = rw placed_same (shows_refusal buf ss sound.sparse shows (placed_in buf a))
 
-  pub answers_refusal : (X : Type 0) (refused : Refused) → refusal_in buf (place_in buf a) ≡ Some refused
-      → AnswersAdd {X = X} (refusal_of buf.window buf.held.taken ss (place buf.start buf.held.taken ss a)) (Err refused)
+  pub answers_refusal : (X : Type 0) (refused : Refused) → refusal_in buf (placed_in buf a) ≡ Some refused
+      → AnswersAdd {X = X} (refusal_of buf.window buf.held.taken ss (placed buf.start buf.held.taken ss a)) (Err refused)
   answers_refusal X refused is = inl (refusal_placed ∙ is)
 
-  pub answers_none : {X : Type 0} (r : Result X Refused) → refusal_in buf (place_in buf a) ≡ None
+  pub answers_none : {X : Type 0} (r : Result X Refused) → refusal_in buf (placed_in buf a) ≡ None
       → IfErr r (λ e. e ≡ OutOfMemory)
-      → AnswersAdd (refusal_of buf.window buf.held.taken ss (place buf.start buf.held.taken ss a)) r
+      → AnswersAdd (refusal_of buf.window buf.held.taken ss (placed buf.start buf.held.taken ss a)) r
   answers_none (Ok x) none memory = refusal_placed ∙ none
   answers_none (Err e) none memory = inr (refusal_placed ∙ none, memory)
 
 module _ (old new : Contents) (ss : List Placed) (a : Segment) (number : ℕ) (syn : Bool) (sound : IsSound old)
     (shows : Shows old ss) where
-  pub add_shows : (r : Result Added Refused) → refusal_in old (place_in old a) ≡ None
-      → old.held.taken ≤ (place_in old a).position → IfOk r (IsAdded old new (place_in old a) number syn)
-      → OnOk r (Shows new (ss ++ place old.start old.held.taken ss a ∷ []))
+  pub add_shows : (r : Result Added Refused) → refusal_in old (placed_in old a) ≡ None
+      → old.held.taken ≤ (placed_in old a).position → IfOk r (IsAdded old new (placed_in old a) number syn)
+      → OnOk r (Shows new (ss ++ placed old.start old.held.taken ss a ∷ []))
   add_shows (Ok added) none after is =
-      rw (shows_place old ss sound.sparse shows a)
-      (shows_accept old new ss (place_in old a) number syn sound.sparse shows is.accepts none after)
+      rw (shows_placed old ss sound.sparse shows a)
+      (shows_accept old new ss (placed_in old a) number syn sound.sparse shows is.accepts none after)
   add_shows (Err e) none after is = tt
 
-  pub add_position : (r : Result Added Refused) → IfOk r (IsAdded old new (place_in old a) number syn)
-      → IfOk r (λ added. added.position ≡ (place old.start old.held.taken ss a).position)
-  add_position (Ok added) is = rw (shows_place old ss sound.sparse shows a) is.position
+  pub add_position : (r : Result Added Refused) → IfOk r (IsAdded old new (placed_in old a) number syn)
+      → IfOk r (λ added. added.position ≡ (placed old.start old.held.taken ss a).position)
+  add_position (Ok added) is = rw (shows_placed old ss sound.sparse shows a) is.position
   add_position (Err e) is = tt
 
-  pub add_conflicts : (r : Result Added Refused) → old.held.taken ≤ (place_in old a).position
-      → IfOk r (IsAdded old new (place_in old a) number syn)
-      → IfOk r (λ added. added.conflicts ≡ counted (conflicts_with ss (place old.start old.held.taken ss a)))
+  pub add_conflicts : (r : Result Added Refused) → old.held.taken ≤ (placed_in old a).position
+      → IfOk r (IsAdded old new (placed_in old a) number syn)
+      → IfOk r (λ added. added.conflicts ≡ counted (conflicts_with ss (placed old.start old.held.taken ss a)))
   add_conflicts (Ok added) after is =
-      rw (shows_place old ss sound.sparse shows a)
-      (is.conflicts ∙ ap counted (shows_conflicts old ss sound.sparse shows (place_in old a) after))
+      rw (shows_placed old ss sound.sparse shows a)
+      (is.conflicts ∙ ap counted (shows_conflicts old ss sound.sparse shows (placed_in old a) after))
   add_conflicts (Err e) after is = tt
 
 module _ (old new : Contents) (s : Placed) (number : ℕ) (syn : Bool) where

@@ -2,7 +2,7 @@
 use Rattle.std.specs.Prelude.{◌≡◌, ℕ, ◌+◌, ◌%◌, ◌^◌, ◌<◌, ◌≤◌, nat_lt, nat_le, Bool, ◌&&◌, IsTrue, Option, Some, List, [], ◌∷◌, ◌++◌}
 use Rattle.std.specs.Prelude.{length, take, slice_index}
 use Rattle.std.specs.List.{list_any, AllByRecursion}
-use Rattle.tcp_streams.specs.Placing.{Segment, place}
+use Rattle.tcp_streams.specs.Placing.{Segment, placed}
 use Rattle.tcp_streams.specs.Segments.{Placed, end_of, text_of, conflicts_of}
 
 -- the bytes of a segment are those of a text at its position

@@ -19,8 +19,8 @@ abbrev pub segment : ℕ → SegmentFlags → List ℕ → Segment
 segment number flags payload = record { number = number; flags = flags; payload = payload }
 
 -- its bytes of the stream: those of a segment with RST are no part of it (RFC 1122, section 4.2.2.12)
-abbrev pub stream_bytes : Segment → List ℕ
-stream_bytes s = if s.flags.rst then [] else s.payload
+abbrev pub bytes_of : Segment → List ℕ
+bytes_of s = if s.flags.rst then [] else s.payload
 
 -- FIN follows them
 abbrev pub has_fin : SegmentFlags → Bool
@@ -46,14 +46,14 @@ next_position ss = next_after (length (text_of ss)) (fin_of ss)
 abbrev pub placed_at : Distance → (next taken : ℕ) → Segment → Placed
 placed_at (After n) next taken s = record {
   position = next + n;
-  bytes = stream_bytes s;
+  bytes = bytes_of s;
   fin = has_fin s.flags;
   reset = s.flags.rst && (n == 0);
 }
 placed_at (Before n) next taken s = record {
   position = max taken (next - n);
-  bytes = drop ((taken + n) - next) (stream_bytes s);
-  fin = has_fin s.flags && nat_le n (length (stream_bytes s));
+  bytes = drop ((taken + n) - next) (bytes_of s);
+  fin = has_fin s.flags && nat_le n (length (bytes_of s));
   reset = false;
 }
 
@@ -62,7 +62,7 @@ abbrev pub distance_from : (next start : ℕ) → Segment → Distance
 distance_from next start s = distance ((start + next) % 2 ^ 32) (first_number s.number s.flags)
 
 -- a segment at its place after those that were accepted, of whose text so many bytes were taken
-abbrev pub place : (start : Option ℕ) → (taken : ℕ) → List Placed → Segment → Placed
-place start taken ss s =
+abbrev pub placed : (start : Option ℕ) → (taken : ℕ) → List Placed → Segment → Placed
+placed start taken ss s =
     let next = next_position ss in
     placed_at (distance_from next (start_number start s.number s.flags) s) next taken s

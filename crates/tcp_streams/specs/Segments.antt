@@ -13,6 +13,10 @@ pub record Placed : Type 0 where
   pub fin : Bool
   pub reset : Bool
 
+abbrev pub placed_segment : ℕ → List ℕ → Bool → Bool → Placed
+placed_segment position bytes fin reset =
+    record { position = position; bytes = bytes; fin = fin; reset = reset }
+
 -- the position after its last byte, which is that of its FIN
 abbrev pub end_of : Placed → ℕ
 end_of s = s.position + length s.bytes

@@ -4,7 +4,7 @@ use Rattle.std.specs.Prelude.{is_some, unwrap_or, Result, MatchResult, List, ◌
 use Rattle.tcp_streams.specs.declared.conflicts.Conflicts.{Conflicts}
 use Rattle.tcp_streams.specs.declared.gaps.Gap.{Gap}
 use Rattle.tcp_streams.specs.declared.stream_buf.Added.{Added}
-use Rattle.tcp_streams.specs.declared.stream_buf.Place.{Place}
+use Rattle.tcp_streams.specs.declared.stream_buf.Location.{Location}
 use Rattle.tcp_streams.specs.declared.refusal.Refused.{Refused}
 use Rattle.tcp_streams.specs.declared.refusal.Refused.TheVariants.{OutOfMemory}
 use Rattle.tcp_streams.specs.Placing.{Segment, start_number, next_after, distance_from, placed_at}
@@ -61,8 +61,8 @@ abbrev pub next_in : Contents → ℕ
 next_in buf = next_after (available_end buf.held) buf.fin
 
 -- a segment at its place
-abbrev pub place_in : Contents → Segment → Placed
-place_in buf s = placed_at (distance_from (next_in buf) (start_number buf.start s.number s.flags) s)
+abbrev pub placed_in : Contents → Segment → Placed
+placed_in buf s = placed_at (distance_from (next_in buf) (start_number buf.start s.number s.flags) s)
     (next_in buf) buf.held.taken s
 
 -- why it is refused
@@ -70,19 +70,19 @@ abbrev pub refusal_in : Contents → Placed → Option Refused
 refusal_in buf s = refusal_by (window_end buf.window buf.held.taken) buf.fin (held_end buf.held) buf.is_reset s
 
 -- where a segment with these bytes stands
-pub record IsPlace (where_it_stands : Place) (bytes : List ℕ) (s : Placed) : Type 0 where
-  pub position : where_it_stands.position ≡ s.position
-  pub skipped : where_it_stands.skipped ≤ length bytes
-  pub rest : drop where_it_stands.skipped bytes ≡ s.bytes
-  pub fin : where_it_stands.fin ≡ s.fin
-  pub reset : where_it_stands.reset ≡ s.reset
+pub record IsLocation (location : Location) (bytes : List ℕ) (s : Placed) : Type 0 where
+  pub position : location.position ≡ s.position
+  pub skipped : location.skipped ≤ length bytes
+  pub rest : drop location.skipped bytes ≡ s.bytes
+  pub fin : location.fin ≡ s.fin
+  pub reset : location.reset ≡ s.reset
 
 -- the segment of these bytes that stands there
-pub record IsLocated (where_it_stands : Place) (rest : List ℕ) (s : Placed) : Type 0 where
-  pub position : where_it_stands.position ≡ s.position
+pub record IsLocated (location : Location) (rest : List ℕ) (s : Placed) : Type 0 where
+  pub position : location.position ≡ s.position
   pub bytes : rest ≡ s.bytes
-  pub fin : where_it_stands.fin ≡ s.fin
-  pub reset : where_it_stands.reset ≡ s.reset
+  pub fin : location.fin ≡ s.fin
+  pub reset : location.reset ≡ s.reset
 
 -- a buffer with one more segment, the number of whose first byte this is
 pub record Accepts (old new : Contents) (s : Placed) (number : ℕ) (syn : Bool) : Type 0 where

@@ -2,12 +2,12 @@
 
 ghost use Rattle.std.specs.Prelude.{◌≡◌, ℕ, ◌+◌, ◌<◌, ◌≤◌, ◌↔◌, ◌^◌, ◌++◌, ◌∷◌, ◌==◌, [], if◌then◌else◌, List, None, Some};
 ghost use Rattle.std.specs.Prelude.{IsTrue, IfOk, IfErr, OnOk, OnErr, IfSome, IfNone, not, is_some, length, drop};
-ghost use Rattle.tcp_streams.specs.Placing.{Segment, segment, stream_bytes, first_number, start_number, placed_at, place};
+ghost use Rattle.tcp_streams.specs.Placing.{Segment, segment, bytes_of, first_number, start_number, placed_at, placed};
 ghost use Rattle.tcp_streams.specs.Refusals.{window_end, fin_refusal, refusal_of};
 ghost use Rattle.tcp_streams.specs.Segments.{Placed, byte_at, text_of, fin_of, is_reset, clashes, conflicts_with, conflicts_of};
 ghost use Rattle.tcp_streams.specs.SparseBytes.{byte_in, counted};
-ghost use Rattle.tcp_streams.specs.StreamBuf.{Contents, Shows, IsSound, IsPlace, IsLocated, IsFirstGap, AnswersAdd, IsAdded};
-ghost use Rattle.tcp_streams.specs.StreamBuf.{available_in, next_in, place_in, refusal_in};
+ghost use Rattle.tcp_streams.specs.StreamBuf.{Contents, Shows, IsSound, IsLocation, IsLocated, IsFirstGap, AnswersAdd, IsAdded};
+ghost use Rattle.tcp_streams.specs.StreamBuf.{available_in, next_in, placed_in, refusal_in};
 
 use super::conflicts::Conflicts;
 use super::gaps::Gap;
@@ -68,7 +68,7 @@ pub struct Added {
 
 // Where a segment stands in the stream.
 #[derive(Clone, Copy)]
-struct Place {
+struct Location {
     position: u64,
     // How many of its bytes are left out, since they stand before those that are held.
     skipped: usize,
@@ -95,7 +95,7 @@ fn first_number(sequence_number: u32, flags: SegmentFlags) -> u32
 }
 
 // The bytes of the stream that a segment has: one with RST has none.
-fn stream_bytes(flags: SegmentFlags, payload: &[u8]) -> &[u8]
+fn bytes_of(flags: SegmentFlags, payload: &[u8]) -> &[u8]
     ensures { result.now ≡ (if flags.rst then [] else payload.now) }
 {
     if flags.rst { &payload[..0] } else { payload }
@@ -109,22 +109,28 @@ fn without_prefix(bytes: &[u8], count: usize) -> &[u8]
     &bytes[count..]
 }
 
-// The place of a segment of so many bytes that begins so far from the position expected next.
-fn place_at(distance: Distance, next: u64, taken: u64, flags: SegmentFlags, len: usize) -> Place
+// The location of a segment of so many bytes that begins so far from the position expected next.
+fn location_at(
+    distance: Distance,
+    next: u64,
+    taken: u64,
+    flags: SegmentFlags,
+    len: usize,
+) -> Location
     requires short { next ≤ 2 ^ 63 + 1 }
     requires taken { taken ≤ next }
-    ensures { (s : Segment) → s.flags ≡ flags → length (stream_bytes s) ≡ len
-        → IsPlace result (stream_bytes s) (placed_at distance next taken s) }
+    ensures { (s : Segment) → s.flags ≡ flags → length (bytes_of s) ≡ len
+        → IsLocation result (bytes_of s) (placed_at distance next taken s) }
 {
     let fin = flags.fin && !flags.rst;
     match distance {
-        Distance::After(count) => Place {
+        Distance::After(count) => Location {
             position: next + u64::from(count),
             skipped: 0,
             fin,
             reset: flags.rst && count == 0,
         },
-        Distance::Before(count) => Place {
+        Distance::Before(count) => Location {
             position: next.saturating_sub(u64::from(count)).max(taken),
             skipped: ((taken + u64::from(count)).saturating_sub(next) as usize).min(len),
             fin: fin && count as usize <= len,
@@ -183,16 +189,16 @@ impl StreamBuf {
     }
 
     // Where a segment of so many bytes stands, the first of which has this number.
-    fn place(&self, number: u32, flags: SegmentFlags, len: usize) -> Place
-        ensures place { (s : Segment) → number ≡ first_number s.number s.flags → s.flags ≡ flags
-            → length (stream_bytes s) ≡ len → IsPlace result (stream_bytes s) (place_in self.now s) }
+    fn location(&self, number: u32, flags: SegmentFlags, len: usize) -> Location
+        ensures location { (s : Segment) → number ≡ first_number s.number s.flags → s.flags ≡ flags
+            → length (bytes_of s) ≡ len → IsLocation result (bytes_of s) (placed_in self.now s) }
         ensures sound { IsSound self.now }
     {
         let next = self.next();
         let start = self.start.unwrap_or(number);
         let expected = start.wrapping_add((next % (1 << 32)) as u32);
         let distance = distance_between(expected, number);
-        place_at(distance, next, self.held.taken(), flags, len)
+        location_at(distance, next, self.held.taken(), flags, len)
     }
 
     // Where a segment stands, and its bytes without those that are left out.
@@ -201,28 +207,28 @@ impl StreamBuf {
         sequence_number: u32,
         flags: SegmentFlags,
         payload: &'a [u8],
-    ) -> (Place, &'a [u8])
+    ) -> (Location, &'a [u8])
         ensures located { IsLocated result.0 result.1.now
-            (place_in self.now (segment sequence_number flags payload.now)) }
+            (placed_in self.now (segment sequence_number flags payload.now)) }
         ensures sound { IsSound self.now }
     {
-        let bytes = stream_bytes(flags, payload);
+        let bytes = bytes_of(flags, payload);
         let number = first_number(sequence_number, flags);
-        let place = self.place(number, flags, bytes.len());
-        (place, without_prefix(bytes, place.skipped))
+        let location = self.location(number, flags, bytes.len());
+        (location, without_prefix(bytes, location.skipped))
     }
 
     // Why a segment of so many bytes is refused.
-    fn refusal(&self, place: Place, len: usize) -> Option<Refused>
-        ensures { (s : Placed) → place.position ≡ s.position → place.fin ≡ s.fin → len ≡ length s.bytes
+    fn refusal(&self, location: Location, len: usize) -> Option<Refused>
+        ensures { (s : Placed) → location.position ≡ s.position → location.fin ≡ s.fin → len ≡ length s.bytes
             → result ≡ refusal_in self.now s }
     {
         let window_end = window_end(self.window, self.held.taken());
-        let end = place.position.saturating_add(len as u64);
+        let end = location.position.saturating_add(len as u64);
         if window_end < end {
             return Some(Refused::OutsideWindow { window_end });
         }
-        if let Some(refused) = fin_refusal(self.fin, self.held.end(), end, len == 0, place.fin) {
+        if let Some(refused) = fin_refusal(self.fin, self.held.end(), end, len == 0, location.fin) {
             return Some(refused);
         }
         if self.is_reset {
@@ -234,19 +240,19 @@ impl StreamBuf {
     // Adds a segment that isn't refused.
     fn accept(
         &mut self,
-        place: Place,
+        location: Location,
         bytes: &[u8],
         number: u32,
         syn: bool,
     ) -> Result<Added, Refused>
-        requires after { self.old.held.taken ≤ place.position }
-        requires within { place.position + length bytes.now ≤ window_end self.old.window self.old.held.taken }
-        ensures added { (s : Placed) → IsLocated place bytes.now s
+        requires after { self.old.held.taken ≤ location.position }
+        requires within { location.position + length bytes.now ≤ window_end self.old.window self.old.held.taken }
+        ensures added { (s : Placed) → IsLocated location bytes.now s
             → IfOk result (IsAdded self.old self.new s number syn) }
         ensures memory { IfErr result (λ e. e ≡ Refused.OutOfMemory) }
         ensures err { OnErr result (self.new ≡ self.old) }
     {
-        let Ok(conflicts) = self.held.add(place.position, bytes) else {
+        let Ok(conflicts) = self.held.add(location.position, bytes) else {
             return Err(Refused::OutOfMemory);
         };
         self.joined_late = match self.start {
@@ -254,12 +260,12 @@ impl StreamBuf {
             None => !syn,
         };
         self.start = Some(self.start.unwrap_or(number));
-        let end = place.position + bytes.len() as u64;
-        self.fin = if place.fin { Some(end) } else { self.fin };
-        self.is_reset = self.is_reset || place.reset;
+        let end = location.position + bytes.len() as u64;
+        self.fin = if location.fin { Some(end) } else { self.fin };
+        self.is_reset = self.is_reset || location.reset;
         self.conflicts = self.conflicts.and(conflicts);
         Ok(Added {
-            position: place.position,
+            position: location.position,
             conflicts,
         })
     }
@@ -282,16 +288,16 @@ impl StreamBuf {
         payload: &[u8],
     ) -> Result<Added, Refused>
         ensures accepted { (ss : List Placed) → Shows self.old ss →
-            let s = place self.old.start self.old.held.taken ss (segment sequence_number flags payload.now) in
+            let s = placed self.old.start self.old.held.taken ss (segment sequence_number flags payload.now) in
             OnOk result (Shows self.new (ss ++ s ∷ [])) }
         ensures refused { (ss : List Placed) → Shows self.old ss →
-            let s = place self.old.start self.old.held.taken ss (segment sequence_number flags payload.now) in
+            let s = placed self.old.start self.old.held.taken ss (segment sequence_number flags payload.now) in
             AnswersAdd (refusal_of self.old.window self.old.held.taken ss s) result }
         ensures position { (ss : List Placed) → Shows self.old ss →
-            let s = place self.old.start self.old.held.taken ss (segment sequence_number flags payload.now) in
+            let s = placed self.old.start self.old.held.taken ss (segment sequence_number flags payload.now) in
             IfOk result (λ added. added.position ≡ s.position) }
         ensures conflicts { (ss : List Placed) → Shows self.old ss →
-            let s = place self.old.start self.old.held.taken ss (segment sequence_number flags payload.now) in
+            let s = placed self.old.start self.old.held.taken ss (segment sequence_number flags payload.now) in
             IfOk result (λ added. added.conflicts ≡ counted (conflicts_with ss s)) }
         ensures start { OnOk result (self.new.start ≡ Some (start_number self.old.start sequence_number flags)) }
         ensures joined_late { OnOk result (self.new.joined_late
@@ -300,11 +306,11 @@ impl StreamBuf {
         ensures taken { self.new.held.taken ≡ self.old.held.taken }
         ensures window { self.new.window ≡ self.old.window }
     {
-        let (place, bytes) = self.locate(sequence_number, flags, payload);
+        let (location, bytes) = self.locate(sequence_number, flags, payload);
         let number = first_number(sequence_number, flags);
-        match self.refusal(place, bytes.len()) {
+        match self.refusal(location, bytes.len()) {
             Some(refused) => Err(refused),
-            None => self.accept(place, bytes, number, flags.syn),
+            None => self.accept(location, bytes, number, flags.syn),
         }
     }
 

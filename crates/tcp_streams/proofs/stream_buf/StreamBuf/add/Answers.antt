@@ -2,7 +2,7 @@ use Rattle.std.proofs.Common.{◌≡◌, ◌∙◌, ◌≤◌, ap, length, sym, 
 use Rattle.std.specs.Prelude.{IfOk}
 use Rattle.tcp_streams.specs.declared.stream_buf.Added.{Added}
 use Rattle.tcp_streams.specs.Placing.{segment}
-use Rattle.tcp_streams.specs.StreamBuf.{IsAdded, place_in, refusal_in}
+use Rattle.tcp_streams.specs.StreamBuf.{IsAdded, placed_in, refusal_in}
 use Rattle.tcp_streams.proofs.BufLemmas.{answers_refusal, answers_none, located_after, located_within, placed_low}
 use Rattle.tcp_streams.proofs.BufLemmas.{add_shows, add_position, add_conflicts, add_start, add_joined_late, add_same}
 use Rattle.tcp_streams.proofs.stream_buf.StreamBuf.add.Goals as goal
@@ -12,7 +12,7 @@ returns-in-Some-clause-refused c ss shows =
     let a = segment c.args.sequence_number c.args.flags c.args.payload.now in
     let located = c.locate.ensures.located in
     answers_refusal c.args.self.now ss a c.locate.ensures.sound shows Added c.in-Some.refused
-    (sym (c.refusal.ensures (place_in c.args.self.now a) located.position located.fin (ap length located.bytes))
+    (sym (c.refusal.ensures (placed_in c.args.self.now a) located.position located.fin (ap length located.bytes))
     ∙ c.in-Some.is)
 
 pub accept-requires-clause-after : goal.accept-requires-clause-after
@@ -25,27 +25,27 @@ accept-requires-clause-within c =
     let a = segment c.args.sequence_number c.args.flags c.args.payload.now in
     let located = c.locate.ensures.located in
     located_within c.args.self.now a c.locate.result.0 c.locate.result.1.now located
-    (sym (c.refusal.ensures (place_in c.args.self.now a) located.position located.fin (ap length located.bytes))
+    (sym (c.refusal.ensures (placed_in c.args.self.now a) located.position located.fin (ap length located.bytes))
     ∙ c.in-None.is)
 
 none_is : (c : goal.After-accept)
     → let a = segment c.args.sequence_number c.args.flags c.args.payload.now in
-    refusal_in c.args.self.now (place_in c.args.self.now a) ≡ None
+    refusal_in c.args.self.now (placed_in c.args.self.now a) ≡ None
 none_is c =
     let a = segment c.args.sequence_number c.args.flags c.args.payload.now in
     let located = c.locate.ensures.located in
-    sym (c.refusal.ensures (place_in c.args.self.now a) located.position located.fin (ap length located.bytes))
+    sym (c.refusal.ensures (placed_in c.args.self.now a) located.position located.fin (ap length located.bytes))
     ∙ c.in-None.is
 
 added_is : (c : goal.After-accept)
     → let a = segment c.args.sequence_number c.args.flags c.args.payload.now in
-    IfOk c.accept.result (IsAdded c.args.self.now c.accept.new.self (place_in c.args.self.now a)
+    IfOk c.accept.result (IsAdded c.args.self.now c.accept.new.self (placed_in c.args.self.now a)
     c.first_number-number.result c.args.flags.syn)
 added_is c = c.accept.ensures.added _ c.locate.ensures.located
 
 low : (c : goal.After-accept)
     → let a = segment c.args.sequence_number c.args.flags c.args.payload.now in
-    c.args.self.now.held.taken ≤ (place_in c.args.self.now a).position
+    c.args.self.now.held.taken ≤ (placed_in c.args.self.now a).position
 low c = placed_low c.args.self.now (segment c.args.sequence_number c.args.flags c.args.payload.now)
     c.locate.ensures.sound
 
