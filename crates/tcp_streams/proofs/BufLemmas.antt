@@ -21,9 +21,9 @@ use Rattle.tcp_streams.specs.Segments.{clashes, conflicts_with, conflicts_of, di
 use Rattle.tcp_streams.specs.SparseBytes.{Sparse, sparse, IsSparse, AddsBytes, byte_in, held_end, available_end, counted}
 use Rattle.tcp_streams.specs.StreamBuf.{Contents, Shows, IsSound, IsFirstGap, IsLocated, IsAdded, AnswersAdd, Accepts, available_in, next_in, placed_in, refusal_in}
 use Rattle.tcp_streams.proofs.SegmentLemmas.{byte_at-push, last_end-push, fin_of-push, is_reset-push, conflicts_after-push}
-use Rattle.tcp_streams.proofs.SegmentLemmas.{byte_from-none, bytes_from-is, drop-bytes_from, length-bytes_from, byte_at-past, clashes_same}
+use Rattle.tcp_streams.proofs.SegmentLemmas.{byte_from-is, byte_from-none, bytes_from-is, drop-bytes_from, length-bytes_from, byte_at-past, clashes_same}
 use Rattle.tcp_streams.proofs.GapLemmas.{gaps_end}
-use Rattle.tcp_streams.proofs.SparseLemmas.{available_bounds, consumed_byte, consumed_end, not_missing_before, byte_from-is, first_missing, first_gap-missing, first_gap-bounds}
+use Rattle.tcp_streams.proofs.SparseLemmas.{available_bounds, consumed_byte, consumed_end, not_missing_before, first_missing, first_gap-missing, first_gap-bounds}
 
 -- ---- the bytes that are available
 

@@ -101,6 +101,15 @@ length-bytes_from f p (suc k) n has =
     rw size (length_step f p k n (f p) refl (rw here at (has 0 (omega arith)))
     (rw at at (length-bytes_from f (p + 1) k n (there_more f p k has))))
 
+pub byte_from-here : (q : ℕ) (bs : List ℕ) (p : ℕ) → q ≤ p → p < q + length bs
+    → byte_from q bs p ≡ Some (get_or bs (p - q) 0)
+byte_from-here q bs p low high = grind (arith, nat_tests)
+
+pub byte_from-is : (q : ℕ) (bs : List ℕ) (p k : ℕ) → p ≡ q + k → k < length bs
+    → byte_from q bs p ≡ Some (get_or bs k 0)
+byte_from-is q bs p k is h =
+    byte_from-here q bs p (omega arith) (omega arith) ∙ ap (λ (n : ℕ). Some (get_or bs n 0)) (omega arith)
+
 -- no byte lies at the end of the last one or after it
 pub byte_from-none : (position : ℕ) (bytes : List ℕ) (p : ℕ) → position + length bytes ≤ p
     → byte_from position bytes p ≡ None

@@ -13,7 +13,7 @@ use Rattle.tcp_streams.specs.declared.gaps.Gap.{Gap}
 use Rattle.tcp_streams.specs.Gaps.{is_in, is_missing, AreGapsIn, Reaches, first_gap, without}
 use Rattle.tcp_streams.specs.Segments.{byte_from, differs, clashes}
 use Rattle.tcp_streams.specs.SparseBytes.{Sparse, sparse, IsSparse, held_end, byte_in, available_end, end_with, AddsBytes, Fills, counted}
-use Rattle.tcp_streams.proofs.SegmentLemmas.{byte_from-none, option_or-none, clashes_same, clashes_none, clashes-push}
+use Rattle.tcp_streams.proofs.SegmentLemmas.{byte_from-here, byte_from-is, byte_from-none, option_or-none, clashes_same, clashes_none, clashes-push}
 use Rattle.tcp_streams.proofs.GapLemmas.{is_missing-append, is_missing-without, gaps_weaker, gaps_end, gaps_push, without_end, without_ordered}
 
 -- ---- what isn't missing
@@ -86,10 +86,6 @@ fills_more gs g position old mid new bytes from to f same from_is to_is order fi
       rw (is, at) (grind (arith, nat_tests, is_missing-append));
 }
 
-pub byte_from-here : (q : ℕ) (bs : List ℕ) (p : ℕ) → q ≤ p → p < q + length bs
-    → byte_from q bs p ≡ Some (get_or bs (p - q) 0)
-byte_from-here q bs p low high = grind (arith, nat_tests)
-
 -- the same for the next gap of a list
 pub fills_put : (gs : List Gap) (k : ℕ) (position : ℕ) (old mid put bytes : List ℕ) (from size : ℕ) (g : Gap)
     → Fills (take k gs) position old mid bytes → k < length gs → g ≡ get_or gs k g → length old ≡ length bytes
@@ -136,11 +132,6 @@ adds_after old new bytes sound taken is gaps = record {
       let none = byte_from-none old.taken old.bytes p in
       rw (taken, is, gaps) (grind (arith, nat_tests, parts, after, none, byte_from-before));
 }
-
-pub byte_from-is : (q : ℕ) (bs : List ℕ) (p k : ℕ) → p ≡ q + k → k < length bs
-    → byte_from q bs p ≡ Some (get_or bs k 0)
-byte_from-is q bs p k is h =
-    byte_from-here q bs p (omega arith) (omega arith) ∙ ap (λ (n : ℕ). Some (get_or bs n 0)) (omega arith)
 
 -- ---- bytes that differ
 
