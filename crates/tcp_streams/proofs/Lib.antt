@@ -3,5 +3,6 @@ mod GapLemmas
 mod LawLemmas
 mod NumberLaws
 mod NumberLemmas
+mod QueueLemmas
 mod SegmentLemmas
 mod SparseLemmas

@@ -378,17 +378,17 @@ module _ (old : Sparse) (position len : ℕ) (bytes : List ℕ) (sound : IsSpars
   long_bytes = old.bytes ++ replicate (len - length old.bytes) 0
 
   abbrev pub long_gaps : List Gap
-  long_gaps = cond (ltb (length old.bytes) len) (old.gaps ++ (record { start = held_end old; end = old.taken + len }) ∷ []) old.gaps
+  long_gaps = cond (ltb (held_end old) (old.taken + len)) (old.gaps ++ (record { start = held_end old; end = old.taken + len }) ∷ []) old.gaps
 
   no_zeros : len ≤ length old.bytes → long_bytes ≡ old.bytes
   no_zeros h = let none : len - length old.bytes ≡ 0 = omega arith in rw (none, append-nil)
 
   no_gap : len ≤ length old.bytes → long_gaps ≡ old.gaps
-  no_gap h = let test : ltb (length old.bytes) len ≡ false = grind (arith, nat_tests) in rw test
+  no_gap h = let test : ltb (held_end old) (old.taken + len) ≡ false = grind (arith, nat_tests) in rw test
 
   one_gap : length old.bytes < len
       → long_gaps ≡ old.gaps ++ (record { start = held_end old; end = old.taken + len }) ∷ []
-  one_gap h = let test : ltb (length old.bytes) len ≡ true = grind (arith, nat_tests) in rw test
+  one_gap h = let test : ltb (held_end old) (old.taken + len) ≡ true = grind (arith, nat_tests) in rw test
 
   pub long_size : length long_bytes ≡ max (length old.bytes) len
   long_size = simp (length-append, length-replicate) (omega arith)
@@ -457,7 +457,7 @@ pub added : (old : Sparse) (position len : ℕ) (bytes mid_bytes new_bytes : Lis
     → IsSparse old → old.taken ≤ position → 0 < length bytes → position + length bytes ≤ 2 ^ 63
     → len ≡ position - old.taken + length bytes
     → mid_bytes ≡ old.bytes ++ replicate (len - length old.bytes) 0
-    → mid_gaps ≡ cond (ltb (length old.bytes) len) (old.gaps ++ (record { start = held_end old; end = old.taken + len }) ∷ []) old.gaps
+    → mid_gaps ≡ cond (ltb (held_end old) (old.taken + len)) (old.gaps ++ (record { start = held_end old; end = old.taken + len }) ∷ []) old.gaps
     → AddsBytes (sparse old.taken mid_bytes mid_gaps)
     (sparse old.taken new_bytes (without position (position + length bytes) mid_gaps)) position bytes
     → new_gaps ≡ without position (position + length bytes) mid_gaps

@@ -4,6 +4,7 @@ ghost use Rattle.tcp_streams.specs.Laws.{CutsArePlaced, NumbersAreRelative, OneT
 ghost use Rattle.tcp_streams.specs.Laws.{OneTextHasNoConflict, OrderDoesNotMatter, TextStays};
 
 pub mod examples;
+pub mod traits;
 
 /// Segments of one text, cut, repeated, overlapping and in any order, have no conflict, and what
 /// they give is a prefix of that text; all of it, where none of its bytes is missing.

@@ -1,6 +1,7 @@
 //! The bytes of TCP connections, put together from their segments.
 #![tactic(auto)]
 
+mod byte_queue;
 mod conflicts;
 mod gaps;
 pub mod laws;

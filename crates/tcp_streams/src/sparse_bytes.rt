@@ -7,8 +7,9 @@ ghost use Rattle.tcp_streams.specs.Gaps.{AreGapsIn, Reaches, without};
 ghost use Rattle.tcp_streams.specs.Segments.{byte_from, clashes};
 ghost use Rattle.tcp_streams.specs.SparseBytes.{Sparse, sparse, IsSparse, held_end, available_end, byte_in, AddsBytes, Fills, counted};
 
+use super::byte_queue::ByteQueue;
 use super::conflicts::{Conflicts, differences};
-use super::gaps::{Gap, close, touched};
+use super::gaps::{Gap, close, push_gap, touched};
 use std::alloc::{AllocError, Global};
 use std::marker::Model;
 
@@ -17,7 +18,7 @@ use std::marker::Model;
 pub(crate) struct SparseBytes {
     taken: u64,
     // With 0 at each position whose byte is missing. The last one isn't.
-    bytes: Vec<u8>,
+    bytes: ByteQueue,
     // In order.
     gaps: Vec<Gap>,
 }
@@ -25,9 +26,9 @@ pub(crate) struct SparseBytes {
 impl Model for SparseBytes {
     ghost Value = { Sparse };
 
-    ghost view = { λ held. sparse held.taken held.bytes.items held.gaps.items };
+    ghost view = { λ held. sparse held.taken held.bytes held.gaps.items };
 
-    ghost invariant = { λ held. IsSparse (sparse held.taken held.bytes.items held.gaps.items) };
+    ghost invariant = { λ held. IsSparse (sparse held.taken held.bytes held.gaps.items) };
 }
 
 impl SparseBytes {
@@ -37,7 +38,7 @@ impl SparseBytes {
     {
         SparseBytes {
             taken: 0,
-            bytes: Vec::new(alloc),
+            bytes: ByteQueue::new(alloc),
             gaps: Vec::new(alloc),
         }
     }
@@ -78,7 +79,7 @@ impl SparseBytes {
         ensures { result.now ≡ take (available_end self.now - self.now.taken) self.now.bytes }
     {
         let len = (self.available_end() - self.taken) as usize;
-        &self.bytes[..len]
+        &self.bytes.as_slice()[..len]
     }
 
     /// Takes so many of them.
@@ -87,7 +88,7 @@ impl SparseBytes {
         ensures held { self.new ≡ sparse (self.old.taken + count) (drop count self.old.bytes) self.old.gaps }
         ensures sound { IsSparse self.new }
     {
-        drop_prefix(&mut self.bytes, count);
+        self.bytes.drop_prefix(count);
         self.taken += count as u64;
     }
 
@@ -113,17 +114,9 @@ impl SparseBytes {
     }
 }
 
-// Drops so many bytes from the front.
-fn drop_prefix(bytes: &mut Vec<u8>, count: usize)
-    requires { count ≤ vec_len bytes.old }
-    ensures { bytes.new.items ≡ drop count bytes.old.items }
-{
-    bytes.drain(..count);
-}
-
 // Adds bytes from a position on where they are missing, and returns where the others differ.
 fn insert(
-    held: &mut Vec<u8>,
+    held: &mut ByteQueue,
     gaps: &mut Vec<Gap>,
     taken: u64,
     position: u64,
@@ -132,69 +125,32 @@ fn insert(
     requires after { taken ≤ position }
     requires some { 0 < length bytes.now }
     requires short { position + length bytes.now ≤ 2 ^ 63 }
-    requires sparse { IsSparse (sparse taken held.old.items gaps.old.items) }
-    ensures adds { OnOk result (AddsBytes (sparse taken held.old.items gaps.old.items)
-        (sparse taken held.new.items gaps.new.items) position bytes.now) }
-    ensures sound { OnOk result (IsSparse (sparse taken held.new.items gaps.new.items)) }
+    requires sparse { IsSparse (sparse taken held.old gaps.old.items) }
+    ensures adds { OnOk result (AddsBytes (sparse taken held.old gaps.old.items)
+        (sparse taken held.new gaps.new.items) position bytes.now) }
+    ensures sound { OnOk result (IsSparse (sparse taken held.new gaps.new.items)) }
     ensures conflicts { IfOk result (λ conflicts. conflicts
-        ≡ counted (clashes (byte_in (sparse taken held.old.items gaps.old.items)) position bytes.now)) }
-    ensures err { OnErr result ((held.new.items ≡ held.old.items) × (gaps.new.items ≡ gaps.old.items)) }
+        ≡ counted (clashes (byte_in (sparse taken held.old gaps.old.items)) position bytes.now)) }
+    ensures err { OnErr result ((held.new ≡ held.old) × (gaps.new.items ≡ gaps.old.items)) }
 {
     let len = (position - taken) as usize + bytes.len();
-    held.try_reserve(len.saturating_sub(held.len()))?;
+    let end = taken + held.len() as u64;
     gaps.try_reserve(2)?;
-    Ok(insert_reserved(held, gaps, taken, position, bytes))
+    held.lengthen(len)?;
+    push_gap(gaps, end, taken + len as u64);
+    let conflicts = held.merge(gaps, taken, position, bytes);
+    close(gaps, position, position + bytes.len() as u64);
+    Ok(conflicts)
 }
 
-// The same, where there is memory for it.
-fn insert_reserved(
-    held: &mut Vec<u8>,
-    gaps: &mut Vec<Gap>,
+// Writes bytes where they are missing.
+pub(crate) fn merge(
+    held: &mut [u8],
+    gaps: &[Gap],
     taken: u64,
     position: u64,
     bytes: &[u8],
 ) -> Conflicts
-    requires after { taken ≤ position }
-    requires some { 0 < length bytes.now }
-    requires short { position + length bytes.now ≤ 2 ^ 63 }
-    requires sparse { IsSparse (sparse taken held.old.items gaps.old.items) }
-    requires room { position - taken + length bytes.now ≤ vec_capacity held.old }
-    requires gaps_room { vec_len gaps.old + 2 ≤ vec_capacity gaps.old }
-    ensures adds { AddsBytes (sparse taken held.old.items gaps.old.items)
-        (sparse taken held.new.items gaps.new.items) position bytes.now }
-    ensures sound { IsSparse (sparse taken held.new.items gaps.new.items) }
-    ensures conflicts { result
-        ≡ counted (clashes (byte_in (sparse taken held.old.items gaps.old.items)) position bytes.now) }
-{
-    let len = (position - taken) as usize + bytes.len();
-    lengthen(held, gaps, taken, len);
-    let conflicts = merge(held, gaps, taken, position, bytes);
-    close(gaps, position, position + bytes.len() as u64);
-    conflicts
-}
-
-// Makes the bytes no fewer than `len`. Those that are new are missing.
-fn lengthen(bytes: &mut Vec<u8>, gaps: &mut Vec<Gap>, taken: u64, len: usize)
-    requires room { len ≤ vec_capacity bytes.old }
-    requires gaps_room { vec_len gaps.old + 1 ≤ vec_capacity gaps.old }
-    requires short { taken + len ≤ 2 ^ 63 }
-    ensures bytes { bytes.new.items ≡ bytes.old.items ++ replicate (len - length bytes.old.items) 0 }
-    ensures gaps { gaps.new.items ≡ (if nat_lt (length bytes.old.items) len
-        then gaps.old.items ++ (record { start = taken + length bytes.old.items; end = taken + len }) ∷ [] else gaps.old.items) }
-    ensures room_after { vec_capacity gaps.old ≤ vec_capacity gaps.new }
-{
-    if bytes.len() < len {
-        let gap = Gap {
-            start: taken + bytes.len() as u64,
-            end: taken + len as u64,
-        };
-        gaps.push(gap).unwrap();
-        bytes.resize(len, 0).unwrap();
-    }
-}
-
-// Writes bytes where they are missing.
-fn merge(held: &mut [u8], gaps: &[Gap], taken: u64, position: u64, bytes: &[u8]) -> Conflicts
     requires after { taken ≤ position }
     requires within { position + length bytes.now ≤ taken + length held.old }
     requires short { taken + length held.old ≤ 2 ^ 63 }

@@ -1,7 +1,7 @@
 //! One direction of a TCP connection.
 
 ghost use Rattle.std.specs.Prelude.{◌≡◌, ℕ, ◌+◌, ◌<◌, ◌≤◌, ◌↔◌, ◌^◌, ◌++◌, ◌∷◌, ◌==◌, [], if◌then◌else◌, List, None, Some};
-ghost use Rattle.std.specs.Prelude.{IsTrue, IfOk, IfErr, OnOk, OnErr, IfSome, IfNone, not, is_some, length, drop};
+ghost use Rattle.std.specs.Prelude.{IsTrue, IfOk, IfErr, OnOk, OnErr, IfSome, IfNone, not, is_some, length, drop, min};
 ghost use Rattle.tcp_streams.specs.Placing.{Segment, segment, bytes_of, first_number, start_number, placed_at, placed};
 ghost use Rattle.tcp_streams.specs.Refusals.{window_end, fin_refusal, refusal_of};
 ghost use Rattle.tcp_streams.specs.Segments.{Placed, byte_at, text_of, fin_of, is_reset, clashes, conflicts_with, conflicts_of};
@@ -322,16 +322,16 @@ impl StreamBuf {
         self.held.available()
     }
 
-    /// Takes so many of the available bytes away. The memory serves bytes that are to come.
+    /// Takes so many of the available bytes away, or all where there are fewer.
     pub fn consume(&mut self, count: usize)
-        requires { count ≤ length (available_in self.old.held) }
         ensures shows { (ss : List Placed) → Shows self.old ss → Shows self.new ss }
-        ensures taken { self.new.held.taken ≡ self.old.held.taken + count }
+        ensures taken { self.new.held.taken ≡ self.old.held.taken + min count (length (available_in self.old.held)) }
         ensures available { available_in self.new.held ≡ drop count (available_in self.old.held) }
         ensures start { self.new.start ≡ self.old.start }
         ensures joined_late { self.new.joined_late ≡ self.old.joined_late }
         ensures window { self.new.window ≡ self.old.window }
     {
+        let count = count.min(self.held.available().len());
         self.held.consume(count);
     }
 

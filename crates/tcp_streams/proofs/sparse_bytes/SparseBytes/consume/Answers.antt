@@ -4,9 +4,7 @@ use Rattle.tcp_streams.proofs.sparse_bytes.SparseBytes.consume.Goals as goal
 
 pub drop_prefix-requires : goal.drop_prefix-requires
 drop_prefix-requires c =
-    let few = rw (← c.self.view_is) at c.requires in
-    let short = consumed_short _ c.args.count c.self.invariant few in
-    omega (arith, short, c.self.inside.bytes.ok.0)
+    let few = rw (← c.self.view_is) at c.requires in consumed_short _ c.args.count c.self.invariant few
 
 pub overflow_add-self : goal.overflow_add-self
 overflow_add-self c =
