@@ -1,0 +1,55 @@
+-- Bytes of a stream, of which some are missing.
+use Rattle.std.specs.Prelude.{◌≡◌, ℕ, ◌+◌, ◌-◌, ◌^◌, ◌<◌, ◌≤◌, ◌==◌, if◌then◌else◌, max, min}
+use Rattle.std.specs.Prelude.{Option, Some, None, List, [], length, slice_index, slice_get}
+use Rattle.std.specs.Option.{option_or}
+use Rattle.tcp_streams.specs.declared.gaps.Gap.{Gap}
+use Rattle.tcp_streams.specs.declared.conflicts.Conflicts.{Conflicts}
+use Rattle.tcp_streams.specs.Gaps.{AreGapsIn, first_gap, is_missing}
+use Rattle.tcp_streams.specs.Segments.{byte_from}
+
+-- how many bytes of the stream were taken; those after them, with 0 at each position whose byte is
+-- missing; and where bytes are missing
+pub record Sparse : Type 0 where
+  pub taken : ℕ
+  pub bytes : List ℕ
+  pub gaps : List Gap
+
+abbrev pub sparse : ℕ → List ℕ → List Gap → Sparse
+sparse taken bytes gaps = record { taken = taken; bytes = bytes; gaps = gaps }
+
+-- the position after the last byte
+abbrev pub held_end : Sparse → ℕ
+held_end held = held.taken + length held.bytes
+
+-- the byte that is held at a position
+abbrev pub byte_in : Sparse → ℕ → Option ℕ
+byte_in held p = (if is_missing held.gaps p then None else byte_from held.taken held.bytes p)
+
+-- gaps are among the bytes, the last of which isn't missing; no position is greater than 2 to the 63
+pub record IsSparse (held : Sparse) : Type 0 where
+  pub gaps : AreGapsIn held.taken (held_end held) held.gaps
+  pub short : held_end held ≤ 2 ^ 63
+
+-- the end of the bytes that follow without a gap
+abbrev pub available_end : Sparse → ℕ
+available_end held = first_gap held.gaps (held_end held)
+
+-- the end of bytes from a position on, if there are any
+abbrev pub end_with : ℕ → List ℕ → ℕ
+end_with position bytes = (if length bytes == 0 then 0 else position + length bytes)
+
+-- bytes from a position on are added: those that are held stay
+pub record AddsBytes (old new : Sparse) (position : ℕ) (bytes : List ℕ) : Type 0 where
+  pub taken : new.taken ≡ old.taken
+  pub last : held_end new ≡ max (held_end old) (end_with position bytes)
+  pub held : (p : ℕ) → old.taken ≤ p → byte_in new p ≡ option_or (byte_in old p) (byte_from position bytes p)
+
+-- each byte that is missing is written, and no other
+pub record Fills (gaps : List Gap) (position : ℕ) (old new bytes : List ℕ) : Type 0 where
+  pub size : length new ≡ length old
+  pub filled : (i : ℕ) → i < length old → slice_index new i
+      ≡ (if is_missing gaps (position + i) then slice_index bytes i else slice_index old i)
+
+-- how many positions there are, and the first one
+abbrev pub counted : List ℕ → Conflicts
+counted ps = record { count = min (length ps) (2 ^ 64 - 1); first = slice_get ps 0 }

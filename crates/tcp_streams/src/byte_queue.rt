@@ -1,0 +1,108 @@
+//! Bytes of which the first ones are dropped again and again.
+
+ghost use Rattle.std.specs.Prelude.{◌≡◌, ◌++◌, ◌+◌, ◌-◌, ◌^◌, ◌<◌, ◌≤◌, List, ℕ, [], length, drop, replicate, OnOk, OnErr};
+ghost use Rattle.tcp_streams.specs.Gaps.{AreGapsIn, without};
+ghost use Rattle.tcp_streams.specs.Segments.{clashes};
+ghost use Rattle.tcp_streams.specs.SparseBytes.{sparse, byte_in, AddsBytes, counted};
+
+use super::conflicts::Conflicts;
+use super::gaps::Gap;
+use super::sparse_bytes::merge;
+use std::alloc::{AllocError, Global};
+use std::marker::Model;
+
+/// Bytes, the first of which can be dropped at the cost of those that are dropped: they stay in
+/// memory until they are as many as the others.
+#[derive(Debug, Drop)]
+pub(crate) struct ByteQueue {
+    bytes: Vec<u8>,
+    dropped: usize,
+}
+
+impl Model for ByteQueue {
+    ghost Value = { List ℕ };
+
+    ghost view = { λ queue. drop queue.dropped queue.bytes.items };
+
+    ghost invariant = { λ queue. queue.dropped ≤ length queue.bytes.items };
+}
+
+impl ByteQueue {
+    pub(crate) fn new(alloc: Global) -> ByteQueue
+        ensures { result ≡ [] }
+    {
+        ByteQueue {
+            bytes: Vec::new(alloc),
+            dropped: 0,
+        }
+    }
+
+    pub(crate) fn len(&self) -> usize
+        ensures { result ≡ length self.now }
+    {
+        self.bytes.len() - self.dropped
+    }
+
+    pub(crate) fn as_slice(&self) -> &[u8]
+        ensures { result.now ≡ self.now }
+    {
+        &self.bytes[self.dropped..]
+    }
+
+    pub(crate) fn extend_from_slice(&mut self, bytes: &[u8]) -> Result<(), AllocError>
+        ensures ok { OnOk result (self.new ≡ self.old ++ bytes.now) }
+        ensures err { OnErr result (self.new ≡ self.old) }
+    {
+        self.bytes.extend_from_slice(bytes)
+    }
+
+    /// Makes the bytes no fewer than `len`. Those that are new are 0.
+    pub(crate) fn lengthen(&mut self, len: usize) -> Result<(), AllocError>
+        ensures ok { OnOk result (self.new ≡ self.old ++ replicate (len - length self.old) 0) }
+        ensures err { OnErr result (self.new ≡ self.old) }
+    {
+        let additional = len.saturating_sub(self.bytes.len() - self.dropped);
+        self.bytes.try_reserve(additional)?;
+        self.bytes.resize(self.bytes.len() + additional, 0).unwrap();
+        Ok(())
+    }
+
+    /// Drops so many bytes from the front.
+    pub(crate) fn drop_prefix(&mut self, count: usize)
+        requires { count ≤ length self.old }
+        ensures { self.new ≡ drop count self.old }
+    {
+        self.dropped += count;
+        if self.bytes.len() - self.dropped <= self.dropped {
+            self.bytes.drain(..self.dropped);
+            self.dropped = 0;
+        }
+    }
+
+    /// Writes bytes from a position on where they are missing, and returns where the others differ.
+    pub(crate) fn merge(
+        &mut self,
+        gaps: &[Gap],
+        taken: u64,
+        position: u64,
+        bytes: &[u8],
+    ) -> Conflicts
+        requires after { taken ≤ position }
+        requires within { position + length bytes.now ≤ taken + length self.old }
+        requires short { taken + length self.old ≤ 2 ^ 63 }
+        requires some { 0 < length bytes.now }
+        requires gaps { AreGapsIn 0 (2 ^ 64) gaps.now }
+        ensures adds { AddsBytes (sparse taken self.old gaps.now)
+            (sparse taken self.new (without position (position + length bytes.now) gaps.now)) position bytes.now }
+        ensures conflicts { result
+            ≡ counted (clashes (byte_in (sparse taken self.old gaps.now)) position bytes.now) }
+    {
+        merge(
+            &mut self.bytes[self.dropped..],
+            gaps,
+            taken,
+            position,
+            bytes,
+        )
+    }
+}

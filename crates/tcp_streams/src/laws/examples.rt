@@ -1,0 +1,101 @@
+//! The definitions at literal segments.
+
+ghost use Rattle.std.specs.Prelude.{◌≡◌, [], ◌∷◌, true, false, None, Some, codes};
+ghost use Rattle.tcp_streams.specs.declared.refusal.Refused.TheVariants.{OutsideWindow, AfterFin, AfterReset};
+ghost use Rattle.tcp_streams.specs.declared.sequence_numbers.Distance.TheVariants.{After, Before};
+ghost use Rattle.tcp_streams.specs.Placing.{next_position, placed, segment, start_number};
+ghost use Rattle.tcp_streams.specs.Refusals.{refusal_of};
+ghost use Rattle.tcp_streams.specs.Segments.{conflicts_of, fin_of, placed_segment, text_of};
+ghost use Rattle.tcp_streams.specs.SequenceNumbers.{distance};
+ghost use Rattle.tcp_streams.specs.SparseBytes.{counted};
+
+/// Numbers on both sides of 0, and half the numbers away.
+pub fn numbers_that_wrap()
+    ensures next { distance 100 101 ≡ After 1 }
+    ensures same { distance 7 7 ≡ After 0 }
+    ensures wrapped { distance 4294967295 0 ≡ After 1 }
+    ensures back { distance 0 4294967295 ≡ Before 1 }
+    ensures farthest { distance 4294967290 2147483641 ≡ After 2147483647 }
+    ensures half { distance 4294967290 2147483642 ≡ Before 2147483648 }
+{}
+
+/// The text up to the first gap: `abcdefgh` of three segments that overlap, and `ab` while the bytes
+/// after it are missing.
+pub fn text_up_to_a_gap()
+    ensures whole { text_of (placed_segment 0 (codes "abc") false false ∷
+        placed_segment 5 (codes "fgh") true false ∷ placed_segment 2 (codes "cdef") false false ∷ [])
+        ≡ codes "abcdefgh" }
+    ensures gap { text_of (placed_segment 5 (codes "fgh") true false ∷
+        placed_segment 0 (codes "ab") false false ∷ []) ≡ codes "ab" }
+    ensures fin { fin_of (placed_segment 5 (codes "fgh") true false ∷
+        placed_segment 0 (codes "ab") false false ∷ []) ≡ Some 8 }
+{}
+
+/// The first byte at a position stays: of `abc`, `xcd` from 1 on and `bcy` from 1 on the text is
+/// `abcd`, and positions 1 and 3 have conflicts.
+pub fn first_byte_stays()
+    ensures text { text_of (placed_segment 0 (codes "abc") false false ∷
+        placed_segment 1 (codes "xcd") false false ∷ placed_segment 1 (codes "bcy") false false ∷ [])
+        ≡ codes "abcd" }
+    ensures conflicts { conflicts_of (placed_segment 0 (codes "abc") false false ∷
+        placed_segment 1 (codes "xcd") false false ∷ placed_segment 1 (codes "bcy") false false ∷ [])
+        ≡ 1 ∷ 3 ∷ [] }
+    ensures count { counted (1 ∷ 3 ∷ []) ≡ record { count = 2; first = Some 1 } }
+{}
+
+/// SYN has the greatest number, and the first byte has number 0. After two bytes from the last number
+/// but one on, number 0 is that of the third; a repeat from the first on has position 0, or begins
+/// where bytes aren't taken yet, and one from before the first loses what lies before it.
+pub fn segments_at_their_positions()
+    ensures syn { start_number None 4294967295 (record { syn = true; fin = false; rst = false }) ≡ 0 }
+    ensures next { placed (Some 4294967294) 0 (placed_segment 0 (codes "ab") false false ∷ [])
+        (segment 0 (record { syn = false; fin = false; rst = false }) (codes "cd"))
+        ≡ placed_segment 2 (codes "cd") false false }
+    ensures again { placed (Some 4294967294) 0 (placed_segment 0 (codes "ab") false false ∷ [])
+        (segment 4294967294 (record { syn = false; fin = false; rst = false }) (codes "abc"))
+        ≡ placed_segment 0 (codes "abc") false false }
+    ensures taken { placed (Some 4294967294) 2 (placed_segment 0 (codes "ab") false false ∷ [])
+        (segment 4294967294 (record { syn = false; fin = true; rst = false }) (codes "abc"))
+        ≡ placed_segment 2 (codes "c") true false }
+    ensures before { placed (Some 4294967294) 0 (placed_segment 0 (codes "ab") false false ∷ [])
+        (segment 4294967290 (record { syn = false; fin = false; rst = false }) (codes "wxyzabc"))
+        ≡ placed_segment 0 (codes "abc") false false }
+{}
+
+/// FIN takes a number, so the position after it is expected next once all bytes came. FIN that came
+/// before counts no more, RST counts at the position that is expected next alone, and a segment with
+/// RST has no bytes.
+pub fn ends_of_a_stream()
+    ensures after { next_position (placed_segment 0 (codes "ab") true false ∷ []) ≡ 3 }
+    ensures open { next_position (placed_segment 0 (codes "ab") false false ∷ []) ≡ 2 }
+    ensures repeated { placed (Some 100) 0 (placed_segment 0 (codes "ab") true false ∷ [])
+        (segment 101 (record { syn = false; fin = true; rst = false }) (codes "b"))
+        ≡ placed_segment 1 (codes "b") false false }
+    ensures reset { placed (Some 100) 0 (placed_segment 0 (codes "ab") false false ∷ [])
+        (segment 102 (record { syn = false; fin = false; rst = true }) (codes "x"))
+        ≡ placed_segment 2 [] false true }
+    ensures no_reset { placed (Some 100) 0 (placed_segment 0 (codes "ab") false false ∷ [])
+        (segment 103 (record { syn = false; fin = true; rst = true }) (codes "x"))
+        ≡ placed_segment 3 [] false false }
+{}
+
+/// Each refusal, and what isn't refused: a segment that ends with the window, FIN again, and a segment
+/// without bytes after FIN.
+pub fn refusals()
+    ensures outside { refusal_of 4 2 (placed_segment 0 (codes "ab") false false ∷ [])
+        (placed_segment 5 (codes "fg") false false) ≡ Some (OutsideWindow 6) }
+    ensures within { refusal_of 4 2 (placed_segment 0 (codes "ab") false false ∷ [])
+        (placed_segment 4 (codes "ef") false false) ≡ None }
+    ensures after_fin { refusal_of 9 0 (placed_segment 0 (codes "ab") true false ∷ [])
+        (placed_segment 2 (codes "c") false false) ≡ Some (AfterFin 2) }
+    ensures fin_again { refusal_of 9 0 (placed_segment 0 (codes "ab") true false ∷ [])
+        (placed_segment 1 (codes "b") true false) ≡ None }
+    ensures empty { refusal_of 9 0 (placed_segment 0 (codes "ab") true false ∷ [])
+        (placed_segment 3 [] false false) ≡ None }
+    ensures early_fin { refusal_of 9 0 (placed_segment 0 (codes "abc") false false ∷ [])
+        (placed_segment 1 (codes "b") true false) ≡ Some (AfterFin 2) }
+    ensures two_fins { refusal_of 9 0 (placed_segment 5 [] true false ∷ [])
+        (placed_segment 3 [] true false) ≡ Some (AfterFin 3) }
+    ensures after_reset { refusal_of 9 0 (placed_segment 0 [] false true ∷ [])
+        (placed_segment 0 (codes "a") false false) ≡ Some AfterReset }
+{}

@@ -1,0 +1,200 @@
+//! Bytes of a stream, of which some are missing.
+
+ghost use Rattle.std.specs.Prelude.{◌≡◌, ◌+◌, ◌-◌, ◌<◌, ◌≤◌, ◌^◌, [], ◌∷◌, ◌++◌, if◌then◌else◌, nat_lt, length, take, drop};
+ghost use Rattle.std.specs.Prelude.{replicate, vec_len, vec_capacity, IfOk, OnOk, OnErr};
+ghost use Rattle.std.specs.List.{AllWithin};
+ghost use Rattle.tcp_streams.specs.Gaps.{AreGapsIn, Reaches, without};
+ghost use Rattle.tcp_streams.specs.Segments.{byte_from, clashes};
+ghost use Rattle.tcp_streams.specs.SparseBytes.{Sparse, sparse, IsSparse, held_end, available_end, byte_in, AddsBytes, Fills, counted};
+
+use super::byte_queue::ByteQueue;
+use super::conflicts::{Conflicts, differences};
+use super::gaps::{Gap, close, push_gap, touched};
+use std::alloc::{AllocError, Global};
+use std::marker::Model;
+
+/// The bytes of a stream after those that were taken, of which some are missing.
+#[derive(Debug, Drop)]
+pub(crate) struct SparseBytes {
+    taken: u64,
+    // With 0 at each position whose byte is missing. The last one isn't.
+    bytes: ByteQueue,
+    // In order.
+    gaps: Vec<Gap>,
+}
+
+impl Model for SparseBytes {
+    ghost Value = { Sparse };
+
+    ghost view = { λ held. sparse held.taken held.bytes held.gaps.items };
+
+    ghost invariant = { λ held. IsSparse (sparse held.taken held.bytes held.gaps.items) };
+}
+
+impl SparseBytes {
+    pub(crate) fn new(alloc: Global) -> SparseBytes
+        ensures held { result ≡ sparse 0 [] [] }
+        ensures sound { IsSparse result }
+    {
+        SparseBytes {
+            taken: 0,
+            bytes: ByteQueue::new(alloc),
+            gaps: Vec::new(alloc),
+        }
+    }
+
+    /// How many bytes of the stream were taken.
+    pub(crate) fn taken(&self) -> u64
+        ensures { result ≡ self.now.taken }
+    {
+        self.taken
+    }
+
+    /// The position after the last byte.
+    pub(crate) fn end(&self) -> u64
+        ensures { result ≡ held_end self.now }
+    {
+        self.taken + self.bytes.len() as u64
+    }
+
+    /// Where bytes are missing.
+    pub(crate) fn gaps(&self) -> &[Gap]
+        ensures { result.now ≡ self.now.gaps }
+    {
+        &self.gaps
+    }
+
+    /// The position after the bytes that follow without a gap.
+    pub(crate) fn available_end(&self) -> u64
+        ensures { result ≡ available_end self.now }
+    {
+        match self.gaps.first() {
+            Some(gap) => gap.start,
+            None => self.end(),
+        }
+    }
+
+    /// The bytes that follow without a gap.
+    pub(crate) fn available(&self) -> &[u8]
+        ensures { result.now ≡ take (available_end self.now - self.now.taken) self.now.bytes }
+    {
+        let len = (self.available_end() - self.taken) as usize;
+        &self.bytes.as_slice()[..len]
+    }
+
+    /// Takes so many of them.
+    pub(crate) fn consume(&mut self, count: usize)
+        requires { self.old.taken + count ≤ available_end self.old }
+        ensures held { self.new ≡ sparse (self.old.taken + count) (drop count self.old.bytes) self.old.gaps }
+        ensures sound { IsSparse self.new }
+    {
+        self.bytes.drop_prefix(count);
+        self.taken += count as u64;
+    }
+
+    /// Adds bytes from a position on. Those that are held stay, and the positions at which they
+    /// differ are returned.
+    pub(crate) fn add(&mut self, position: u64, bytes: &[u8]) -> Result<Conflicts, AllocError>
+        requires after { self.old.taken ≤ position }
+        requires short { position + length bytes.now ≤ 2 ^ 63 }
+        ensures adds { IfOk result (λ _. AddsBytes self.old self.new position bytes.now) }
+        ensures conflicts { IfOk result (λ conflicts. conflicts ≡ counted (clashes (byte_in self.old) position bytes.now)) }
+        ensures err { OnErr result (self.new ≡ self.old) }
+        ensures sound { IsSparse self.new }
+    {
+        let start = (position - self.taken) as usize;
+        if start == self.bytes.len() {
+            self.bytes.extend_from_slice(bytes)?;
+            return Ok(Conflicts::none());
+        }
+        if bytes.is_empty() {
+            return Ok(Conflicts::none());
+        }
+        insert(&mut self.bytes, &mut self.gaps, self.taken, position, bytes)
+    }
+}
+
+// Adds bytes from a position on where they are missing, and returns where the others differ.
+fn insert(
+    held: &mut ByteQueue,
+    gaps: &mut Vec<Gap>,
+    taken: u64,
+    position: u64,
+    bytes: &[u8],
+) -> Result<Conflicts, AllocError>
+    requires after { taken ≤ position }
+    requires some { 0 < length bytes.now }
+    requires short { position + length bytes.now ≤ 2 ^ 63 }
+    requires sparse { IsSparse (sparse taken held.old gaps.old.items) }
+    ensures adds { OnOk result (AddsBytes (sparse taken held.old gaps.old.items)
+        (sparse taken held.new gaps.new.items) position bytes.now) }
+    ensures sound { OnOk result (IsSparse (sparse taken held.new gaps.new.items)) }
+    ensures conflicts { IfOk result (λ conflicts. conflicts
+        ≡ counted (clashes (byte_in (sparse taken held.old gaps.old.items)) position bytes.now)) }
+    ensures err { OnErr result ((held.new ≡ held.old) × (gaps.new.items ≡ gaps.old.items)) }
+{
+    let len = (position - taken) as usize + bytes.len();
+    let end = taken + held.len() as u64;
+    gaps.try_reserve(2)?;
+    held.lengthen(len)?;
+    push_gap(gaps, end, taken + len as u64);
+    let conflicts = held.merge(gaps, taken, position, bytes);
+    close(gaps, position, position + bytes.len() as u64);
+    Ok(conflicts)
+}
+
+// Writes bytes where they are missing.
+pub(crate) fn merge(
+    held: &mut [u8],
+    gaps: &[Gap],
+    taken: u64,
+    position: u64,
+    bytes: &[u8],
+) -> Conflicts
+    requires after { taken ≤ position }
+    requires within { position + length bytes.now ≤ taken + length held.old }
+    requires short { taken + length held.old ≤ 2 ^ 63 }
+    requires some { 0 < length bytes.now }
+    requires gaps { AreGapsIn 0 (2 ^ 64) gaps.now }
+    ensures adds { AddsBytes (sparse taken held.old gaps.now)
+        (sparse taken held.new (without position (position + length bytes.now) gaps.now)) position bytes.now }
+    ensures conflicts { result
+        ≡ counted (clashes (byte_in (sparse taken held.old gaps.now)) position bytes.now) }
+{
+    let end = position + bytes.len() as u64;
+    let (first, last) = touched(gaps, position, end);
+    let start = (position - taken) as usize;
+    fill(
+        &mut held[start..start + bytes.len()],
+        position,
+        &gaps[first..last],
+        bytes,
+    )
+}
+
+// Writes bytes over those that are held from a position on, where those are missing. The positions
+// at which the others differ are returned.
+fn fill(held: &mut [u8], position: u64, gaps: &[Gap], bytes: &[u8]) -> Conflicts
+    requires same { length held.old ≡ length bytes.now }
+    requires short { position + length bytes.now ≤ 2 ^ 63 }
+    requires reach { AllWithin (Reaches position (position + length bytes.now)) gaps.now 0 (length gaps.now) }
+    ensures fills { Fills gaps.now position held.old held.new bytes.now }
+    ensures conflicts { result ≡ counted (clashes (byte_from position held.new) position bytes.now) }
+{
+    write_missing(held, position, gaps, bytes);
+    differences(held, bytes, position)
+}
+
+fn write_missing(held: &mut [u8], position: u64, gaps: &[Gap], bytes: &[u8])
+    requires same { length held.old ≡ length bytes.now }
+    requires short { position + length bytes.now ≤ 2 ^ 63 }
+    requires reach { AllWithin (Reaches position (position + length bytes.now)) gaps.now 0 (length gaps.now) }
+    ensures { Fills gaps.now position held.old held.new bytes.now }
+{
+    let end = position + bytes.len() as u64;
+    for gap in gaps {
+        let from = (gap.start.max(position) - position) as usize;
+        let to = (gap.end.min(end) - position) as usize;
+        held[from..to].copy_from_slice(&bytes[from..to]);
+    }
+}

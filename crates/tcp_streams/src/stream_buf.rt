@@ -1,0 +1,382 @@
+//! One direction of a TCP connection.
+
+ghost use Rattle.std.specs.Prelude.{◌≡◌, ℕ, ◌+◌, ◌<◌, ◌≤◌, ◌↔◌, ◌^◌, ◌++◌, ◌∷◌, ◌==◌, [], if◌then◌else◌, List, None, Some};
+ghost use Rattle.std.specs.Prelude.{IsTrue, IfOk, IfErr, OnOk, OnErr, IfSome, IfNone, not, is_some, length, drop, min};
+ghost use Rattle.tcp_streams.specs.Placing.{Segment, segment, bytes_of, first_number, start_number, placed_at, placed};
+ghost use Rattle.tcp_streams.specs.Refusals.{window_end, fin_refusal, refusal_of};
+ghost use Rattle.tcp_streams.specs.Segments.{Placed, byte_at, text_of, fin_of, is_reset, clashes, conflicts_with, conflicts_of};
+ghost use Rattle.tcp_streams.specs.SparseBytes.{byte_in, counted};
+ghost use Rattle.tcp_streams.specs.StreamBuf.{Contents, Shows, IsSound, IsLocation, IsLocated, IsFirstGap, AnswersAdd, IsAdded};
+ghost use Rattle.tcp_streams.specs.StreamBuf.{available_in, next_in, placed_in, refusal_in};
+
+use super::conflicts::Conflicts;
+use super::gaps::Gap;
+use super::refusal::Refused;
+use super::segment_flags::SegmentFlags;
+use super::sequence_numbers::{Distance, distance_between};
+use super::sparse_bytes::SparseBytes;
+use std::alloc::Global;
+use std::marker::Model;
+
+/// The bytes that one end of a TCP connection sent, put together as its segments come.
+///
+/// The first byte that came for a position stays. Positions count from 0, the number after that of
+/// SYN or, where SYN wasn't seen, that of the first segment.
+#[derive(Debug, Drop)]
+pub struct StreamBuf {
+    window: usize,
+    start: Option<u32>,
+    joined_late: bool,
+    held: SparseBytes,
+    fin: Option<u64>,
+    is_reset: bool,
+    conflicts: Conflicts,
+}
+
+impl Model for StreamBuf {
+    ghost Value = { Contents };
+
+    ghost view = { λ buf. record {
+      window = buf.window;
+      start = buf.start;
+      joined_late = buf.joined_late;
+      held = buf.held;
+      fin = buf.fin;
+      is_reset = buf.is_reset;
+      conflicts = buf.conflicts;
+    } };
+
+    ghost invariant = { λ buf. IsSound record {
+      window = buf.window;
+      start = buf.start;
+      joined_late = buf.joined_late;
+      held = buf.held;
+      fin = buf.fin;
+      is_reset = buf.is_reset;
+      conflicts = buf.conflicts;
+    } };
+}
+
+/// What became of a segment that was accepted.
+#[derive(Clone, Copy, Debug, PartialEq, Eq)]
+pub struct Added {
+    /// The position of its first byte, those before the ones that are held left out.
+    pub position: u64,
+    /// The positions of its bytes that differ from those that are held.
+    pub conflicts: Conflicts,
+}
+
+// Where a segment stands in the stream.
+#[derive(Clone, Copy)]
+struct Location {
+    position: u64,
+    // How many of its bytes are left out, since they stand before those that are held.
+    skipped: usize,
+    fin: bool,
+    reset: bool,
+}
+
+// The end of the window.
+fn window_end(window: usize, taken: u64) -> u64
+    ensures { result ≡ window_end window taken }
+{
+    taken.saturating_add(window as u64).min(1 << 63)
+}
+
+// The number of a segment's first byte.
+fn first_number(sequence_number: u32, flags: SegmentFlags) -> u32
+    ensures { result ≡ first_number sequence_number flags }
+{
+    if flags.syn {
+        sequence_number.wrapping_add(1)
+    } else {
+        sequence_number
+    }
+}
+
+// The bytes of the stream that a segment has: one with RST has none.
+fn bytes_of(flags: SegmentFlags, payload: &[u8]) -> &[u8]
+    ensures { result.now ≡ (if flags.rst then [] else payload.now) }
+{
+    if flags.rst { &payload[..0] } else { payload }
+}
+
+// The bytes after so many.
+fn without_prefix(bytes: &[u8], count: usize) -> &[u8]
+    requires { count ≤ length bytes.now }
+    ensures { result.now ≡ drop count bytes.now }
+{
+    &bytes[count..]
+}
+
+// The location of a segment of so many bytes that begins so far from the position expected next.
+fn location_at(
+    distance: Distance,
+    next: u64,
+    taken: u64,
+    flags: SegmentFlags,
+    len: usize,
+) -> Location
+    requires short { next ≤ 2 ^ 63 + 1 }
+    requires taken { taken ≤ next }
+    ensures { (s : Segment) → s.flags ≡ flags → length (bytes_of s) ≡ len
+        → IsLocation result (bytes_of s) (placed_at distance next taken s) }
+{
+    let fin = flags.fin && !flags.rst;
+    match distance {
+        Distance::After(count) => Location {
+            position: next + u64::from(count),
+            skipped: 0,
+            fin,
+            reset: flags.rst && count == 0,
+        },
+        Distance::Before(count) => Location {
+            position: next.saturating_sub(u64::from(count)).max(taken),
+            skipped: ((taken + u64::from(count)).saturating_sub(next) as usize).min(len),
+            fin: fin && count as usize <= len,
+            reset: false,
+        },
+    }
+}
+
+// Why FIN refuses a segment, by where FIN and the last byte stand.
+fn fin_refusal(
+    fin: Option<u64>,
+    last: u64,
+    end: u64,
+    is_empty: bool,
+    has_fin: bool,
+) -> Option<Refused>
+    ensures { (s : Placed) → end ≡ s.position + length s.bytes → is_empty ≡ (length s.bytes == 0)
+        → has_fin ≡ s.fin → result ≡ fin_refusal fin last s }
+{
+    if let Some(fin) = fin {
+        if fin < end && (has_fin || !is_empty) {
+            return Some(Refused::AfterFin { fin });
+        }
+    }
+    if has_fin && end < last.max(fin.unwrap_or(0)) {
+        return Some(Refused::AfterFin { fin: end });
+    }
+    None
+}
+
+impl StreamBuf {
+    /// A buffer of so many bytes for a stream of which no segment came.
+    pub fn new(alloc: Global, window: usize) -> StreamBuf
+        ensures shows { Shows result [] }
+        ensures window { result.window ≡ window }
+        ensures start { result.start ≡ None }
+        ensures taken { result.held.taken ≡ 0 }
+    {
+        StreamBuf {
+            window,
+            start: None,
+            joined_late: false,
+            held: SparseBytes::new(alloc),
+            fin: None,
+            is_reset: false,
+            conflicts: Conflicts::none(),
+        }
+    }
+
+    // The position that is expected next.
+    fn next(&self) -> u64
+        ensures { result ≡ next_in self.now }
+    {
+        let end = self.held.available_end();
+        if self.fin == Some(end) { end + 1 } else { end }
+    }
+
+    // Where a segment of so many bytes stands, the first of which has this number.
+    fn location(&self, number: u32, flags: SegmentFlags, len: usize) -> Location
+        ensures location { (s : Segment) → number ≡ first_number s.number s.flags → s.flags ≡ flags
+            → length (bytes_of s) ≡ len → IsLocation result (bytes_of s) (placed_in self.now s) }
+        ensures sound { IsSound self.now }
+    {
+        let next = self.next();
+        let start = self.start.unwrap_or(number);
+        let expected = start.wrapping_add((next % (1 << 32)) as u32);
+        let distance = distance_between(expected, number);
+        location_at(distance, next, self.held.taken(), flags, len)
+    }
+
+    // Where a segment stands, and its bytes without those that are left out.
+    fn locate<'a>(
+        &self,
+        sequence_number: u32,
+        flags: SegmentFlags,
+        payload: &'a [u8],
+    ) -> (Location, &'a [u8])
+        ensures located { IsLocated result.0 result.1.now
+            (placed_in self.now (segment sequence_number flags payload.now)) }
+        ensures sound { IsSound self.now }
+    {
+        let bytes = bytes_of(flags, payload);
+        let number = first_number(sequence_number, flags);
+        let location = self.location(number, flags, bytes.len());
+        (location, without_prefix(bytes, location.skipped))
+    }
+
+    // Why a segment of so many bytes is refused.
+    fn refusal(&self, location: Location, len: usize) -> Option<Refused>
+        ensures { (s : Placed) → location.position ≡ s.position → location.fin ≡ s.fin → len ≡ length s.bytes
+            → result ≡ refusal_in self.now s }
+    {
+        let window_end = window_end(self.window, self.held.taken());
+        let end = location.position.saturating_add(len as u64);
+        if window_end < end {
+            return Some(Refused::OutsideWindow { window_end });
+        }
+        if let Some(refused) = fin_refusal(self.fin, self.held.end(), end, len == 0, location.fin) {
+            return Some(refused);
+        }
+        if self.is_reset {
+            return Some(Refused::AfterReset);
+        }
+        None
+    }
+
+    // Adds a segment that isn't refused.
+    fn accept(
+        &mut self,
+        location: Location,
+        bytes: &[u8],
+        number: u32,
+        syn: bool,
+    ) -> Result<Added, Refused>
+        requires after { self.old.held.taken ≤ location.position }
+        requires within { location.position + length bytes.now ≤ window_end self.old.window self.old.held.taken }
+        ensures added { (s : Placed) → IsLocated location bytes.now s
+            → IfOk result (IsAdded self.old self.new s number syn) }
+        ensures memory { IfErr result (λ e. e ≡ Refused.OutOfMemory) }
+        ensures err { OnErr result (self.new ≡ self.old) }
+    {
+        let Ok(conflicts) = self.held.add(location.position, bytes) else {
+            return Err(Refused::OutOfMemory);
+        };
+        self.joined_late = match self.start {
+            Some(_) => self.joined_late,
+            None => !syn,
+        };
+        self.start = Some(self.start.unwrap_or(number));
+        let end = location.position + bytes.len() as u64;
+        self.fin = if location.fin { Some(end) } else { self.fin };
+        self.is_reset = self.is_reset || location.reset;
+        self.conflicts = self.conflicts.and(conflicts);
+        Ok(Added {
+            position: location.position,
+            conflicts,
+        })
+    }
+
+    /// Takes a segment: the bytes of its payload for which none is held yet, and its flags.
+    ///
+    /// Its position is the one nearest to what is expected next: the first byte that is missing, or
+    /// the number after FIN (RFC 9293, section 3.4). Bytes that were consumed are left out. Where a byte
+    /// is held, it stays; where that is another one, the position counts as a conflict. FIN
+    /// counts unless it is before what is expected, and RST only at it. A segment with RST has no byte
+    /// of the stream.
+    ///
+    /// It is refused, and nothing changes, where it ends after the window, which begins at the first
+    /// byte that wasn't consumed; else where it has a byte or FIN after FIN, or its FIN stands before a
+    /// byte or FIN; else after the connection was reset; else where there is no memory.
+    pub fn add(
+        &mut self,
+        sequence_number: u32,
+        flags: SegmentFlags,
+        payload: &[u8],
+    ) -> Result<Added, Refused>
+        ensures accepted { (ss : List Placed) → Shows self.old ss →
+            let s = placed self.old.start self.old.held.taken ss (segment sequence_number flags payload.now) in
+            OnOk result (Shows self.new (ss ++ s ∷ [])) }
+        ensures refused { (ss : List Placed) → Shows self.old ss →
+            let s = placed self.old.start self.old.held.taken ss (segment sequence_number flags payload.now) in
+            AnswersAdd (refusal_of self.old.window self.old.held.taken ss s) result }
+        ensures position { (ss : List Placed) → Shows self.old ss →
+            let s = placed self.old.start self.old.held.taken ss (segment sequence_number flags payload.now) in
+            IfOk result (λ added. added.position ≡ s.position) }
+        ensures conflicts { (ss : List Placed) → Shows self.old ss →
+            let s = placed self.old.start self.old.held.taken ss (segment sequence_number flags payload.now) in
+            IfOk result (λ added. added.conflicts ≡ counted (conflicts_with ss s)) }
+        ensures start { OnOk result (self.new.start ≡ Some (start_number self.old.start sequence_number flags)) }
+        ensures joined_late { OnOk result (self.new.joined_late
+            ≡ (if is_some self.old.start then self.old.joined_late else not flags.syn)) }
+        ensures err { OnErr result (self.new ≡ self.old) }
+        ensures taken { self.new.held.taken ≡ self.old.held.taken }
+        ensures window { self.new.window ≡ self.old.window }
+    {
+        let (location, bytes) = self.locate(sequence_number, flags, payload);
+        let number = first_number(sequence_number, flags);
+        match self.refusal(location, bytes.len()) {
+            Some(refused) => Err(refused),
+            None => self.accept(location, bytes, number, flags.syn),
+        }
+    }
+
+    /// The bytes that follow those that were consumed, up to the first that is missing.
+    pub fn available(&self) -> &[u8]
+        ensures bytes { result.now ≡ available_in self.now.held }
+        ensures text { (ss : List Placed) → Shows self.now ss → result.now ≡ drop self.now.held.taken (text_of ss) }
+    {
+        self.held.available()
+    }
+
+    /// Takes so many of the available bytes away, or all where there are fewer.
+    pub fn consume(&mut self, count: usize)
+        ensures shows { (ss : List Placed) → Shows self.old ss → Shows self.new ss }
+        ensures taken { self.new.held.taken ≡ self.old.held.taken + min count (length (available_in self.old.held)) }
+        ensures available { available_in self.new.held ≡ drop count (available_in self.old.held) }
+        ensures start { self.new.start ≡ self.old.start }
+        ensures joined_late { self.new.joined_late ≡ self.old.joined_late }
+        ensures window { self.new.window ≡ self.old.window }
+    {
+        let count = count.min(self.held.available().len());
+        self.held.consume(count);
+    }
+
+    /// The first positions whose bytes are missing, if bytes after them are held.
+    pub fn gap(&self) -> Option<Gap>
+        ensures gap { (ss : List Placed) → Shows self.now ss → IfSome result (IsFirstGap ss) }
+        ensures none { (ss : List Placed) → Shows self.now ss → IfNone result
+            ((p : ℕ) → length (text_of ss) ≤ p → byte_at ss p ≡ None) }
+    {
+        self.held.gaps().first().copied()
+    }
+
+    /// Whether all bytes before FIN came.
+    pub fn is_finished(&self) -> bool
+        ensures { (ss : List Placed) → Shows self.now ss
+            → IsTrue result ↔ (fin_of ss ≡ Some (length (text_of ss))) }
+    {
+        self.fin == Some(self.held.available_end())
+    }
+
+    /// The conflicts of all segments.
+    pub fn conflicts(&self) -> Conflicts
+        ensures { (ss : List Placed) → Shows self.now ss → result ≡ counted (conflicts_of ss) }
+    {
+        self.conflicts
+    }
+
+    /// Whether the first segment that came had no SYN: bytes before it may be missing.
+    pub fn joined_late(&self) -> bool
+        ensures { result ≡ self.now.joined_late }
+    {
+        self.joined_late
+    }
+
+    /// Whether the connection was reset.
+    pub fn is_reset(&self) -> bool
+        ensures { (ss : List Placed) → Shows self.now ss → result ≡ is_reset ss }
+    {
+        self.is_reset
+    }
+
+    /// How many bytes were consumed.
+    pub fn consumed(&self) -> u64
+        ensures { result ≡ self.now.held.taken }
+    {
+        self.held.taken()
+    }
+}
