@@ -1,6 +1,6 @@
 #!/usr/bin/env bash
-# How fast `packets_cli summary` and `packets_cli show` read captures of UDP datagrams, long ones and short ones, with
-# their checksums judged, and `tcpdump -n -r` beside `show`, which judges none. Standard output is /dev/null.
+# Seconds in which `packets_cli summary`, `show` and `json` read captures of UDP datagrams, long ones and short ones, and verify
+# their checksums, and how many times as long `tcpdump -n -r` takes, which verifies none. Standard output is /dev/null.
 # Usage: bench/packets.sh [CPU]: with CPU, such as x86-64-v3, ours is built for that processor.
 set -euo pipefail
 cd "$(dirname "$0")/.."
@@ -16,26 +16,29 @@ run_show() {
     "$work/packets_cli" show "$1"
 }
 
+run_json() {
+    "$work/packets_cli" json "$1"
+}
+
 run_tcpdump() {
     tcpdump -n -r "$1" 2>/dev/null
 }
 
-# measure CAPTURE PACKETS LABEL: all three in turns, to /dev/null, the best of all rounds of each.
+# measure CAPTURE PACKETS LABEL: all four in turns, to /dev/null, the best of all rounds of each.
 measure() {
-    local round program began size
+    local round program began
     best=()
     [[ $(run_show "$1" | wc -l) == "$2" ]] || fail "not each packet of $3 has a line"
     for ((round = 0; round < rounds; round++)); do
-        for program in summary show tcpdump; do
+        for program in summary show json tcpdump; do
             began=${EPOCHREALTIME//./}
             "run_$program" "$1" >/dev/null
             keep_best "$program" $((${EPOCHREALTIME//./} - began))
         done
     done
-    size=$(stat -c %s "$1")
-    for program in summary show tcpdump; do
-        printf '%-34s %-8s %14s %12s %7s\n' "$3" "$program" "$(per_second "$2" "${best[$program]}")" \
-            "$(per_second "$size" "${best[$program]}")" "$(quotient "${best[tcpdump]}" "${best[$program]}")"
+    for program in summary show json tcpdump; do
+        printf '%-34s %-8s %8s %10s\n' "$3" "$program" "$(quotient "${best[$program]}" 1000000)" \
+            "$(quotient "${best[tcpdump]}" "${best[$program]}")"
     done
 }
 
@@ -44,6 +47,6 @@ build_plain make_captures
 "$work/make_captures" 200000 1500 udp >"$work/long.pcap"
 build_proved packets_cli summary - <"$work/short.pcap"
 
-printf '%-34s %-8s %14s %12s %7s\n' capture program packets/s bytes/s "to tcpdump"
+printf '%-34s %-8s %8s %10s\n' capture program seconds "to tcpdump"
 measure "$work/short.pcap" 2000000 "2,000,000 packets of 64 bytes"
 measure "$work/long.pcap" 200000 "200,000 packets of 1,500 bytes"
