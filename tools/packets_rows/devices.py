@@ -46,20 +46,13 @@ def run(program, folder, *words, **known):
     return subprocess.run([program, *words], cwd=folder, timeout=60, check=False, **known)
 
 
-def on_terminal(program, folder, words, env=None, errors=False):
-    """What is written on a terminal: of standard output, or of standard error."""
+def on_terminal(program, folder, words, env=None):
+    """What is written on a terminal."""
     master, slave = pty.openpty()
-    ends = {"stdout": subprocess.DEVNULL if errors else slave, "stderr": slave if errors else subprocess.DEVNULL}
-    child = subprocess.Popen([program, *words], cwd=folder, stdin=subprocess.DEVNULL, env=os.environ | (env or {}), **ends)
+    known = {"stdin": subprocess.DEVNULL, "stdout": slave, "stderr": subprocess.DEVNULL, "env": os.environ | (env or {})}
+    child = subprocess.Popen([program, *words], cwd=folder, **known)
     os.close(slave)
-    written = b""
-    try:
-        while chunk := os.read(master, 65536):
-            written += chunk
-    except OSError:
-        # The terminal's other end is closed.
-        pass
-    os.close(master)
+    written = outputs.from_terminal(master)
     return child.wait(60), written.replace(b"\r\n", b"\n")
 
 
@@ -141,7 +134,10 @@ def terminals(program, folder):
         yield f"a terminal and NO_COLOR={text}", result == (0, PLAIN)
     result = on_terminal(program, folder, ["show", "--color", "never", FILE])
     yield "a terminal without colors", result == (0, PLAIN)
-    yield "how far a run is", progress(program, folder) == (0, b"\r4 of 9 MiB\r8 of 9 MiB\r\x1b[K")
+    with long_capture(folder) as name:
+        for words in (["show", name], ["json", name], ["-w", "-", name]):
+            shown = outputs.progress(program, words, folder, 1.2)
+            yield f"how far a run is: {words[0]}", re.fullmatch(rb"(\r[0-9] of 9 MiB)+\r\x1b\[K", shown) is not None
     yield "no terminal", run(program, folder, "summary", FILE).stderr == b""
 
 
@@ -153,12 +149,6 @@ def long_capture(folder):
         file.write(data + 15_000 * data[24:])
         file.flush()
         yield file.name
-
-
-def progress(program, folder):
-    """What a terminal shows of a file of 9 MiB: after each 4 MiB how many are read, and at the end nothing any more."""
-    with long_capture(folder) as name:
-        return on_terminal(program, folder, ["summary", name], errors=True)
 
 
 def takers(program, folder):

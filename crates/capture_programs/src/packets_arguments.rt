@@ -37,7 +37,7 @@ Examples:
 const EXAMPLES_OF_SHOW: &str = "\
 Examples:
   packets show --time delta x.pcap                  with the time since the packet before
-  packets show --only 'udp and port=53' x.pcap      what goes to or from name servers
+  packets show -w y.pcap --only port=53 x.pcap      a capture of what goes to or from name servers
   tcpdump -U -w - | packets show                    packets as they come";
 
 const EXAMPLES_OF_JSON: &str = "\
@@ -81,7 +81,8 @@ fn with_show<'a>(alloc: Global, command: Command<'a>) -> Result<Command<'a>, All
         .arg(time(alloc))?
         .arg(utc(alloc)?)?
         .arg(number(alloc, "width", "COLUMNS", "Cuts each line to COLUMNS"))?
-        .arg(color(alloc))?;
+        .arg(color(alloc))?
+        .arg(write(alloc)?)?;
     with_input(alloc, command)
 }
 
@@ -112,6 +113,18 @@ fn color<'a>(alloc: Global) -> Arg<'a> {
         .help("When lines have colors: `auto` is on a terminal, if NO_COLOR is not set")
         .value_parser(["auto", "always", "never"].as_slice())
         .default_value("auto")
+}
+
+// The capture to be written in place of lines, as tcpdump names it.
+fn write<'a>(alloc: Global) -> Result<Arg<'a>, AllocError> {
+    Arg::new(alloc, "write")
+        .short('w')
+        .long("write")
+        .value_name("FILE")
+        .help(
+            "Writes a capture of the packets to FILE, or - for standard output, in place of lines",
+        )
+        .conflicts_with_all(&["time", "utc", "width", "color"])
 }
 
 fn json<'a>(alloc: Global) -> Result<Command<'a>, AllocError> {

@@ -25,3 +25,4 @@ pub mod Sizes
 pub mod Table
 pub mod Tally
 pub mod Written
+pub mod WrittenCaptures

@@ -42,6 +42,7 @@ pub use reason::Reason;
 pub use run::line_writer::{LineWriter, write_lines};
 pub use run::omitted::Omitted;
 pub use run::progress::{NoProgress, Progress};
+pub use run::record_writer::{write_capture, write_records};
 pub use run::rules::Rules;
 pub use run::summarize::{Ending, summarize};
 pub use show::options::ShowOptions;

@@ -1,23 +1,26 @@
 //! Shows what is in a capture file: `packets [show|json|summary] [FILE|-]..`.
 #![tactic(auto)]
 
-mod progress_line;
+mod capture_output;
 
-use crate::progress_line::ProgressLine;
+use crate::capture_output::CaptureOutput;
 use capture_programs::packets_arguments::PROGRAM;
 use capture_programs::{
-    ClosableWriter, Input, Look, Subject, failure, parse_failure, report_skipped, unopened, words,
+    ClosableWriter, Input, Look, ProgressLine, ProgressReader, Subject, failure, len_of,
+    parse_failure, report_skipped, unopened, words,
 };
 use captures::RunError;
 use packets::program::{
     Coloring, Output, RequestError, Requested, command, exit_code, goes_on, report_dropped,
-    requested_by, write_flushed, write_report,
+    requested_by, write_capture_flushed, write_flushed, write_records_flushed, write_report,
 };
-use packets::{JsonLines, LineWriter, Omitted, Report, ShowOptions, Style, Summary, summarize};
+use packets::{
+    JsonLines, LineWriter, NoProgress, Omitted, Report, ShowOptions, Style, Summary, summarize,
+};
 use std::env::{self, VarError};
 use std::fs::File;
 use std::hash::RandomState;
-use std::io::{IsTerminal, Read, Write};
+use std::io::{self, IsTerminal, Read, Write};
 use std::process::ExitCode;
 
 fn main(rt: HostRuntime) -> ExitCode {
@@ -43,6 +46,7 @@ fn run(rt: &HostRuntime) -> anyhow::Result<ExitCode> {
 fn run_on_files(rt: &HostRuntime, requested: &Requested<'_>) -> anyhow::Result<ExitCode> {
     let mut output = ClosableWriter::new(rt.stdout());
     match &requested.output {
+        Output::Capture(name) => capture_files(rt, requested, *name),
         Output::Show(time, width, coloring) => {
             let lines = ShowOptions {
                 style: style_of(rt, *coloring),
@@ -113,11 +117,7 @@ fn take_file<T: Task>(rt: &HostRuntime, name: &str, task: &mut T) -> anyhow::Res
             });
         }
     };
-    let len = match file.metadata() {
-        Ok(metadata) if metadata.is_file() => Some(metadata.len()),
-        _ => None,
-    };
-    task.take(subject, len, Input::new(rt.alloc(), file)?)
+    task.take(subject, len_of(&file), Input::new(rt.alloc(), file)?)
 }
 
 // Reports how a file ended.
@@ -176,22 +176,98 @@ impl<L: LineWriter, W: Write> Task for Writing<'_, L, W> {
     fn take<R: Read + Drop>(
         &mut self,
         subject: Subject<'_>,
-        _len: Option<u64>,
+        len: Option<u64>,
         mut input: Input<R>,
     ) -> anyhow::Result<FileEnd> {
         let look = input.look();
+        let mut progress = ProgressLine::beside_output(self.rt, len);
         let mut omitted = Omitted::NOTHING;
         let result = write_flushed(
             self.rt.alloc(),
             RandomState::new(self.rt)?,
             &self.requested.rules,
             self.lines,
-            input,
+            ProgressReader::new(input, &mut progress),
             self.output,
             &mut omitted,
         );
+        progress.end();
         let ended = (result, omitted, look);
         Ok(end_of(self.rt, self.requested, subject, ended, self.output))
+    }
+}
+
+fn capture_files(
+    rt: &HostRuntime,
+    requested: &Requested<'_>,
+    name: &str,
+) -> anyhow::Result<ExitCode> {
+    let mut capturing = Capturing {
+        rt,
+        requested,
+        name,
+        output: None,
+    };
+    let failed = take_files(rt, requested.names, &mut capturing)?;
+    Ok(failed.unwrap_or(ExitCode::SUCCESS))
+}
+
+// Writes the packets of all files into one capture. It is created when the first file is open.
+#[derive(Drop)]
+struct Capturing<'a> {
+    rt: &'a HostRuntime,
+    requested: &'a Requested<'a>,
+    name: &'a str,
+    output: Option<ClosableWriter<CaptureOutput>>,
+}
+
+impl Task for Capturing<'_> {
+    fn take<R: Read + Drop>(
+        &mut self,
+        subject: Subject<'_>,
+        len: Option<u64>,
+        mut input: Input<R>,
+    ) -> anyhow::Result<FileEnd> {
+        let has_header = self.output.is_some();
+        let mut output = match self.output.take() {
+            Some(output) => output,
+            None => match CaptureOutput::create(self.rt, self.name) {
+                Ok(output) => ClosableWriter::new(output),
+                Err(error) => return Ok(uncreated(self.rt, self.name, error)),
+            },
+        };
+        let look = input.look();
+        let mut progress = if self.name == "-" {
+            ProgressLine::beside_output(self.rt, len)
+        } else {
+            ProgressLine::new(self.rt, len)
+        };
+        let input = ProgressReader::new(input, &mut progress);
+        let mut omitted = Omitted::NOTHING;
+        let state = RandomState::new(self.rt)?;
+        let (alloc, rules) = (self.rt.alloc(), &self.requested.rules);
+        let result = if has_header {
+            write_records_flushed(alloc, state, rules, input, &mut output, &mut omitted)
+        } else {
+            write_capture_flushed(alloc, state, rules, input, &mut output, &mut omitted)
+        };
+        progress.end();
+        let ended = (result, omitted, look);
+        let end = end_of(self.rt, self.requested, subject, ended, &output);
+        self.output = Some(output);
+        Ok(end)
+    }
+}
+
+// Where a capture can't be created nothing is read.
+fn uncreated(rt: &HostRuntime, name: &str, error: io::Error) -> FileEnd {
+    let subject = Subject {
+        program: PROGRAM,
+        input: name,
+    };
+    FileEnd {
+        failed: Some(unopened(rt, subject, error)),
+        goes_on: false,
     }
 }
 
@@ -277,8 +353,8 @@ impl<W: Write> Task for Counting<'_, W> {
             RandomState::new(self.rt)?,
             &self.requested.rules,
             &mut self.summary,
-            input,
-            &mut progress,
+            ProgressReader::new(input, &mut progress),
+            &mut NoProgress,
         );
         progress.end();
         let omitted = Omitted {

@@ -11,7 +11,7 @@ const STANDARD_INPUT: &[&str] = &["-"];
 #[derive(Drop)]
 pub struct Requested<'m> {
     /// What is written.
-    pub output: Output,
+    pub output: Output<'m>,
     /// Of which packets, and what becomes of the others and of reassemblies.
     pub rules: Rules,
     /// The files' names in their order, `-` for standard input. There is one at least.
@@ -30,6 +30,9 @@ pub enum RequestError {
     /// Packets with a wrong checksum, where none is verified.
     #[error("the argument '--only bad' cannot be used with '--no-checksums'")]
     Unverified,
+    /// The file that is written is one of those that are read.
+    #[error("the argument '--write <FILE>' names a file that is read")]
+    Overwritten,
     /// There is no memory for the conditions, or for a text that is refused.
     #[error("out of memory")]
     Memory(#[from(alloc)] AllocError),
@@ -48,20 +51,22 @@ pub enum SizeError {
 
 /// What is written of a capture.
 #[derive(Debug, Drop)]
-pub enum Output {
+pub enum Output<'m> {
     /// A line for each packet, with such times, cut to so many columns, in colours.
     Show(TimeForm, Option<usize>, Coloring),
+    /// A capture of the packets, into the file with this name, `-` for standard output.
+    Capture(&'m str),
     /// A JSON object for each packet, with the bytes of its payload or without.
     Json(bool),
     /// What is in it, counted.
     Summary,
 }
 
-impl Output {
+impl Output<'_> {
     /// The command that requests it. It has no contract: tests compare the texts.
     pub fn command(&self) -> &'static str {
         match self {
-            Output::Show(_, _, _) => "show",
+            Output::Show(_, _, _) | Output::Capture(_) => "show",
             Output::Json(_) => "json",
             Output::Summary => "summary",
         }
@@ -92,6 +97,8 @@ pub fn requested_by<'m>(
         None => (show(matches), matches),
     };
     let checksums = !words.get_flag("no-checksums");
+    let names = names(words);
+    check_written(&output, names)?;
     Ok(Requested {
         output,
         rules: Rules {
@@ -107,7 +114,7 @@ pub fn requested_by<'m>(
             reassembly_memory: reassembly_memory(alloc, words)?,
             checksums,
         },
-        names: names(words),
+        names,
     })
 }
 
@@ -121,8 +128,21 @@ fn names<'m>(words: &'m ArgMatches) -> &'m [&'m str] {
     words.get_strs(argument).unwrap_or(STANDARD_INPUT)
 }
 
-fn show(words: &ArgMatches) -> Output {
-    Output::Show(time_form(words), width(words), when_colored(words))
+fn show(words: &ArgMatches) -> Output<'_> {
+    match words.get_str("write") {
+        Some(name) => Output::Capture(name),
+        None => Output::Show(time_form(words), width(words), when_colored(words)),
+    }
+}
+
+// A file isn't read and written at once. Standard input and standard output are two.
+fn check_written(output: &Output<'_>, names: &[&str]) -> Result<(), RequestError> {
+    match output {
+        Output::Capture(name) if *name != "-" && names.contains(name) => {
+            Err(RequestError::Overwritten)
+        }
+        _ => Ok(()),
+    }
 }
 
 fn filter_of(alloc: Global, texts: &[&str], checksums: bool) -> Result<Filter, RequestError> {
