@@ -17,6 +17,7 @@ COLORED = (
     b"\x1b[1;31mbad checksum\x1b[0m\n"
 )
 FILE = "forms.pcap"
+COMPLETIONS = os.path.join(os.path.dirname(os.path.abspath(__file__)), "..", "completions")
 # How the lines of conditions begin in the help.
 CONDITIONS = ("eth, vlan, macsec, arp, ip4, ip6", "icmp, icmp6, udp, tcp, sctp", "0 to 255", "bad", "refused", "fragments", "cut")
 CONDITIONS += ("host=ADDRESS", "net=NETWORK", "src=FROM, dst=TO", "port=N", "syn, fin, rst", "vlan=N", "len=N", "frame=N")
@@ -204,7 +205,23 @@ def limited(program, folder):
         yield f"an input that stays open: {words}", (status, is_known) == (0, True)
 
 
+def completed(program, folder):
+    """Bash completes the options that the help lists, of the program and of each command."""
+    with tempfile.TemporaryDirectory() as place:
+        named = os.path.join(place, "packets")
+        os.symlink(program, named)
+        subprocess.run([COMPLETIONS, place, named], check=True)
+        source = f"source {place}/bash-completion/completions/packets"
+        for words in ([], ["show"], ["json"], ["summary"]):
+            shown = run(program, folder, *words, "--help").stdout.decode()
+            listed = re.findall(r"(?m)^ +(?:-\w, )?(--[\w-]+)", shown.partition("\nOptions:\n")[2].partition("\nExamples:\n")[0])
+            typed = ["packets", *words, "--"]
+            command = f"{source}; COMP_WORDS=({' '.join(typed)}) COMP_CWORD={len(typed) - 1}; _packets packets --"
+            done = run("bash", folder, "-c", command + "; printf '%s\\n' \"${COMPREPLY[@]}\"")
+            yield f"completed: {words}", len(listed) > 8 and sorted(done.stdout.decode().split()) == sorted(listed)
+
+
 def checked(program, folder):
     """The name of each check, and whether all was well."""
-    for checks in (inputs, several, compressed, terminals, takers, growing, limited):
+    for checks in (inputs, several, compressed, terminals, takers, growing, limited, completed):
         yield from checks(program, folder)

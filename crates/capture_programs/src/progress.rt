@@ -3,10 +3,7 @@ ghost use Rattle.std.specs.Prelude.{◌≡◌};
 
 use std::fs::File;
 use std::io::{self, IsTerminal, Read};
-use std::time::{Duration, Instant};
-
-// The line is written at most once in this time.
-const STEP: Duration = Duration::from_secs(1);
+use std::time::Instant;
 
 /// A line on standard error, if that is a terminal: how many MiB of a file are read. It is written over
 /// once a second at most.
@@ -70,13 +67,13 @@ impl<'r> ProgressLine<'r> {
         }
     }
 
-    // Whether a step has passed. Then the next one begins.
+    // Whether a second has passed. Then the next one begins.
     fn is_due(&mut self) -> bool {
         let Ok(now) = Instant::now(self.rt) else {
             return false;
         };
         match self.last {
-            Some(last) if now.duration_since(last) < STEP => false,
+            Some(last) if now.duration_since(last).as_secs() == 0 => false,
             _ => {
                 self.last = Some(now);
                 true
