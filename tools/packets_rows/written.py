@@ -89,9 +89,12 @@ def of_files(program, folder):
         unmade = os.path.join(place, "unmade.pcap")
         done = run(program, folder, "-w", unmade, "nothing.pcap")
         yield "no file where none is read", (done.returncode, os.path.exists(unmade)) == (1, False)
-        done = run(program, folder, "-w", path, "-r", path)
+        link = os.path.join(place, "link.pcap")
+        os.symlink("written.pcap", link)
         error = b"error: the argument '--write <FILE>' names a file that is read\n"
-        yield "a file that is read", (done.returncode, done.stderr.startswith(error)) == (2, True)
+        for name in (path, link, os.path.join(place, ".", "written.pcap")):
+            done = run(program, folder, "-w", name, "arp.pcap", path)
+            yield "a file that is read", (done.returncode, done.stderr.startswith(error)) == (2, True)
         yield "which stays as it was", bytes_of(place, path) == one + other[24:]
         done = run(program, folder, "-w", os.path.join(path, "x"), "arp.pcap", "tcp.pcap")
         error = f"packets: {path}/x: cannot be opened: Not a directory (os error 20)\n"

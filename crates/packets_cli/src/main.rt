@@ -18,9 +18,10 @@ use packets::{
     JsonLines, LineWriter, NoProgress, Omitted, Report, ShowOptions, Style, Summary, summarize,
 };
 use std::env::{self, VarError};
-use std::fs::File;
+use std::fs::{self, File, Metadata};
 use std::hash::RandomState;
 use std::io::{self, IsTerminal, Read, Write};
+use std::os::unix::fs::MetadataExt;
 use std::process::ExitCode;
 
 fn main(rt: HostRuntime) -> ExitCode {
@@ -202,6 +203,11 @@ fn capture_files(
     requested: &Requested<'_>,
     name: &str,
 ) -> anyhow::Result<ExitCode> {
+    if is_read(rt, name, requested.names) {
+        let reason = "the argument '--write <FILE>' names a file that is read";
+        let _ = eprintln!(rt; "error: {reason}\n\nFor more information, try '--help'.");
+        return Ok(ExitCode::from(2));
+    }
     let mut capturing = Capturing {
         rt,
         requested,
@@ -210,6 +216,22 @@ fn capture_files(
     };
     let failed = take_files(rt, requested.names, &mut capturing)?;
     Ok(failed.unwrap_or(ExitCode::SUCCESS))
+}
+
+// Whether the file with this name is one of those that are read, by whatever names.
+fn is_read(rt: &HostRuntime, name: &str, names: &[&str]) -> bool {
+    let Ok(output) = fs::metadata(rt, name) else {
+        return false;
+    };
+    name != "-" && output.is_file() && names.iter().any(|input| is_file(rt, *input, &output))
+}
+
+// Whether a name means this file. Standard input is none.
+fn is_file(rt: &HostRuntime, name: &str, file: &Metadata) -> bool {
+    match fs::metadata(rt, name) {
+        Ok(named) => name != "-" && (named.dev(), named.ino()) == (file.dev(), file.ino()),
+        Err(_) => false,
+    }
 }
 
 // Writes the packets of all files into one capture. It is created when the first file is open.

@@ -24,7 +24,6 @@ const OUTPUTS: &[(&[&str], &str)] = &[
     (&["packets", "summary", "--forget", "30"], "Summary"),
     (&["packets", "-w", "y.pcap", "x.pcap"], "Capture(\"y.pcap\")"),
     (&["packets", "show", "--write=-", "--only", "udp", "-"], "Capture(\"-\")"),
-    (&["packets", "-w", "x.pcap", "y.pcap", "x.pcap"], ""),
     (&["packets", "--width", "80", "-w", "y.pcap", "x.pcap"], ""),
     (&["packets", "json", "-w", "y.pcap", "x.pcap"], ""),
     (&["packets"], ""),

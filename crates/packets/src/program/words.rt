@@ -30,9 +30,6 @@ pub enum RequestError {
     /// Packets with a wrong checksum, where none is verified.
     #[error("the argument '--only bad' cannot be used with '--no-checksums'")]
     Unverified,
-    /// The file that is written is one of those that are read.
-    #[error("the argument '--write <FILE>' names a file that is read")]
-    Overwritten,
     /// There is no memory for the conditions, or for a text that is refused.
     #[error("out of memory")]
     Memory(#[from(alloc)] AllocError),
@@ -97,8 +94,6 @@ pub fn requested_by<'m>(
         None => (show(matches), matches),
     };
     let checksums = !words.get_flag("no-checksums");
-    let names = names(words);
-    check_written(&output, names)?;
     Ok(Requested {
         output,
         rules: Rules {
@@ -114,7 +109,7 @@ pub fn requested_by<'m>(
             reassembly_memory: reassembly_memory(alloc, words)?,
             checksums,
         },
-        names,
+        names: names(words),
     })
 }
 
@@ -128,20 +123,10 @@ fn names<'m>(words: &'m ArgMatches) -> &'m [&'m str] {
     words.get_strs(argument).unwrap_or(STANDARD_INPUT)
 }
 
-fn show(words: &ArgMatches) -> Output<'_> {
+fn show<'m>(words: &'m ArgMatches) -> Output<'m> {
     match words.get_str("write") {
         Some(name) => Output::Capture(name),
         None => Output::Show(time_form(words), width(words), when_colored(words)),
-    }
-}
-
-// A file isn't read and written at once. Standard input and standard output are two.
-fn check_written(output: &Output<'_>, names: &[&str]) -> Result<(), RequestError> {
-    match output {
-        Output::Capture(name) if *name != "-" && names.contains(name) => {
-            Err(RequestError::Overwritten)
-        }
-        _ => Ok(()),
     }
 }
 

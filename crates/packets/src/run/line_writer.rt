@@ -1,6 +1,6 @@
 //! Writes the packets of a capture, a line for each.
 ghost use Rattle.std.specs.Prelude.{[], ℕ, List, IfOk, ◌≡◌};
-ghost use Rattle.packets.specs.Written.{WritesLines};
+ghost use Rattle.packets.specs.Written.{IsLineOf, WritesLines};
 ghost use Rattle.packets.specs.declared.dissection.Dissection.{Dissection};
 
 use crate::run::omitted::Omitted;
@@ -83,6 +83,9 @@ impl<'a, L: LineWriter> PacketWriter for Lines<'a, L> {
             return Err(error);
         }
         out.retain(|byte| *byte != b'\n');
-        out.push(b'\n')
+        if out.push(b'\n').is_err() {
+            return Err(AllocError);
+        }
+        Ok(())
     }
 }

@@ -1,6 +1,7 @@
 //! Writes a capture of the packets of a capture.
 ghost use Rattle.std.specs.Prelude.{◌≡◌, length};
 ghost use Rattle.packets.specs.WrittenCaptures.{WritesCapture, WritesRecords, frame_of, head_of, in_32_bits};
+ghost use Rattle.packets.specs.WrittenCaptures.{record_of};
 
 use crate::Dissection;
 use crate::run::omitted::Omitted;
