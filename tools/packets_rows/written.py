@@ -10,7 +10,7 @@ import tempfile
 import outputs
 
 HEADER = struct.pack("<IHHiIII", 0xA1B23C4D, 2, 4, 0, 0, 262144, 1)
-# Captures of Ethernet frames that have this very header: what is written of them all is the file itself.
+# Captures of Ethernet frames with this header: but for a record that states less than was captured, the file itself is written.
 SAME = ("arp", "tcp", "vlan", "macsec", "fragments_ipv4", "refused", "refused_fragments", "snap_length", "snap_length_headers", "cut_links")
 # A capture, what its link's header has before the packet, and where in it the source address and the type are, if they are.
 LINKS = (("cooked", 16, 6, 14), ("snap_length_cooked", 16, 6, 14), ("cooked_v2", 20, 12, 0), ("raw_ip", 0, None, None))
@@ -39,7 +39,7 @@ def records(data):
 
 def encoded(record):
     second, nano, wire, data = record
-    return struct.pack("<IIII", second, nano, len(data), wire) + data
+    return struct.pack("<IIII", second, nano, len(data), max(wire, len(data))) + data
 
 
 def framed(record, size, source, kind):
@@ -66,7 +66,7 @@ def of_links(program, folder):
     for name in SAME:
         data = bytes_of(folder, f"{name}.pcap")
         done = run(program, folder, "-w", "-", f"{name}.pcap")
-        yield f"the same capture: {name}", (done.returncode, done.stdout, done.stderr) == (0, data, b"")
+        yield f"the same capture: {name}", (done.returncode, done.stdout, done.stderr) == (0, wanted(data), b"")
         for text in CONDITIONS:
             done = run(program, folder, "show", "--write=-", "--only", text, f"{name}.pcap")
             yield f"{text} of {name}", (done.returncode, done.stdout) == (0, wanted(data, NUMBERS[text]))

@@ -124,7 +124,10 @@ fn write<'a>(alloc: Global) -> Result<Arg<'a>, AllocError> {
         .help(
             "Writes a capture of the packets to FILE, or - for standard output, in place of lines",
         )
-        .conflicts_with_all(&["time", "utc", "width", "color"])
+        .conflicts_with("time")?
+        .conflicts_with("utc")?
+        .conflicts_with("width")?
+        .conflicts_with("color")
 }
 
 fn json<'a>(alloc: Global) -> Result<Command<'a>, AllocError> {
