@@ -1,7 +1,9 @@
 """How programs end by who takes their output, for the scripts that compare them: the status, and what is on standard error."""
 
 import os
+import pty
 import subprocess
+import time
 
 SILENCE = (0, b"")
 
@@ -33,3 +35,27 @@ def before_head(program, words, folder):
     errors = child.stderr.read()
     assert head.stdout.count(b"\n") == 1
     return child.wait(60), errors
+
+
+def from_terminal(master):
+    """What was written on a terminal."""
+    written = b""
+    try:
+        while chunk := os.read(master, 65536):
+            written += chunk
+    except OSError:
+        # The terminal's other end is closed.
+        pass
+    os.close(master)
+    return written
+
+
+def progress(program, words, folder, seconds):
+    """What standard error shows on a terminal where nobody reads the output in the first seconds."""
+    master, slave = pty.openpty()
+    child = subprocess.Popen([program, *words], cwd=folder, stdin=subprocess.DEVNULL, stdout=subprocess.PIPE, stderr=slave)
+    os.close(slave)
+    time.sleep(seconds)
+    child.stdout.read()
+    child.wait(60)
+    return from_terminal(master)

@@ -1,6 +1,7 @@
-"""How captures_cli ends, by docs/CAPTURES.md: with inputs that it refuses or that aren't there, and outputs that are full or closed."""
+"""How captures_cli ends, by docs/CAPTURES.md: with inputs that it refuses or that aren't there, outputs that are full or closed, and how far it is."""
 
 import os
+import re
 import subprocess
 
 import outputs
@@ -42,10 +43,16 @@ def checked(program, folder):
     yield "the version", run(program, ["--version"], folder).stdout == f"captures {version()}\n".encode()
     for words in (["--help"], ["lines", "--help"], ["capture", "--help"]):
         usage = "\nUsage: " + " ".join(["captures", *words[:-1]])
-        yield f"help: {words}", usage.encode() in run(program, words, folder).stdout
+        shown = run(program, words, folder).stdout
+        yield f"help: {words}", usage.encode() in shown
+        yield f"examples: {words}", len(re.findall(rb"(?m)^  .*captures.* ", shown.partition(b"\nExamples:\n")[2])) == 3
     written = (["lines", "many.pcap"], ["capture", "many.lines"])
     for words in (*written, ["--help"]):
         wanted = 4, b"captures: the output cannot be written\n"
         yield f"a full output: {words}", outputs.on_full_device(program, words, folder) == wanted
         yield f"a closed output: {words}", outputs.on_closed_pipe(program, words, folder) == outputs.SILENCE
     yield "before head", outputs.before_head(program, written[0], folder) == outputs.SILENCE
+    with open(os.path.join(folder, "long.lines"), "wb") as file:
+        file.write(30000 * LINE)
+    shown = outputs.progress(program, ["capture", "long.lines"], folder, 1.2)
+    yield "how far a run is", re.fullmatch(rb"(\r[0-3] of 3 MiB)+\r\x1b\[K", shown) is not None

@@ -18,6 +18,7 @@ COLORED = (
     b"\x1b[1;31mbad checksum\x1b[0m\n"
 )
 FILE = "forms.pcap"
+COMPLETIONS = os.path.join(os.path.dirname(os.path.abspath(__file__)), "..", "completions")
 # How the lines of conditions begin in the help.
 CONDITIONS = ("eth, vlan, macsec, arp, ip4, ip6", "icmp, icmp6, udp, tcp, sctp", "0 to 255", "bad", "refused", "fragments", "cut", "ndp, mld")
 CONDITIONS += ("host=ADDRESS", "net=NETWORK", "src=FROM, dst=TO", "port=N", "syn, fin, rst", "vlan=N", "len=N", "frame=N")
@@ -47,20 +48,13 @@ def run(program, folder, *words, **known):
     return subprocess.run([program, *words], cwd=folder, timeout=60, check=False, **known)
 
 
-def on_terminal(program, folder, words, env=None, errors=False):
-    """What is written on a terminal: of standard output, or of standard error."""
+def on_terminal(program, folder, words, env=None):
+    """What is written on a terminal."""
     master, slave = pty.openpty()
-    ends = {"stdout": subprocess.DEVNULL if errors else slave, "stderr": slave if errors else subprocess.DEVNULL}
-    child = subprocess.Popen([program, *words], cwd=folder, stdin=subprocess.DEVNULL, env=os.environ | (env or {}), **ends)
+    known = {"stdin": subprocess.DEVNULL, "stdout": slave, "stderr": subprocess.DEVNULL, "env": os.environ | (env or {})}
+    child = subprocess.Popen([program, *words], cwd=folder, **known)
     os.close(slave)
-    written = b""
-    try:
-        while chunk := os.read(master, 65536):
-            written += chunk
-    except OSError:
-        # The terminal's other end is closed.
-        pass
-    os.close(master)
+    written = outputs.from_terminal(master)
     return child.wait(60), written.replace(b"\r\n", b"\n")
 
 
@@ -144,7 +138,10 @@ def terminals(program, folder):
         yield f"a terminal and NO_COLOR={text}", result == (0, PLAIN)
     result = on_terminal(program, folder, ["show", "--color", "never", FILE])
     yield "a terminal without colors", result == (0, PLAIN)
-    yield "how far a run is", progress(program, folder) == (0, b"\r4 of 9 MiB\r8 of 9 MiB\r\x1b[K")
+    with long_capture(folder) as name:
+        for words in (["show", name], ["json", name], ["-w", "-", name]):
+            shown = outputs.progress(program, words, folder, 1.2)
+            yield f"how far a run is: {words[0]}", re.fullmatch(rb"(\r[0-9] of 9 MiB)+\r\x1b\[K", shown) is not None
     yield "no terminal", run(program, folder, "summary", FILE).stderr == b""
 
 
@@ -156,12 +153,6 @@ def long_capture(folder):
         file.write(data + 15_000 * data[24:])
         file.flush()
         yield file.name
-
-
-def progress(program, folder):
-    """What a terminal shows of a file of 9 MiB: after each 4 MiB how many are read, and at the end nothing any more."""
-    with long_capture(folder) as name:
-        return on_terminal(program, folder, ["summary", name], errors=True)
 
 
 def takers(program, folder):
@@ -217,7 +208,23 @@ def limited(program, folder):
         yield f"an input that stays open: {words}", (status, is_known) == (0, True)
 
 
+def completed(program, folder):
+    """Bash completes the options that the help lists, of the program and of each command."""
+    with tempfile.TemporaryDirectory() as place:
+        named = os.path.join(place, "packets")
+        os.symlink(program, named)
+        subprocess.run([COMPLETIONS, place, named], check=True)
+        source = f"source {place}/bash-completion/completions/packets"
+        for words in ([], ["show"], ["json"], ["summary"]):
+            shown = run(program, folder, *words, "--help").stdout.decode()
+            listed = re.findall(r"(?m)^ +(?:-\w, )?(--[\w-]+)", shown.partition("\nOptions:\n")[2].partition("\nExamples:\n")[0])
+            typed = ["packets", *words, "--"]
+            command = f"{source}; COMP_WORDS=({' '.join(typed)}) COMP_CWORD={len(typed) - 1}; _packets packets --"
+            done = run("bash", folder, "-c", command + "; printf '%s\\n' \"${COMPREPLY[@]}\"")
+            yield f"completed: {words}", len(listed) > 8 and sorted(done.stdout.decode().split()) == sorted(listed)
+
+
 def checked(program, folder):
     """The name of each check, and whether all was well."""
-    for checks in (inputs, several, compressed, terminals, takers, growing, limited):
+    for checks in (inputs, several, compressed, terminals, takers, growing, limited, completed):
         yield from checks(program, folder)

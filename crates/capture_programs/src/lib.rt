@@ -1,6 +1,6 @@
 //! What the programs that read captures share: the arguments of each (`captures_arguments`,
 //! `packets_arguments`); their inputs, what one looks like by its first bytes; an output that may be
-//! closed; what they report on standard error; and the exit status.
+//! closed; what they report on standard error, also how much is read; and the exit status.
 #![tactic(auto)]
 
 mod arguments;
@@ -14,6 +14,7 @@ mod looks;
 mod notes;
 pub mod packets_arguments;
 mod parsing;
+mod progress;
 
 pub use closable_writer::ClosableWriter;
 pub use ending::{Subject, exit_code, failure, report_skipped, unopened};
@@ -22,3 +23,4 @@ pub use input::Input;
 pub use looks::{Look, look_at};
 pub use notes::{ReportedError, compression_note, note, opener};
 pub use parsing::{parse_failure, words};
+pub use progress::{ProgressLine, ProgressReader, len_of};

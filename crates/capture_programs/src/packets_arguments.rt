@@ -38,7 +38,7 @@ Examples:
 const EXAMPLES_OF_SHOW: &str = "\
 Examples:
   packets show --time delta x.pcap                  with the time since the packet before
-  packets show --only 'udp and port=53' x.pcap      what goes to or from name servers
+  packets show -w y.pcap --only port=53 x.pcap      a capture of what goes to or from name servers
   tcpdump -U -w - | packets show                    packets as they come";
 
 const EXAMPLES_OF_JSON: &str = "\
@@ -95,7 +95,8 @@ fn with_show<'a>(alloc: Global, command: Command<'a>) -> Result<Command<'a>, All
             "Shows hardware addresses, also of IP packets",
         )
         .short('e'))?
-        .arg(color(alloc))?;
+        .arg(color(alloc))?
+        .arg(write(alloc)?)?;
     with_input(alloc, command)
 }
 
@@ -126,6 +127,21 @@ fn color<'a>(alloc: Global) -> Arg<'a> {
         .help("When lines have colors: `auto` is on a terminal, if NO_COLOR is not set")
         .value_parser(["auto", "always", "never"].as_slice())
         .default_value("auto")
+}
+
+// The capture to be written in place of lines, as tcpdump names it.
+fn write<'a>(alloc: Global) -> Result<Arg<'a>, AllocError> {
+    Arg::new(alloc, "write")
+        .short('w')
+        .long("write")
+        .value_name("FILE")
+        .help(
+            "Writes a capture of the packets to FILE, or - for standard output, in place of lines",
+        )
+        .conflicts_with("time")?
+        .conflicts_with("utc")?
+        .conflicts_with("width")?
+        .conflicts_with("color")
 }
 
 fn json<'a>(alloc: Global) -> Result<Command<'a>, AllocError> {

@@ -36,7 +36,7 @@ encoded n fits = omega arith
 record_is : (time_unit : TimeUnit) (timed : TimedFrame) → length timed.frame ≤ FRAME_LIMIT
     → IsPacketRecord Little (record_of time_unit timed) timed.frame
 record_is time_unit timed fits = record {
-  head = record_head timed.seconds (parts_in time_unit timed.nanoseconds) (length timed.frame);
+  head = record_head timed.seconds (parts_in time_unit timed.nanoseconds) (length timed.frame) (length timed.frame);
   parts = refl;
   size = refl;
   captured = encoded (length timed.frame) (omega arith);

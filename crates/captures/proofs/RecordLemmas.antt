@@ -63,7 +63,7 @@ put_prefix out new a n m fits size same =
 -- a record's head, and the frame after it
 pub record_put : (time_unit : TimeUnit) (out out' new head : List ℕ) (used start n m : ℕ) (time : Time)
     → start ≤ length out' → length new ≡ n → m ≡ n → take start out' ≡ take used out ++ head
-    → head ≡ record_head time.seconds (parts_in time_unit time.nanoseconds) n
+    → head ≡ record_head time.seconds (parts_in time_unit time.nanoseconds) n n
     → take (start + n) (put_mid start m out' new) ≡ take used out
     ++ record_of time_unit
     (record { seconds = time.seconds; nanoseconds = time.nanoseconds; frame = new })

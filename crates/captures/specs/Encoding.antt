@@ -20,10 +20,10 @@ file_header Nanoseconds =
     0x4d ∷ 0x3c ∷ 0xb2 ∷ 0xa1 ∷ 2 ∷ 0 ∷ 4 ∷ 0 ∷ 0 ∷ 0 ∷ 0 ∷ 0 ∷ 0 ∷ 0 ∷ 0 ∷ 0 ∷ 0 ∷ 0 ∷
     4 ∷ 0 ∷ 1 ∷ 0 ∷ 0 ∷ 0 ∷ []
 
--- the time, the number of bytes that follow, and the same as the packet's own length
-abbrev pub record_head : ℕ → ℕ → ℕ → List ℕ
-record_head seconds parts len = to_le_bytes w32 seconds
-    ++ (to_le_bytes w32 parts ++ (to_le_bytes w32 len ++ to_le_bytes w32 len))
+-- the time, the number of bytes that follow, and the packet's length on the wire
+abbrev pub record_head : (seconds parts len wire_len : ℕ) → List ℕ
+record_head seconds parts len wire_len = to_le_bytes w32 seconds
+    ++ (to_le_bytes w32 parts ++ (to_le_bytes w32 len ++ to_le_bytes w32 wire_len))
 
 -- the fraction of a second in whole units of the capture, microseconds or nanoseconds
 abbrev pub parts_in : TimeUnit → ℕ → ℕ
@@ -32,7 +32,7 @@ parts_in time_unit nanoseconds = nanoseconds / nanoseconds_in time_unit
 abbrev pub record_of : TimeUnit → TimedFrame → List ℕ
 record_of time_unit timed =
     record_head timed.seconds (parts_in time_unit timed.nanoseconds) (length timed.frame)
-    ++ timed.frame
+    (length timed.frame) ++ timed.frame
 
 abbrev pub capture_of : TimeUnit → List TimedFrame → List ℕ
 capture_of time_unit frames = file_header time_unit ++ flat_map (record_of time_unit) frames

@@ -29,7 +29,7 @@ pub use link::frame::Frame;
 pub use link::header::Header;
 pub use link::kind::Link;
 pub use packet::Packet;
-pub use pcap::writer::Writer;
+pub use pcap::writer::{Writer, file_header, record_head};
 pub use position::Position;
 pub use reading::packet_reader::PacketReader;
 pub use reading::packets::Packets;

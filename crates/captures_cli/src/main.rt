@@ -4,7 +4,8 @@
 
 use capture_programs::captures_arguments::{PROGRAM, command};
 use capture_programs::{
-    ClosableWriter, Input, Subject, failure, parse_failure, report_skipped, unopened, words,
+    ClosableWriter, Input, ProgressLine, ProgressReader, Subject, failure, len_of, parse_failure,
+    report_skipped, unopened, words,
 };
 use captures::Skipped;
 use captures_program::{Mode, Requested, exit_code, make, requested_by};
@@ -35,26 +36,32 @@ fn make_of_file(rt: &HostRuntime, requested: &Requested<'_>) -> anyhow::Result<E
     };
     if subject.input == "-" {
         let input = Input::new(rt.alloc(), rt.stdin())?;
-        return Ok(make_of(rt, subject, requested.mode, input));
+        return Ok(make_of(rt, subject, requested.mode, None, input));
     }
     let file = match File::open(rt, subject.input) {
         Ok(file) => file,
         Err(error) => return Ok(unopened(rt, subject, error)),
     };
+    let len = len_of(&file);
     let input = Input::new(rt.alloc(), file)?;
-    Ok(make_of(rt, subject, requested.mode, input))
+    Ok(make_of(rt, subject, requested.mode, len, input))
 }
 
 fn make_of<R: Read + Drop>(
     rt: &HostRuntime,
     subject: Subject<'_>,
     mode: Mode,
+    len: Option<u64>,
     mut input: Input<R>,
 ) -> ExitCode {
     let look = input.look();
+    let mut progress = ProgressLine::beside_output(rt, len);
+    let mut input = ProgressReader::new(input, &mut progress);
     let mut skipped = Skipped::NONE;
     let mut output = ClosableWriter::new(rt.stdout());
     let made = make(rt.alloc(), mode, &mut input, &mut output, &mut skipped);
+    drop(input);
+    progress.end();
     if !output.is_closed() {
         report_skipped(rt, subject, skipped);
     }

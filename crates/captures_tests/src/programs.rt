@@ -2,7 +2,9 @@
 use crate::checks::{equal, equal_bytes, holds, joined, repeated};
 use crate::packet_lines::refused;
 use capture_programs::captures_arguments::{PROGRAM, command};
-use capture_programs::{Input, Look, ReportedError, Subject, look_at};
+use capture_programs::{
+    Input, Look, ProgressLine, ProgressReader, ReportedError, Subject, look_at,
+};
 use captures::{CaptureError, Extra, Position, RunError, Skipped, TimeUnit, Unfit};
 use captures_program::{Mode, exit_code, make, note, requested_by};
 use fault_devices::{Fault, FaultReader, UnflushableWriter};
@@ -452,5 +454,19 @@ fn captures_are_no_lines(rt: HostRuntime) -> Result<(), Fail> {
         let actual = message(rt.alloc(), *error, *look)?;
         equal(rt, actual.as_str(), *text);
     }
+    Ok(())
+}
+
+// A reader whose progress may be shown gives what it would give.
+#[test]
+fn progress_takes_nothing(rt: HostRuntime) -> Result<(), Fail> {
+    let mut line = ProgressLine::new(&rt, Some(6));
+    let mut text = Vec::new(rt.alloc());
+    ProgressReader::new(b"abc".as_slice(), &mut line).read_to_end(&mut text)?;
+    line.end();
+    let mut line = ProgressLine::beside_output(&rt, None);
+    ProgressReader::new(b"def".as_slice(), &mut line).read_to_end(&mut text)?;
+    line.end();
+    equal_bytes(rt, text.as_slice(), b"abcdef");
     Ok(())
 }

@@ -9,14 +9,15 @@ mod HeldLemmas
 mod KeepLemmas
 mod LaxLayersLemmas
 mod LimitLemmas
-mod LineLemmas
 mod OrderLemmas
 mod PeriodLemmas
 pub mod FragmentLemmas
 mod RateLemmas
 mod RouteLemmas
+mod RecordLemmas
 mod TableLemmas
 mod TallyLemmas
+mod TextLemmas
 mod TrackLemmas
 mod WalkLemmas
 mod WithinLemmas

@@ -31,3 +31,4 @@ pub mod Table
 pub mod Tally
 pub mod Transfers
 pub mod Written
+pub mod WrittenCaptures

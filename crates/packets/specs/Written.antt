@@ -1,4 +1,4 @@
--- The lines that are written of packets.
+-- What is written of packets: a line for each, or another text.
 use Rattle.std.specs.Prelude.{◌≡◌, ℕ, ◌==◌, not, true, List, [], ◌∷◌, ◌++◌, filter, Option, Result}
 use Rattle.std.specs.Io.KnownBytes.{Appends, Consumes}
 use Rattle.captures.specs.declared.packet.Packet.{Packet}
@@ -13,21 +13,35 @@ use Rattle.packets.specs.declared.run.rules.Rules.{Rules}
 abbrev pub one_line : List ℕ → List ℕ
 one_line text = filter (λ byte. not (byte == 10)) text ++ 10 ∷ []
 
+-- the texts of some packets, one by one, in their order, where such a text may be made of each
+abbrev pub AreTexts : (Dissection → List ℕ → Type 0) → List Dissection → List ℕ → Type 0
+AreTexts IsTextOf [] text = text ≡ []
+AreTexts IsTextOf (packet ∷ packets) text = (first : List ℕ) × (later : List ℕ)
+    × (text ≡ first ++ later) × IsTextOf packet first × AreTexts IsTextOf packets later
+
+-- the text is a line whose content may describe the packet
+abbrev pub IsLineOf : (Dissection → List ℕ → Type 0) → Dissection → List ℕ → Type 0
+IsLineOf describes packet text = (content : List ℕ) × (text ≡ one_line content) × describes packet content
+
 -- the lines of some packets, one by one, in their order, where such a text may describe each
 abbrev pub AreLines : (Dissection → List ℕ → Type 0) → List Dissection → List ℕ → Type 0
-AreLines describes [] text = text ≡ []
-AreLines describes (packet ∷ packets) text = (line : List ℕ) × (later : List ℕ)
-    × (text ≡ one_line line ++ later) × describes packet line × AreLines describes packets later
+AreLines describes packets text = AreTexts (IsLineOf describes) packets text
 
--- a run with this result read from the source, left this out, and wrote after the first bytes the
--- lines of those packets that its rules let through
-abbrev pub WritesLines : (Dissection → List ℕ → Type 0) → Rules → Omitted
+-- a run with this result read from the source, left this out, and wrote after the first bytes such a
+-- text of those packets that its rules let through
+abbrev pub Writes : (List Dissection → List ℕ → Type 0) → Rules → Omitted
     → (source first now : Option (List ℕ)) → Result Unit RunError → Type 0
-WritesLines describes rules omitted source first now result = (read : List ℕ)
+Writes IsTextOf rules omitted source first now result = (read : List ℕ)
     × (left : Option (List ℕ)) × (given : List Packet) × (reported : List Dissection)
     × Consumes source left read × EndsWithin true rules omitted.skipped left read given result
     × (omitted.dropped ≡ (course_after rules.forget (no_course rules.reassembly_memory) given).dropped)
     × AreDissected rules.checksums rules.forget (no_course rules.reassembly_memory) given reported
     × (text : List ℕ)
-    × AreLines describes (shown rules.filter reported) text × (written : List ℕ)
+    × IsTextOf (shown rules.filter reported) text × (written : List ℕ)
     × Appends first now written × IsWritten result text written
+
+-- the same of the lines of those packets
+abbrev pub WritesLines : (Dissection → List ℕ → Type 0) → Rules → Omitted
+    → (source first now : Option (List ℕ)) → Result Unit RunError → Type 0
+WritesLines describes rules omitted source first now result =
+    Writes (AreLines describes) rules omitted source first now result

@@ -54,6 +54,7 @@ pub use run::count_flows::count_flows;
 pub use run::line_writer::{LineWriter, write_lines};
 pub use run::omitted::Omitted;
 pub use run::progress::{NoProgress, Progress};
+pub use run::record_writer::{write_capture, write_records};
 pub use run::rules::Rules;
 pub use run::summarize::summarize;
 pub use run::visit_all::Ending;

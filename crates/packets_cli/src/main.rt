@@ -1,26 +1,29 @@
 //! Shows what is in a capture file: `packets [show|json|summary|flows] [FILE|-]..`.
 #![tactic(auto)]
 
-mod progress_line;
+mod capture_output;
 
-use crate::progress_line::ProgressLine;
+use crate::capture_output::CaptureOutput;
 use capture_programs::packets_arguments::PROGRAM;
 use capture_programs::{
-    ClosableWriter, Input, Look, Subject, failure, parse_failure, report_skipped, unopened, words,
+    ClosableWriter, Input, Look, ProgressLine, ProgressReader, Subject, failure, len_of,
+    parse_failure, report_skipped, unopened, words,
 };
 use captures::RunError;
 use packets::program::{
     Coloring, Output, RequestError, Requested, command, exit_code, goes_on, report_dropped,
-    requested_by, write_flows, write_flushed, write_report,
+    requested_by, write_capture_flushed, write_flows, write_flushed, write_records_flushed,
+    write_report,
 };
 use packets::{
-    Ending, Flows, JsonLines, LineWriter, Listing, Omitted, Report, Rules, ShowOptions, Style,
-    Summary, count_flows, summarize,
+    Ending, Flows, JsonLines, LineWriter, Listing, NoProgress, Omitted, Report, Rules, ShowOptions,
+    Style, Summary, count_flows, summarize,
 };
 use std::env::{self, VarError};
-use std::fs::File;
+use std::fs::{self, File, Metadata};
 use std::hash::RandomState;
-use std::io::{IsTerminal, Read, Write};
+use std::io::{self, IsTerminal, Read, Write};
+use std::os::unix::fs::MetadataExt;
 use std::process::ExitCode;
 
 fn main(rt: HostRuntime) -> ExitCode {
@@ -46,6 +49,7 @@ fn run(rt: &HostRuntime) -> anyhow::Result<ExitCode> {
 fn run_on_files(rt: &HostRuntime, requested: &Requested<'_>) -> anyhow::Result<ExitCode> {
     let mut output = ClosableWriter::new(rt.stdout());
     match &requested.output {
+        Output::Capture(name) => capture_files(rt, requested, *name),
         Output::Show(time, width, coloring, link) => {
             let lines = ShowOptions {
                 style: style_of(rt, *coloring),
@@ -134,11 +138,7 @@ fn take_file<T: Task>(rt: &HostRuntime, name: &str, task: &mut T) -> anyhow::Res
             });
         }
     };
-    let len = match file.metadata() {
-        Ok(metadata) if metadata.is_file() => Some(metadata.len()),
-        _ => None,
-    };
-    task.take(subject, len, Input::new(rt.alloc(), file)?)
+    task.take(subject, len_of(&file), Input::new(rt.alloc(), file)?)
 }
 
 // Reports how a file ended.
@@ -197,22 +197,119 @@ impl<L: LineWriter, W: Write> Task for Writing<'_, L, W> {
     fn take<R: Read + Drop>(
         &mut self,
         subject: Subject<'_>,
-        _len: Option<u64>,
+        len: Option<u64>,
         mut input: Input<R>,
     ) -> anyhow::Result<FileEnd> {
         let look = input.look();
+        let mut progress = ProgressLine::beside_output(self.rt, len);
         let mut omitted = Omitted::NOTHING;
         let result = write_flushed(
             self.rt.alloc(),
             RandomState::new(self.rt)?,
             &self.requested.rules,
             self.lines,
-            input,
+            ProgressReader::new(input, &mut progress),
             self.output,
             &mut omitted,
         );
+        progress.end();
         let ended = (result, omitted, look);
         Ok(end_of(self.rt, self.requested, subject, ended, self.output))
+    }
+}
+
+fn capture_files(
+    rt: &HostRuntime,
+    requested: &Requested<'_>,
+    name: &str,
+) -> anyhow::Result<ExitCode> {
+    if is_read(rt, name, requested.names) {
+        let reason = "the argument '--write <FILE>' names a file that is read";
+        let _ = eprintln!(rt; "error: {reason}\n\nFor more information, try '--help'.");
+        return Ok(ExitCode::from(2));
+    }
+    let mut capturing = Capturing {
+        rt,
+        requested,
+        name,
+        output: None,
+    };
+    let failed = take_files(rt, requested.names, &mut capturing)?;
+    Ok(failed.unwrap_or(ExitCode::SUCCESS))
+}
+
+// Whether the file with this name is one of those that are read, by whatever names.
+fn is_read(rt: &HostRuntime, name: &str, names: &[&str]) -> bool {
+    let Ok(output) = fs::metadata(rt, name) else {
+        return false;
+    };
+    name != "-" && output.is_file() && names.iter().any(|input| is_file(rt, *input, &output))
+}
+
+// Whether a name means this file. Standard input is none.
+fn is_file(rt: &HostRuntime, name: &str, file: &Metadata) -> bool {
+    match fs::metadata(rt, name) {
+        Ok(named) => name != "-" && (named.dev(), named.ino()) == (file.dev(), file.ino()),
+        Err(_) => false,
+    }
+}
+
+// Writes the packets of all files into one capture. It is created when the first file is open.
+#[derive(Drop)]
+struct Capturing<'a> {
+    rt: &'a HostRuntime,
+    requested: &'a Requested<'a>,
+    name: &'a str,
+    output: Option<ClosableWriter<CaptureOutput>>,
+}
+
+impl Task for Capturing<'_> {
+    fn take<R: Read + Drop>(
+        &mut self,
+        subject: Subject<'_>,
+        len: Option<u64>,
+        mut input: Input<R>,
+    ) -> anyhow::Result<FileEnd> {
+        let has_header = self.output.is_some();
+        let mut output = match self.output.take() {
+            Some(output) => output,
+            None => match CaptureOutput::create(self.rt, self.name) {
+                Ok(output) => ClosableWriter::new(output),
+                Err(error) => return Ok(uncreated(self.rt, self.name, error)),
+            },
+        };
+        let look = input.look();
+        let mut progress = if self.name == "-" {
+            ProgressLine::beside_output(self.rt, len)
+        } else {
+            ProgressLine::new(self.rt, len)
+        };
+        let input = ProgressReader::new(input, &mut progress);
+        let mut omitted = Omitted::NOTHING;
+        let state = RandomState::new(self.rt)?;
+        let (alloc, rules) = (self.rt.alloc(), &self.requested.rules);
+        let result = if has_header {
+            write_records_flushed(alloc, state, rules, input, &mut output, &mut omitted)
+        } else {
+            write_capture_flushed(alloc, state, rules, input, &mut output, &mut omitted)
+        };
+        progress.end();
+        let ended = (result, omitted, look);
+        let end = end_of(self.rt, self.requested, subject, ended, &output);
+        self.output = Some(output);
+        Ok(end)
+    }
+}
+
+// Where a capture can't be created nothing is read.
+fn uncreated(rt: &HostRuntime, name: &str, error: io::Error) -> FileEnd {
+    let subject = Subject {
+        program: PROGRAM,
+        input: name,
+    };
+    FileEnd {
+        failed: Some(unopened(rt, subject, error)),
+        goes_on: false,
     }
 }
 
@@ -224,7 +321,6 @@ trait Counts {
         rt: &HostRuntime,
         rules: &Rules,
         input: R,
-        progress: &mut ProgressLine<'_>,
     ) -> anyhow::Result<Ending>;
 
     // How many packets were counted.
@@ -251,11 +347,10 @@ impl Counts for SummaryCounts {
         rt: &HostRuntime,
         rules: &Rules,
         input: R,
-        progress: &mut ProgressLine<'_>,
     ) -> anyhow::Result<Ending> {
         let state = RandomState::new(rt)?;
         let summary = &mut self.summary;
-        Ok(summarize(rt.alloc(), state, rules, summary, input, progress))
+        Ok(summarize(rt.alloc(), state, rules, summary, input, &mut NoProgress))
     }
 
     fn packets(&self) -> u64 {
@@ -291,11 +386,10 @@ impl Counts for FlowCounts {
         rt: &HostRuntime,
         rules: &Rules,
         input: R,
-        progress: &mut ProgressLine<'_>,
     ) -> anyhow::Result<Ending> {
         let state = RandomState::new(rt)?;
         let flows = &mut self.flows;
-        Ok(count_flows(rt.alloc(), state, rules, flows, input, progress))
+        Ok(count_flows(rt.alloc(), state, rules, flows, input, &mut NoProgress))
     }
 
     fn packets(&self) -> u64 {
@@ -309,7 +403,13 @@ impl Counts for FlowCounts {
         omitted: Omitted,
         output: &mut W,
     ) -> Result<(), RunError> {
-        write_flows(rt.alloc(), &self.flows, &self.listing, omitted.skipped, output)
+        write_flows(
+            rt.alloc(),
+            &self.flows,
+            &self.listing,
+            omitted.skipped,
+            output,
+        )
     }
 }
 
@@ -382,7 +482,8 @@ impl<C: Counts, W: Write> Task for Counting<'_, C, W> {
         let look = input.look();
         let mut progress = ProgressLine::new(self.rt, len);
         let rules = &self.requested.rules;
-        let ending = self.counts.count(self.rt, rules, input, &mut progress)?;
+        let input = ProgressReader::new(input, &mut progress);
+        let ending = self.counts.count(self.rt, rules, input)?;
         progress.end();
         let omitted = Omitted {
             skipped: ending.skipped,

@@ -38,3 +38,5 @@ mod summaries;
 mod whole_captures;
 #[cfg(test)]
 mod words;
+#[cfg(test)]
+mod written_captures;

@@ -27,22 +27,9 @@ impl Header {
         HEADER_LEN
     }
 
-    /// Puts its hex digits after the first `used` bytes, and returns how many are used then.
-    #[inline(never)]
-    pub(crate) fn append_hex(self, out: &mut [u8], used: usize) -> usize
-        requires { used + 2 * length (ethernet_header self.source self.ether_type) ≤ length out.old }
-        ensures end { result ≡ used + 2 * length (ethernet_header self.source self.ether_type) }
-        ensures text { take result out.new ≡ take used out.old
-            ++ encode_lower (ethernet_header self.source self.ether_type) }
-    {
-        let mut digits = [0; 2 * BLOCK_LEN];
-        digits::encode(&self.block(), &mut digits);
-        append(out, used, &digits[..2 * HEADER_LEN])
-    }
-
-    // Its bytes, and zeros after them: a block is encoded at once.
-    fn block(&self) -> [u8; BLOCK_LEN]
-        ensures { result ≡ ethernet_header self.now.source self.now.ether_type ++ 0 ∷ 0 ∷ [] }
+    /// Its bytes: a destination of zeros, the source and the ether type.
+    pub fn to_bytes(&self) -> [u8; 14]
+        ensures { result ≡ ethernet_header self.now.source self.now.ether_type }
     {
         let source = &self.source;
         let ether_type = self.ether_type.to_be_bytes();
@@ -61,8 +48,27 @@ impl Header {
             source[5],
             ether_type[0],
             ether_type[1],
-            0,
-            0,
         ]
+    }
+
+    /// Puts its hex digits after the first `used` bytes, and returns how many are used then.
+    #[inline(never)]
+    pub(crate) fn append_hex(self, out: &mut [u8], used: usize) -> usize
+        requires { used + 2 * length (ethernet_header self.source self.ether_type) ≤ length out.old }
+        ensures end { result ≡ used + 2 * length (ethernet_header self.source self.ether_type) }
+        ensures text { take result out.new ≡ take used out.old
+            ++ encode_lower (ethernet_header self.source self.ether_type) }
+    {
+        let mut digits = [0; 2 * BLOCK_LEN];
+        digits::encode(&self.block(), &mut digits);
+        append(out, used, &digits[..2 * HEADER_LEN])
+    }
+
+    // Its bytes, and zeros after them: a block is encoded at once.
+    fn block(&self) -> [u8; BLOCK_LEN]
+        ensures { result ≡ ethernet_header self.now.source self.now.ether_type ++ 0 ∷ 0 ∷ [] }
+    {
+        let [a, b, c, d, e, f, g, h, i, j, k, l, m, n] = self.to_bytes();
+        [a, b, c, d, e, f, g, h, i, j, k, l, m, n, 0, 0]
     }
 }

@@ -10,7 +10,7 @@ use device_runs::{Device, write_whole};
 
 /// The file header: low byte first, with times in this unit: version 2.4, a snap length of 262,144,
 /// Ethernet.
-pub(crate) fn file_header(time_unit: TimeUnit) -> [u8; 24]
+pub fn file_header(time_unit: TimeUnit) -> [u8; 24]
     ensures { result ≡ file_header time_unit }
 {
     match time_unit {
@@ -51,22 +51,25 @@ impl<D: Device> Writer<D> {
     ) -> Result<(), RunError>
         requires { length frame.now ≤ FRAME_LIMIT }
         ensures { Delivers D.transition self.old.device
-            (record_head seconds microseconds (length frame.now) ++ frame.now)
+            (record_head seconds microseconds (length frame.now) (length frame.now) ++ frame.now)
             (ending_of result) self.new.device }
     {
-        let head = record_head(seconds, microseconds, frame.len() as u32);
+        let len = frame.len() as u32;
+        let head = record_head(seconds, microseconds, len, len);
         write_whole(&mut self.device, &head)?;
         write_whole(&mut self.device, frame)?;
         Ok(())
     }
 }
 
-/// The head of a packet record, for a frame of `len` bytes that was captured whole.
-pub(crate) fn record_head(seconds: u32, parts: u32, len: u32) -> [u8; 16]
-    ensures { result ≡ record_head seconds parts len }
+/// The head of a packet record, low byte first: the time, in seconds since 1970 and in whole units of
+/// the capture, for a frame of which `len` bytes follow and that had `wire_len` bytes on the wire.
+pub fn record_head(seconds: u32, parts: u32, len: u32, wire_len: u32) -> [u8; 16]
+    ensures { result ≡ record_head seconds parts len wire_len }
 {
     let [a, b, c, d] = seconds.to_le_bytes();
     let [e, f, g, h] = parts.to_le_bytes();
     let [i, j, k, l] = len.to_le_bytes();
-    [a, b, c, d, e, f, g, h, i, j, k, l, i, j, k, l]
+    let [m, n, o, p] = wire_len.to_le_bytes();
+    [a, b, c, d, e, f, g, h, i, j, k, l, m, n, o, p]
 }

@@ -79,7 +79,7 @@ fn append_record(time_unit: TimeUnit, out: &mut [u8], used: usize, line: &[u8]) 
         return None;
     }
     let parts = line.time.nanoseconds / time_unit.nanoseconds();
-    let head = record_head(line.time.seconds, parts, len as u32);
+    let head = record_head(line.time.seconds, parts, len as u32, len as u32);
     let start = append(out, used, &head);
     let end = start + len;
     if digits::decode(line.digits, &mut out[start..end]) {

@@ -3,9 +3,11 @@ ghost use Rattle.std.specs.Prelude.{Result};
 ghost use Rattle.device_runs.specs.Endings.{EndsFlushed};
 ghost use Rattle.captures.specs.declared.translation.run_error.RunError.{RunError};
 ghost use Rattle.packets.specs.Written.{WritesLines};
+ghost use Rattle.packets.specs.WrittenCaptures.{WritesCapture, WritesRecords};
 
 use crate::{
-    FlowObject, FlowTable, Flows, LineWriter, Listing, Omitted, Report, Rules, write_lines,
+    FlowObject, FlowTable, Flows, LineWriter, Listing, Omitted, Report, Rules, write_capture,
+    write_lines, write_records,
 };
 use captures::{RunError, Skipped};
 use device_runs::flush_after;
@@ -30,6 +32,40 @@ pub fn write_flushed<R: Read + Drop, W: Write, L: LineWriter, S: BuildHasher + D
 {
     let written = write_lines(alloc, state, rules, lines, reader, writer, omitted);
     flush_after(writer, written, RunError::Write)
+}
+
+/// [`write_capture`], and a flush after it, as [`write_flushed`].
+pub fn write_capture_flushed<R: Read + Drop, W: Write, S: BuildHasher + Drop>(
+    alloc: Global,
+    state: S,
+    rules: &Rules,
+    reader: R,
+    writer: &mut W,
+    omitted: &mut Omitted,
+) -> Result<(), RunError>
+    ensures { (done : Result Unit RunError) × EndsFlushed RunError.Write done result
+        × WritesCapture rules.now omitted.new (R.remaining reader)
+        (W.contents writer.old) (W.contents writer.new) done }
+{
+    let ended = write_capture(alloc, state, rules, reader, writer, omitted);
+    flush_after(writer, ended, RunError::Write)
+}
+
+/// [`write_records`], and a flush after it, as [`write_flushed`].
+pub fn write_records_flushed<R: Read + Drop, W: Write, S: BuildHasher + Drop>(
+    alloc: Global,
+    state: S,
+    rules: &Rules,
+    reader: R,
+    writer: &mut W,
+    omitted: &mut Omitted,
+) -> Result<(), RunError>
+    ensures { (done : Result Unit RunError) × EndsFlushed RunError.Write done result
+        × WritesRecords rules.now omitted.new (R.remaining reader)
+        (W.contents writer.old) (W.contents writer.new) done }
+{
+    let ended = write_records(alloc, state, rules, reader, writer, omitted);
+    flush_after(writer, ended, RunError::Write)
 }
 
 /// Writes the report on a capture at its end. It has no contract: tests compare the texts.

@@ -11,7 +11,7 @@ const STANDARD_INPUT: &[&str] = &["-"];
 #[derive(Drop)]
 pub struct Requested<'m> {
     /// What is written.
-    pub output: Output,
+    pub output: Output<'m>,
     /// Of which packets, and what becomes of the others and of reassemblies.
     pub rules: Rules,
     /// The files' names in their order, `-` for standard input. There is one at least.
@@ -48,10 +48,12 @@ pub enum SizeError {
 
 /// What is written of a capture.
 #[derive(Debug, Drop)]
-pub enum Output {
+pub enum Output<'m> {
     /// A line for each packet, with such times, cut to so many columns, in colours, and with hardware
     /// addresses or without.
     Show(TimeForm, Option<usize>, Coloring, bool),
+    /// A capture of the packets, into the file with this name, `-` for standard output.
+    Capture(&'m str),
     /// A JSON object for each packet, with the bytes of its payload or without.
     Json(bool),
     /// What is in it, counted.
@@ -60,11 +62,11 @@ pub enum Output {
     Flows(Listing),
 }
 
-impl Output {
+impl Output<'_> {
     /// The command that requests it. It has no contract: tests compare the texts.
     pub fn command(&self) -> &'static str {
         match self {
-            Output::Show(_, _, _, _) => "show",
+            Output::Show(_, _, _, _) | Output::Capture(_) => "show",
             Output::Json(_) => "json",
             Output::Summary => "summary",
             Output::Flows(_) => "flows",
@@ -126,13 +128,16 @@ fn names<'m>(words: &'m ArgMatches) -> &'m [&'m str] {
     words.get_strs(argument).unwrap_or(STANDARD_INPUT)
 }
 
-fn show(words: &ArgMatches) -> Output {
-    Output::Show(
-        time_form(words),
-        width(words),
-        when_colored(words),
-        words.get_flag("link"),
-    )
+fn show<'m>(words: &'m ArgMatches) -> Output<'m> {
+    match words.get_str("write") {
+        Some(name) => Output::Capture(name),
+        None => Output::Show(
+            time_form(words),
+            width(words),
+            when_colored(words),
+            words.get_flag("link"),
+        ),
+    }
 }
 
 fn listing(words: &ArgMatches) -> Listing {

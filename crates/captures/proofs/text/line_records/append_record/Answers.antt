@@ -35,6 +35,6 @@ returns-then-decode-clause-record c =
       record_put c.args.time_unit c.args.out.now c.append-start.new.out c.decode.new.bytes c.record_head-head.result
           c.args.used c.append-start.result n _ time (search rules) found.1 (omega arith)
           c.append-start.ensures.text
-          (c.record_head-head.ensures ∙ ap (λ (k : ℕ). record_head time.seconds k n)
+          (c.record_head-head.ensures ∙ ap (λ (k : ℕ). record_head time.seconds k n n)
           (search rules)),
     )

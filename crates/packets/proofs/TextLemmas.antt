@@ -1,4 +1,4 @@
--- Lines of packets: one line more, and what is written of them.
+-- Texts of packets: one text more, and what is written of them.
 use Rattle.std.proofs.Common.{◌≡◌, ◌∙◌, sym, ap, refl, subst, ℕ, true, List, [], ◌∷◌, ◌++◌, append-nil, append_assoc}
 use Rattle.std.proofs.Common.{Option, Result, Ok, Err, MatchResult, if◌then◌else◌, is_ok}
 use Rattle.std.specs.Io.KnownBytes.{Appends, Keeps}
@@ -6,7 +6,7 @@ use Rattle.std.proofs.KnownBytes.{Appends-kept, Appends-trans}
 use Rattle.captures.specs.declared.translation.run_error.RunError.{RunError}
 use Rattle.packets.specs.declared.run.omitted.Omitted.{Omitted}
 use Rattle.packets.specs.PacketRuns.{BreaksBy, IsWritten, Unbroken}
-use Rattle.packets.specs.Written.{AreLines, WritesLines, one_line}
+use Rattle.packets.specs.Written.{AreTexts, Writes}
 use Rattle.packets.specs.declared.dissection.Dissection.{Dissection}
 use Rattle.packets.specs.declared.run.rules.Rules.{Rules}
 use Rattle.packets.proofs.EndLemmas.{broken, either_way, weaker_break, weaker_match}
@@ -22,46 +22,45 @@ prefix_of_nothing : (bytes prefix rest : List ℕ) → bytes ≡ prefix ++ rest 
 prefix_of_nothing bytes [] rest whole none = refl
 prefix_of_nothing bytes (x ∷ prefix) rest whole none = absurd (cc)
 
-module _ (describes : Dissection → List ℕ → Type 0) where
-  pub lines_more : (seen : List Dissection) (text : List ℕ) (packet : Dissection) (line : List ℕ)
-      → AreLines describes seen text → describes packet line
-      → AreLines describes (seen ++ packet ∷ []) (text ++ one_line line)
-  lines_more [] text packet line are reported = (
-    line,
+module _ (IsTextOf : Dissection → List ℕ → Type 0) where
+  pub texts_more : (seen : List Dissection) (text : List ℕ) (packet : Dissection) (more : List ℕ)
+      → AreTexts IsTextOf seen text → IsTextOf packet more
+      → AreTexts IsTextOf (seen ++ packet ∷ []) (text ++ more)
+  texts_more [] text packet more are made = (
+    more,
     [],
-    ap (λ (l : List ℕ). l ++ one_line line) are ∙ sym (append-nil (one_line line)),
-    reported,
+    ap (λ (l : List ℕ). l ++ more) are ∙ sym (append-nil more),
+    made,
     refl,
   )
-  lines_more (first ∷ later) text packet line are reported = (
+  texts_more (first ∷ later) text packet more are made = (
     are.0,
-    are.1 ++ one_line line,
-    ap (λ (l : List ℕ). l ++ one_line line) are.2
-        ∙ append_assoc (one_line are.0) are.1 (one_line line),
+    are.1 ++ more,
+    ap (λ (l : List ℕ). l ++ more) are.2 ∙ append_assoc are.0 are.1 more,
     are.3,
-    lines_more later are.1 packet line are.4 reported,
+    texts_more later are.1 packet more are.4 made,
   )
 
-  -- these lines are written, and those that wait
+  -- these texts are written, and those that wait
   abbrev pub Wait : (first now : Option (List ℕ)) → List Dissection → (waiting : List ℕ) → Type 0
   Wait first now seen waiting = (written : List ℕ) × Appends first now written
-      × AreLines describes seen (written ++ waiting)
+      × AreTexts IsTextOf seen (written ++ waiting)
 
-  -- a prefix of these lines is written
+  -- a prefix of these texts is written
   abbrev pub Break : (first now : Option (List ℕ)) → List Dissection → Type 0
   Break first now seen = (written : List ℕ) × (rest : List ℕ) × Appends first now written
-      × AreLines describes seen (written ++ rest)
+      × AreTexts IsTextOf seen (written ++ rest)
 
   -- what a write of a text does, with this result
-  abbrev pub Writes : (old new : Option (List ℕ)) → List ℕ → Result Unit RunError → Type 0
-  Writes old new text result = MatchResult result (λ _. Appends old new text)
+  abbrev pub WriteResult : (old new : Option (List ℕ)) → List ℕ → Result Unit RunError → Type 0
+  WriteResult old new text result = MatchResult result (λ _. Appends old new text)
       (λ error. BreaksBy true error ((prefix : List ℕ) × (rest : List ℕ) × Appends old new prefix
       × (text ≡ prefix ++ rest)))
 
-  -- the lines that waited are written
+  -- the texts that waited are written
   pub written_out : (result : Result Unit RunError) (first old new : Option (List ℕ))
       (seen : List Dissection) (out left : List ℕ) → left ≡ [] → Wait first old seen out
-      → Writes old new out result
+      → WriteResult old new out result
       → MatchResult result (λ _. Wait first new seen left)
       (λ error. BreaksBy true error (Break first new seen))
   written_out result first old new seen out left none waits = weaker_match result
@@ -69,20 +68,20 @@ module _ (describes : Dissection → List ℕ → Type 0) where
       (λ all. (
         waits.0 ++ out,
         Appends-trans first old new waits.0 out waits.1 all,
-        subst (AreLines describes seen) (sym (ap (λ (l : List ℕ). (waits.0 ++ out) ++ l) none
+        subst (AreTexts IsTextOf seen) (sym (ap (λ (l : List ℕ). (waits.0 ++ out) ++ l) none
             ∙ append-nil (waits.0 ++ out))) waits.2,
       ))
       (λ error. weaker_break true error _ (Break first new seen) (λ part. (
         waits.0 ++ part.0,
         part.1,
         Appends-trans first old new waits.0 part.0 waits.1 part.2,
-        subst (AreLines describes seen) (ap (λ (l : List ℕ). waits.0 ++ l) part.3
+        subst (AreTexts IsTextOf seen) (ap (λ (l : List ℕ). waits.0 ++ l) part.3
             ∙ sym (append_assoc waits.0 part.0 part.1)) waits.2,
       )))
 
-  -- what a run with this result wrote of the lines of these packets
+  -- what a run with this result wrote of the texts of these packets
   abbrev pub CallResult : (first now : Option (List ℕ)) → List Dissection → Result Unit RunError → Type 0
-  CallResult first now seen result = (text : List ℕ) × AreLines describes seen text
+  CallResult first now seen result = (text : List ℕ) × AreTexts IsTextOf seen text
       × (written : List ℕ) × Appends first now written × IsWritten result text written
 
   -- a run ended, and what waited is written
@@ -144,22 +143,23 @@ module _ (describes : Dissection → List ℕ → Type 0) where
         ),
       ))
 
-  -- the same after a flush
-  pub lines_flushed : (rules : Rules) (omitted : Omitted) (source first mid now : Option (List ℕ))
-      (result : Result Unit RunError) → WritesLines describes rules omitted source first mid result
-      → Keeps mid now → WritesLines describes rules omitted source first now result
-  lines_flushed rules omitted source first mid now result lines keeps = (
-    lines.0,
-    lines.1,
-    lines.2,
-    lines.3,
-    lines.4,
-    lines.5,
-    lines.6,
-    lines.7,
-    lines.8,
-    lines.9,
-    lines.10,
-    Appends-kept first mid now lines.10 lines.11 keeps,
-    lines.12,
-  )
+-- the same after a flush
+pub flushed : (IsTextOf : List Dissection → List ℕ → Type 0) (rules : Rules) (omitted : Omitted)
+    (source first mid now : Option (List ℕ)) (result : Result Unit RunError)
+    → Writes IsTextOf rules omitted source first mid result → Keeps mid now
+    → Writes IsTextOf rules omitted source first now result
+flushed IsTextOf rules omitted source first mid now result writes keeps = (
+  writes.0,
+  writes.1,
+  writes.2,
+  writes.3,
+  writes.4,
+  writes.5,
+  writes.6,
+  writes.7,
+  writes.8,
+  writes.9,
+  writes.10,
+  Appends-kept first mid now writes.10 writes.11 keeps,
+  writes.12,
+)

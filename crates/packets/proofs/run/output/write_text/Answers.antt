@@ -4,7 +4,7 @@ use Rattle.std.specs.contracts.io.impls.EmptyRead.TheImpl.{ghosts}
 use Rattle.packets.specs.PacketRuns.{BreaksBy}
 use Rattle.packets.proofs.EndLemmas.{weaker_break}
 use Rattle.packets.proofs.WriteLemmas.{stops_appends, written_appends}
-use Rattle.packets.proofs.run.line_writer.write_text.Goals as goal
+use Rattle.packets.proofs.run.output.write_text.Goals as goal
 
 pub returns-in-Ok : goal.returns-in-Ok
 returns-in-Ok g c =

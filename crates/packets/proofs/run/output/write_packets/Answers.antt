@@ -4,12 +4,12 @@ use Rattle.std.specs.Io.KnownBytes.{Consumes}
 use Rattle.captures.specs.Readers.{source_of}
 use Rattle.packets.specs.Courses.{shown}
 use Rattle.packets.specs.PacketRuns.{EndsWithin}
-use Rattle.packets.specs.Written.{WritesLines}
+use Rattle.packets.specs.Written.{AreTexts, Writes}
 use Rattle.packets.specs.declared.run.omitted.Omitted.{Omitted}
 use Rattle.packets.proofs.EndLemmas.{either_way, nothing_first, weaker_unbroken}
 use Rattle.packets.proofs.LimitLemmas.{breaks_within, none_fewer}
-use Rattle.packets.proofs.LineLemmas.{Break, Wait, ended_broken, ended_whole}
-use Rattle.packets.proofs.run.line_writer.write_lines.Goals as goal
+use Rattle.packets.proofs.TextLemmas.{Break, Wait, ended_broken, ended_whole}
+use Rattle.packets.proofs.run.output.write_packets.Goals as goal
 
 pub returns-in_default : goal.returns-in_default
 returns-in_default g c = (
@@ -31,7 +31,7 @@ returns-in_default g c = (
 pub returns-in-Ok-written : goal.returns-in-Ok-written
 returns-in-Ok-written g c =
     let rules = c.args.rules.now in
-    let describes = g.L.LineWriter.describes c.args.lines.now in
+    let IsTextOf = g.P.PacketWriter.writes c.args.packet_writer.now in
     let result = c.walk-result.result in
     let walked = c.walk-result.ensures in
     let source = g.R.Read.remaining c.args.reader in
@@ -44,13 +44,13 @@ returns-in-Ok-written g c =
     let writer = c.write_out-written.ensures.name ∙ either_way result _ _
     (output.writer.ghost_name ≡ _) walked.6 (λ held here. held.0)
     (λ held here. held.0) in
-    let reported = ended_whole describes result first mid
+    let reported = ended_whole IsTextOf result first mid
     (g.W.Write.contents c.write_out-written.new.self.writer.now) seen output.texts.waiting.items
-    (weaker_unbroken result _ _ (Wait describes first mid seen output.texts.waiting.items)
-    ((output.texts.waiting.items ≡ []) × Break describes first mid seen)
+    (weaker_unbroken result _ _ (Wait IsTextOf first mid seen output.texts.waiting.items)
+    ((output.texts.waiting.items ≡ []) × Break IsTextOf first mid seen)
     (λ held. (held.2, held.3, held.4)) (λ held. (held.1, (held.2, held.3, held.4, held.5))) walked.6)
     c.in-Ok-written.ensures.written in
-    subst (λ writer. WritesLines describes rules omitted
+    subst (λ writer. Writes (AreTexts IsTextOf) rules omitted
     source first (g.W.Write.contents writer) result) (sym (c.writer-1.given.1 (sym writer))) (
       walked.0,
       left,
@@ -72,7 +72,7 @@ returns-in-Ok-written g c =
 pub returns : goal.returns
 returns g c =
     let rules = c.args.rules.now in
-    let describes = g.L.LineWriter.describes c.args.lines.now in
+    let IsTextOf = g.P.PacketWriter.writes c.args.packet_writer.now in
     let result = c.walk-result.result in
     let walked = c.walk-result.ensures in
     let source = g.R.Read.remaining c.args.reader in
@@ -85,13 +85,13 @@ returns g c =
     let omitted : Omitted = record { skipped = c.skipped.result; dropped = c.dropped.result } in
     let writer = c.write_out-written.ensures.name ∙ either_way result _ _
     (output.writer.ghost_name ≡ _) walked.6 (λ held here. held.0) (λ held here. held.0) in
-    let reported = ended_broken describes result c.in-Err.error first mid
+    let reported = ended_broken IsTextOf result c.in-Err.error first mid
     (g.W.Write.contents c.write_out-written.new.self.writer.now) seen output.texts.waiting.items
-    (weaker_unbroken result _ _ (Wait describes first mid seen output.texts.waiting.items)
-    ((output.texts.waiting.items ≡ []) × Break describes first mid seen)
+    (weaker_unbroken result _ _ (Wait IsTextOf first mid seen output.texts.waiting.items)
+    ((output.texts.waiting.items ≡ []) × Break IsTextOf first mid seen)
     (λ held. (held.2, held.3, held.4)) (λ held. (held.1, (held.2, held.3, held.4, held.5))) walked.6)
     by in
-    subst (λ writer. WritesLines describes rules omitted
+    subst (λ writer. Writes (AreTexts IsTextOf) rules omitted
     source first (g.W.Write.contents writer) (Err c.in-Err.error))
     (sym (c.writer-1.given.1 (sym writer))) (
       walked.0,
