@@ -8,7 +8,6 @@ use crate::run::omitted::Omitted;
 use crate::run::output::{PacketWriter, write_packets, write_text};
 use crate::run::rules::Rules;
 use captures::{RunError, TimeUnit, file_header, record_head};
-use ep_link::Ethernet2Header;
 use std::alloc::{AllocError, Global};
 use std::hash::BuildHasher;
 use std::io::{Read, Write};
@@ -90,8 +89,8 @@ fn frame_len(packet: &Dissection<'_>) -> usize
     ensures { result ≡ length (frame_of packet.now) }
 {
     let bytes = packet.bytes.bytes();
-    match packet.header {
-        Some(_) => Ethernet2Header::LEN + bytes.len(),
+    match &packet.header {
+        Some(header) => header.to_bytes().len() + bytes.len(),
         None => bytes.len(),
     }
 }
