@@ -1,6 +1,6 @@
 -- What a buffer shows, and with one more segment.
-use Rattle.std.proofs.Common.{◌≡◌, ℕ, zero, suc, ◌+◌, ◌-◌, ◌<◌, ◌≤◌, ◌^◌, ◌↔◌, ◌⊎◌, inl, inr, Bool, true, false, cond, not, ◌&&◌, ◌||◌}
-use Rattle.std.proofs.Common.{Option, Some, None, List, [], ◌∷◌, ◌++◌, length, take, drop, get_or, max, arith, refl, sym, ap, ◌∙◌, subst}
+use Rattle.std.proofs.Common.{◌≡◌, ℕ, ◌+◌, ◌-◌, ◌<◌, ◌≤◌, ◌^◌, ◌↔◌, inl, inr, Bool, true, false, cond, not}
+use Rattle.std.proofs.Common.{Option, Some, None, List, [], ◌∷◌, ◌++◌, length, drop, get_or, arith, refl, sym, ap, ◌∙◌}
 use Rattle.std.proofs.lemmas.Bool.{cases_lt}
 use Rattle.std.proofs.lemmas.Bool.Decides.{nat_tests}
 use Rattle.std.proofs.lemmas.List.{length-take, get_or-take}
@@ -14,16 +14,16 @@ use Rattle.tcp_streams.specs.declared.sequence_numbers.Distance.TheVariants.{Aft
 use Rattle.tcp_streams.specs.declared.stream_buf.Added.{Added}
 use Rattle.tcp_streams.specs.declared.stream_buf.Location.{Location}
 use Rattle.tcp_streams.specs.Gaps.{AreGapsIn, first_gap, is_missing}
-use Rattle.tcp_streams.specs.Placing.{Segment, next_after, next_position, placed, placed_at, distance_from, start_number}
+use Rattle.tcp_streams.specs.Placing.{Segment, next_position, placed, placed_at, distance_from, start_number}
 use Rattle.tcp_streams.specs.Refusals.{fin_refusal, refusal_by, refusal_of, window_end}
-use Rattle.tcp_streams.specs.Segments.{Placed, end_of, byte_from, byte_at, last_end, bytes_from, text_of, fin_of, is_reset}
+use Rattle.tcp_streams.specs.Segments.{Placed, end_of, byte_at, bytes_from, text_of, fin_of}
 use Rattle.tcp_streams.specs.Segments.{clashes, conflicts_with, conflicts_of, differs}
-use Rattle.tcp_streams.specs.SparseBytes.{Sparse, sparse, IsSparse, AddsBytes, byte_in, held_end, available_end, counted}
+use Rattle.tcp_streams.specs.SparseBytes.{Sparse, sparse, IsSparse, byte_in, held_end, available_end, counted}
 use Rattle.tcp_streams.specs.StreamBuf.{Contents, Shows, IsSound, IsFirstGap, IsLocated, IsAdded, AnswersAdd, Accepts, available_in, next_in, placed_in, refusal_in}
 use Rattle.tcp_streams.proofs.SegmentLemmas.{byte_at-push, last_end-push, fin_of-push, is_reset-push, conflicts_after-push}
 use Rattle.tcp_streams.proofs.SegmentLemmas.{byte_from-is, byte_from-none, bytes_from-is, drop-bytes_from, length-bytes_from, byte_at-past, clashes_same}
 use Rattle.tcp_streams.proofs.GapLemmas.{gaps_end}
-use Rattle.tcp_streams.proofs.SparseLemmas.{available_bounds, consumed_byte, consumed_end, not_missing_before, first_missing, first_gap-missing, first_gap-bounds}
+use Rattle.tcp_streams.proofs.SparseLemmas.{available_bounds, consumed_byte, consumed_end, not_missing_before, first_missing, first_gap-missing}
 
 -- ---- the bytes that are available
 

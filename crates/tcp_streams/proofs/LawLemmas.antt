@@ -1,14 +1,14 @@
 -- What holds of all lists of segments.
-use Rattle.std.proofs.Common.{◌≡◌, ℕ, zero, suc, ◌+◌, ◌-◌, ◌<◌, ◌≤◌, ◌⊎◌, inl, inr, Bool, true, false, cond, not, ◌&&◌, ◌||◌}
-use Rattle.std.proofs.Common.{Option, Some, None, List, [], ◌∷◌, ◌++◌, length, take, drop, get_or, min, max, ltb, leb, arith, refl}
+use Rattle.std.proofs.Common.{◌≡◌, ℕ, zero, suc, ◌+◌, ◌-◌, ◌<◌, ◌≤◌, ◌⊎◌, inl, inr, Bool, true, false, cond}
+use Rattle.std.proofs.Common.{Option, Some, None, List, [], ◌∷◌, ◌++◌, length, take, drop, get_or, max, arith, refl}
 use Rattle.std.proofs.Common.{ap, sym, ◌∙◌, add-one, drop-cons}
 use Rattle.std.proofs.lemmas.Bool.{cases_lt}
 use Rattle.std.proofs.lemmas.Bool.Decides.{nat_tests}
-use Rattle.std.proofs.lemmas.List.{append-nil, append_assoc}
+use Rattle.std.proofs.lemmas.List.{append_assoc}
 use Rattle.std.specs.Prelude.{Contains, ◌==◌}
 use Rattle.std.specs.Option.{option_or}
 use Rattle.std.specs.List.{AllByRecursion}
-use Rattle.tcp_streams.specs.Segments.{Placed, end_of, is_empty, byte_from, byte_at, last_end, bytes_from, text_of, differs}
+use Rattle.tcp_streams.specs.Segments.{Placed, end_of, byte_from, byte_at, last_end, bytes_from, differs}
 use Rattle.tcp_streams.specs.Segments.{clashes, conflicts_with, conflicts_after, conflicts_of}
 use Rattle.tcp_streams.specs.Laws.{IsPartOf, is_covered, OneTextHasNoConflict, OneTextGivesPrefix, OneTextGivesAll, TextStays}
 use Rattle.tcp_streams.specs.Laws.{OrderDoesNotMatter}

@@ -1,23 +1,22 @@
 -- Lists of segments, and one more of them.
-use Rattle.std.proofs.Common.{◌≡◌, ℕ, zero, suc, ◌+◌, ◌-◌, ◌<◌, ◌≤◌, Bool, true, false, cond, List, [], ◌∷◌, ◌++◌, length}
-use Rattle.std.proofs.Common.{take, drop, get_or, min, max, ltb, leb, not, ◌&&◌, ◌||◌, Option, Some, None, arith, refl, ap, sym, ◌∙◌}
+use Rattle.std.proofs.Common.{◌≡◌, ℕ, zero, suc, ◌+◌, ◌-◌, ◌<◌, ◌≤◌, false, cond, List, [], ◌∷◌, ◌++◌, length}
+use Rattle.std.proofs.Common.{drop, get_or, max, ◌||◌, Option, Some, None, arith, refl, ap, ◌∙◌}
 use Rattle.std.proofs.lemmas.Bool.Decides.{nat_tests}
 use Rattle.std.proofs.lemmas.List.{append_assoc, append-nil}
 use Rattle.std.specs.Prelude.{IsSome}
 use Rattle.std.specs.Option.{option_or}
-use Rattle.tcp_streams.specs.Segments.{Placed, end_of, is_empty, byte_from, byte_at, last_end, with_byte, bytes_from}
-use Rattle.tcp_streams.specs.Segments.{text_of, fin_of, is_reset, differs, clashes, conflicts_with, conflicts_after}
-use Rattle.tcp_streams.specs.Segments.{conflicts_of}
+use Rattle.tcp_streams.specs.Segments.{Placed, end_of, is_empty, byte_from, byte_at, last_end, bytes_from}
+use Rattle.tcp_streams.specs.Segments.{fin_of, is_reset, differs, clashes, conflicts_with, conflicts_after}
 
 -- ---- one more segment
 
-pub option_or-none : {X : Type 0} (a : Option X) → option_or a None ≡ a
-option_or-none None = refl
-option_or-none (Some x) = refl
+pub nothing_after : {X : Type 0} (a : Option X) → option_or a None ≡ a
+nothing_after None = refl
+nothing_after (Some x) = refl
 
 pub byte_at-push : (ss : List Placed) (s : Placed) (p : ℕ)
     → byte_at (ss ++ s ∷ []) p ≡ option_or (byte_at ss p) (byte_from s.position s.bytes p)
-byte_at-push [] s p = option_or-none (byte_from s.position s.bytes p)
+byte_at-push [] s p = nothing_after (byte_from s.position s.bytes p)
 byte_at-push (t ∷ ss) s p = grind (arith, byte_at-push ss s p)
 
 pub last_end-push : (ss : List Placed) (s : Placed)

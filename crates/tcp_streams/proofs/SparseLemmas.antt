@@ -1,7 +1,7 @@
 -- Bytes of which some are missing, and more of them.
-use Rattle.std.proofs.Common.{◌≡◌, ℕ, zero, suc, ◌+◌, ◌-◌, ◌^◌, ◌<◌, ◌≤◌, Bool, true, false, cond, List, [], ◌∷◌, ◌++◌, length}
-use Rattle.std.proofs.Common.{take, drop, get_or, min, max, ltb, leb, not, ◌&&◌, ◌||◌, Option, Some, None, arith, refl, ap, sym, ◌∙◌}
-use Rattle.std.proofs.Common.{replicate, subst}
+use Rattle.std.proofs.Common.{◌≡◌, ℕ, ◌+◌, ◌-◌, ◌^◌, ◌<◌, ◌≤◌, Bool, true, false, cond, List, [], ◌∷◌, ◌++◌, length}
+use Rattle.std.proofs.Common.{take, drop, get_or, min, max, ltb, leb, not, ◌&&◌, Option, Some, None, arith, refl, ap, sym}
+use Rattle.std.proofs.Common.{replicate}
 use Rattle.std.proofs.Common.{◌⊎◌, inl, inr}
 use Rattle.std.proofs.lemmas.Bool.{cases_lt}
 use Rattle.std.proofs.lemmas.Bool.Decides.{nat_tests}
@@ -10,10 +10,10 @@ use Rattle.std.proofs.lemmas.List.{length-append, length-take, length-drop, leng
 use Rattle.std.specs.Option.{option_or}
 use Rattle.std.specs.Prelude.{◌==◌}
 use Rattle.tcp_streams.specs.declared.gaps.Gap.{Gap}
-use Rattle.tcp_streams.specs.Gaps.{is_in, is_missing, AreGapsIn, Reaches, first_gap, without}
+use Rattle.tcp_streams.specs.Gaps.{is_missing, AreGapsIn, Reaches, first_gap, without}
 use Rattle.tcp_streams.specs.Segments.{byte_from, differs, clashes}
-use Rattle.tcp_streams.specs.SparseBytes.{Sparse, sparse, IsSparse, held_end, byte_in, available_end, end_with, AddsBytes, Fills, counted}
-use Rattle.tcp_streams.proofs.SegmentLemmas.{byte_from-here, byte_from-is, byte_from-none, option_or-none, clashes_same, clashes_none, clashes-push}
+use Rattle.tcp_streams.specs.SparseBytes.{Sparse, sparse, IsSparse, held_end, byte_in, available_end, end_with, AddsBytes, Fills}
+use Rattle.tcp_streams.proofs.SegmentLemmas.{byte_from-here, byte_from-is, byte_from-none, nothing_after, clashes_same, clashes_none, clashes-push}
 use Rattle.tcp_streams.proofs.GapLemmas.{is_missing-append, is_missing-without, gaps_weaker, gaps_end, gaps_push, without_end, without_ordered}
 
 -- ---- what isn't missing
@@ -117,7 +117,7 @@ pub adds_none : (old : Sparse) (position : ℕ) → AddsBytes old old position [
 adds_none old position = record {
   taken = refl;
   last = omega arith;
-  held = λ p h. sym (rw (byte_from-empty position p) (option_or-none (byte_in old p)));
+  held = λ p h. sym (rw (byte_from-empty position p) (nothing_after (byte_in old p)));
 }
 
 -- after the last one
@@ -243,13 +243,13 @@ module _ (taken position size : ℕ) (there bytes written : List ℕ) (gaps part
     last = let whole = size_after in rw whole (grind (arith, nat_tests));
     held = λ p low. elim (cases_lt p position) [
       | inl below ↦ rw (held_outside p low (inl below), byte_from-before position bytes p below)
-          (sym (option_or-none (byte_in before_merge p)))
+          (sym (nothing_after (byte_in before_merge p)))
       | inr from ↦ elim (cases_lt p (position + length bytes)) [
         | inl here ↦
             let at : position + (p - position) ≡ p = omega arith in
             rw (byte_from-here position bytes p from here) (rw at at (held_inside (p - position) (omega arith)))
         | inr above ↦ rw (held_outside p low (inr above), byte_from-none position bytes p above)
-            (sym (option_or-none (byte_in before_merge p)))
+            (sym (nothing_after (byte_in before_merge p)))
       ]
     ];
   }

@@ -1,12 +1,12 @@
 -- What holds of all lists of segments.
-use Rattle.std.specs.Prelude.{◌≡◌, ℕ, ◌+◌, ◌%◌, ◌^◌, ◌<◌, ◌≤◌, ◌↔◌, nat_lt, nat_le, Bool, true, false, ◌&&◌, IsTrue}
-use Rattle.std.specs.Prelude.{Option, Some, None, is_some, if◌then◌else◌, List, [], ◌∷◌, ◌++◌, length, take, drop}
+use Rattle.std.specs.Prelude.{◌≡◌, ℕ, ◌+◌, ◌%◌, ◌^◌, ◌<◌, ◌≤◌, ◌↔◌, nat_lt, nat_le, Bool, false, ◌&&◌, IsTrue}
+use Rattle.std.specs.Prelude.{Option, Some, is_some, if◌then◌else◌, List, [], ◌∷◌, ◌++◌, length, take, drop}
 use Rattle.std.specs.Prelude.{slice_index, map, Contains}
 use Rattle.std.specs.List.{list_any, AllByRecursion}
 use Rattle.std.specs.Option.{option_map}
 use Rattle.tcp_streams.specs.Placing.{Segment, first_number, placed, next_position, start_number}
 use Rattle.tcp_streams.specs.Refusals.{refusal_of}
-use Rattle.tcp_streams.specs.Segments.{Placed, end_of, byte_at, text_of, conflicts_of}
+use Rattle.tcp_streams.specs.Segments.{Placed, end_of, text_of, conflicts_of}
 
 -- ---- segments of one text
 

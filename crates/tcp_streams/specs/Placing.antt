@@ -1,6 +1,6 @@
 -- A segment as it came (RFC 9293, section 3.1), and its place in the stream.
-use Rattle.std.specs.Prelude.{ℕ, ◌≡◌, ◌+◌, ◌-◌, ◌%◌, ◌^◌, ◌==◌, nat_le, Bool, true, false, not, ◌&&◌, if◌then◌else◌}
-use Rattle.std.specs.Prelude.{max, unwrap_or, Option, Some, None, List, [], length, drop}
+use Rattle.std.specs.Prelude.{ℕ, ◌+◌, ◌-◌, ◌%◌, ◌^◌, ◌==◌, nat_le, Bool, false, not, ◌&&◌, if◌then◌else◌}
+use Rattle.std.specs.Prelude.{max, unwrap_or, Option, Some, List, [], length, drop}
 use Rattle.std.specs.Option.{option_eq}
 use Rattle.std.specs.Prelude.{nat_eq}
 use Rattle.tcp_streams.specs.declared.segment_flags.SegmentFlags.{SegmentFlags}

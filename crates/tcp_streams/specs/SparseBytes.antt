@@ -1,6 +1,6 @@
 -- Bytes of a stream, of which some are missing.
 use Rattle.std.specs.Prelude.{◌≡◌, ℕ, ◌+◌, ◌-◌, ◌^◌, ◌<◌, ◌≤◌, ◌==◌, if◌then◌else◌, max, min}
-use Rattle.std.specs.Prelude.{Option, Some, None, List, [], length, slice_index, slice_get}
+use Rattle.std.specs.Prelude.{Option, None, List, length, slice_index, slice_get}
 use Rattle.std.specs.Option.{option_or}
 use Rattle.tcp_streams.specs.declared.gaps.Gap.{Gap}
 use Rattle.tcp_streams.specs.declared.conflicts.Conflicts.{Conflicts}

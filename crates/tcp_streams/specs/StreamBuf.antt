@@ -1,5 +1,5 @@
 -- What a buffer of one direction of a TCP connection holds, and which segments it shows.
-use Rattle.std.specs.Prelude.{◌≡◌, ℕ, ◌+◌, ◌<◌, ◌≤◌, ◌⊎◌, Bool, not, ◌||◌, if◌then◌else◌, Option, Some, None, IsSome}
+use Rattle.std.specs.Prelude.{◌≡◌, ℕ, ◌<◌, ◌≤◌, ◌⊎◌, Bool, not, ◌||◌, if◌then◌else◌, Option, Some, None, IsSome}
 use Rattle.std.specs.Prelude.{is_some, unwrap_or, Result, MatchResult, List, ◌++◌, ◌-◌, length, take, drop}
 use Rattle.tcp_streams.specs.declared.conflicts.Conflicts.{Conflicts}
 use Rattle.tcp_streams.specs.declared.gaps.Gap.{Gap}

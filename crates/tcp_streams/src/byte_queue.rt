@@ -67,7 +67,7 @@ impl ByteQueue {
         Ok(())
     }
 
-    /// Drops so many bytes from the front.
+    /// Drops the first bytes, so many of them.
     pub(crate) fn drop_prefix(&mut self, count: usize)
         requires { count ≤ length self.old }
         ensures { self.new ≡ drop count self.old }

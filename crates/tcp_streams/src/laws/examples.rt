@@ -3,6 +3,7 @@
 ghost use Rattle.std.specs.Prelude.{◌≡◌, [], ◌∷◌, true, false, None, Some, codes};
 ghost use Rattle.tcp_streams.specs.declared.refusal.Refused.TheVariants.{OutsideWindow, AfterFin, AfterReset};
 ghost use Rattle.tcp_streams.specs.declared.sequence_numbers.Distance.TheVariants.{After, Before};
+ghost use Rattle.tcp_streams.specs.Laws.{IsCutOf, IsNear};
 ghost use Rattle.tcp_streams.specs.Placing.{next_position, placed, segment, start_number};
 ghost use Rattle.tcp_streams.specs.Refusals.{refusal_of};
 ghost use Rattle.tcp_streams.specs.Segments.{conflicts_of, fin_of, placed_segment, text_of};
@@ -62,10 +63,18 @@ pub fn segments_at_their_positions()
         ≡ placed_segment 0 (codes "abc") false false }
 {}
 
+/// `cd` at offset 2 of `abcdef`, whose first byte has the greatest number but one, is a segment with
+/// number 0; it may come first.
+pub fn cut_of_a_text()
+    ensures cut { IsCutOf (codes "abcdef") 4294967294 2
+        (segment 0 (record { syn = false; fin = false; rst = false }) (codes "cd")) }
+    ensures near { IsNear 2 0 }
+{}
+
 /// FIN takes a number, so the position after it is expected next once all bytes came. FIN that came
 /// before counts no more, RST counts at the position that is expected next alone, and a segment with
 /// RST has no bytes.
-pub fn ends_of_a_stream()
+pub fn fin_and_reset()
     ensures after { next_position (placed_segment 0 (codes "ab") true false ∷ []) ≡ 3 }
     ensures open { next_position (placed_segment 0 (codes "ab") false false ∷ []) ≡ 2 }
     ensures repeated { placed (Some 100) 0 (placed_segment 0 (codes "ab") true false ∷ [])

@@ -1,4 +1,3 @@
-use Rattle.std.proofs.Common.{arith}
 use Rattle.tcp_streams.proofs.GapLemmas.{closed_none}
 use Rattle.tcp_streams.proofs.gaps.close.Goals as goal
 

@@ -1,5 +1,4 @@
-use Rattle.std.proofs.Common.{◌≡◌, ◌∙◌, ◌+◌, ◌-◌, ◌++◌, ◌∷◌, [], ap, cond, ltb, length, refl, List, replicate}
-use Rattle.tcp_streams.specs.declared.gaps.Gap.{Gap}
+use Rattle.std.proofs.Common.{◌∙◌, ap, refl}
 use Rattle.tcp_streams.specs.SparseBytes.{AddsBytes, IsSparse, sparse, counted}
 use Rattle.tcp_streams.proofs.SparseLemmas.{added, long_bounded, long_clashes}
 use Rattle.tcp_streams.proofs.sparse_bytes.insert.Goals as goal

@@ -1,4 +1,4 @@
-use Rattle.std.proofs.Common.{◌≡◌, ◌+◌, ◌-◌, length, arith, ◌∙◌, ap, List, ℕ}
+use Rattle.std.proofs.Common.{◌≡◌, ◌+◌, ◌-◌, length, arith, ◌∙◌, ap}
 use Rattle.tcp_streams.specs.SparseBytes.{counted}
 use Rattle.tcp_streams.proofs.GapLemmas.{reached, missing_touched}
 use Rattle.tcp_streams.proofs.SparseLemmas.{adds_merge, conflicts_merge}

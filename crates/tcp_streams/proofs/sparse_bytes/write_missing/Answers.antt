@@ -1,4 +1,4 @@
-use Rattle.std.proofs.Common.{◌-◌, ℕ, ap, get_or, refl, sym, arith}
+use Rattle.std.proofs.Common.{◌-◌, ℕ, ap, get_or, arith}
 use Rattle.std.proofs.lemmas.List.{get_or_default}
 use Rattle.tcp_streams.proofs.SparseLemmas.{fills_put}
 use Rattle.tcp_streams.proofs.sparse_bytes.write_missing.Goals as goal

@@ -1,4 +1,3 @@
-use Rattle.std.proofs.Common.{arith, refl}
 use Rattle.tcp_streams.proofs.SparseLemmas.{available_fits}
 use Rattle.tcp_streams.proofs.sparse_bytes.SparseBytes.available.Goals as goal
 

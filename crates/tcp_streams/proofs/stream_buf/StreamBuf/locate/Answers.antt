@@ -1,4 +1,4 @@
-use Rattle.std.proofs.Common.{◌≡◌, ◌∙◌, ap, length, refl, sym, arith}
+use Rattle.std.proofs.Common.{◌∙◌, ap, length, refl, sym}
 use Rattle.tcp_streams.specs.Placing.{segment}
 use Rattle.tcp_streams.proofs.stream_buf.StreamBuf.locate.Goals as goal
 
