@@ -59,7 +59,7 @@ fn run_on_files(rt: &HostRuntime, requested: &Requested<'_>) -> anyhow::Result<E
             write_files(rt, requested, &lines, &mut output)
         }
         Output::Summary => {
-            let mut counts = SummaryCounts {
+            let counts = SummaryCounts {
                 summary: Summary::with_hashers(
                     rt.alloc(),
                     RandomState::new(rt)?,
@@ -67,14 +67,14 @@ fn run_on_files(rt: &HostRuntime, requested: &Requested<'_>) -> anyhow::Result<E
                     RandomState::new(rt)?,
                 ),
             };
-            count_files(rt, requested, &mut counts, &mut output)
+            count_files(rt, requested, counts, &mut output)
         }
         Output::Flows(listing) => {
-            let mut counts = FlowCounts {
+            let counts = FlowCounts {
                 flows: Flows::with_hasher(rt.alloc(), RandomState::new(rt)?),
                 listing: *listing,
             };
-            count_files(rt, requested, &mut counts, &mut output)
+            count_files(rt, requested, counts, &mut output)
         }
     }
 }
@@ -308,14 +308,20 @@ impl Counts for FlowCounts {
         omitted: Omitted,
         output: &mut W,
     ) -> Result<(), RunError> {
-        write_flows(rt.alloc(), &self.flows, &self.listing, omitted.skipped, output)
+        write_flows(
+            rt.alloc(),
+            &self.flows,
+            &self.listing,
+            omitted.skipped,
+            output,
+        )
     }
 }
 
-fn count_files<C: Counts, W: Write>(
+fn count_files<C: Counts + Drop, W: Write>(
     rt: &HostRuntime,
     requested: &Requested<'_>,
-    counts: &mut C,
+    counts: C,
     output: &mut ClosableWriter<W>,
 ) -> anyhow::Result<ExitCode> {
     let mut counting = Counting {
@@ -347,7 +353,7 @@ struct Counting<'a, C, W> {
     rt: &'a HostRuntime,
     requested: &'a Requested<'a>,
     output: &'a mut ClosableWriter<W>,
-    counts: &'a mut C,
+    counts: C,
     open: usize,
     omitted: Omitted,
     // How many files weren't taken yet.
