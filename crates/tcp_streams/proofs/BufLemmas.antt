@@ -1,10 +1,12 @@
 -- What a buffer shows, and with one more segment.
 use Rattle.std.proofs.Common.{◌≡◌, ℕ, ◌+◌, ◌-◌, ◌<◌, ◌≤◌, ◌^◌, ◌↔◌, inl, inr, Bool, true, false, cond, not}
-use Rattle.std.proofs.Common.{Option, Some, None, List, [], ◌∷◌, ◌++◌, length, drop, get_or, arith, refl, sym, ap, ◌∙◌}
+use Rattle.std.proofs.Common.{Option, Some, None, List, [], ◌∷◌, ◌++◌, length, drop, get_or, arith, refl, sym, ap}
+use Rattle.std.proofs.Common.{◌∙◌}
 use Rattle.std.proofs.lemmas.Bool.{cases_lt}
 use Rattle.std.proofs.lemmas.Bool.Decides.{nat_tests}
 use Rattle.std.proofs.lemmas.List.{length-take, get_or-take}
-use Rattle.std.specs.Prelude.{IsSome, IsTrue, IfSome, IfNone, IfOk, IfErr, OnOk, OnErr, slice_get, nat_eq, is_some, unwrap_or, Result, Ok, Err}
+use Rattle.std.specs.Prelude.{IsSome, IsTrue, IfSome, IfNone, IfOk, IfErr, OnOk, OnErr, slice_get, nat_eq, is_some}
+use Rattle.std.specs.Prelude.{unwrap_or, Result, Ok, Err}
 use Rattle.std.specs.Option.{option_or, option_eq}
 use Rattle.tcp_streams.specs.declared.gaps.Gap.{Gap}
 use Rattle.tcp_streams.specs.declared.refusal.Refused.{Refused}
@@ -19,11 +21,15 @@ use Rattle.tcp_streams.specs.Refusals.{fin_refusal, refusal_by, refusal_of, wind
 use Rattle.tcp_streams.specs.Segments.{Placed, end_of, byte_at, bytes_from, text_of, fin_of}
 use Rattle.tcp_streams.specs.Segments.{clashes, conflicts_with, conflicts_of, differs}
 use Rattle.tcp_streams.specs.SparseBytes.{Sparse, sparse, IsSparse, byte_in, held_end, available_end, counted}
-use Rattle.tcp_streams.specs.StreamBuf.{Contents, Shows, IsSound, IsFirstGap, IsLocated, IsAdded, AnswersAdd, Accepts, available_in, next_in, placed_in, refusal_in}
-use Rattle.tcp_streams.proofs.SegmentLemmas.{byte_at-push, last_end-push, fin_of-push, is_reset-push, conflicts_after-push}
-use Rattle.tcp_streams.proofs.SegmentLemmas.{byte_from-is, byte_from-none, bytes_from-is, drop-bytes_from, length-bytes_from, byte_at-past, clashes_same}
-use Rattle.tcp_streams.proofs.GapLemmas.{gaps_end}
-use Rattle.tcp_streams.proofs.SparseLemmas.{available_bounds, consumed_byte, consumed_end, not_missing_before, first_missing, first_gap-missing}
+use Rattle.tcp_streams.specs.StreamBuf.{Contents, Shows, IsSound, IsBounded, IsFirstGap, IsLocated, IsAdded}
+use Rattle.tcp_streams.specs.StreamBuf.{AnswersAdd, Accepts, available_in, next_in, placed_in, refusal_in}
+use Rattle.tcp_streams.proofs.SegmentLemmas.{byte_at-push, last_end-push, fin_of-push, is_reset-push}
+use Rattle.tcp_streams.proofs.SegmentLemmas.{conflicts_after-push}
+use Rattle.tcp_streams.proofs.SegmentLemmas.{byte_from-is, byte_from-none, bytes_from-is, drop-bytes_from}
+use Rattle.tcp_streams.proofs.SegmentLemmas.{length-bytes_from, byte_at-past, clashes_same}
+use Rattle.tcp_streams.proofs.GapLemmas.{gap_count, gaps_end}
+use Rattle.tcp_streams.proofs.SparseLemmas.{available_bounds, consumed_byte, consumed_end, not_missing_before}
+use Rattle.tcp_streams.proofs.SparseLemmas.{first_missing, first_gap-missing}
 
 -- ---- the bytes that are available
 
@@ -299,3 +305,10 @@ module _ (old new : Contents) (s : Placed) (number : ℕ) (syn : Bool) where
       → (new.held.taken ≡ old.held.taken) × (new.window ≡ old.window)
   add_same (Ok added) is err = (is.accepts.adds.taken, is.accepts.window)
   add_same (Err e) is err = (ap (λ (b : Contents). b.held.taken) err, ap (λ (b : Contents). b.window) err)
+
+-- ---- memory
+
+pub bounded : (buf : Contents) → IsSound buf → IsBounded buf
+bounded buf sound =
+    let count = gap_count buf.held.taken (held_end buf.held) buf.held.gaps sound.sparse.gaps in
+    let within = sound.window in (omega (arith, within), omega (arith, count))

@@ -1,13 +1,16 @@
 -- Gaps without some positions.
-use Rattle.std.proofs.Common.{◌≡◌, ℕ, zero, suc, ◌+◌, ◌-◌, ◌<◌, ◌≤◌, Bool, true, false, cond, List, [], ◌∷◌, ◌++◌, length}
-use Rattle.std.proofs.Common.{take, drop, get_or, min, max, ltb, leb, not, ◌&&◌, ◌||◌, ◌⊎◌, inl, inr, arith, refl, ap, sym, ◌∙◌}
+use Rattle.std.proofs.Common.{◌≡◌, ℕ, zero, suc, ◌+◌, ◌-◌, ◌*◌, ◌<◌, ◌≤◌, Bool, true, false, cond, List, [], ◌∷◌}
+use Rattle.std.proofs.Common.{◌++◌, length}
+use Rattle.std.proofs.Common.{take, drop, get_or, min, max, ltb, leb, not, ◌&&◌, ◌||◌, ◌⊎◌, inl, inr, arith, refl}
+use Rattle.std.proofs.Common.{ap, sym, ◌∙◌}
 use Rattle.std.proofs.lemmas.Bool.{cases_lt, leb-true}
 use Rattle.std.proofs.lemmas.Bool.Decides.{nat_tests}
 use Rattle.std.specs.List.{AllWithin, insert}
 use Rattle.std.specs.List.Sorted.{IsPartitionedBy, IsPartitionPoint}
 use Rattle.std.proofs.lemmas.List.{length-take, length-drop, get_or-take, get_or-drop, take_at, drop_at}
 use Rattle.tcp_streams.specs.declared.gaps.Gap.{Gap}
-use Rattle.tcp_streams.specs.Gaps.{is_in, is_missing, AreGapsIn, EndBy, StartBefore, Reaches, part_before, part_from, without}
+use Rattle.tcp_streams.specs.Gaps.{is_in, is_missing, AreGapsIn, EndBy, StartBefore, Reaches, part_before}
+use Rattle.tcp_streams.specs.Gaps.{part_from, without}
 
 -- ---- which positions are missing
 
@@ -321,3 +324,8 @@ pub gaps_push : (from to e : ℕ) (gs : List Gap) → AreGapsIn from to gs → t
     → AreGapsIn from (e + 1) (gs ++ record { start = to; end = e } ∷ [])
 gaps_push from to e [] o h = (o, h, omega arith)
 gaps_push from to e (g ∷ gs) o h = (o.0, o.1, gaps_push (g.end + 1) to e gs o.2 h)
+
+-- how many there are
+pub gap_count : (from to : ℕ) (gs : List Gap) → AreGapsIn from to gs → from + 2 * length gs ≤ to
+gap_count from to [] o = omega arith
+gap_count from to (g ∷ gs) o = omega (arith, o.0, o.1, gap_count (g.end + 1) to gs o.2)

@@ -10,7 +10,8 @@ use Rattle.std.specs.Option.{option_or}
 use Rattle.std.specs.List.{AllByRecursion}
 use Rattle.tcp_streams.specs.Segments.{Placed, end_of, byte_from, byte_at, last_end, bytes_from, differs}
 use Rattle.tcp_streams.specs.Segments.{clashes, conflicts_with, conflicts_after, conflicts_of}
-use Rattle.tcp_streams.specs.Laws.{IsPartOf, is_covered, OneTextHasNoConflict, OneTextGivesPrefix, OneTextGivesAll, TextStays}
+use Rattle.tcp_streams.specs.Laws.{IsPartOf, is_covered, OneTextHasNoConflict, OneTextGivesPrefix, OneTextGivesAll}
+use Rattle.tcp_streams.specs.Laws.{TextStays}
 use Rattle.tcp_streams.specs.Laws.{OrderDoesNotMatter}
 use Rattle.tcp_streams.proofs.SegmentLemmas.{byte_from-is, bytes_from-is, byte_at-past, clashes_none}
 

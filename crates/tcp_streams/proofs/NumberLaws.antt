@@ -1,5 +1,6 @@
 -- What becomes of segments, whatever the number of the first byte.
-use Rattle.std.proofs.Common.{◌≡◌, ℕ, ◌+◌, ◌-◌, ◌%◌, ◌^◌, ◌<◌, ◌≤◌, inl, inr, cond, Bool, true, false, Option, Some, None}
+use Rattle.std.proofs.Common.{◌≡◌, ℕ, ◌+◌, ◌-◌, ◌%◌, ◌^◌, ◌<◌, ◌≤◌, inl, inr, cond, Bool, true, false, Option, Some}
+use Rattle.std.proofs.Common.{None}
 use Rattle.std.proofs.Common.{List, [], ◌∷◌, length, take, drop, get_or, map, max, arith, refl, ap, sym, ◌∙◌}
 use Rattle.std.proofs.lemmas.Bool.{cases_lt}
 use Rattle.std.proofs.lemmas.List.{get_or-take, get_or-drop, length-drop}
@@ -10,7 +11,8 @@ use Rattle.tcp_streams.specs.declared.sequence_numbers.Distance.{Distance}
 use Rattle.tcp_streams.specs.declared.sequence_numbers.Distance.TheVariants.{After, Before}
 use Rattle.tcp_streams.specs.Laws.{IsPartOf, IsCutOf, CutsArePlaced, Arrival, with_accepted, start_after}
 use Rattle.tcp_streams.specs.Laws.{with_all_accepted, number_later, segment_later, NumbersAreRelative}
-use Rattle.tcp_streams.specs.Placing.{Segment, bytes_of, first_number, start_number, distance_from, placed, placed_at}
+use Rattle.tcp_streams.specs.Placing.{Segment, bytes_of, first_number, start_number, distance_from, placed}
+use Rattle.tcp_streams.specs.Placing.{placed_at}
 use Rattle.tcp_streams.specs.Placing.{next_position}
 use Rattle.tcp_streams.specs.Refusals.{refusal_of}
 use Rattle.tcp_streams.specs.Segments.{Placed}

@@ -1,20 +1,25 @@
 -- Bytes of which some are missing, and more of them.
 use Rattle.std.proofs.Common.{◌≡◌, ℕ, ◌+◌, ◌-◌, ◌^◌, ◌<◌, ◌≤◌, Bool, true, false, cond, List, [], ◌∷◌, ◌++◌, length}
-use Rattle.std.proofs.Common.{take, drop, get_or, min, max, ltb, leb, not, ◌&&◌, Option, Some, None, arith, refl, ap, sym}
+use Rattle.std.proofs.Common.{take, drop, get_or, min, max, ltb, leb, not, ◌&&◌, Option, Some, None, arith, refl}
+use Rattle.std.proofs.Common.{ap, sym}
 use Rattle.std.proofs.Common.{replicate}
 use Rattle.std.proofs.Common.{◌⊎◌, inl, inr}
 use Rattle.std.proofs.lemmas.Bool.{cases_lt}
 use Rattle.std.proofs.lemmas.Bool.Decides.{nat_tests}
 use Rattle.std.proofs.lemmas.Grind.{elements}
-use Rattle.std.proofs.lemmas.List.{length-append, length-take, length-drop, length-replicate, append-nil, take_more, drop-take, drop-drop, get_or-take, get_or-drop}
+use Rattle.std.proofs.lemmas.List.{length-append, length-take, length-drop, length-replicate, append-nil, take_more}
+use Rattle.std.proofs.lemmas.List.{drop-take, drop-drop, get_or-take, get_or-drop}
 use Rattle.std.specs.Option.{option_or}
 use Rattle.std.specs.Prelude.{◌==◌}
 use Rattle.tcp_streams.specs.declared.gaps.Gap.{Gap}
 use Rattle.tcp_streams.specs.Gaps.{is_missing, AreGapsIn, Reaches, first_gap, without}
 use Rattle.tcp_streams.specs.Segments.{byte_from, differs, clashes}
-use Rattle.tcp_streams.specs.SparseBytes.{Sparse, sparse, IsSparse, held_end, byte_in, available_end, end_with, AddsBytes, Fills}
-use Rattle.tcp_streams.proofs.SegmentLemmas.{byte_from-here, byte_from-is, byte_from-none, nothing_after, clashes_same, clashes_none, clashes-push}
-use Rattle.tcp_streams.proofs.GapLemmas.{is_missing-append, is_missing-without, gaps_weaker, gaps_end, gaps_push, without_end, without_ordered}
+use Rattle.tcp_streams.specs.SparseBytes.{Sparse, sparse, IsSparse, held_end, byte_in, available_end, end_with}
+use Rattle.tcp_streams.specs.SparseBytes.{AddsBytes, Fills}
+use Rattle.tcp_streams.proofs.SegmentLemmas.{byte_from-here, byte_from-is, byte_from-none, nothing_after}
+use Rattle.tcp_streams.proofs.SegmentLemmas.{clashes_same, clashes_none, clashes-push}
+use Rattle.tcp_streams.proofs.GapLemmas.{is_missing-append, is_missing-without, gaps_weaker, gaps_end, gaps_push}
+use Rattle.tcp_streams.proofs.GapLemmas.{without_end, without_ordered}
 
 -- ---- what isn't missing
 

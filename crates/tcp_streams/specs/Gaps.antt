@@ -1,5 +1,6 @@
 -- Gaps: positions of a stream whose bytes are missing.
-use Rattle.std.specs.Prelude.{ℕ, ◌+◌, ◌<◌, ◌≤◌, nat_lt, nat_le, Bool, ◌&&◌, if◌then◌else◌, max, min, List, [], ◌∷◌, ◌++◌}
+use Rattle.std.specs.Prelude.{ℕ, ◌+◌, ◌<◌, ◌≤◌, nat_lt, nat_le, Bool, ◌&&◌, if◌then◌else◌, max, min, List, [], ◌∷◌}
+use Rattle.std.specs.Prelude.{◌++◌}
 use Rattle.std.specs.List.{list_any}
 use Rattle.std.specs.List.Sorted.{IsPartitionPoint}
 use Rattle.tcp_streams.specs.declared.gaps.Gap.{Gap}
@@ -36,10 +37,12 @@ Reaches start end gap = (gap.start < gap.end) × (gap.start < end) × (start < g
 
 -- the part of a gap before a position, and the part from one on
 abbrev pub part_before : ℕ → Gap → List Gap
-part_before p gap = (if nat_lt gap.start (min p gap.end) then (record { start = gap.start; end = min p gap.end }) ∷ [] else [])
+part_before p gap = (if nat_lt gap.start (min p gap.end)
+    then (record { start = gap.start; end = min p gap.end }) ∷ [] else [])
 
 abbrev pub part_from : ℕ → Gap → List Gap
-part_from p gap = (if nat_lt (max p gap.start) gap.end then (record { start = max p gap.start; end = gap.end }) ∷ [] else [])
+part_from p gap = (if nat_lt (max p gap.start) gap.end
+    then (record { start = max p gap.start; end = gap.end }) ∷ [] else [])
 
 -- gaps without the positions from one on up to another
 abbrev pub without : (start end : ℕ) → List Gap → List Gap

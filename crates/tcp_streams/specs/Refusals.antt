@@ -1,5 +1,6 @@
 -- Why a segment is refused.
-use Rattle.std.specs.Prelude.{ℕ, ◌+◌, ◌^◌, nat_lt, Bool, not, ◌&&◌, ◌||◌, if◌then◌else◌, min, max, Option, Some, None, unwrap_or}
+use Rattle.std.specs.Prelude.{ℕ, ◌+◌, ◌^◌, nat_lt, Bool, not, ◌&&◌, ◌||◌, if◌then◌else◌, min, max, Option, Some}
+use Rattle.std.specs.Prelude.{None, unwrap_or}
 use Rattle.std.specs.Prelude.{List}
 use Rattle.std.specs.Option.{option_and_then, option_or}
 use Rattle.tcp_streams.specs.declared.refusal.Refused.{Refused}

@@ -1,5 +1,6 @@
 -- What a buffer of one direction of a TCP connection holds, and which segments it shows.
-use Rattle.std.specs.Prelude.{◌≡◌, ℕ, ◌<◌, ◌≤◌, ◌⊎◌, Bool, not, ◌||◌, if◌then◌else◌, Option, Some, None, IsSome}
+use Rattle.std.specs.Prelude.{◌≡◌, ◌*◌, ℕ, ◌<◌, ◌≤◌, ◌⊎◌, Bool, not, ◌||◌, if◌then◌else◌, Option, Some, None}
+use Rattle.std.specs.Prelude.{IsSome}
 use Rattle.std.specs.Prelude.{is_some, unwrap_or, Result, MatchResult, List, ◌++◌, ◌-◌, length, take, drop}
 use Rattle.tcp_streams.specs.declared.conflicts.Conflicts.{Conflicts}
 use Rattle.tcp_streams.specs.declared.gaps.Gap.{Gap}
@@ -9,7 +10,8 @@ use Rattle.tcp_streams.specs.declared.refusal.Refused.{Refused}
 use Rattle.tcp_streams.specs.declared.refusal.Refused.TheVariants.{OutOfMemory}
 use Rattle.tcp_streams.specs.Placing.{Segment, start_number, next_after, distance_from, placed_at}
 use Rattle.tcp_streams.specs.Refusals.{window_end, refusal_by}
-use Rattle.tcp_streams.specs.Segments.{Placed, end_of, byte_at, last_end, fin_of, is_reset, text_of, clashes, conflicts_of}
+use Rattle.tcp_streams.specs.Segments.{Placed, end_of, byte_at, last_end, fin_of, is_reset, text_of, clashes}
+use Rattle.tcp_streams.specs.Segments.{conflicts_of}
 use Rattle.tcp_streams.specs.SparseBytes.{Sparse, IsSparse, AddsBytes, byte_in, held_end, available_end, counted}
 
 -- the size of the window; the number of position 0, once a segment came; whether SYN wasn't seen;
@@ -36,6 +38,10 @@ pub record Shows (buf : Contents) (ss : List Placed) : Type 0 where
 pub record IsSound (buf : Contents) : Type 0 where
   pub sparse : IsSparse buf.held
   pub window : held_end buf.held ≤ window_end buf.window buf.held.taken
+
+-- no more bytes are held than the window has, and no more than half as many gaps
+abbrev pub IsBounded : Contents → Type 0
+IsBounded buf = (length buf.held.bytes ≤ buf.window) × (2 * length buf.held.gaps ≤ length buf.held.bytes)
 
 -- the bytes that follow those that were taken, up to the first gap
 abbrev pub available_in : Sparse → List ℕ

@@ -1,6 +1,7 @@
 //! Bytes of which the first ones are dropped again and again.
 
-ghost use Rattle.std.specs.Prelude.{◌≡◌, ◌++◌, ◌+◌, ◌-◌, ◌^◌, ◌<◌, ◌≤◌, List, ℕ, [], length, drop, replicate, OnOk, OnErr};
+ghost use Rattle.std.specs.Prelude.{◌≡◌, ◌++◌, ◌+◌, ◌-◌, ◌^◌, ◌<◌, ◌≤◌, List, ℕ, [], length, drop, replicate, OnOk};
+ghost use Rattle.std.specs.Prelude.{OnErr};
 ghost use Rattle.tcp_streams.specs.Gaps.{AreGapsIn, without};
 ghost use Rattle.tcp_streams.specs.Segments.{clashes};
 ghost use Rattle.tcp_streams.specs.SparseBytes.{sparse, byte_in, AddsBytes, counted};
@@ -24,7 +25,7 @@ impl Model for ByteQueue {
 
     ghost view = { λ queue. drop queue.dropped queue.bytes.items };
 
-    ghost invariant = { λ queue. queue.dropped ≤ length queue.bytes.items };
+    ghost invariant = { λ queue. queue.dropped + queue.dropped ≤ length queue.bytes.items };
 }
 
 impl ByteQueue {

@@ -1,6 +1,7 @@
 //! Positions of a stream whose bytes are missing.
 
-ghost use Rattle.std.specs.Prelude.{◌≡◌, ◌+◌, ◌<◌, ◌≤◌, ◌^◌, ◌++◌, ◌∷◌, [], length, nat_lt, vec_len, vec_capacity, if◌then◌else◌};
+ghost use Rattle.std.specs.Prelude.{◌≡◌, ◌+◌, ◌<◌, ◌≤◌, ◌^◌, ◌++◌, ◌∷◌, [], length, nat_lt, vec_len, vec_capacity};
+ghost use Rattle.std.specs.Prelude.{if◌then◌else◌};
 ghost use Rattle.std.specs.List.{insert, remove_range};
 ghost use Rattle.tcp_streams.specs.Gaps.{AreGapsIn, EndBy, StartBefore, without};
 
@@ -50,7 +51,8 @@ pub(crate) fn touched(gaps: &[Gap], start: u64, end: u64) -> (usize, usize)
 pub(crate) fn push_gap(gaps: &mut Vec<Gap>, start: u64, end: u64)
     requires room { vec_len gaps.old < vec_capacity gaps.old }
     ensures items { gaps.new.items
-        ≡ (if nat_lt start end then gaps.old.items ++ (record { start = start; end = end }) ∷ [] else gaps.old.items) }
+        ≡ (if nat_lt start end then gaps.old.items ++ (record { start = start; end = end }) ∷ []
+        else gaps.old.items) }
     ensures room { vec_capacity gaps.old ≤ vec_capacity gaps.new }
     ensures len { vec_len gaps.new ≤ vec_len gaps.old + 1 }
 {

@@ -1,11 +1,13 @@
 //! Bytes of a stream, of which some are missing.
 
-ghost use Rattle.std.specs.Prelude.{◌≡◌, ◌+◌, ◌-◌, ◌<◌, ◌≤◌, ◌^◌, [], ◌∷◌, ◌++◌, if◌then◌else◌, nat_lt, length, take, drop};
+ghost use Rattle.std.specs.Prelude.{◌≡◌, ◌+◌, ◌-◌, ◌<◌, ◌≤◌, ◌^◌, [], ◌∷◌, ◌++◌, if◌then◌else◌, nat_lt, length};
+ghost use Rattle.std.specs.Prelude.{take, drop};
 ghost use Rattle.std.specs.Prelude.{replicate, vec_len, vec_capacity, IfOk, OnOk, OnErr};
 ghost use Rattle.std.specs.List.{AllWithin};
 ghost use Rattle.tcp_streams.specs.Gaps.{AreGapsIn, Reaches, without};
 ghost use Rattle.tcp_streams.specs.Segments.{byte_from, clashes};
-ghost use Rattle.tcp_streams.specs.SparseBytes.{Sparse, sparse, IsSparse, held_end, available_end, byte_in, AddsBytes, Fills, counted};
+ghost use Rattle.tcp_streams.specs.SparseBytes.{Sparse, sparse, IsSparse, held_end, available_end, byte_in};
+ghost use Rattle.tcp_streams.specs.SparseBytes.{AddsBytes, Fills, counted};
 
 use super::byte_queue::ByteQueue;
 use super::conflicts::{Conflicts, differences};
@@ -98,7 +100,8 @@ impl SparseBytes {
         requires after { self.old.taken ≤ position }
         requires short { position + length bytes.now ≤ 2 ^ 63 }
         ensures adds { IfOk result (λ _. AddsBytes self.old self.new position bytes.now) }
-        ensures conflicts { IfOk result (λ conflicts. conflicts ≡ counted (clashes (byte_in self.old) position bytes.now)) }
+        ensures conflicts { IfOk result (λ conflicts. conflicts
+            ≡ counted (clashes (byte_in self.old) position bytes.now)) }
         ensures err { OnErr result (self.new ≡ self.old) }
         ensures sound { IsSparse self.new }
     {

@@ -1,12 +1,17 @@
 //! One direction of a TCP connection.
 
-ghost use Rattle.std.specs.Prelude.{◌≡◌, ℕ, ◌+◌, ◌<◌, ◌≤◌, ◌↔◌, ◌^◌, ◌++◌, ◌∷◌, ◌==◌, [], if◌then◌else◌, List, None, Some};
-ghost use Rattle.std.specs.Prelude.{IsTrue, IfOk, IfErr, OnOk, OnErr, IfSome, IfNone, not, is_some, length, drop, min};
-ghost use Rattle.tcp_streams.specs.Placing.{Segment, segment, bytes_of, first_number, start_number, placed_at, placed};
+ghost use Rattle.std.specs.Prelude.{◌≡◌, ℕ, ◌+◌, ◌<◌, ◌≤◌, ◌↔◌, ◌^◌, ◌++◌, ◌∷◌, ◌==◌, [], if◌then◌else◌, List};
+ghost use Rattle.std.specs.Prelude.{None, Some};
+ghost use Rattle.std.specs.Prelude.{IsTrue, IfOk, IfErr, OnOk, OnErr, IfSome, IfNone, not, is_some, length, drop};
+ghost use Rattle.std.specs.Prelude.{min};
+ghost use Rattle.tcp_streams.specs.Placing.{Segment, segment, bytes_of, first_number, start_number, placed_at};
+ghost use Rattle.tcp_streams.specs.Placing.{placed};
 ghost use Rattle.tcp_streams.specs.Refusals.{window_end, fin_refusal, refusal_of};
-ghost use Rattle.tcp_streams.specs.Segments.{Placed, byte_at, text_of, fin_of, is_reset, clashes, conflicts_with, conflicts_of};
+ghost use Rattle.tcp_streams.specs.Segments.{Placed, byte_at, text_of, fin_of, is_reset, clashes, conflicts_with};
+ghost use Rattle.tcp_streams.specs.Segments.{conflicts_of};
 ghost use Rattle.tcp_streams.specs.SparseBytes.{byte_in, counted};
-ghost use Rattle.tcp_streams.specs.StreamBuf.{Contents, Shows, IsSound, IsLocation, IsLocated, IsFirstGap, AnswersAdd, IsAdded};
+ghost use Rattle.tcp_streams.specs.StreamBuf.{Contents, Shows, IsSound, IsBounded, IsLocation, IsLocated};
+ghost use Rattle.tcp_streams.specs.StreamBuf.{IsFirstGap, AnswersAdd, IsAdded};
 ghost use Rattle.tcp_streams.specs.StreamBuf.{available_in, next_in, placed_in, refusal_in};
 
 use super::conflicts::Conflicts;
@@ -20,7 +25,8 @@ use std::marker::Model;
 
 /// The bytes that one end of a TCP connection sent, put together as its segments come.
 ///
-/// The first byte that came for a position stays. Positions count from 0, the number after that of
+/// It holds no more bytes than its window has; as many consumed ones may stay in memory. The first
+/// byte that came for a position stays. Positions count from 0, the number after that of
 /// SYN or, where SYN wasn't seen, that of the first segment.
 #[derive(Debug, Drop)]
 pub struct StreamBuf {
@@ -251,6 +257,7 @@ impl StreamBuf {
             → IfOk result (IsAdded self.old self.new s number syn) }
         ensures memory { IfErr result (λ e. e ≡ Refused.OutOfMemory) }
         ensures err { OnErr result (self.new ≡ self.old) }
+        ensures sound { IsSound self.new }
     {
         let Ok(conflicts) = self.held.add(location.position, bytes) else {
             return Err(Refused::OutOfMemory);
@@ -305,6 +312,7 @@ impl StreamBuf {
         ensures err { OnErr result (self.new ≡ self.old) }
         ensures taken { self.new.held.taken ≡ self.old.held.taken }
         ensures window { self.new.window ≡ self.old.window }
+        ensures bounded { IsBounded self.new }
     {
         let (location, bytes) = self.locate(sequence_number, flags, payload);
         let number = first_number(sequence_number, flags);
@@ -317,7 +325,8 @@ impl StreamBuf {
     /// The bytes that follow those that were consumed, up to the first that is missing.
     pub fn available(&self) -> &[u8]
         ensures bytes { result.now ≡ available_in self.now.held }
-        ensures text { (ss : List Placed) → Shows self.now ss → result.now ≡ drop self.now.held.taken (text_of ss) }
+        ensures text { (ss : List Placed) → Shows self.now ss
+            → result.now ≡ drop self.now.held.taken (text_of ss) }
     {
         self.held.available()
     }

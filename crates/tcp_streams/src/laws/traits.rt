@@ -19,6 +19,8 @@ pub fn types_are_plain_data()
 
 /// By default there is no conflict, and no flag is set.
 pub fn defaults_are_none()
-    ensures conflicts { DefaultIs (record { count = 0; first = None }) ⟦<Conflicts as Default>⟧.is_default }
-    ensures segment_flags { DefaultIs (record { syn = false; fin = false; rst = false }) ⟦<SegmentFlags as Default>⟧.is_default }
+    ensures conflicts { DefaultIs (record { count = 0; first = None })
+        ⟦<Conflicts as Default>⟧.is_default }
+    ensures segment_flags { DefaultIs (record { syn = false; fin = false; rst = false })
+        ⟦<SegmentFlags as Default>⟧.is_default }
 {}

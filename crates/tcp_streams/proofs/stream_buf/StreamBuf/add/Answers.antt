@@ -3,8 +3,10 @@ use Rattle.std.specs.Prelude.{IfOk}
 use Rattle.tcp_streams.specs.declared.stream_buf.Added.{Added}
 use Rattle.tcp_streams.specs.Placing.{segment}
 use Rattle.tcp_streams.specs.StreamBuf.{IsAdded, placed_in, refusal_in}
-use Rattle.tcp_streams.proofs.BufLemmas.{answers_refusal, answers_none, located_after, located_within, placed_low}
-use Rattle.tcp_streams.proofs.BufLemmas.{add_shows, add_position, add_conflicts, add_start, add_joined_late, add_same}
+use Rattle.tcp_streams.proofs.BufLemmas.{bounded, answers_refusal, answers_none, located_after, located_within}
+use Rattle.tcp_streams.proofs.BufLemmas.{placed_low}
+use Rattle.tcp_streams.proofs.BufLemmas.{add_shows, add_position, add_conflicts, add_start, add_joined_late}
+use Rattle.tcp_streams.proofs.BufLemmas.{add_same}
 use Rattle.tcp_streams.proofs.stream_buf.StreamBuf.add.Goals as goal
 
 pub returns-in-Some-clause-refused : goal.returns-in-Some-clause-refused
@@ -88,3 +90,9 @@ returns-in-None-clause-taken c =
 pub returns-in-None-clause-window : goal.returns-in-None-clause-window
 returns-in-None-clause-window c =
     (add_same c.args.self.now c.accept.new.self _ _ _ c.accept.result (added_is c) c.accept.ensures.err).1
+
+pub returns-in-Some-clause-bounded : goal.returns-in-Some-clause-bounded
+returns-in-Some-clause-bounded c = bounded c.args.self.now c.locate.ensures.sound
+
+pub returns-in-None-clause-bounded : goal.returns-in-None-clause-bounded
+returns-in-None-clause-bounded c = bounded c.accept.new.self c.accept.ensures.sound
