@@ -144,7 +144,8 @@ const LINE: &str = "    1   0.000000 10.0.0.1 > 10.0.0.2 UDP fragment at 0 len 1
     (id 0x1234) refused: no memory for 8 bytes";
 
 const OBJECT_END: &str =
-    "\"fragment\":{\"Refused\":{\"error\":{\"AllocationFailure\":{\"len\":8}}}}}";
+    "\"fragment\":{\"Refused\":{\"error\":{\"AllocationFailure\":{\"len\":8}}}},\
+    \"header_verdict\":\"Good\"}";
 
 // A fragment for which there is no memory. A run ends then, and reports nothing of it.
 #[test]
