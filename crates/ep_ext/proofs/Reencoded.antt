@@ -1,6 +1,6 @@
 -- A value that is read from headers in a row names them in that row.
 use Rattle.std.proofs.Common.{◌≡◌, ℕ, Bool, true, false, cond, eqb, is_some, ◌||◌, List, ◌∷◌, [], ◌++◌, Option, Some}
-use Rattle.std.proofs.Common.{None, Result, IsOkAnd, get_or, arith, refl, sym, ap, ◌∙◌, subst, ◌==◌}
+use Rattle.std.proofs.Common.{None, Result, IsOkAnd, get_or, arith, refl, sym, ap, ◌∙◌, subst}
 use Rattle.std.specs.Prelude.{⊤}
 use Rattle.std.proofs.lemmas.Bool.{eq-eqb}
 use Rattle.std.proofs.lemmas.List.{length-drop}
@@ -9,7 +9,7 @@ use Rattle.ep_base.specs.declared.net.ip_number.IpNumber.{IpNumber}
 use Rattle.ep_ext.specs.Raw.{IsRawExt, raw_of, raw_encoding}
 use Rattle.ep_ext.specs.Fragment.{fragment_header_of, fragment_encoding}
 use Rattle.ep_ext.specs.Auth.{auth_of, auth_encoding}
-use Rattle.ep_ext.specs.Slot.{rank, is_passed, slot_of}
+use Rattle.ep_ext.specs.Slot.{rank, is_passed, is_same, slot_of}
 use Rattle.ep_ext.specs.Value.{Piece, slots, piece_at, value_of}
 use Rattle.ep_ext.specs.Chain.{IsPiece, Row}
 use Rattle.ep_ext.specs.Follow.{header_in, AreHeld, Follows, Names, walk_fault, is_left}
@@ -93,8 +93,8 @@ at_more passed number x all (y ∷ ys) last row there at =
   where
     kept_passed : (passed : List Ipv6ExtSlot) (p q : Ipv6ExtSlot) → is_passed passed q ≡ true
         → is_passed (passed ++ p ∷ []) q ≡ true
-    kept_passed passed p q e = passed_more passed p q ∙ ap (λ (b : Bool). (rank p == rank q) || b) e
-        ∙ or_true (rank p == rank q)
+    kept_passed passed p q e = passed_more passed p q ∙ ap (λ (b : Bool). is_same p q || b) e
+        ∙ or_true (is_same p q)
       where
         or_true : (b : Bool) → (b || true) ≡ true
         or_true true = refl

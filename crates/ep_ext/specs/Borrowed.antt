@@ -1,9 +1,9 @@
 -- The headers that a walk over a slice has found, as the code keeps them.
-use Rattle.std.specs.Prelude.{◌≡◌, ℕ, if◌then◌else◌, List, Option, Some, ◌==◌}
+use Rattle.std.specs.Prelude.{◌≡◌, ℕ, if◌then◌else◌, List, Option, Some}
 use Rattle.std.specs.Borrow.{Bor}
 use Rattle.ep_base.specs.declared.net.ip_number.IpNumber.{IpNumber}
 use Rattle.ep_ext.specs.Chain.{Fault, fault_of}
-use Rattle.ep_ext.specs.Slot.{slot_of, rank}
+use Rattle.ep_ext.specs.Slot.{is_same, slot_of}
 use Rattle.ep_ext.specs.Value.{Piece, piece_at}
 use Rattle.ep_ext.specs.declared.net.borrowed_extensions.BorrowedExtensions.{BorrowedExtensions}
 use Rattle.ep_ext.specs.declared.net.ipv6_ext_slot.Ipv6ExtSlot.{Ipv6ExtSlot}
@@ -27,13 +27,13 @@ Holds headers pieces = headers ≡ headers_of pieces
 -- these with this header in this slot
 abbrev pub with_slice_at : BorrowedExtensions → Ipv6ExtSlot → List ℕ → BorrowedExtensions
 with_slice_at headers slot header = record {
-  hop_by_hop_options = if rank slot == rank HopByHop then Some header else headers.hop_by_hop_options;
-  destination_options = if rank slot == rank Destination then Some header
+  hop_by_hop_options = if is_same slot HopByHop then Some header else headers.hop_by_hop_options;
+  destination_options = if is_same slot Destination then Some header
       else headers.destination_options;
-  routing = if rank slot == rank Routing then Some header else headers.routing;
-  fragment = if rank slot == rank Fragment then Some header else headers.fragment;
-  auth = if rank slot == rank Authentication then Some header else headers.auth;
-  final_destination_options = if rank slot == rank FinalDestination then Some header
+  routing = if is_same slot Routing then Some header else headers.routing;
+  fragment = if is_same slot Fragment then Some header else headers.fragment;
+  auth = if is_same slot Authentication then Some header else headers.auth;
+  final_destination_options = if is_same slot FinalDestination then Some header
       else headers.final_destination_options;
 }
 

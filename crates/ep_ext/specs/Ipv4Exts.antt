@@ -16,10 +16,14 @@ use Rattle.ep_ext.specs.declared.err.ipv4_exts.header_write_error.HeaderWriteErr
 use Rattle.ep_ext.specs.declared.net.ip_auth_header.IpAuthHeader.{IpAuthHeader}
 use Rattle.ep_ext.specs.declared.net.ipv4_extensions.Ipv4Extensions.{Ipv4Extensions}
 
+-- the protocol number of the authentication header
+abbrev pub auth_number : ℕ
+auth_number = 51
+
 -- after a number there is an authentication header where it names one, and none where it doesn't
 abbrev pub IsAuthAfter : ℕ → Option (List ℕ) → Type 0
-IsAuthAfter number None = number ≢ 51
-IsAuthAfter number (Some auth) = (number ≡ 51) × IsAuth auth
+IsAuthAfter number None = number ≢ auth_number
+IsAuthAfter number (Some auth) = (number ≡ auth_number) × IsAuth auth
 
 -- the bytes of an authentication header, if there is one
 abbrev pub auth_bytes : Option (List ℕ) → List ℕ
@@ -34,7 +38,7 @@ number_after number (Some auth) = num auth 0 1
 -- the authentication header of this number at the start of the bytes, if it names one, or the fault
 abbrev pub auth_after : ℕ → List ℕ → Result (Option (List ℕ)) (SliceError HeaderError)
 auth_after number bytes =
-    if number == 51 then result_map_both Some (λ e. e) (auth_at bytes) else Ok None
+    if number == auth_number then result_map_both Some (λ e. e) (auth_at bytes) else Ok None
 
 -- the bytes are the extension headers after a number, and a rest
 pub record Ipv4Chain (number : ℕ) (bytes : List ℕ) (auth : Option (List ℕ))
@@ -53,8 +57,8 @@ ipv4_exts_encoding value = unwrap_or (option_map auth_encoding value.auth) []
 -- a header that the first number doesn't name
 abbrev pub ipv4_walk_fault : Ipv4Extensions → ℕ → Option ExtsWalkError
 ipv4_walk_fault value first =
-    if is_some value.auth && not (first == 51)
-    then Some (ExtNotReferenced (record { 0 = 51 })) else None
+    if is_some value.auth && not (first == auth_number)
+    then Some (ExtNotReferenced (record { 0 = auth_number })) else None
 
 -- the number after the value where it is named, and else the fault
 abbrev pub NamesAfter : Ipv4Extensions → ℕ → Result IpNumber ExtsWalkError → Type 0

@@ -24,8 +24,12 @@ rank Fragment = 3
 rank Authentication = 4
 rank FinalDestination = 5
 
+-- the same slot
+abbrev pub is_same : Ipv6ExtSlot → Ipv6ExtSlot → Bool
+is_same p q = rank p == rank q
+
 abbrev pub is_passed : List Ipv6ExtSlot → Ipv6ExtSlot → Bool
-is_passed passed slot = list_any (λ p. rank p == rank slot) passed
+is_passed passed slot = list_any (λ p. is_same p slot) passed
 
 -- which slot, if any, a header of a number takes after headers in these slots
 abbrev pub Order : Type 0

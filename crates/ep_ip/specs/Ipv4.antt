@@ -148,3 +148,7 @@ pub record Fits (h : Ipv4Header) : Type 0 where
 -- the packet is one of several fragments: more of them follow, or it is not the first
 abbrev pub is_fragmenting : Bool → ℕ → Bool
 is_fragmenting more_fragments offset = more_fragments || nat_lt 0 offset
+
+-- the same of the packet that these bytes start
+abbrev pub is_fragment : List ℕ → Bool
+is_fragment bytes = is_fragmenting (more_fragments_of bytes) (fragment_offset_of bytes)

@@ -5,8 +5,7 @@ use Rattle.std.proofs.lemmas.Bool.{le-ltb}
 use Rattle.std.proofs.lemmas.List.{append-nil, drop_at}
 use Rattle.ep_base.specs.declared.len_source.LenSource.TheVariants.{Ipv4HeaderTotalLen}
 use Rattle.ep_base.specs.declared.net.ip_number.IpNumber.{IpNumber}
-use Rattle.ep_ip.specs.Ipv4.{IsIpv4Header, protocol_of, total_len_of, is_fragmenting, more_fragments_of}
-use Rattle.ep_ip.specs.Ipv4.{fragment_offset_of}
+use Rattle.ep_ip.specs.Ipv4.{IsIpv4Header, is_fragment, protocol_of, total_len_of}
 use Rattle.ep_ext.specs.Auth.{IsAuth}
 use Rattle.ep_ext.specs.Chain.{prefix_of}
 use Rattle.ep_ext.specs.Ipv4Exts.{IsAuthAfter, auth_after, auth_bytes, number_after}
@@ -67,7 +66,7 @@ packet_by_itself bytes packet is = record {
 pub payload_agrees : (header : List ℕ) (auth : Option (List ℕ)) (number : IpNumber)
     (fragmented : Bool) (payload : List ℕ) (protocol : ℕ) → protocol ≡ protocol_of header
     → number.0 ≡ number_after protocol auth
-    → fragmented ≡ is_fragmenting (more_fragments_of header) (fragment_offset_of header)
+    → fragmented ≡ is_fragment header
     → ◌≡◌ {A = IpPayload}
     (record {
       ip_number = number;

@@ -6,7 +6,7 @@ use Rattle.std.proofs.lemmas.List.{drop-take, drop_at}
 use Rattle.ep_base.specs.declared.err.slice_error.SliceError.{SliceError}
 use Rattle.ep_base.specs.declared.len_source.LenSource.{LenSource}
 use Rattle.ep_base.specs.declared.net.ip_number.IpNumber.{IpNumber}
-use Rattle.ep_ip.specs.Ipv4.{protocol_of, total_len_of, is_fragmenting, more_fragments_of, fragment_offset_of}
+use Rattle.ep_ip.specs.Ipv4.{is_fragment, protocol_of, total_len_of}
 use Rattle.ep_ip.specs.Ipv4Fault.{header_at}
 use Rattle.ep_ip.specs.declared.err.ipv4.header_error.HeaderError.{HeaderError as HeaderFault}
 use Rattle.ep_ext.specs.Ipv4Exts.{auth_after, auth_bytes}
@@ -51,7 +51,7 @@ pub record IsRead (bytes header body : List ℕ) (protocol : IpNumber) (incomple
   pub named : protocol.0 ≡ protocol_of header
   pub taken : body ≡ lax_ipv4_body bytes header
   pub cut : incomplete ≡ is_ipv4_cut bytes header
-  pub flag : fragmented ≡ is_fragmenting (more_fragments_of header) (fragment_offset_of header)
+  pub flag : fragmented ≡ is_fragment header
   pub bounded : source ≡ lax_ipv4_source bytes header
 
 abbrev Answer : Type 0

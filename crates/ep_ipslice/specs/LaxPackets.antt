@@ -11,7 +11,7 @@ use Rattle.ep_base.specs.declared.err.slice_error.SliceError.{SliceError}
 use Rattle.ep_base.specs.declared.err.slice_error.SliceError.TheVariants.{Len, Content}
 use Rattle.ep_base.specs.declared.len_source.LenSource.{LenSource}
 use Rattle.ep_base.specs.declared.len_source.LenSource.TheVariants.{Slice, Ipv4HeaderTotalLen}
-use Rattle.ep_ip.specs.Ipv4.{protocol_of, total_len_of, is_fragmenting, more_fragments_of, fragment_offset_of}
+use Rattle.ep_ip.specs.Ipv4.{is_fragment, protocol_of, total_len_of}
 use Rattle.ep_ip.specs.Ipv4Fault as v4
 use Rattle.ep_ip.specs.declared.err.ipv4.header_error.HeaderError.{HeaderError as Ipv4HeaderFault}
 use Rattle.ep_ip.specs.Ipv6.{next_header_of}
@@ -73,7 +73,7 @@ lax_ipv4_of bytes header auth = record {
   incomplete = is_ipv4_cut bytes header;
   payload = record {
     ip_number = record { 0 = number_after (protocol_of header) auth };
-    fragmented = is_fragmenting (more_fragments_of header) (fragment_offset_of header);
+    fragmented = is_fragment header;
     len_source = lax_ipv4_source bytes header;
     payload = drop (length (auth_bytes auth)) (lax_ipv4_body bytes header);
   };

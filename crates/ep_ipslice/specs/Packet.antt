@@ -81,8 +81,7 @@ IsWholeIpv4 packet = IsIpv4Packet (ipv4_bytes packet) packet
 abbrev pub ipv4_payload : Ipv4Packet → IpPayload
 ipv4_payload packet = record {
   ip_number = record { 0 = number_after (v4.protocol_of packet.header) packet.auth };
-  fragmented = v4.is_fragmenting (v4.more_fragments_of packet.header)
-      (v4.fragment_offset_of packet.header);
+  fragmented = v4.is_fragment packet.header;
   len_source = Ipv4HeaderTotalLen;
   payload = packet.payload;
 }

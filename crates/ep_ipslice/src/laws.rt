@@ -16,6 +16,6 @@ pub use lax::{
 pub use packets::{
     bodies_lie_within, extensions_of_a_packet, faults_are_alone, faults_can_be_moved,
     faults_found_are_first, ip_packet_is_whole, ipv4_fragment_fields, ipv4_packet_is_alone,
-    ipv6_fragment_fields, ipv6_packet_found_is_there, ipv6_packet_is_alone, numbers_of_a_view,
-    packets_are_their_parts, rows_are_found, rows_in_slots_are_views, skip_agrees_with_view,
+    ipv6_fragment_fields, ipv6_packet_is_alone, numbers_of_a_view, packets_are_their_parts,
+    rows_are_found, rows_in_slots_are_views, skip_agrees_with_view,
 };

@@ -62,7 +62,6 @@ impl<'a> PacketHeaders<'a> {
     {
         laws::rows_are_found();
         laws::rows_in_slots_are_views();
-        laws::ipv6_packet_found_is_there();
         Self::in_frame(slice)
     }
 
@@ -91,7 +90,6 @@ impl<'a> PacketHeaders<'a> {
     {
         laws::rows_are_found();
         laws::rows_in_slots_are_views();
-        laws::ipv6_packet_found_is_there();
         Self::after_link(None, ether_payload(ether_type, slice), 0)
     }
 
@@ -106,7 +104,6 @@ impl<'a> PacketHeaders<'a> {
     {
         laws::rows_are_found();
         laws::rows_in_slots_are_views();
-        laws::ipv6_packet_found_is_there();
         Self::in_ip_packet(slice)
     }
 

@@ -1,6 +1,6 @@
 -- The TCP header at the start of bytes.
-use Rattle.std.proofs.Common.{◌≡◌, ℕ, ◌+◌, ◌*◌, ◌/◌, ◌≤◌, ◌↔◌, List, ◌++◌, length, take, drop, Result, Ok, Err, IfOk}
-use Rattle.std.proofs.Common.{IsOk, ap, arith, refl, sym, ◌∙◌}
+use Rattle.std.proofs.Common.{◌≡◌, ℕ, ◌+◌, ◌*◌, ◌/◌, ◌≤◌, List, ◌++◌, length, take, drop, Result, Ok, Err, IfOk}
+use Rattle.std.proofs.Common.{ap, arith, refl, sym, ◌∙◌}
 use Rattle.std.proofs.lemmas.Bool.{le-ltb, ltb-false}
 use Rattle.std.proofs.lemmas.List.{get_or-take, length-take-le, take-append-drop, take_at, take_rest}
 use Rattle.std.proofs.lemmas.List.{get_or_append_left, length-append, length-drop}
@@ -16,7 +16,7 @@ use Rattle.ep_tcpudp.specs.declared.err.tcp.header_error.HeaderError.{HeaderErro
 twenty : (n : ℕ) → 5 ≤ n → 20 ≤ 4 * n
 twenty n h = omega arith
 
-segment-ok : (bytes : List ℕ) → ReadableTcp bytes → segment_at bytes ≡ Ok bytes
+pub segment-ok : (bytes : List ℕ) → ReadableTcp bytes → segment_at bytes ≡ Ok bytes
 segment-ok bytes readable =
     let least : 20 ≤ length bytes = omega (arith, readable.minimum, readable.header) in
     rw (
@@ -76,13 +76,14 @@ pub takes_header : (bytes : List ℕ) (taken : Result (List ℕ) (SliceError Hea
     → taken ≡ header_at bytes → TakesPrefix IsTcpHeader bytes taken
 takes_header = takes IsTcpHeader header_at prefix_takes prefix_again
 
-pub ok_readable : (bytes : List ℕ) (r : Result (List ℕ) (SliceError HeaderError))
-    → r ≡ segment_at bytes → IsOk r ↔ ReadableTcp bytes
-ok_readable bytes r e = grind arith
+segment_by : (bytes : List ℕ) (r : Result (List ℕ) (SliceError HeaderError)) → segment_at bytes ≡ r
+    → IfOk r (λ segment. ReadableTcp bytes × (segment ≡ bytes))
+segment_by bytes (Ok segment) is = let found = taken bytes segment is in (found.0, sym found.1)
+segment_by bytes (Err e) is = tt
 
-pub ok_view : (bytes : List ℕ) (r : Result (List ℕ) (SliceError HeaderError)) → r ≡ segment_at bytes
-    → IfOk r (λ segment. segment ≡ bytes)
-ok_view bytes r e = grind arith
+pub segment_found : (bytes : List ℕ)
+    → IfOk (segment_at bytes) (λ segment. ReadableTcp bytes × (segment ≡ bytes))
+segment_found bytes = segment_by bytes (segment_at bytes) refl
 
 -- the options of a header are all after its fixed fields
 pub options_rest : (bytes : List ℕ) → IsTcpHeader bytes → options_of bytes ≡ drop 20 bytes

@@ -1,7 +1,8 @@
 -- The UDP header, and the datagram, at the start of bytes.
-use Rattle.std.proofs.Common.{◌≡◌, ℕ, ◌≤◌, ◌↔◌, List, ◌++◌, length, take, drop, Result, Ok, IfOk, IsOk, arith, sym}
+use Rattle.std.proofs.Common.{◌≡◌, ℕ, ◌≤◌, List, ◌++◌, length, take, drop, Result, Ok, Err, IfOk, arith, sym}
 use Rattle.std.proofs.Common.{refl, ap, ◌∙◌}
 use Rattle.std.proofs.lemmas.Bool.{le-ltb, ltb-false}
+use Rattle.std.proofs.lemmas.Bool.Decides.{nat_tests}
 use Rattle.std.proofs.lemmas.List.{length-take-le, take-append-drop, take_at, length-append}
 use Rattle.ep_base.specs.declared.err.len_error.LenError.{LenError}
 use Rattle.ep_base.specs.Prefixes.{TakesPrefix}
@@ -39,10 +40,14 @@ taken : (bytes datagram : List ℕ) → udp_at bytes ≡ Ok datagram
     → ReadableUdp bytes × (datagram ≡ summed_udp bytes)
 taken bytes datagram e = grind arith
 
-pub ok_readable : (bytes : List ℕ) (r : Result (List ℕ) LenError) → r ≡ udp_at bytes
-    → IsOk r ↔ ReadableUdp bytes
-ok_readable bytes r e = grind arith
+datagram_by : (bytes : List ℕ) (r : Result (List ℕ) LenError) → udp_at bytes ≡ r
+    → IfOk r (λ datagram. ReadableUdp bytes × (datagram ≡ summed_udp bytes))
+datagram_by bytes (Ok datagram) is = taken bytes datagram is
+datagram_by bytes (Err e) is = tt
 
-pub ok_view : (bytes : List ℕ) (r : Result (List ℕ) LenError) → r ≡ udp_at bytes
-    → IfOk r (λ datagram. datagram ≡ summed_udp bytes)
-ok_view bytes r e = grind arith
+pub datagram_found : (bytes : List ℕ)
+    → IfOk (udp_at bytes) (λ datagram. ReadableUdp bytes × (datagram ≡ summed_udp bytes))
+datagram_found bytes = datagram_by bytes (udp_at bytes) refl
+
+pub datagram-ok : (bytes : List ℕ) → ReadableUdp bytes → udp_at bytes ≡ Ok (summed_udp bytes)
+datagram-ok bytes readable = grind (arith, nat_tests)

@@ -2,7 +2,7 @@
 ghost use Rattle.std.specs.Prelude.{◌≡◌, ◌≢◌, Ok, ℕ, List, ◌∷◌, ◌++◌, IsOkAnd, false, None, [], length};
 ghost use Rattle.ep_ext.specs.Follow.{Follows, IsReadAgain, has_slot, walk_fault};
 ghost use Rattle.ep_ext.specs.Slot.{slot_of};
-ghost use Rattle.ep_ext.specs.Ipv4Exts.{NamesAfter, ipv4_exts_of, ipv4_exts_encoding};
+ghost use Rattle.ep_ext.specs.Ipv4Exts.{NamesAfter, auth_number, ipv4_exts_of, ipv4_exts_encoding};
 ghost use Rattle.ep_ext.specs.Chain.{Chain, Row, fault_of};
 ghost use Rattle.ep_ext.specs.Value.{Piece, bytes_of, value_of};
 ghost use Rattle.ep_ext.specs.declared.net.ipv4_extensions.Ipv4Extensions.{Ipv4Extensions as Ipv4Value};
@@ -82,7 +82,7 @@ pub fn written_ipv4_chain_reads_back<'a>(
     slice: &'a [u8],
 ) -> Result<(Ipv4Extensions, IpNumber, &'a [u8]), ip_auth::HeaderSliceError>
     ensures { (number : IpNumber) (rest : List ℕ) → NamesAfter headers.now first.0 (Ok number)
-        → (headers.now.auth ≡ None → first.0 ≢ 51)
+        → (headers.now.auth ≡ None → first.0 ≢ auth_number)
         → slice.now ≡ ipv4_exts_encoding headers.now ++ rest
         → IsOkAnd result (λ r. (r.0 ≡ headers.now) × (r.1.0 ≡ number.0) × (r.2.now ≡ rest)) }
 {

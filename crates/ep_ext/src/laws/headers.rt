@@ -35,7 +35,7 @@ pub fn header_lengths() -> [usize; 8]
 
 /// What is found at the start of bytes is a header and a prefix of them, and a prefix of them that is
 /// a header is found. After a number of IPv4 it is the header, if the number names one.
-pub fn header_is_taken()
+pub fn headers_are_found()
     ensures raw { (bytes : List ℕ) → TakesPrefix IsRawExt bytes (raw_at bytes) }
     ensures fragment { (bytes : List ℕ) → TakesPrefix IsFragment bytes (fragment_at bytes) }
     ensures auth { (bytes : List ℕ) → TakesPrefix IsAuth bytes (auth_at bytes) }

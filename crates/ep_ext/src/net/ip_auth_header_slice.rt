@@ -29,7 +29,7 @@ impl<'a> Model for IpAuthHeaderSlice<'a> {
 impl<'a> IpAuthHeaderSlice<'a> {
     /// The header at the start of the slice. It is refused as by `IpAuthHeader::from_slice`.
     ///
-    /// By the law [`header_is_taken`](crate::laws::headers::header_is_taken) what is taken is a
+    /// By the law [`headers_are_found`](crate::laws::headers::headers_are_found) what is taken is a
     /// header and a prefix of the slice, and a prefix that is a header is taken.
     pub fn from_slice(slice: &'a [u8]) -> Result<IpAuthHeaderSlice<'a>, HeaderSliceError>
         ensures exact { result ≡ auth_at slice.now }

@@ -4,7 +4,7 @@ ghost use Rattle.ep_ext.specs.Auth.{IsAuth, auth_of, auth_encoding};
 ghost use Rattle.ep_base.specs.SliceError.{CanMove};
 ghost use Rattle.ep_ext.specs.declared.net.ip_auth_header.IpAuthHeader.{IpAuthHeader};
 ghost use Rattle.ep_ext.specs.Ipv4Exts.{Ipv4Chain, auth_after, ipv4_exts_of, number_after, ipv4_exts_encoding};
-ghost use Rattle.ep_ext.specs.Ipv4Exts.{ipv4_with_link, ipv4_walk_fault, NamesAfter, AppendsNamed};
+ghost use Rattle.ep_ext.specs.Ipv4Exts.{auth_number, ipv4_with_link, ipv4_walk_fault, NamesAfter, AppendsNamed};
 ghost use Rattle.ep_ext.specs.declared.err.ipv4_exts.header_write_error.HeaderWriteError.TheVariants.{Memory};
 
 use super::IpAuthHeader;
@@ -137,7 +137,7 @@ impl Ipv4Extensions {
     /// where there is no header.
     pub fn set_next_headers(&mut self, last: IpNumber) -> IpNumber
         ensures linked { self.new ≡ ipv4_with_link self.old last.0 }
-        ensures first { result.0 ≡ (if is_some self.old.auth then 51 else last.0) }
+        ensures first { result.0 ≡ (if is_some self.old.auth then auth_number else last.0) }
         ensures chained { NamesAfter self.new result.0 (Ok last) }
     {
         match &mut self.auth {

@@ -1,7 +1,7 @@
 //! The extension headers of an IPv4 packet from a reader.
 
 ghost use Rattle.std.specs.Prelude.{◌≡◌, ◌≤◌, ◌-◌, ℕ, List, ◌++◌, length, IfOk, IfErr, MatchResult, Option, Some};
-ghost use Rattle.ep_ext.specs.Ipv4Exts.{IsAuthAfter, auth_bytes, ipv4_exts_of, number_after};
+ghost use Rattle.ep_ext.specs.Ipv4Exts.{IsAuthAfter, auth_bytes, auth_number, ipv4_exts_of, number_after};
 ghost use Rattle.ep_ext.specs.Limited.{at_next_layer};
 ghost use Rattle.ep_ext.specs.Reads.{IsAuthIo, IsAuthLimitedIo, RefusesAuth, RefusesAuthWithin};
 ghost use Rattle.ep_ext.specs.ReadsIpv4Exts.{ReadsAuthAfter, ReadsAuthWithin};
@@ -30,7 +30,7 @@ impl Ipv4Extensions {
             × (r.1.0 ≡ number_after first.0 auth)
             × (R.remaining reader.new ≡ Some rest)) IsAuthIo }
         // Else a read failed, or what was read is no header.
-        ensures err { IfErr result (λ e. (first.0 ≡ 51)
+        ensures err { IfErr result (λ e. (first.0 ≡ auth_number)
             × RefusesAuth (R.remaining reader.old) e (R.remaining reader.new)) }
     {
         if first != IpNumber::AUTHENTICATION_HEADER {
@@ -59,7 +59,7 @@ impl Ipv4Extensions {
             × (r.1.0 ≡ number_after first.0 auth)
             × (R.remaining reader.new.reader ≡ Some rest)) IsAuthLimitedIo }
         // Else a read failed, the limit is too low, or what was read is no header.
-        ensures err { IfErr result (λ e. (first.0 ≡ 51)
+        ensures err { IfErr result (λ e. (first.0 ≡ auth_number)
             × RefusesAuthWithin R.remaining (at_next_layer reader.old Layer.IpAuthHeader) e
             reader.new) }
     {

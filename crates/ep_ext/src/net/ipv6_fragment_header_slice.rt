@@ -28,7 +28,7 @@ impl<'a> Ipv6FragmentHeaderSlice<'a> {
     /// The header at the start of the slice. A slice of fewer than 8 bytes is refused, with the
     /// layer `Ipv6FragHeader`.
     ///
-    /// By the law [`header_is_taken`](crate::laws::headers::header_is_taken) what is taken is a
+    /// By the law [`headers_are_found`](crate::laws::headers::headers_are_found) what is taken is a
     /// header and a prefix of the slice, and a prefix that is a header is taken.
     pub fn from_slice(slice: &'a [u8]) -> Result<Ipv6FragmentHeaderSlice<'a>, LenError>
         ensures exact { result ≡ fragment_at slice.now }

@@ -35,7 +35,7 @@ impl<'a> Ipv6RawExtHeaderSlice<'a> {
 
     /// The header at the start of the slice. It is refused as by `Ipv6RawExtHeader::from_slice`.
     ///
-    /// By the law [`header_is_taken`](crate::laws::headers::header_is_taken) what is taken is a
+    /// By the law [`headers_are_found`](crate::laws::headers::headers_are_found) what is taken is a
     /// header and a prefix of the slice, and a prefix that is a header is taken.
     pub fn from_slice(slice: &'a [u8]) -> Result<Ipv6RawExtHeaderSlice<'a>, LenError>
         ensures exact { result ≡ raw_at slice.now }

@@ -31,7 +31,7 @@ pub fn header_lengths() -> [usize; 3]
 
 /// What is found at the start of bytes is a header and a prefix of them, and a prefix of them that is
 /// a header is found.
-pub fn header_is_taken()
+pub fn headers_are_found()
     ensures { (bytes : List ℕ) → TakesPrefix IsIpv4Header bytes (header_at bytes) }
 {}
 

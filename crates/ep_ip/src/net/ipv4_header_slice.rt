@@ -7,7 +7,7 @@ ghost use Rattle.std.proofs.Common.{rules};
 ghost use Rattle.ep_ip.specs.Ipv4.{IsIpv4Header, version_of, ihl_of, dscp_of, ecn_of, total_len_of, identification_of};
 ghost use Rattle.ep_ip.specs.Ipv4.{dont_fragment_of, more_fragments_of, fragment_offset_of, time_to_live_of};
 ghost use Rattle.ep_ip.specs.Ipv4.{protocol_of, header_checksum_of, source_of, destination_of, options_of};
-ghost use Rattle.ep_ip.specs.Ipv4.{ipv4_header_of, header_len, ihl, is_fragmenting};
+ghost use Rattle.ep_ip.specs.Ipv4.{ipv4_header_of, header_len, ihl, is_fragment};
 ghost use Rattle.ep_ip.specs.Ipv4Fault.{header_at, IsPayloadLen};
 ghost use Rattle.ep_ip.specs.Ipv4Options.{IsIpv4Options};
 
@@ -43,7 +43,7 @@ impl<'a> Ipv4HeaderSlice<'a> {
     /// the length field is at least 5 (`HeaderLengthSmallerThanHeader`), and as many words of
     /// 4 bytes are there as it says (`Len`).
     ///
-    /// By the law [`header_is_taken`](crate::laws::ipv4::header_is_taken) what is taken is a header
+    /// By the law [`headers_are_found`](crate::laws::ipv4::headers_are_found) what is taken is a header
     /// and a prefix of the slice, and a prefix that is a header is taken.
     pub fn from_slice(slice: &'a [u8]) -> Result<Ipv4HeaderSlice<'a>, HeaderSliceError>
         ensures exact { result ≡ header_at slice.now }
@@ -157,8 +157,7 @@ impl<'a> Ipv4HeaderSlice<'a> {
 
     /// Whether the packet is a fragment: more fragments follow, or the offset is not 0.
     pub fn is_fragmenting_payload(&self) -> bool
-        ensures { result ≡ is_fragmenting (more_fragments_of self.now)
-            (fragment_offset_of self.now) }
+        ensures { result ≡ is_fragment self.now }
     {
         self.more_fragments() || self.fragments_offset().value() > 0
     }

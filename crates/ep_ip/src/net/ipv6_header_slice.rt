@@ -36,7 +36,7 @@ impl<'a> Ipv6HeaderSlice<'a> {
     /// The header at the start of the slice. Refused are, in this order, a slice of fewer than 40
     /// bytes and a version other than 6.
     ///
-    /// By the law [`header_is_taken`](crate::laws::ipv6::header_is_taken) what is taken is a header
+    /// By the law [`headers_are_found`](crate::laws::ipv6::headers_are_found) what is taken is a header
     /// and a prefix of the slice, and a prefix that is a header is taken.
     pub fn from_slice(slice: &'a [u8]) -> Result<Ipv6HeaderSlice<'a>, HeaderSliceError>
         ensures exact { result ≡ header_at slice.now }

@@ -74,12 +74,6 @@ pub fn packets_are_their_parts()
         ↔ IsIpPacket bytes packet }
 {}
 
-/// The IPv6 packet that is found at the start of bytes is one that they begin with.
-pub fn ipv6_packet_found_is_there()
-    ensures { (bytes : List ℕ) (packet : Ipv6Packet) → ipv6_packet_at bytes ≡ Ok packet
-        → IsIpv6Packet bytes packet }
-{}
-
 /// Where no packet is found at the start of bytes, the fault that is found is the first one; and so
 /// is that at which extension headers end, under whatever order.
 pub fn faults_found_are_first()

@@ -22,7 +22,7 @@ impl<'a> Ipv4ExtensionsSlice<'a> {
     /// The extension header at the start of the slice, if the number names one, the number after it
     /// and the bytes after it. The errors are those of [`IpAuthHeaderSlice::from_slice`].
     ///
-    /// By the law [`header_is_taken`](ep_ext::laws::headers::header_is_taken) what is taken is a
+    /// By the law [`headers_are_found`](ep_ext::laws::headers::headers_are_found) what is taken is a
     /// header that the number names, and such a header, or none where none is named, is taken.
     pub fn from_slice(
         first: IpNumber,

@@ -9,7 +9,7 @@ ghost use Rattle.std.specs.Cmp.Rules.{comparing};
 ghost use Rattle.std.specs.Ordering.{on};
 ghost use Rattle.std.proofs.Common.{rules};
 ghost use Rattle.ep_ipslice.specs.Compared.{auth_code};
-ghost use Rattle.ep_ip.specs.Ipv4.{is_fragmenting, more_fragments_of, fragment_offset_of};
+ghost use Rattle.ep_ip.specs.Ipv4.{is_fragment};
 
 use super::body::{bytes_within, error_within};
 use super::{IpPayloadSlice, Ipv4ExtensionsSlice};
@@ -147,8 +147,7 @@ impl<'a> Ipv4Slice<'a> {
 
     /// Whether the payload is a fragment: more fragments follow, or its offset isn't 0.
     pub fn is_payload_fragmented(&self) -> bool
-        ensures { result ≡ is_fragmenting (more_fragments_of self.now.header)
-            (fragment_offset_of self.now.header) }
+        ensures { result ≡ is_fragment self.now.header }
     {
         self.payload.fragmented
     }

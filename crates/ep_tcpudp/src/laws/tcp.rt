@@ -1,6 +1,6 @@
 //! Laws of TCP (RFC 9293, section 3.1).
 
-ghost use Rattle.std.specs.Prelude.{◌≡◌, ℕ, List, ◌++◌, IsOkAnd, fold};
+ghost use Rattle.std.specs.Prelude.{◌≡◌, ℕ, List, ◌++◌, IfOk, IsOkAnd, Ok, fold};
 ghost use Rattle.std.specs.Cmp.Lexicographic.{slice_cmp};
 ghost use Rattle.std.specs.Hash as fed;
 ghost use Rattle.std.specs.Ordering.{nat_cmp};
@@ -8,9 +8,9 @@ ghost use Rattle.ep_base.specs.Bytes.{IsBytes};
 ghost use Rattle.ep_base.specs.Prefixes.{TakesPrefix};
 ghost use Rattle.ep_tcpudp.specs.Elements.{ItemsAreEncoded, NoOtherItems};
 ghost use Rattle.ep_tcpudp.specs.Options.{ElementsComeBack};
-ghost use Rattle.ep_tcpudp.specs.Tcp.{IsTcpHeader, tcp_header_of, encoding, with_reserved_bits_zero};
+ghost use Rattle.ep_tcpudp.specs.Tcp.{IsTcpHeader, ReadableTcp, tcp_header_of, encoding, with_reserved_bits_zero};
 ghost use Rattle.ep_tcpudp.specs.TcpChecksum.{SealedTcpSumsToAllOnes, SealedSegmentSumsToAllOnes};
-ghost use Rattle.ep_tcpudp.specs.TcpFault.{header_at};
+ghost use Rattle.ep_tcpudp.specs.TcpFault.{header_at, segment_at};
 
 use crate::err::tcp::HeaderSliceError;
 use crate::{TcpHeader, TcpOptions};
@@ -42,6 +42,14 @@ pub fn headers_are_their_bytes(header: &TcpHeader)
 /// header is found.
 pub fn headers_are_found()
     ensures { (bytes : List ℕ) → TakesPrefix IsTcpHeader bytes (header_at bytes) }
+{}
+
+/// What is found are all of the bytes, which begin with a whole header; bytes that begin with one are
+/// found.
+pub fn segments_are_found()
+    ensures found { (bytes : List ℕ) → IfOk (segment_at bytes)
+        (λ segment. ReadableTcp bytes × (segment ≡ bytes)) }
+    ensures only { (bytes : List ℕ) → ReadableTcp bytes → segment_at bytes ≡ Ok bytes }
 {}
 
 /// What `to_bytes` gives is read again, whatever follows it.

@@ -1,9 +1,10 @@
 //! Laws of UDP (RFC 768).
 
-ghost use Rattle.std.specs.Prelude.{◌≡◌, ◌↔◌, ◌≤◌, ◌<◌, ℕ, List, ◌++◌, length, IsOkAnd, Ok};
+ghost use Rattle.std.specs.Prelude.{◌≡◌, ◌↔◌, ◌≤◌, ◌<◌, ℕ, List, ◌++◌, length, IfOk, IsOkAnd, Ok};
 ghost use Rattle.ep_base.specs.Bytes.{IsBytes};
 ghost use Rattle.ep_base.specs.Prefixes.{TakesPrefix};
-ghost use Rattle.ep_tcpudp.specs.Udp.{IsLaxUdp, IsUdpHeader, encoding, length_of, udp_header_of};
+ghost use Rattle.ep_tcpudp.specs.Udp.{IsLaxUdp, IsUdpHeader, ReadableUdp, encoding, lax_summed_udp};
+ghost use Rattle.ep_tcpudp.specs.Udp.{length_of, summed_udp, udp_header_of};
 ghost use Rattle.ep_tcpudp.specs.UdpChecksum.{SealedUdpSumsToAllOnes};
 ghost use Rattle.ep_tcpudp.specs.UdpFault.{header_at, lax_udp_at, udp_at};
 
@@ -40,6 +41,18 @@ pub fn headers_are_their_bytes(header: &UdpHeader)
 /// header is found.
 pub fn headers_are_found()
     ensures { (bytes : List ℕ) → TakesPrefix IsUdpHeader bytes (header_at bytes) }
+{}
+
+/// What is found is the datagram that bytes begin with, and where they begin with one it is found.
+/// A lax read finds what there is of a datagram, wherever a header is there.
+pub fn datagrams_are_found()
+    ensures found { (bytes : List ℕ) → IfOk (udp_at bytes)
+        (λ datagram. ReadableUdp bytes × (datagram ≡ summed_udp bytes)) }
+    ensures only { (bytes : List ℕ) → ReadableUdp bytes → udp_at bytes ≡ Ok (summed_udp bytes) }
+    ensures lax_found { (bytes : List ℕ) → IfOk (lax_udp_at bytes)
+        (λ datagram. (8 ≤ length bytes) × (datagram ≡ lax_summed_udp bytes)) }
+    ensures lax_only { (bytes : List ℕ) → 8 ≤ length bytes
+        → lax_udp_at bytes ≡ Ok (lax_summed_udp bytes) }
 {}
 
 /// What `to_bytes` gives is read again, whatever follows it.

@@ -1,6 +1,6 @@
 //! A TCP segment as a view of its bytes.
 
-ghost use Rattle.std.specs.Prelude.{◌≡◌, ◌↔◌, ◌≤◌, ℕ, ◌*◌, List, ◌++◌, length, IfOk, IsOk};
+ghost use Rattle.std.specs.Prelude.{◌≡◌, ◌≤◌, ℕ, ◌*◌, List, ◌++◌, length};
 ghost use Rattle.ep_base.specs.MessageSum.{SumsWords};
 ghost use Rattle.ep_tcpudp.specs.Limit.{value_up_to};
 ghost use Rattle.ep_tcpudp.specs.Tcp.{ReadableTcp, IsTcpHeader, header_bytes, payload_of, data_offset_of};
@@ -39,17 +39,8 @@ impl<'a> TcpSlice<'a> {
     /// Tested in this order: 20 bytes are there (`Len`), the data offset is at least 5
     /// (`DataOffsetTooSmall`), and as many words of 4 bytes are there as it says (`Len`).
     pub fn from_slice(slice: &'a [u8]) -> Result<TcpSlice<'a>, HeaderSliceError>
-        // It is taken where the bytes begin with a header, and then it is all the bytes.
-        ensures readable { IsOk result ↔ ReadableTcp slice.now }
-        ensures view { IfOk result (λ segment. segment ≡ slice.now) }
-        // Else it is the first fault.
+        // All of the slice, or the first fault: law `tcp::segments_are_found`.
         ensures exact { result ≡ segment_at slice.now }
-    {
-        Self::tested(slice)
-    }
-
-    fn tested(slice: &'a [u8]) -> Result<TcpSlice<'a>, HeaderSliceError>
-        ensures { result ≡ segment_at slice.now }
     {
         TcpHeaderSlice::from_slice(slice)?;
         Ok(TcpView::of(slice))

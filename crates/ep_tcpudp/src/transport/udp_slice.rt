@@ -1,7 +1,7 @@
 //! A UDP datagram as a view of its bytes.
 
-ghost use Rattle.std.specs.Prelude.{◌≡◌, ◌↔◌, ◌≤◌, ℕ, ◌==◌, if◌then◌else◌, List, length, take, drop, IfOk, IsOk, Ok};
-ghost use Rattle.ep_tcpudp.specs.Udp.{IsLaxUdp, IsUdp, ReadableUdp, lax_summed_udp, length_of, summed_udp};
+ghost use Rattle.std.specs.Prelude.{◌≡◌, ◌==◌, if◌then◌else◌, length, take, drop, IfOk};
+ghost use Rattle.ep_tcpudp.specs.Udp.{IsLaxUdp, IsUdp, length_of};
 ghost use Rattle.ep_tcpudp.specs.UdpFault.{lax_udp_at, udp_at};
 
 use super::udp_view::UdpView;
@@ -35,17 +35,7 @@ impl<'a> UdpSlice<'a> {
     /// bytes there (layer `UdpPayload`), and one of 1 to 7 (layer `UdpHeader`, with the length
     /// field as the source of the length).
     pub fn from_slice(slice: &'a [u8]) -> Result<UdpSlice<'a>, LenError>
-        // It is taken where the bytes begin with a datagram, and then it is that datagram.
-        ensures readable { IsOk result ↔ ReadableUdp slice.now }
-        ensures view { IfOk result (λ datagram. datagram ≡ summed_udp slice.now) }
-        // Else it is the first fault.
-        ensures exact { result ≡ udp_at slice.now }
-        ensures datagram { IfOk result (λ datagram. IsUdp datagram) }
-    {
-        Self::tested(slice)
-    }
-
-    fn tested(slice: &'a [u8]) -> Result<UdpSlice<'a>, LenError>
+        // The datagram, or the first fault: law `udp::datagrams_are_found`.
         ensures exact { result ≡ udp_at slice.now }
         ensures datagram { IfOk result (λ datagram. IsUdp datagram) }
     {
@@ -68,10 +58,7 @@ impl<'a> UdpSlice<'a> {
     ///
     /// Refused are fewer than 8 bytes alone (layer `UdpHeader`).
     pub fn from_slice_lax(slice: &'a [u8]) -> Result<UdpSlice<'a>, LenError>
-        // It is taken where a header is there, and then it is what there is of the datagram.
-        ensures readable { IsOk result ↔ 8 ≤ length slice.now }
-        ensures view { IfOk result (λ datagram. datagram ≡ lax_summed_udp slice.now) }
-        // Else bytes of the header are missing.
+        // What there is, or that bytes of the header are missing: law `udp::datagrams_are_found`.
         ensures exact { result ≡ lax_udp_at slice.now }
     {
         let length = usize::from(UdpHeaderSlice::from_slice(slice)?.length());

@@ -1,4 +1,5 @@
 use Rattle.std.proofs.Common.{◌∙◌, ap, None}
+use Rattle.ep_ipslice.proofs.Found.{packet_found}
 use Rattle.ep_packet.proofs.HeadersOfPackets.{ether_type_same}
 use Rattle.ep_packet.specs.SliceFault.{later}
 use Rattle.ep_packet.proofs.packet_headers.PacketHeaders.from_ether_type.Goals as goal
@@ -14,6 +15,6 @@ returns-clause-agrees c = λ packet headers is are.
     (record {
       found = c.rows_are_found.ensures;
       views = c.rows_in_slots_are_views.ensures;
-      begins = c.ipv6_packet_found_is_there.ensures;
+      begins = packet_found;
     }) c.args.ether_type
     c.args.slice.now packet headers is are)

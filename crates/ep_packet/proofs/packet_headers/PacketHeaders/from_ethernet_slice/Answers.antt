@@ -1,4 +1,5 @@
 use Rattle.std.proofs.Common.{◌∙◌}
+use Rattle.ep_ipslice.proofs.Found.{packet_found}
 use Rattle.ep_packet.proofs.HeadersOfPackets.{ethernet_same}
 use Rattle.ep_packet.proofs.packet_headers.PacketHeaders.from_ethernet_slice.Goals as goal
 
@@ -8,5 +9,5 @@ returns-clause-agrees c = λ packet headers is are.
     (record {
       found = c.rows_are_found.ensures;
       views = c.rows_in_slots_are_views.ensures;
-      begins = c.ipv6_packet_found_is_there.ensures;
+      begins = packet_found;
     }) c.args.slice.now packet headers is are

@@ -1,5 +1,5 @@
 use Rattle.ep_ext.proofs.Found.{raw_taken, fragment_taken, auth_taken, auth_after_found, auth_after_again}
-use Rattle.ep_ext.proofs.laws.headers.header_is_taken.Goals as goal
+use Rattle.ep_ext.proofs.laws.headers.headers_are_found.Goals as goal
 
 pub returns-clause-raw : goal.returns-clause-raw
 returns-clause-raw c = raw_taken
