@@ -42,7 +42,7 @@ encoding h = h.destination ++ h.source ++ to_be_bytes w16 h.ether_type.0
 abbrev pub payload_of : List ℕ → EtherPayload
 payload_of frame =
     record {
-      ether_type = ether_type_at frame 12;
+      ether_type = next_type_of frame;
       len_source = Slice;
       payload = drop ethernet_len frame;
     }

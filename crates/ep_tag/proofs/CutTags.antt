@@ -7,15 +7,14 @@ use Rattle.std.proofs.lemmas.Bool.Decides.{nat_tests}
 use Rattle.std.proofs.lemmas.List.{drop_at, get_or-take, length-take, take-append-le}
 use Rattle.ep_base.proofs.FirstBytes.{drop_in, payload_prefix, take_after}
 use Rattle.ep_base.specs.declared.err.layer.Layer.TheVariants.{VlanHeader}
-use Rattle.ep_base.specs.declared.len_source.LenSource.{LenSource}
-use Rattle.ep_base.specs.declared.len_source.LenSource.TheVariants.{Slice, MacsecShortLength}
+use Rattle.ep_base.specs.declared.len_source.LenSource.TheVariants.{Slice}
 use Rattle.ep_tag.specs.CutTags.{cut_macsec, cut_macsec_payload, cut_named, cut_tag, named_bytes}
 use Rattle.ep_tag.specs.LinkExt.{fields_of, lax_fields_of, lax_payload_after, payload_after, tag_len}
 use Rattle.ep_tag.specs.Macsec.{is_unmodified, short_len_of}
 use Rattle.ep_tag.specs.MacsecFault.{header_at}
 use Rattle.ep_tag.specs.MacsecLax.{lax_macsec_at, lax_named_payload, lax_macsec_with, lax_payload_under}
 use Rattle.ep_tag.specs.MacsecPayload.{Macsec, MacsecPayload, bytes_under, macsec_at, named_payload, payload_len_of}
-use Rattle.ep_tag.specs.MacsecPayload.{payload_under}
+use Rattle.ep_tag.specs.MacsecPayload.{payload_under, source_of}
 use Rattle.ep_tag.specs.Prefix.{whole_at}
 use Rattle.ep_tag.specs.Vlan.{vlan_len}
 use Rattle.ep_tag.specs.declared.link.link_ext_slice.LinkExtSlice.{LinkExtSlice}
@@ -26,10 +25,6 @@ use Rattle.ep_tag.proofs.MacsecRead.{macsec_takes}
 short_of : (n : ℕ) (payload beyond : List ℕ)
     → nat_lt (length (take n (payload ++ beyond))) (length payload) ≡ nat_lt n (length payload)
 short_of n payload beyond = grind (arith, nat_tests, length-take, length-append)
-
--- what bounds a payload of which nothing is missing
-abbrev source_of : List ℕ → LenSource
-source_of header = if short_len_of header == 0 then Slice else MacsecShortLength
 
 -- a payload under a header, cut
 under_cut : (plain incomplete : Bool) (n : ℕ) (header payload : List ℕ) → is_unmodified header ≡ plain

@@ -1,18 +1,18 @@
 -- Tags as far as they are there, where more bytes are there.
 use Rattle.std.proofs.Common.{◌≡◌, ◌∙◌, sym, ap, refl, ℕ, ◌==◌, Bool, true, false, List, ◌++◌, length, drop, Result, Ok, Err}
 use Rattle.std.proofs.Common.{IsOkAnd, arith, append_assoc}
-use Rattle.std.specs.Prelude.{if◌then◌else◌, nat_lt}
+use Rattle.std.specs.Prelude.{nat_lt}
 use Rattle.std.proofs.lemmas.Bool.Decides.{nat_tests}
 use Rattle.std.proofs.lemmas.List.{drop_at, take_all}
 use Rattle.ep_base.proofs.FirstBytes.{take_continued}
 use Rattle.ep_base.specs.Bytes.{IsContinued}
 use Rattle.ep_base.specs.declared.err.slice_error.SliceError.{SliceError}
 use Rattle.ep_base.specs.declared.len_source.LenSource.{LenSource}
-use Rattle.ep_base.specs.declared.len_source.LenSource.TheVariants.{Slice, MacsecShortLength}
+use Rattle.ep_base.specs.declared.len_source.LenSource.TheVariants.{Slice}
 use Rattle.ep_tag.specs.Macsec.{is_unmodified, short_len_of}
 use Rattle.ep_tag.specs.MacsecFault.{header_at}
 use Rattle.ep_tag.specs.MacsecLax.{LaxMacsec, lax_macsec_after, lax_macsec_at, lax_macsec_with, lax_payload_under}
-use Rattle.ep_tag.specs.MacsecPayload.{bytes_under, payload_len_of}
+use Rattle.ep_tag.specs.MacsecPayload.{bytes_under, payload_len_of, source_of}
 use Rattle.ep_tag.specs.MoreTags.{KeepsMacsec, IsPayloadContinued}
 use Rattle.ep_tag.specs.declared.err.macsec.header_error.HeaderError.{HeaderError}
 use Rattle.ep_tag.proofs.MacsecPrefix.{header_again, header_found}
@@ -25,7 +25,7 @@ payload_case true header rest short =
     let all : bytes_under header rest ≡ rest = grind (arith, nat_tests, take_all) in
     (true, Slice, rw (short, all) refl)
 payload_case false header rest short =
-    (false, if short_len_of header == 0 then Slice else MacsecShortLength, rw short refl)
+    (false, source_of header, rw short refl)
 
 bytes_more : (none : Bool) (header rest more : List ℕ) → (short_len_of header == 0) ≡ none
     → IsContinued (bytes_under header rest) (bytes_under header (rest ++ more))

@@ -2,7 +2,7 @@
 use Rattle.std.specs.Prelude.{◌≡◌, ◌≤◌, ◌<◌, ℕ, ◌+◌, ◌-◌, ◌%◌, ◌^◌, ◌&&◌, ◌==◌, not, Bool, false, if◌then◌else◌, List}
 use Rattle.std.specs.Prelude.{[], ◌∷◌, ◌++◌, length, slice_index, slice_set, Option, Some, None, is_some, ⊤}
 use Rattle.std.specs.Int.{w16, w32, w64, bit_at, to_be_bytes}
-use Rattle.ep_base.specs.Bytes.{num}
+use Rattle.ep_base.specs.Bytes.{flag, num}
 use Rattle.ep_base.specs.declared.link.ether_type.EtherType.{EtherType}
 use Rattle.ep_tag.specs.declared.link.macsec_header.MacsecHeader.{MacsecHeader}
 use Rattle.ep_tag.specs.declared.link.macsec_p_type.MacsecPType.{MacsecPType}
@@ -39,9 +39,9 @@ is_encrypted header = bit_of header 3
 abbrev pub is_changed : List ℕ → Bool
 is_changed header = bit_of header 2
 
--- neither encrypted nor changed (bits E and C): an ether type ends the header, and what it names follows
+-- neither encrypted nor changed: an ether type ends the header, and what it names follows
 abbrev pub is_unmodified : List ℕ → Bool
-is_unmodified header = not (bit_of header 3) && not (bit_of header 2)
+is_unmodified header = not (is_encrypted header) && not (is_changed header)
 
 -- the association number, the lower 2 bits of the first byte
 abbrev pub an_of : List ℕ → ℕ
@@ -59,18 +59,25 @@ packet_nr_of header = num header 2 4
 abbrev pub sci_of : List ℕ → Option ℕ
 sci_of header = if has_sci header then Some (num header 6 8) else None
 
--- how many bytes the secure channel identifier takes (bit SC)
+-- how many bytes the secure channel identifier takes
 abbrev pub sci_len : List ℕ → ℕ
-sci_len header = if bit_of header 5 then 8 else 0
+sci_len header = if has_sci header then 8 else 0
 
--- the header's length, as its first byte says: an ether type takes 2 bytes
+-- how many bytes the ether type takes
+abbrev pub type_len : List ℕ → ℕ
+type_len header = if is_unmodified header then 2 else 0
+
+-- the header's length, as its first byte says
 abbrev pub header_len_of : List ℕ → ℕ
-header_len_of header = 6 + sci_len header + (if is_unmodified header then 2 else 0)
+header_len_of header = 6 + sci_len header + type_len header
 
--- the ether type, where it is there: the last two bytes
+-- the ether type of an unmodified payload: the last two bytes
+abbrev pub ether_type_of : List ℕ → EtherType
+ether_type_of header = ether_type_at header (6 + sci_len header)
+
+-- the ether type, where it is there
 abbrev pub next_type_of : List ℕ → Option EtherType
-next_type_of header = if is_unmodified header
-    then Some (ether_type_at header (6 + sci_len header)) else None
+next_type_of header = if is_unmodified header then Some (ether_type_of header) else None
 
 -- what the payload is, by the two bits for encrypted and changed
 abbrev pub ptype_of : List ℕ → MacsecPType
@@ -78,7 +85,7 @@ ptype_of header =
     if is_encrypted header then (if is_changed header then ptype.Encrypted
     else ptype.EncryptedUnmodified)
     else (if is_changed header then ptype.Modified
-    else ptype.Unmodified (ether_type_at header (6 + sci_len header)))
+    else ptype.Unmodified (ether_type_of header))
 
 -- an ether type is to follow, and the short length has no room for it
 abbrev pub has_no_room : List ℕ → Bool
@@ -120,13 +127,9 @@ abbrev pub sci_encoding : Option ℕ → List ℕ
 sci_encoding (Some sci) = to_be_bytes w64 sci
 sci_encoding None = []
 
--- a flag with its weight
-abbrev pub worth : Bool → ℕ → ℕ
-worth b n = if b then n else 0
-
 abbrev pub first_byte : MacsecHeader → ℕ
 first_byte h =
-    worth h.endstation_id (2 ^ 6) + worth (is_some h.sci) (2 ^ 5) + worth h.scb
+    flag h.endstation_id (2 ^ 6) + flag (is_some h.sci) (2 ^ 5) + flag h.scb
     (2 ^ 4) + ptype_bits h.ptype + h.an
 
 -- the bytes of a header; the two bits before the short length are unused and 0

@@ -1,5 +1,5 @@
 -- Why bytes do not begin with a MACsec header (IEEE 802.1AE, clause 9).
-use Rattle.std.specs.Prelude.{ℕ, ◌==◌, ◌&&◌, List, length, take, nat_lt, Result, ◌∷◌, []}
+use Rattle.std.specs.Prelude.{ℕ, List, length, take, nat_lt, Result, ◌∷◌, []}
 use Rattle.ep_base.specs.declared.err.layer.Layer.TheVariants.{MacsecHeader}
 use Rattle.ep_tag.specs.declared.err.macsec.header_error.HeaderError.TheVariants.{UnexpectedVersion}
 use Rattle.ep_tag.specs.declared.err.macsec.header_error.HeaderError.TheVariants.{InvalidUnmodifiedShortLen}
@@ -8,15 +8,15 @@ use Rattle.ep_base.specs.declared.err.slice_error.SliceError.TheVariants.{Len, C
 use Rattle.ep_tag.specs.declared.err.macsec.header_error.HeaderError.{HeaderError}
 use Rattle.ep_base.specs.LenError.{too_few_bytes}
 use Rattle.ep_base.specs.Refusals.{unless_refused}
-use Rattle.ep_tag.specs.Macsec.{bit_of, header_len_of, is_unmodified, short_len_of}
+use Rattle.ep_tag.specs.Macsec.{has_no_room, header_len_of, version_of}
 
--- the header at the start of the bytes, or the first fault: 6 bytes, version 0 (bit 7), room for the
--- ether type (a short length of 1 has none), whole header
+-- the header at the start of the bytes, or the first fault: 6 bytes, version, room for the ether
+-- type, whole header
 abbrev pub header_at : List ℕ → Result (List ℕ) (SliceError HeaderError)
 header_at bytes = unless_refused (
     (nat_lt (length bytes) 6, Len (too_few_bytes MacsecHeader 6 (length bytes)))
-    ∷ (bit_of bytes 7, Content UnexpectedVersion)
-    ∷ (is_unmodified bytes && (short_len_of bytes == 1), Content InvalidUnmodifiedShortLen)
+    ∷ (version_of bytes, Content UnexpectedVersion)
+    ∷ (has_no_room bytes, Content InvalidUnmodifiedShortLen)
     ∷ (
       nat_lt (length bytes) (header_len_of bytes),
       Len (too_few_bytes MacsecHeader (header_len_of bytes) (length bytes)),

@@ -1,14 +1,14 @@
 -- What a MACsec header makes of the bytes after it, as far as they are there (IEEE 802.1AE, clause 9).
-use Rattle.std.specs.Prelude.{ℕ, Bool, true, false, nat_lt, if◌then◌else◌, ◌+◌, ◌==◌, List, length, drop}
+use Rattle.std.specs.Prelude.{ℕ, Bool, true, false, nat_lt, if◌then◌else◌, List, length, drop}
 use Rattle.std.specs.Prelude.{Option, Some, None, Result, Ok, Err}
 use Rattle.ep_base.specs.declared.len_source.LenSource.{LenSource}
-use Rattle.ep_base.specs.declared.len_source.LenSource.TheVariants.{Slice, MacsecShortLength}
+use Rattle.ep_base.specs.declared.len_source.LenSource.TheVariants.{Slice}
 use Rattle.ep_base.specs.declared.err.slice_error.SliceError.{SliceError}
 use Rattle.ep_tag.specs.declared.err.macsec.header_error.HeaderError.{HeaderError}
-use Rattle.ep_tag.specs.Ether.{LaxEtherPayload, complete_ether, ether_type_at, present_ether}
-use Rattle.ep_tag.specs.Macsec.{is_unmodified, sci_len, short_len_of}
+use Rattle.ep_tag.specs.Ether.{LaxEtherPayload, complete_ether, present_ether}
+use Rattle.ep_tag.specs.Macsec.{ether_type_of, is_unmodified}
 use Rattle.ep_tag.specs.MacsecFault.{header_at}
-use Rattle.ep_tag.specs.MacsecPayload.{Macsec, MacsecPayload, Modified, Unmodified, bytes_under, payload_len_of}
+use Rattle.ep_tag.specs.MacsecPayload.{Macsec, MacsecPayload, Modified, Unmodified, bytes_under, payload_len_of, source_of}
 
 -- what there is of the bytes after the header, and whether some are missing
 pub data LaxMacsecPayload : Type 0 where
@@ -39,7 +39,7 @@ lax_payload_under header incomplete source bytes =
     if is_unmodified header then LaxUnmodified
     (record {
       incomplete = incomplete;
-      ether_type = ether_type_at header (6 + sci_len header);
+      ether_type = ether_type_of header;
       len_source = source;
       payload = bytes;
     })
@@ -52,8 +52,7 @@ lax_macsec_with header rest = record {
   header = header;
   payload = if nat_lt (length rest) (payload_len_of header)
       then lax_payload_under header true Slice rest
-      else lax_payload_under header false (if short_len_of header == 0 then Slice else MacsecShortLength)
-      (bytes_under header rest);
+      else lax_payload_under header false (source_of header) (bytes_under header rest);
 }
 
 abbrev pub lax_macsec_after : List ℕ → Result (List ℕ) (SliceError HeaderError)

@@ -3,13 +3,14 @@ use Rattle.std.specs.Prelude.{◌≡◌, ◌<◌, ℕ, ◌+◌, ◌-◌, ◌==�
 use Rattle.std.specs.Prelude.{Option, Some, None, Result, Ok, Err}
 use Rattle.std.specs.Result.{result_flatten, result_map_both}
 use Rattle.ep_base.specs.declared.err.layer.Layer.TheVariants.{MacsecPacket}
+use Rattle.ep_base.specs.declared.len_source.LenSource.{LenSource}
 use Rattle.ep_base.specs.declared.len_source.LenSource.TheVariants.{Slice, MacsecShortLength}
 use Rattle.ep_base.specs.declared.err.slice_error.SliceError.{SliceError}
 use Rattle.ep_base.specs.declared.err.slice_error.SliceError.TheVariants.{Len}
 use Rattle.ep_tag.specs.declared.err.macsec.header_error.HeaderError.{HeaderError}
-use Rattle.ep_tag.specs.Ether.{EtherPayload, ether_type_at}
+use Rattle.ep_tag.specs.Ether.{EtherPayload}
 use Rattle.ep_base.specs.LenError.{too_few_bytes}
-use Rattle.ep_tag.specs.Macsec.{IsMacsecHeader, is_unmodified, sci_len, short_len_of}
+use Rattle.ep_tag.specs.Macsec.{IsMacsecHeader, ether_type_of, is_unmodified, short_len_of, type_len}
 use Rattle.ep_tag.specs.MacsecFault.{header_at}
 
 -- what follows the header: bytes that an ether type names, or bytes that were changed
@@ -24,15 +25,19 @@ pub record Macsec : Type 0 where
 
 -- how many bytes the short length leaves for the payload
 abbrev pub payload_len_of : List ℕ → ℕ
-payload_len_of header = short_len_of header - (if is_unmodified header then 2 else 0)
+payload_len_of header = short_len_of header - type_len header
 
--- bytes as the payload of a header, which a short length above 0 bounds
+-- what bounds the payload where no byte of it is missing
+abbrev pub source_of : List ℕ → LenSource
+source_of header = if short_len_of header == 0 then Slice else MacsecShortLength
+
+-- bytes as the payload of a header
 abbrev pub payload_under : List ℕ → List ℕ → MacsecPayload
 payload_under header bytes =
     if is_unmodified header then Unmodified
     (record {
-      ether_type = ether_type_at header (6 + sci_len header);
-      len_source = if short_len_of header == 0 then Slice else MacsecShortLength;
+      ether_type = ether_type_of header;
+      len_source = source_of header;
       payload = bytes;
     })
     else Modified bytes

@@ -56,7 +56,7 @@ encoding h =
 -- what follows a tag, under the tag's ether type
 abbrev pub payload_of : List ℕ → EtherPayload
 payload_of tag =
-    record { ether_type = ether_type_at tag 2; len_source = Slice; payload = drop vlan_len tag }
+    record { ether_type = next_type_of tag; len_source = Slice; payload = drop vlan_len tag }
 
 -- the bytes are a tag with these fields, which encode it again, and the rest
 abbrev pub IsRead : List ℕ → SingleVlanHeader → List ℕ → Type 0

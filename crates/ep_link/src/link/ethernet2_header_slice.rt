@@ -10,7 +10,7 @@ ghost use Rattle.ep_tag.specs.Prefix.{prefix_at};
 use super::{Ethernet2Header, ethernet2_bytes};
 use ep_base::EtherType;
 use ep_base::err::{Layer, LenError};
-use ep_tag::laws::prefix::prefix_is_taken;
+use ep_tag::laws::prefix::prefixes_are_found;
 use std::marker::Model;
 
 /// The 14 bytes of an Ethernet II header (RFC 894), borrowed. A contract sees the value as those
@@ -36,7 +36,7 @@ impl<'a> Ethernet2HeaderSlice<'a> {
         ensures exact { result ≡ prefix_at layer.Ethernet2Header ethernet_len slice.now }
         ensures offset { IfErr result (λ e. e.layer_start_offset ≡ 0) }
     {
-        prefix_is_taken();
+        prefixes_are_found();
         Self::taken(slice)
     }
 

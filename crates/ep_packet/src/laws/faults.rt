@@ -18,7 +18,7 @@ ghost use Rattle.ep_packet.specs.Sliced.{sliced_ether_type, sliced_ethernet, sli
 ghost use Rattle.ep_packet.specs.declared.err.packet.slice_error.SliceError.{SliceError};
 
 use ep_ipslice::laws::faults_found_are_first;
-use ep_tag::laws::macsec::payload_is_read;
+use ep_tag::laws::macsec::payloads_are_found;
 
 /// What is refused is refused for its first fault, in the order of the layers.
 pub fn refusals_are_first_faults()
@@ -43,7 +43,7 @@ pub fn refusals_are_first_faults()
     ensures ipv6_alone { (bytes : List ℕ) (e : Ipv6Fault) → ipv6_headers_at bytes ≡ Err e
         → IsFaultIn slot_of bytes e }
 {
-    payload_is_read();
+    payloads_are_found();
     faults_found_are_first();
 }
 

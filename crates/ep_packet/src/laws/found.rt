@@ -17,7 +17,7 @@ ghost use Rattle.ep_packet.specs.declared.sliced_packet.SlicedPacket.{SlicedPack
 
 use crate::IpHeaders;
 use ep_ipslice::laws::{packets_are_their_parts, rows_are_found};
-use ep_tag::laws::macsec::payload_is_read;
+use ep_tag::laws::macsec::payloads_are_found;
 
 /// A packet is found in an Ethernet II frame, or in the bytes after an ether type, exactly if it has
 /// their link header, the tags and layers that follow are those there, and the link header is whole.
@@ -36,7 +36,7 @@ pub fn packets_are_their_layers()
         ↔ ((packet.link ≡ Some (link.EtherPayload (ether_payload t bytes)))
         × IsSliced (ether_payload t bytes) packet) }
 {
-    payload_is_read();
+    payloads_are_found();
 }
 
 /// An IP packet with no link header is found exactly if the bytes begin with it, and the message is

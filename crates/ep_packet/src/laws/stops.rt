@@ -57,7 +57,7 @@ pub fn faults_stop_lax_packets()
     ep_ipslice::laws::whole_packets_are_lax_packets();
     ep_ipslice::laws::faults_found_are_first();
     ep_ipslice::laws::rows_are_found();
-    ep_tag::laws::macsec::payload_is_read();
+    ep_tag::laws::macsec::payloads_are_found();
     ep_tag::laws::macsec_lax::lax_reads_find_what_is_there();
     ep_tcpudp::laws::udp::lax_reads_find_what_is_there();
 }
@@ -79,7 +79,7 @@ pub fn layers_ahead_of_faults_are_kept()
 {
     ep_ipslice::laws::whole_packets_are_lax_packets();
     ep_ipslice::laws::faults_found_are_first();
-    ep_tag::laws::macsec::payload_is_read();
+    ep_tag::laws::macsec::payloads_are_found();
     ep_tag::laws::macsec_lax::lax_reads_find_what_is_there();
     ep_tcpudp::laws::udp::lax_reads_find_what_is_there();
 }

@@ -48,7 +48,7 @@ pub fn header_is_read_again<'a>(
 
 /// What is found at the start of bytes is a header and a payload that they begin with, and one that
 /// they begin with is found.
-pub fn payload_is_read()
+pub fn payloads_are_found()
     ensures found { (bytes : List ℕ) (macsec : Macsec) → macsec_at bytes ≡ Ok macsec
         → IsMacsec bytes macsec }
     ensures only { (bytes : List ℕ) (macsec : Macsec) → IsMacsec bytes macsec

@@ -7,7 +7,7 @@ ghost use Rattle.ep_tag.specs.Prefix.{prefix_at};
 
 /// The first bytes of a slice are taken as a layer's header exactly where there are as many as the
 /// layer needs.
-pub fn prefix_is_taken()
+pub fn prefixes_are_found()
     ensures { (layer : Layer) (n : ℕ) (bytes : List ℕ) (taken : Result (List ℕ) LenError)
         → taken ≡ prefix_at layer n bytes → TakesPrefix (IsOfLength n) bytes taken }
 {}

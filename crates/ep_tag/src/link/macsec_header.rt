@@ -3,9 +3,10 @@ ghost use Rattle.std.specs.Prelude.{if◌then◌else◌, is_some, Some, None, Er
 ghost use Rattle.std.specs.Prelude.{vec_len, vec_capacity};
 ghost use Rattle.std.specs.Int.{w32, to_be_bytes};
 ghost use Rattle.arrayvec.specs.ArrayVec.{array_vec_len};
+ghost use Rattle.ep_base.specs.Bytes.{flag};
 ghost use Rattle.ep_base.specs.SliceError.{content_offset};
 ghost use Rattle.ep_tag.specs.Macsec.{IsMacsecHeader, IsRead, HasRoom, Fits, SciFits, TypeFits, macsec_header_of};
-ghost use Rattle.ep_tag.specs.Macsec.{encoding, first_byte, ptype_bits, ptype_encoding, sci_encoding, worth};
+ghost use Rattle.ep_tag.specs.Macsec.{encoding, first_byte, ptype_bits, ptype_encoding, sci_encoding};
 ghost use Rattle.ep_tag.specs.Macsec.{next_type_in, payload_len_in, with_payload_len};
 ghost use Rattle.ep_tag.specs.MacsecFault.{header_at};
 
@@ -134,8 +135,8 @@ impl MacsecHeader {
         ensures value { result ≡ first_byte self.now }
         ensures small { self.now.an ≤ 3 }
     {
-        let stations = worth(self.endstation_id, 0x40) + worth(self.sci.is_some(), 0x20);
-        let channel = worth(self.scb, 0x10) + self.an.value();
+        let stations = flag(self.endstation_id, 0x40) + flag(self.sci.is_some(), 0x20);
+        let channel = flag(self.scb, 0x10) + self.an.value();
         let payload = match self.ptype {
             MacsecPType::Unmodified(_) => 0,
             MacsecPType::Modified => 0x4,
@@ -173,10 +174,11 @@ impl MacsecHeader {
     }
 }
 
-fn worth(is_set: bool, value: u8) -> u8
-    ensures { result ≡ worth is_set value }
+// A flag at its bit.
+fn flag(set: bool, worth: u8) -> u8
+    ensures { result ≡ flag set worth }
 {
-    if is_set { value } else { 0 }
+    if set { worth } else { 0 }
 }
 
 fn push_sci(bytes: &mut ArrayVec<u8, 16>, sci: Option<u64>)

@@ -6,10 +6,9 @@ ghost use Rattle.std.proofs.Common.{rules};
 ghost use Rattle.ep_base.specs.Prefixes.{TakesPrefix};
 ghost use Rattle.ep_tag.specs.Macsec.{IsMacsecHeader, version_of, endstation_id_of, has_sci, scb_of, is_encrypted};
 ghost use Rattle.ep_tag.specs.Macsec.{is_changed, is_unmodified, an_of, short_len_of, packet_nr_of, sci_of, sci_len};
-ghost use Rattle.ep_tag.specs.Macsec.{header_len_of, next_type_of, ptype_of, has_no_room, macsec_header_of};
+ghost use Rattle.ep_tag.specs.Macsec.{ether_type_of, header_len_of, next_type_of, ptype_of, has_no_room, macsec_header_of, type_len};
 ghost use Rattle.ep_base.specs.Bytes.{num};
 ghost use Rattle.ep_base.specs.SliceError.{content_offset};
-ghost use Rattle.ep_tag.specs.Ether.{ether_type_at};
 ghost use Rattle.ep_tag.specs.MacsecFault.{header_at};
 ghost use Rattle.ep_tag.specs.MacsecPayload.{payload_len_of};
 
@@ -160,7 +159,7 @@ impl<'a> MacsecHeaderSlice<'a> {
     // The last two bytes of a header whose payload is unmodified.
     fn ether_type_after_sci(&self) -> EtherType
         requires { is_unmodified self.now ≡ true }
-        ensures { result ≡ ether_type_at self.now (6 + sci_len self.now) }
+        ensures { result ≡ ether_type_of self.now }
     {
         let offset = 6 + sci_len_of(self.slice);
         EtherType(u16::from_be_bytes([self.slice[offset], self.slice[offset + 1]]))
@@ -307,7 +306,7 @@ fn sci_len_of(bytes: &[u8]) -> usize
 
 fn type_len_of(bytes: &[u8]) -> usize
     requires { 0 < length bytes.now }
-    ensures len { result ≡ (if is_unmodified bytes.now then 2 else 0) }
+    ensures len { result ≡ type_len bytes.now }
     ensures most { result ≤ 2 }
 {
     if is_unmodified(bytes) { 2 } else { 0 }

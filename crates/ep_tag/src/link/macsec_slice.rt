@@ -39,7 +39,7 @@ impl<'a> MacsecSlice<'a> {
     /// states the payload's length.
     pub fn from_slice(slice: &'a [u8]) -> Result<MacsecSlice<'a>, HeaderSliceError>
         // What is taken is at the start of the slice, and what is there is taken
-        // (`laws::macsec::payload_is_read`).
+        // (`laws::macsec::payloads_are_found`).
         ensures exact { result ≡ macsec_at slice.now }
         ensures offset { IfErr result (λ e. content_offset e ≡ 0) }
     {

@@ -2,8 +2,8 @@ use Rattle.ep_packet.proofs.FoundLemmas.{cooked_found, ether_type_found, etherne
 use Rattle.ep_packet.proofs.TaggedLaws.{MacsecIsRead}
 use Rattle.ep_packet.proofs.laws.found.packets_are_their_layers.Goals as goal
 
-read : goal.After-payload_is_read → MacsecIsRead
-read c = record { found = c.payload_is_read.ensures.found; only = c.payload_is_read.ensures.only }
+read : goal.After-payloads_are_found → MacsecIsRead
+read c = record { found = c.payloads_are_found.ensures.found; only = c.payloads_are_found.ensures.only }
 
 pub returns-clause-ethernet : goal.returns-clause-ethernet
 returns-clause-ethernet c = ethernet_found (read c)

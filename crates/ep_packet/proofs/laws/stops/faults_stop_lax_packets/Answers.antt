@@ -15,7 +15,7 @@ parts c = record {
     row = c.faults_found_are_first.ensures.row;
     rows = c.rows_are_found.ensures;
   };
-  read = record { found = c.payload_is_read.ensures.found; only = c.payload_is_read.ensures.only };
+  read = record { found = c.payloads_are_found.ensures.found; only = c.payloads_are_found.ensures.only };
 }
 
 pub returns-clause-ethernet : goal.returns-clause-ethernet

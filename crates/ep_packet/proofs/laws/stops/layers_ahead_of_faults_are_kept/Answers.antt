@@ -6,7 +6,7 @@ use Rattle.ep_packet.proofs.laws.stops.layers_ahead_of_faults_are_kept.Goals as 
 first : goal.After-lax_reads_find_what_is_there-2 → FaultsAreFirst
 first c = record {
   macsec =
-      record { found = c.payload_is_read.ensures.found; only = c.payload_is_read.ensures.only };
+      record { found = c.payloads_are_found.ensures.found; only = c.payloads_are_found.ensures.only };
   ipv6 = c.faults_found_are_first.ensures.ipv6;
   ip = c.faults_found_are_first.ensures.ip;
   row = c.faults_found_are_first.ensures.row;

@@ -1,10 +1,9 @@
-use Rattle.std.proofs.Common.{◌≡◌, ℕ, ◌+◌, ◌-◌, ◌==◌, ◌&&◌, Bool, true, false, not, if◌then◌else◌, Some, None, arith}
+use Rattle.std.proofs.Common.{◌≡◌, ℕ, ◌-◌, ◌==◌, ◌&&◌, Bool, true, false, not, if◌then◌else◌, Some, None, arith}
 use Rattle.std.proofs.Common.{ap, refl}
 use Rattle.ep_base.specs.declared.link.ether_type.EtherType.{EtherType}
 use Rattle.ep_tag.specs.declared.link.macsec_p_type.MacsecPType.{MacsecPType}
 use Rattle.ep_tag.specs.declared.link.macsec_p_type.MacsecPType.TheVariants as ptype
-use Rattle.ep_tag.specs.Ether.{ether_type_at}
-use Rattle.ep_tag.specs.Macsec.{is_encrypted, is_changed, payload_len_in, sci_len, short_len_of}
+use Rattle.ep_tag.specs.Macsec.{ether_type_of, is_encrypted, is_changed, payload_len_in, short_len_of}
 use Rattle.ep_tag.proofs.laws.macsec.payload_lengths_agree.Goals as goal
 
 -- the kind of payload, by the two bits
@@ -28,8 +27,8 @@ without_room false false n t h = rw h refl
 
 pub returns-clause-room : goal.returns-clause-room
 returns-clause-room c = λ header. with_room (is_encrypted header) (is_changed header)
-    (short_len_of header) (ether_type_at header (6 + sci_len header))
+    (short_len_of header) (ether_type_of header)
 
 pub returns-clause-no_room : goal.returns-clause-no_room
 returns-clause-no_room c = λ header. without_room (is_encrypted header) (is_changed header)
-    (short_len_of header) (ether_type_at header (6 + sci_len header))
+    (short_len_of header) (ether_type_of header)

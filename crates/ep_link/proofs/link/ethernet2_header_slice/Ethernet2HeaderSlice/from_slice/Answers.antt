@@ -3,5 +3,5 @@ use Rattle.ep_link.specs.Ethernet.{ethernet_len}
 use Rattle.ep_link.proofs.link.ethernet2_header_slice.Ethernet2HeaderSlice.from_slice.Goals as goal
 
 pub returns-clause-takes : goal.returns-clause-takes
-returns-clause-takes c = c.prefix_is_taken.ensures Ethernet2Header ethernet_len c.args.slice.now
+returns-clause-takes c = c.prefixes_are_found.ensures Ethernet2Header ethernet_len c.args.slice.now
     c.taken.result c.taken.ensures.exact

@@ -3,7 +3,7 @@ use Rattle.ep_tag.specs.MacsecPayload.{IsMacsec, Macsec, macsec_at}
 use Rattle.ep_base.specs.declared.err.slice_error.SliceError.{SliceError}
 use Rattle.ep_tag.specs.declared.err.macsec.header_error.HeaderError.{HeaderError}
 use Rattle.ep_tag.proofs.MacsecRead.{macsec_found, macsec_only}
-use Rattle.ep_tag.proofs.laws.macsec.payload_is_read.Goals as goal
+use Rattle.ep_tag.proofs.laws.macsec.payloads_are_found.Goals as goal
 
 pub returns-clause-found : goal.returns-clause-found
 returns-clause-found c = λ bytes macsec is. subst
