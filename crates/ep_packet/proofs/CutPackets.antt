@@ -54,14 +54,13 @@ use Rattle.ep_packet.specs.Sliced.{in_linux_sll, ip_layers, ipv4_layers, ipv4_ty
 use Rattle.ep_packet.specs.Sliced.{packet_after, packet_tagged, packet_with, read_transport, result_within, sliced_ether_type}
 use Rattle.ep_packet.specs.Sliced.{sliced_ethernet, sliced_ip, sliced_linux_sll, transport_in, transport_of}
 use Rattle.ep_packet.specs.Sliced as strict
-use Rattle.ep_packet.specs.Tags.{Tagged, is_macsec_type, most_tags, tag_at, tags_in}
+use Rattle.ep_packet.specs.Tags.{Tagged, is_macsec_type, most_tags, tag_at, tags_in, no_tags}
 use Rattle.ep_packet.specs.declared.err.packet.slice_error.SliceError.{SliceError}
 use Rattle.ep_packet.specs.declared.lax_sliced_packet.LaxSlicedPacket.{LaxSlicedPacket}
 use Rattle.ep_packet.specs.declared.net.net_slice.NetSlice.{NetSlice}
 use Rattle.ep_packet.specs.declared.net.net_slice.NetSlice.TheVariants as net
 use Rattle.ep_packet.specs.declared.sliced_packet.SlicedPacket.{SlicedPacket}
 use Rattle.ep_packet.specs.declared.transport.transport_slice.TransportSlice.{TransportSlice}
-use Rattle.ep_packet.proofs.FoundTagsLemmas.{no_tags}
 use Rattle.ep_packet.proofs.LaxCutLemmas.{message_cut}
 use Rattle.ep_packet.proofs.LaxTagsLemmas.{joined, lax_from_tag, lax_macsec_tag, lax_read_further, lax_tags_turn, lax_vlan_tag}
 use Rattle.ep_packet.proofs.TagsLemmas.{from_tag, macsec_tag, read_further, tags_turn, vlan_tag, with_tag}

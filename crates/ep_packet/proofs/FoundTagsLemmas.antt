@@ -2,11 +2,7 @@
 use Rattle.std.proofs.Common.{◌≡◌, ◌∙◌, ℕ, zero, suc, ◌+◌, List, [], ◌∷◌, ◌++◌, Option, Some, None, Result, Ok, Err, IfErr}
 use Rattle.std.proofs.Common.{IfSome, ap, append_assoc, append-nil, arith, sym}
 use Rattle.std.specs.Prelude.{option_map, unwrap_or}
-use Rattle.ep_packet.specs.Tags.{FoundTags, find_tags, tags_from}
-
--- no tag
-abbrev pub no_tags : {T P E : Type 0} → Option P → Option E → FoundTags T P E
-no_tags last stop = record { tags = []; len = 0; last = last; stop = stop }
+use Rattle.ep_packet.specs.Tags.{FoundTags, find_tags, no_tags, tags_from}
 
 -- tags of so many bytes, and what was found after them
 abbrev pub joined : {T P E : Type 0} → List T → ℕ → FoundTags T P E → FoundTags T P E

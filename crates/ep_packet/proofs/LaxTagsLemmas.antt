@@ -9,11 +9,11 @@ use Rattle.ep_base.specs.declared.err.len_error.LenError.{LenError}
 use Rattle.ep_base.specs.declared.err.slice_error.SliceError.{SliceError as HeaderSliceError}
 use Rattle.ep_packet.specs.LaxTags.{LaxTagged, Stop, lax_tag_at, lax_tags_in, stop_by}
 use Rattle.ep_packet.specs.SliceFault.{CanMove, fault_offset, of_macsec}
-use Rattle.ep_packet.specs.Tags.{find_tags, tags_from}
+use Rattle.ep_packet.specs.Tags.{find_tags, tags_from, no_tags}
 use Rattle.ep_packet.specs.declared.err.packet.slice_error.SliceError.{SliceError}
 use Rattle.ep_packet.specs.declared.err.packet.slice_error.SliceError.TheVariants.{Len}
 use Rattle.ep_packet.proofs.FaultLemmas.{moved_nothing, moved_twice}
-use Rattle.ep_packet.proofs.FoundTagsLemmas.{no_tags, stop_is}
+use Rattle.ep_packet.proofs.FoundTagsLemmas.{stop_is}
 use Rattle.ep_tag.specs.Ether.{LaxEtherPayload}
 use Rattle.ep_tag.specs.LinkExt.{lax_payload_after, lax_tag_len}
 use Rattle.ep_tag.specs.MacsecLax.{LaxMacsec}

@@ -13,6 +13,7 @@ mod FoundTagsLemmas
 mod FrameFaults
 mod HeaderLemmas
 mod HeadersAt
+mod HeadersFound
 mod HeadersOfLayers
 mod HeadersOfMessages
 mod HeadersOfPackets

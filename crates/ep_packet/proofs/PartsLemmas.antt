@@ -27,13 +27,12 @@ use Rattle.ep_packet.specs.Readable.{ReadMessage, icmpv4, icmpv6, message_at, tc
 use Rattle.ep_packet.specs.Readable.ReadMessage.{Icmpv4, Icmpv6, Tcp, Udp}
 use Rattle.ep_packet.specs.SliceFault.{fault_offset, offset_by, within}
 use Rattle.ep_packet.specs.Sliced.{read_transport, transport_of}
-use Rattle.ep_packet.specs.Tags.{is_macsec_type, tag_at, tags_from}
+use Rattle.ep_packet.specs.Tags.{is_macsec_type, tag_at, tags_from, no_tags}
 use Rattle.ep_packet.specs.declared.err.packet.slice_error.SliceError.{SliceError}
 use Rattle.ep_packet.specs.declared.err.packet.slice_error.SliceError.TheVariants as error
 use Rattle.ep_packet.specs.declared.net.net_slice.NetSlice.TheVariants as net
 use Rattle.ep_packet.specs.declared.transport.transport_slice.TransportSlice.{TransportSlice}
 use Rattle.ep_packet.proofs.FaultLemmas.{offset_moved}
-use Rattle.ep_packet.proofs.FoundTagsLemmas.{no_tags}
 use Rattle.ep_packet.proofs.TagsLemmas.{Found, found_in, macsec_tag, stop_at_start, vlan_tag}
 use Rattle.ep_tag.specs.Ether.{EtherPayload}
 use Rattle.ep_tag.specs.Prefix.{whole_at}

@@ -6,11 +6,11 @@ use Rattle.std.specs.Result.{result_map_both}
 use Rattle.ep_base.specs.declared.err.len_error.LenError.{LenError}
 use Rattle.ep_base.specs.declared.err.slice_error.SliceError.{SliceError as HeaderSliceError}
 use Rattle.ep_packet.specs.SliceFault.{fault_offset, of_macsec, offset_by}
-use Rattle.ep_packet.specs.Tags.{FoundTags, Tagged, find_tags, tag_at, tags_from, tags_in}
+use Rattle.ep_packet.specs.Tags.{FoundTags, Tagged, find_tags, tag_at, tags_from, tags_in, no_tags}
 use Rattle.ep_packet.specs.declared.err.packet.slice_error.SliceError.{SliceError}
 use Rattle.ep_packet.specs.declared.err.packet.slice_error.SliceError.TheVariants.{Len}
 use Rattle.ep_packet.proofs.FaultLemmas.{moved_nothing, moved_twice}
-use Rattle.ep_packet.proofs.FoundTagsLemmas.{no_tags, stop_is}
+use Rattle.ep_packet.proofs.FoundTagsLemmas.{stop_is}
 use Rattle.ep_tag.specs.Ether.{EtherPayload}
 use Rattle.ep_tag.specs.LinkExt.{payload_after, tag_len}
 use Rattle.ep_tag.specs.MacsecPayload.{Macsec}

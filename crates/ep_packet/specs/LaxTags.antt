@@ -40,7 +40,7 @@ lax_tag_at p =
 abbrev pub LaxTagged : Type 0
 LaxTagged = FoundTags LaxLinkExtSlice LaxEtherPayload Stop
 
--- the tags at the start of a payload, n at most
+-- the tags at the start of a payload, n at most, with the fault counted from the payload's start
 unfoldable pub lax_tags_in : ℕ → LaxEtherPayload → LaxTagged
 lax_tags_in n p =
     let found = find_tags lax_tag_at lax_tag_len lax_payload_after n p in

@@ -32,28 +32,31 @@ tag_at p =
     else Ok None)
 
 -- the tags in order, how many bytes they have together, what the last ether type names, and what is
--- wrong with the next tag: nothing is named where a tag has a fault, or where the last tag is a
--- MACsec header with a modified payload
+-- wrong with the next tag, its offset counted from that tag: nothing is named where a tag has a fault,
+-- or where the last tag is a MACsec header with a modified payload
 pub record FoundTags (T P E : Type 0) : Type 0 where
   pub tags : List T
   pub len : ℕ
   pub last : Option P
   pub stop : Option E
 
+-- no tag, before what the ether type names, a tag with a fault, or nothing
+abbrev pub no_tags : {T P E : Type 0} → Option P → Option E → FoundTags T P E
+no_tags last stop = record { tags = []; len = 0; last = last; stop = stop }
+
 -- what a payload starts with, a tag of this length, none, or one with a fault, and what is found after it
 abbrev pub tags_from : {T P E : Type 0} → (T → ℕ) → (T → Option P) → (P → FoundTags T P E) → P
     → Result (Option T) E → FoundTags T P E
-tags_from len after find p (Err e) = record { tags = []; len = 0; last = None; stop = Some e }
-tags_from len after find p (Ok None) = record { tags = []; len = 0; last = Some p; stop = None }
+tags_from len after find p (Err e) = no_tags None (Some e)
+tags_from len after find p (Ok None) = no_tags (Some p) None
 tags_from len after find p (Ok (Some t)) =
-    let more = unwrap_or (option_map find (after t))
-    (record { tags = []; len = 0; last = None; stop = None }) in
+    let more = unwrap_or (option_map find (after t)) (no_tags None None) in
     record { tags = t ∷ more.tags; len = len t + more.len; last = more.last; stop = more.stop }
 
 -- the tags at the start of a payload, n at most, by what reads a tag, its length, and what follows it
 abbrev pub find_tags : {T P E : Type 0} → (P → Result (Option T) E) → (T → ℕ) → (T → Option P) → ℕ → P
     → FoundTags T P E
-find_tags at len after zero p = record { tags = []; len = 0; last = Some p; stop = None }
+find_tags at len after zero p = no_tags (Some p) None
 find_tags at len after (suc n) p = tags_from len after (find_tags at len after n) p (at p)
 
 -- the tags of a payload none of which has a fault
@@ -62,7 +65,7 @@ pub record Tagged : Type 0 where
   pub len : ℕ
   pub last : Option EtherPayload
 
--- the tags at the start of a payload, n at most, or the first fault
+-- the tags at the start of a payload, n at most, or the first fault, counted from the payload's start
 unfoldable pub tags_in : ℕ → EtherPayload → Result Tagged SliceError
 tags_in n p =
     let found = find_tags tag_at tag_len payload_after n p in

@@ -33,7 +33,7 @@ pub(crate) trait TaggedPayload: Drop {
 }
 
 /// The tags before a payload, the length of all in bytes, what the last ether type names, and the
-/// fault of the next tag, after which nothing is named.
+/// fault of the next tag, counted from that tag, after which nothing is named.
 #[derive(Drop)]
 pub(crate) struct FoundTags<P: TaggedPayload> {
     pub tags: ArrayVec<P::Tag, 3>,

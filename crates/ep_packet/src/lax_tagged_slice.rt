@@ -19,7 +19,7 @@ use ep_tag::{
 use std::marker::Model;
 
 /// The tags before a payload, the length of all in bytes, what the last ether type names, and the
-/// fault of a tag with its layer, after which nothing is named.
+/// fault of a tag, counted from the payload's start, with its layer, after which nothing is named.
 #[derive(Drop)]
 pub(crate) struct LaxTaggedSlice<'a> {
     pub tags: ArrayVec<LaxLinkExtSlice<'a>, 3>,

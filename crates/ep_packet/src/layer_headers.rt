@@ -9,7 +9,7 @@ ghost use Rattle.ep_packet.specs.ReadIpHeaders.{IsIpHeaders};
 ghost use Rattle.ep_packet.specs.SliceFault.{fault_offset};
 
 use crate::err::packet::SliceError;
-use crate::laws::refusals_are_first_faults;
+use crate::laws::{ip_headers_are_their_parts, refusals_are_first_faults};
 use crate::{IpHeaders, NetHeaders, PayloadSlice, TransportHeader, slice_fault};
 use ep_base::{EtherType, IpNumber};
 use ep_icmp::{Icmpv4Slice, Icmpv6Slice};
@@ -69,6 +69,7 @@ impl<'a> LayerHeaders<'a> {
             → fault_offset e + n < 2 ^ 64) }
     {
         laws::faults_can_be_moved();
+        ip_headers_are_their_parts();
         match IpHeaders::from_ipv4_slice(slice) {
             Ok((headers, payload)) => Self::in_packet(headers, payload, slice),
             Err(error) => Err(slice_fault::of_ipv4(error)),
@@ -82,6 +83,7 @@ impl<'a> LayerHeaders<'a> {
     {
         laws::faults_can_be_moved();
         refusals_are_first_faults();
+        ip_headers_are_their_parts();
         match IpHeaders::from_ipv6_slice(slice) {
             Ok((headers, payload)) => Self::in_packet(headers, payload, slice),
             Err(error) => Err(slice_fault::of_ipv6(error)),
@@ -92,6 +94,7 @@ impl<'a> LayerHeaders<'a> {
     pub(crate) fn from_ip(slice: &'a [u8]) -> Result<LayerHeaders<'a>, SliceError>
         ensures { result ≡ ip_layers (length slice.now) (ip_headers_at slice.now) }
     {
+        ip_headers_are_their_parts();
         match IpHeaders::from_slice(slice) {
             Ok((headers, payload)) => Self::in_packet(headers, payload, slice),
             Err(error) => Err(of_headers(error)),

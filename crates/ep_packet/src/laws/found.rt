@@ -15,7 +15,6 @@ ghost use Rattle.ep_packet.specs.Sliced.{sliced_ip, sliced_linux_sll};
 ghost use Rattle.ep_packet.specs.declared.net.ip_headers.IpHeaders.{IpHeaders};
 ghost use Rattle.ep_packet.specs.declared.sliced_packet.SlicedPacket.{SlicedPacket};
 
-use crate::IpHeaders;
 use ep_ipslice::laws::{packets_are_their_parts, rows_are_found};
 use ep_tag::laws::macsec::payloads_are_found;
 
@@ -53,20 +52,15 @@ pub fn frames_without_packet_are_refused()
     ensures { (frame : List ℕ) → IsErr (sliced_ethernet frame) ↔ (class_of frame ≡ Refused) }
 {}
 
-/// IP headers as values and a payload are found exactly if the slice begins with them.
-pub fn ip_headers_are_their_parts(slice: &[u8])
-    ensures ipv4 { (headers : IpHeaders) (payload : IpPayload)
-        → (ipv4_headers_at slice.now ≡ Ok (headers, payload))
-        ↔ IsIpv4Headers slice.now headers payload }
-    ensures ipv6 { (headers : IpHeaders) (payload : IpPayload)
-        → (ipv6_headers_at slice.now ≡ Ok (headers, payload))
-        ↔ IsIpv6Headers slice.now headers payload }
-    ensures ip { (headers : IpHeaders) (payload : IpPayload)
-        → (ip_headers_at slice.now ≡ Ok (headers, payload))
-        ↔ IsIpHeaders slice.now headers payload }
+/// IP headers as values and a payload are found exactly if the bytes begin with them.
+pub fn ip_headers_are_their_parts()
+    ensures ipv4 { (bytes : List ℕ) (headers : IpHeaders) (payload : IpPayload)
+        → (ipv4_headers_at bytes ≡ Ok (headers, payload)) ↔ IsIpv4Headers bytes headers payload }
+    ensures ipv6 { (bytes : List ℕ) (headers : IpHeaders) (payload : IpPayload)
+        → (ipv6_headers_at bytes ≡ Ok (headers, payload)) ↔ IsIpv6Headers bytes headers payload }
+    ensures ip { (bytes : List ℕ) (headers : IpHeaders) (payload : IpPayload)
+        → (ip_headers_at bytes ≡ Ok (headers, payload)) ↔ IsIpHeaders bytes headers payload }
 {
     packets_are_their_parts();
     rows_are_found();
-    // For the proof alone.
-    let _ipv6 = IpHeaders::from_ipv6_slice(slice);
 }

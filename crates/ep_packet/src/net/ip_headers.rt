@@ -10,7 +10,6 @@ ghost use Rattle.ep_ip.specs.Ipv4.{header_len};
 ghost use Rattle.ep_ip.specs.declared.net.ipv4_header.Ipv4Header.{Ipv4Header};
 ghost use Rattle.ep_ip.specs.declared.net.ipv6_header.Ipv6Header.{Ipv6Header};
 ghost use Rattle.ep_packet.specs.IpHeadersAt.{ip_headers_at, ipv4_headers_at, ipv6_headers_at};
-ghost use Rattle.ep_packet.specs.ReadIpHeaders.{IsIpHeaders, IsIpv4Headers, IsIpv6Headers};
 ghost use Rattle.ep_packet.specs.IpHeaders.{AppendsHeaders, AppendsIpv4, AppendsIpv6, IsLinked, ether_type_of};
 ghost use Rattle.ep_packet.specs.IpHeaders.{ip_headers_len, ipv4_in, ipv4_parts, ipv6_in, is_fragmenting, or_ipv4};
 ghost use Rattle.ep_packet.specs.IpHeaders.{or_ipv6, with_payload_len};
@@ -64,9 +63,7 @@ impl IpHeaders {
     /// its first byte, and its payload. Refused are, in this order, a slice of no bytes, a version
     /// that is neither 4 nor 6, and what `from_ipv4_slice` or `from_ipv6_slice` refuses.
     pub fn from_slice(slice: &[u8]) -> Result<(IpHeaders, IpPayloadSlice<'_>), HeadersSliceError>
-        // The slice starts with the result.
-        ensures found { IfOk result (λ r. IsIpHeaders slice.now r.0 r.1) }
-        // Else nothing is found, and why: `laws::ip_headers_are_their_parts`,
+        // What is found, and what is refused: `laws::ip_headers_are_their_parts`,
         // `laws::refusals_are_first_faults`.
         ensures exact { result ≡ ip_headers_at slice.now }
     {
@@ -110,8 +107,6 @@ impl IpHeaders {
     pub fn from_ipv4_slice(
         slice: &[u8],
     ) -> Result<(IpHeaders, IpPayloadSlice<'_>), ipv4::SliceError>
-        // The slice starts with the result.
-        ensures found { IfOk result (λ r. IsIpv4Headers slice.now r.0 r.1) }
         ensures exact { result ≡ ipv4_headers_at slice.now }
     {
         match Ipv4Slice::from_slice(slice) {
@@ -131,8 +126,6 @@ impl IpHeaders {
     pub fn from_ipv6_slice(
         slice: &[u8],
     ) -> Result<(IpHeaders, IpPayloadSlice<'_>), ipv6::SliceError>
-        // The slice starts with the result.
-        ensures found { IfOk result (λ r. IsIpv6Headers slice.now r.0 r.1) }
         ensures exact { result ≡ ipv6_headers_at slice.now }
     {
         laws::bodies_lie_within();

@@ -6,5 +6,5 @@ fn laws_of_packets() {
     laws::readable_messages(&[]);
     laws::ipv6_headers_agree_with_view(&[]);
     laws::ip_packets_are_their_layers();
-    laws::ip_headers_are_their_parts(&[]);
+    laws::ip_headers_are_their_parts();
 }

@@ -29,13 +29,11 @@ found c =
     c.in-Ok.ensures.found c.next_header.ensures found.3 found.4.0 found.4.1 found.4.2 found.4.3
     c.is_fragmenting_payload-fragmented.ensures
 
-pub returns-in-Ok-from_slice-clause-found : goal.returns-in-Ok-from_slice-clause-found
-returns-in-Ok-from_slice-clause-found c = found c
-
-pub returns-in-Err-clause-exact : goal.returns-in-Err-clause-exact
-returns-in-Err-clause-exact c = found_exactly c.rows_are_found.ensures c.args.slice.now
-    (Err c.in-Err.error) tt
-    (prefix_fault slot_of c.args.slice.now c.in-Err.error c.in-Err.ensures.refused)
+pub returns-in-Err : goal.returns-in-Err
+returns-in-Err c = record {
+  exact = found_exactly c.rows_are_found.ensures c.args.slice.now (Err c.in-Err.error) tt
+      (prefix_fault slot_of c.args.slice.now c.in-Err.error c.in-Err.ensures.refused);
+}
 
 refused : (c : goal.After-of_extensions)
     → IsFaultIn slot_of c.args.slice.now c.of_extensions.result
@@ -51,11 +49,12 @@ refused c =
     OfExtensions header c.in-Ok.ensures.header
     (subst (IsRowFault slot_of c.args.slice.now header) (sym c.of_extensions.ensures) row)
 
-pub returns-in-Err-from_slice-clause-exact : goal.returns-in-Err-from_slice-clause-exact
-returns-in-Err-from_slice-clause-exact c =
-    found_exactly c.rows_are_found.ensures c.args.slice.now
-    (Err c.of_extensions.result) tt (refused c)
+pub returns-in-Err-from_slice : goal.returns-in-Err-from_slice
+returns-in-Err-from_slice c = record {
+  exact = found_exactly c.rows_are_found.ensures c.args.slice.now (Err c.of_extensions.result) tt (refused c);
+}
 
-pub returns-in-Ok-from_slice-clause-exact : goal.returns-in-Ok-from_slice-clause-exact
-returns-in-Ok-from_slice-clause-exact c =
-    found_exactly c.rows_are_found.ensures c.args.slice.now (Ok (parts c)) (found c) tt
+pub returns-in-Ok-from_slice : goal.returns-in-Ok-from_slice
+returns-in-Ok-from_slice c = record {
+  exact = found_exactly c.rows_are_found.ensures c.args.slice.now (Ok (parts c)) (found c) tt;
+}
