@@ -5,6 +5,7 @@ ghost use Rattle.ep_base.specs.declared.err.layer.Layer.TheVariants as layer;
 ghost use Rattle.ep_base.specs.declared.len_source.LenSource.TheVariants.{ArpAddrLengths};
 ghost use Rattle.ep_link.specs.Arp.{IsArpPacket, fields_of, packet_at, encoding};
 ghost use Rattle.ep_base.specs.LenError.{too_few_bytes};
+ghost use Rattle.ep_base.specs.Prefixes.{TakesPrefix};
 
 use crate::{ArpHardwareId, ArpOperation, ArpPacket};
 use ep_base::err::LenError;
@@ -37,6 +38,11 @@ pub fn packets_are_their_bytes(packet: &ArpPacket)
 {
     let _bytes = packet.to_bytes();
 }
+
+/// A packet at the start of bytes is taken, whatever follows it, and nothing else is.
+pub fn packets_are_found()
+    ensures { (bytes : List ℕ) → TakesPrefix IsArpPacket bytes (packet_at bytes) }
+{}
 
 /// What `to_bytes` gives is read again, whatever follows it.
 pub fn packet_is_read_again(packet: &ArpPacket, slice: &[u8]) -> Result<ArpPacket, LenError>

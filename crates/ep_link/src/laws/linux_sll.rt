@@ -5,6 +5,8 @@ ghost use Rattle.ep_link.specs.declared.link.arp_hardware_id.ArpHardwareId.{ArpH
 ghost use Rattle.ep_link.specs.declared.link.linux_sll_protocol_type.LinuxSllProtocolType.TheVariants as protocol;
 ghost use Rattle.ep_link.specs.Sll.{IsSllHeader, NamesProtocol, sll_header_of, protocol_number, protocol_of, encoding};
 ghost use Rattle.ep_link.specs.Sll.{with_number};
+ghost use Rattle.ep_base.specs.Prefixes.{TakesPrefix};
+ghost use Rattle.ep_link.specs.SllFault.{header_at};
 
 use crate::err::linux_sll::HeaderSliceError;
 use crate::{LinuxSllHeader, LinuxSllPacketType};
@@ -41,6 +43,11 @@ pub fn headers_are_their_bytes(header: &LinuxSllHeader)
 {
     let _bytes = header.to_bytes();
 }
+
+/// A header at the start of bytes is taken, whatever follows it, and nothing else is.
+pub fn headers_are_found()
+    ensures { (bytes : List ℕ) → TakesPrefix IsSllHeader bytes (header_at bytes) }
+{}
 
 /// What `to_bytes` gives is read again, whatever follows it, where hardware type and number name
 /// the protocol.

@@ -7,7 +7,6 @@ ghost use Rattle.ep_link.specs.Arp.{proto_type_of, operation_of, addresses_of, a
 ghost use Rattle.ep_link.specs.Arp.{after_target_hw, sender_hw_of, sender_proto_of, target_hw_of, target_proto_of};
 ghost use Rattle.ep_link.specs.Arp.{fields_of};
 ghost use Rattle.ep_base.specs.LenError.{too_few_bytes};
-ghost use Rattle.ep_base.specs.Prefixes.{TakesPrefix};
 ghost use Rattle.ep_base.specs.declared.err.layer.Layer.TheVariants as layer;
 ghost use Rattle.ep_base.specs.declared.len_source.LenSource.TheVariants.{ArpAddrLengths};
 
@@ -37,16 +36,7 @@ impl<'a> ArpPacketSlice<'a> {
     /// 8 bytes, and one that the four addresses don't fit, whose length is then bounded by
     /// `ArpAddrLengths`.
     pub fn from_slice(slice: &'a [u8]) -> Result<ArpPacketSlice<'a>, LenError>
-        // What is taken is a packet at the start of the slice, and one that is there is taken.
-        ensures takes { TakesPrefix IsArpPacket slice.now result }
-        // Else it is the first error of too few bytes.
-        ensures exact { result ≡ packet_at slice.now }
-        ensures offset { IfErr result (λ e. e.layer_start_offset ≡ 0) }
-    {
-        Self::tested(slice)
-    }
-
-    fn tested(slice: &'a [u8]) -> Result<ArpPacketSlice<'a>, LenError>
+        // The packet, or the first error of too few bytes: law `arp::packets_are_found`.
         ensures exact { result ≡ packet_at slice.now }
         ensures offset { IfErr result (λ e. e.layer_start_offset ≡ 0) }
     {

@@ -7,6 +7,7 @@ ghost use Rattle.ep_tag.specs.Prefix.{prefix_at};
 use super::Ethernet2HeaderSlice;
 use ep_base::EtherType;
 use ep_base::err::{Layer, LenError, SliceWriteSpaceError};
+use ep_tag::laws::prefix::prefixes_are_found;
 use std::alloc::AllocError;
 
 /// An Ethernet II header (RFC 894). In its 14 bytes the destination comes first, and the ether
@@ -38,6 +39,7 @@ impl Ethernet2Header {
             (λ e. prefix_at layer.Ethernet2Header ethernet_len slice.now ≡ Err e) }
         ensures offset { IfErr result (λ e. e.layer_start_offset ≡ 0) }
     {
+        prefixes_are_found();
         let header = Ethernet2HeaderSlice::from_slice(slice)?;
         let rest = &slice[Ethernet2Header::LEN..];
         Ok((header.to_header(), rest))

@@ -4,13 +4,11 @@ ghost use Rattle.std.specs.Cmp.Rules.{comparing};
 ghost use Rattle.std.proofs.Common.{rules};
 ghost use Rattle.ep_base.specs.declared.err.layer.Layer.TheVariants as layer;
 ghost use Rattle.ep_link.specs.Ethernet.{ethernet_len, destination_of, source_of, next_type_of, ethernet_header_of};
-ghost use Rattle.ep_base.specs.Prefixes.{IsOfLength, TakesPrefix};
 ghost use Rattle.ep_tag.specs.Prefix.{prefix_at};
 
 use super::{Ethernet2Header, ethernet2_bytes};
 use ep_base::EtherType;
 use ep_base::err::{Layer, LenError};
-use ep_tag::laws::prefix::prefixes_are_found;
 use std::marker::Model;
 
 /// The 14 bytes of an Ethernet II header (RFC 894), borrowed. A contract sees the value as those
@@ -31,16 +29,7 @@ impl<'a> Model for Ethernet2HeaderSlice<'a> {
 impl<'a> Ethernet2HeaderSlice<'a> {
     /// The header at the start of the slice. A slice of fewer than 14 bytes is refused.
     pub fn from_slice(slice: &'a [u8]) -> Result<Ethernet2HeaderSlice<'a>, LenError>
-        // What is taken are the first 14 bytes.
-        ensures takes { TakesPrefix (IsOfLength ethernet_len) slice.now result }
-        ensures exact { result ≡ prefix_at layer.Ethernet2Header ethernet_len slice.now }
-        ensures offset { IfErr result (λ e. e.layer_start_offset ≡ 0) }
-    {
-        prefixes_are_found();
-        Self::taken(slice)
-    }
-
-    fn taken(slice: &'a [u8]) -> Result<Ethernet2HeaderSlice<'a>, LenError>
+        // The first 14 bytes: law `ep_tag::laws::prefix::prefixes_are_found`.
         ensures exact { result ≡ prefix_at layer.Ethernet2Header ethernet_len slice.now }
         ensures offset { IfErr result (λ e. e.layer_start_offset ≡ 0) }
     {

@@ -2,7 +2,6 @@ ghost use Rattle.std.specs.Prelude.{◌≡◌, IfErr};
 ghost use Rattle.ep_base.specs.SliceError.{content_offset};
 ghost use Rattle.ep_link.specs.Sll.{IsSllHeader};
 ghost use Rattle.ep_link.specs.SllFault.{header_at};
-ghost use Rattle.ep_base.specs.Prefixes.{TakesPrefix};
 
 use super::linux_sll_bytes::LinuxSllBytes;
 use super::{LinuxSllHeader, LinuxSllSlice};
@@ -16,16 +15,7 @@ impl<'a> LinuxSllBytes<'a, 16> {
     /// The header at the start of the slice. Refused are, in this order, a slice of fewer than
     /// 16 bytes and a packet type above 4.
     pub fn from_slice(slice: &'a [u8]) -> Result<LinuxSllHeaderSlice<'a>, HeaderSliceError>
-        // What is taken is a header at the start of the slice, and one that is there is taken.
-        ensures takes { TakesPrefix IsSllHeader slice.now result }
-        // Else it is the first fault.
-        ensures exact { result ≡ header_at slice.now }
-        ensures offset { IfErr result (λ e. content_offset e ≡ 0) }
-    {
-        Self::tested(slice)
-    }
-
-    fn tested(slice: &'a [u8]) -> Result<LinuxSllHeaderSlice<'a>, HeaderSliceError>
+        // The header, or the first fault: law `linux_sll::headers_are_found`.
         ensures exact { result ≡ header_at slice.now }
         ensures offset { IfErr result (λ e. content_offset e ≡ 0) }
     {

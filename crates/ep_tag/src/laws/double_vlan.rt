@@ -6,6 +6,7 @@ ghost use Rattle.ep_base.specs.declared.err.layer.Layer.TheVariants as layer;
 ghost use Rattle.ep_base.specs.declared.err.slice_error.SliceError.TheVariants.{Content, Len};
 ghost use Rattle.ep_tag.specs.DoubleVlan.{IsDoubleVlanHeader, double_vlan_at, double_vlan_header_of, no_vlan_type};
 ghost use Rattle.ep_tag.specs.Vlan.{double_encoding, is_vlan_type};
+ghost use Rattle.ep_base.specs.Prefixes.{TakesPrefix};
 
 use super::vlan;
 use crate::DoubleVlanHeader;
@@ -23,6 +24,11 @@ pub fn headers_are_their_bytes(header: &DoubleVlanHeader)
     vlan::headers_are_their_bytes(&header.outer);
     vlan::headers_are_their_bytes(&header.inner);
 }
+
+/// A header at the start of bytes is taken, whatever follows it, and nothing else is.
+pub fn headers_are_found()
+    ensures { (bytes : List ℕ) → TakesPrefix IsDoubleVlanHeader bytes (double_vlan_at bytes) }
+{}
 
 /// What `to_bytes` gives is read again, whatever follows it, where the outer tag's ether type names
 /// a VLAN tag.

@@ -8,8 +8,10 @@ ghost use Rattle.ep_tag.specs.declared.err.macsec.header_error.HeaderError.TheVa
 ghost use Rattle.ep_base.specs.declared.err.slice_error.SliceError.TheVariants.{Len, Content};
 ghost use Rattle.ep_tag.specs.declared.link.macsec_p_type.MacsecPType.TheVariants as ptype;
 ghost use Rattle.ep_base.specs.LenError.{too_few_bytes};
+ghost use Rattle.ep_base.specs.Prefixes.{TakesPrefix};
 ghost use Rattle.ep_tag.specs.Macsec.{IsMacsecHeader, HasRoom, has_no_room, macsec_header_of, payload_len_in, ptype_of};
 ghost use Rattle.ep_tag.specs.Macsec.{short_len_of, encoding, with_unused_bits_zero};
+ghost use Rattle.ep_tag.specs.MacsecFault.{header_at};
 ghost use Rattle.ep_tag.specs.MacsecPayload.{IsMacsec, Macsec, Modified, Unmodified, macsec_at, payload_len_of};
 
 use crate::MacsecHeader;
@@ -45,6 +47,11 @@ pub fn header_is_read_again<'a>(
     let _bytes = header.to_bytes();
     MacsecHeader::from_slice(slice)
 }
+
+/// A header at the start of bytes is taken, whatever follows it, and nothing else is.
+pub fn headers_are_found()
+    ensures { (bytes : List ℕ) → TakesPrefix IsMacsecHeader bytes (header_at bytes) }
+{}
 
 /// What is found at the start of bytes is a header and a payload that they begin with, and one that
 /// they begin with is found.

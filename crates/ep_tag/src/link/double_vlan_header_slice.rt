@@ -2,7 +2,6 @@ ghost use Rattle.std.specs.Prelude.{◌≡◌, ℕ, List, IfErr, nat_eq};
 ghost use Rattle.std.specs.Cmp.Lexicographic.{pointwise};
 ghost use Rattle.std.specs.Cmp.Rules.{comparing};
 ghost use Rattle.std.proofs.Common.{rules};
-ghost use Rattle.ep_base.specs.Prefixes.{TakesPrefix};
 ghost use Rattle.ep_base.specs.SliceError.{content_offset};
 ghost use Rattle.ep_tag.specs.DoubleVlan.{IsDoubleVlanHeader, double_vlan_at, double_vlan_header_of, inner_of};
 ghost use Rattle.ep_tag.specs.DoubleVlan.{outer_of};
@@ -33,16 +32,7 @@ impl<'a> DoubleVlanHeaderSlice<'a> {
     /// The tags at the start of the slice. Refused are, in this order, a slice of fewer than 8 bytes,
     /// and an outer tag whose ether type names no VLAN tag (8100, 88a8, 9100).
     pub fn from_slice(slice: &'a [u8]) -> Result<DoubleVlanHeaderSlice<'a>, HeaderSliceError>
-        // What is taken are two tags at the start of the slice, and two that are there are taken.
-        ensures takes { TakesPrefix IsDoubleVlanHeader slice.now result }
-        // Else it is the first fault.
-        ensures exact { result ≡ double_vlan_at slice.now }
-        ensures offset { IfErr result (λ e. content_offset e ≡ 0) }
-    {
-        Self::tested(slice)
-    }
-
-    fn tested(slice: &'a [u8]) -> Result<DoubleVlanHeaderSlice<'a>, HeaderSliceError>
+        // The tags, or the first fault: law `double_vlan::headers_are_found`.
         ensures exact { result ≡ double_vlan_at slice.now }
         ensures offset { IfErr result (λ e. content_offset e ≡ 0) }
     {

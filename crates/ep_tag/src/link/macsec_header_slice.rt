@@ -3,7 +3,6 @@ ghost use Rattle.std.specs.Prelude.{nat_eq};
 ghost use Rattle.std.specs.Cmp.Lexicographic.{pointwise};
 ghost use Rattle.std.specs.Cmp.Rules.{comparing};
 ghost use Rattle.std.proofs.Common.{rules};
-ghost use Rattle.ep_base.specs.Prefixes.{TakesPrefix};
 ghost use Rattle.ep_tag.specs.Macsec.{IsMacsecHeader, version_of, endstation_id_of, has_sci, scb_of, is_encrypted};
 ghost use Rattle.ep_tag.specs.Macsec.{is_changed, is_unmodified, an_of, short_len_of, packet_nr_of, sci_of, sci_len};
 ghost use Rattle.ep_tag.specs.Macsec.{ether_type_of, header_len_of, next_type_of, ptype_of, has_no_room, macsec_header_of, type_len};
@@ -40,16 +39,7 @@ impl<'a> MacsecHeaderSlice<'a> {
     /// 6 bytes, version 1, a short length of 1 where it has to count an ether type, and a slice
     /// shorter than the header.
     pub fn from_slice(slice: &'a [u8]) -> Result<MacsecHeaderSlice<'a>, HeaderSliceError>
-        // What is taken is a header at the start of the slice, and one that is there is taken.
-        ensures takes { TakesPrefix IsMacsecHeader slice.now result }
-        // Else it is the first fault.
-        ensures exact { result ≡ header_at slice.now }
-        ensures offset { IfErr result (λ e. content_offset e ≡ 0) }
-    {
-        Self::tested(slice)
-    }
-
-    fn tested(slice: &'a [u8]) -> Result<MacsecHeaderSlice<'a>, HeaderSliceError>
+        // The header at the start of the slice, or the first fault: law `macsec::headers_are_found`.
         ensures exact { result ≡ header_at slice.now }
         ensures offset { IfErr result (λ e. content_offset e ≡ 0) }
     {

@@ -1,6 +1,5 @@
 ghost use Rattle.std.specs.Prelude.{◌≡◌, length, IfErr};
 ghost use Rattle.ep_base.specs.declared.err.layer.Layer.TheVariants as layer;
-ghost use Rattle.ep_base.specs.Prefixes.{IsOfLength, TakesPrefix};
 ghost use Rattle.ep_tag.specs.Prefix.{prefix_at};
 ghost use Rattle.ep_tag.specs.Vlan.{vlan_len};
 
@@ -15,15 +14,7 @@ pub type SingleVlanHeaderSlice<'a> = VlanBytes<'a, 4>;
 impl<'a> VlanBytes<'a, 4> {
     /// The tag at the start of the slice. A slice of fewer than 4 bytes is refused.
     pub fn from_slice(slice: &'a [u8]) -> Result<SingleVlanHeaderSlice<'a>, LenError>
-        // What is taken are the first four bytes.
-        ensures takes { TakesPrefix (IsOfLength vlan_len) slice.now result }
-        ensures exact { result ≡ prefix_at layer.VlanHeader vlan_len slice.now }
-        ensures offset { IfErr result (λ e. e.layer_start_offset ≡ 0) }
-    {
-        Self::taken(slice)
-    }
-
-    fn taken(slice: &'a [u8]) -> Result<SingleVlanHeaderSlice<'a>, LenError>
+        // The first four bytes: law `prefix::prefixes_are_found`.
         ensures exact { result ≡ prefix_at layer.VlanHeader vlan_len slice.now }
         ensures offset { IfErr result (λ e. e.layer_start_offset ≡ 0) }
     {
