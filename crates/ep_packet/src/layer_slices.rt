@@ -21,6 +21,7 @@ use ep_ipslice::{
     IpPayloadSlice, IpSlice, Ipv4ExtensionsSlice, Ipv4Slice, Ipv6ExtensionsSlice, Ipv6Slice, laws,
 };
 use ep_link::ArpPacketSlice;
+use ep_link::laws::arp::packets_are_found;
 use ep_tcpudp::{TcpSlice, UdpSlice};
 use std::marker::Model;
 
@@ -45,6 +46,7 @@ impl<'a> LayerSlices<'a> {
         ensures offset { IfErr result (λ e. (n : ℕ) → length slice.now + n < 2 ^ 64
             → fault_offset e + n < 2 ^ 64) }
     {
+        packets_are_found();
         match ArpPacketSlice::from_slice(slice) {
             Ok(packet) => Ok(LayerSlices {
                 net: Some(NetSlice::Arp(packet)),
