@@ -39,18 +39,20 @@ impl<'a> UdpSlice<'a> {
         ensures exact { result ≡ udp_at slice.now }
         ensures datagram { IfOk result (λ datagram. IsUdp datagram) }
     {
-        let datagram = Self::from_slice_lax(slice)?;
-        let length = usize::from(datagram.length());
+        let length = usize::from(UdpHeaderSlice::from_slice(slice)?.length());
         if slice.len() < length {
             return Err(LenError::too_few_bytes(Layer::UdpPayload, length, slice.len()));
         }
-        if 0 < length && length < UdpHeader::LEN {
-            return Err(LenError {
-                len_source: LenSource::UdpHeaderLen,
-                ..LenError::too_few_bytes(Layer::UdpHeader, UdpHeader::LEN, length)
-            });
+        if UdpHeader::LEN <= length {
+            return Ok(UdpView::of(&slice[..length]));
         }
-        Ok(datagram)
+        if length == 0 {
+            return Ok(UdpView::of(slice));
+        }
+        Err(LenError {
+            len_source: LenSource::UdpHeaderLen,
+            ..LenError::too_few_bytes(Layer::UdpHeader, UdpHeader::LEN, length)
+        })
     }
 
     /// What there is of the datagram at the start of the slice: as many bytes as its length field
@@ -61,11 +63,10 @@ impl<'a> UdpSlice<'a> {
         // What there is, or that bytes of the header are missing: law `udp::datagrams_are_found`.
         ensures exact { result ≡ lax_udp_at slice.now }
     {
-        let length = usize::from(UdpHeaderSlice::from_slice(slice)?.length());
-        if length < UdpHeader::LEN || slice.len() < length {
-            return Ok(UdpView::of(slice));
+        match Self::from_slice(slice) {
+            Err(_) if UdpHeader::LEN <= slice.len() => Ok(UdpView::of(slice)),
+            found => found,
         }
-        Ok(UdpView::of(&slice[..length]))
     }
 
     /// The bytes of the datagram, header and payload.
