@@ -3,6 +3,7 @@
 ghost use Rattle.std.specs.Prelude.{◌≡◌, ℕ, ◌+◌, ◌*◌, List, length, Ok, nat_eq};
 ghost use Rattle.std.specs.Cmp.Lexicographic.{pointwise};
 ghost use Rattle.std.specs.Cmp.Rules.{comparing};
+ghost use Rattle.std.specs.Net.Addr.{ipv4_octets};
 ghost use Rattle.std.proofs.Common.{rules};
 ghost use Rattle.ep_ip.specs.Ipv4.{IsIpv4Header, version_of, ihl_of, dscp_of, ecn_of, total_len_of, identification_of};
 ghost use Rattle.ep_ip.specs.Ipv4.{dont_fragment_of, more_fragments_of, fragment_offset_of, time_to_live_of};
@@ -17,6 +18,7 @@ use crate::{Ipv4Header, Ipv4Options};
 use ep_base::err::{Layer, LenError};
 use ep_base::{IpDscp, IpEcn, IpFragOffset, IpNumber, LenSource};
 use std::marker::Model;
+use std::net::Ipv4Addr;
 
 /// The bytes of an IPv4 header (RFC 791, section 3.1), borrowed. A contract sees them as a list,
 /// which is a header: version, length field and length were tested when the value was made.
@@ -195,6 +197,13 @@ impl<'a> Ipv4HeaderSlice<'a> {
         ]
     }
 
+    /// The source address, as one of `std::net`.
+    pub fn source_addr(&self) -> Ipv4Addr
+        ensures { ipv4_octets result ≡ source_of self.now }
+    {
+        Ipv4Addr::from(self.source())
+    }
+
     /// The destination address.
     pub fn destination(&self) -> [u8; 4]
         ensures { result ≡ destination_of self.now }
@@ -205,6 +214,13 @@ impl<'a> Ipv4HeaderSlice<'a> {
             self.slice[18],
             self.slice[19],
         ]
+    }
+
+    /// The destination address, as one of `std::net`.
+    pub fn destination_addr(&self) -> Ipv4Addr
+        ensures { ipv4_octets result ≡ destination_of self.now }
+    {
+        Ipv4Addr::from(self.destination())
     }
 
     /// The options: what follows the first 20 bytes.

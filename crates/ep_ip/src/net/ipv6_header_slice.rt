@@ -3,6 +3,7 @@
 ghost use Rattle.std.specs.Prelude.{◌≡◌, ℕ, List, length, nat_eq};
 ghost use Rattle.std.specs.Cmp.Lexicographic.{pointwise};
 ghost use Rattle.std.specs.Cmp.Rules.{comparing};
+ghost use Rattle.std.specs.Net.Addr.{ipv6_segments, segments_of};
 ghost use Rattle.std.proofs.Common.{rules};
 ghost use Rattle.ep_ip.specs.Ipv6.{IsIpv6Header, traffic_class_of, flow_label_of, payload_length_of};
 ghost use Rattle.ep_ip.specs.Ipv6.{next_header_of, hop_limit_of, source_of, destination_of, ipv6_header_of, dscp_in};
@@ -15,6 +16,7 @@ use crate::err::ipv6::{HeaderError, HeaderSliceError};
 use ep_base::err::{Layer, LenError};
 use ep_base::{IpDscp, IpEcn, IpNumber, Ipv6FlowLabel};
 use std::marker::Model;
+use std::net::Ipv6Addr;
 
 /// The 40 bytes of an IPv6 header (RFC 8200, section 3), borrowed. They were tested when the value
 /// was made, so that getters test nothing. A contract sees the value as those bytes.
@@ -141,11 +143,25 @@ impl<'a> Ipv6HeaderSlice<'a> {
         self.slice[8..24].try_into().unwrap()
     }
 
+    /// The source address, as one of `std::net`.
+    pub fn source_addr(&self) -> Ipv6Addr
+        ensures { ipv6_segments result ≡ segments_of (source_of self.now) }
+    {
+        Ipv6Addr::from(self.source())
+    }
+
     /// The destination address.
     pub fn destination(&self) -> [u8; 16]
         ensures { result ≡ destination_of self.now }
     {
         self.slice[24..40].try_into().unwrap()
+    }
+
+    /// The destination address, as one of `std::net`.
+    pub fn destination_addr(&self) -> Ipv6Addr
+        ensures { ipv6_segments result ≡ segments_of (destination_of self.now) }
+    {
+        Ipv6Addr::from(self.destination())
     }
 
     /// The fields.

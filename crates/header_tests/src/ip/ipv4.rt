@@ -8,6 +8,7 @@ use ep_ip::laws::ipv4 as laws;
 use ep_ip::{Ipv4Header, Ipv4HeaderSlice, Ipv4Options};
 use std::cmp::Ordering;
 use std::hash::FoldHasher;
+use std::net::Ipv4Addr;
 use std::process::Abort;
 use std::test::*;
 
@@ -128,6 +129,15 @@ fn parts_of_a_view(rt: HostRuntime) {
     let wanted = ([&BYTES[..24], &[1, 1, 1, 0]], addresses);
     equal(rt, parts(&header), wanted);
     equal(rt, header.payload_len(), Ok(6));
+}
+
+#[test]
+fn addresses_of_a_view(rt: HostRuntime) {
+    let Ok(header) = Ipv4HeaderSlice::from_slice(&BYTES) else {
+        fail(rt, "no header");
+    };
+    equal(rt, header.source_addr(), Ipv4Addr::new(10, 0, 0, 1));
+    equal(rt, header.destination_addr(), Ipv4Addr::new(10, 0, 0, 2));
 }
 
 // Why these bytes are no view of a header and no header.

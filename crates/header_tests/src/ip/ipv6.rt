@@ -7,6 +7,7 @@ use ep_ip::err::ipv6::{HeaderError, HeaderSliceError};
 use ep_ip::laws::ipv6 as laws;
 use ep_ip::{Ipv6Header, Ipv6HeaderSlice};
 use std::alloc::{AllocError, Global};
+use std::net::Ipv6Addr;
 use std::process::Abort;
 use std::test::*;
 
@@ -91,6 +92,17 @@ fn fields_of_a_view(rt: HostRuntime) {
     let addresses = [view.source(), view.destination()];
     equal(rt, addresses, [SOURCE, DESTINATION]);
     shows(rt, &view.to_header(), FIELDS);
+}
+
+#[test]
+fn addresses_of_a_view(rt: HostRuntime) {
+    let Ok(view) = Ipv6HeaderSlice::from_slice(&BYTES) else {
+        fail(rt, "no header");
+    };
+    let source = Ipv6Addr::new(0xfd00, 0, 0, 0, 0, 0, 0, 1);
+    let destination = Ipv6Addr::new(0xfd00, 0, 0, 0, 0, 0, 0, 2);
+    equal(rt, view.source_addr(), source);
+    equal(rt, view.destination_addr(), destination);
 }
 
 #[test]
