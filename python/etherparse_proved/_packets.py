@@ -282,7 +282,7 @@ def _verdict(call: Callable[[bytes, int], int], name: str, data: Buffer) -> Opti
 
 
 def verdict_ethernet(frame: Buffer) -> Optional[Verdict]:
-    """The verdict on the message in an Ethernet II frame; None where it has no uncut message that can be read."""
+    """The verdict on the message in an Ethernet II frame; None where it has no unfragmented message that can be read."""
     return _verdict(etherparse.ep_verdict_ethernet, "frame", frame)
 
 

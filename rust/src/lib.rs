@@ -89,7 +89,7 @@ fn verdict(number: u32) -> Option<Verdict> {
     [Verdict::None, Verdict::Good, Verdict::Bad].get(number as usize).copied()
 }
 
-/// The verdict on the message in an Ethernet II frame; none where it has no uncut message that can
+/// The verdict on the message in an Ethernet II frame; none where it has no unfragmented message that can
 /// be read.
 #[must_use]
 pub fn verdict_ethernet(frame: &[u8]) -> Option<Verdict> {

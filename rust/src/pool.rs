@@ -34,7 +34,7 @@ pub struct Message {
     pub bytes: Vec<u8>,
 }
 
-/// Why a part of a message is refused.
+/// Why a fragment is refused.
 #[derive(Clone, Copy, Debug, PartialEq, Eq)]
 pub enum PartRefusal {
     /// Others follow it, and its length is no multiple of 8.

@@ -11,7 +11,8 @@ use crate::Verdict;
 use ep_base::laws::traits::Value;
 use std::hash::Hash;
 
-/// A copy of a verdict is the verdict and takes no memory. Equal are the verdicts that are the same.
+/// A copy of a verdict is the verdict and takes no memory. Two verdicts are equal exactly if they are
+/// the same variant.
 pub fn verdicts_are_plain_data()
     ensures { IsPlainData ⟦<Verdict as Value>⟧ }
 {}

@@ -1,4 +1,4 @@
-//! Whether a message came as it was sent, as far as its checksum says.
+//! Whether the checksum of a message is right.
 #![tactic(auto)]
 
 pub mod laws;

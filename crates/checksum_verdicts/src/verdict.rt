@@ -11,7 +11,7 @@ use ep_base::checksum::Sum16BitWords;
 use ep_ip::checksum::{pseudo_sum_v4, pseudo_sum_v6};
 use ep_packet::{Addresses, Message};
 
-/// Whether a message came as it was sent, as far as its checksum says.
+/// Whether the checksum of a message is right.
 #[derive(Clone, Copy, Debug, PartialEq, Eq, Hash)]
 pub enum Verdict {
     /// The words of pseudo header and message sum to all ones.
@@ -19,14 +19,15 @@ pub enum Verdict {
     /// They don't.
     Bad,
     /// There is no checksum: none was sent (a UDP checksum of 0, over IPv6 too, where RFC 8200,
-    /// section 8.1, has receivers drop such a datagram), or the protocol is none that is parsed, or
-    /// it is the ICMP of the other IP version.
+    /// section 8.1, has receivers drop such a datagram), or the protocol is another than UDP, TCP,
+    /// ICMP and ICMPv6, or it is the ICMP of the other IP version.
     None,
 }
 
-/// Judges a message by its checksum (RFC 1071) and the addresses that it came with. Of a UDP
-/// datagram the bytes that its length field counts are summed, of other messages all. The length in
-/// the pseudo header is that of what is summed; ICMPv4 has no pseudo header.
+/// The verdict on the checksum of a message (RFC 1071), with these addresses in the pseudo header.
+/// Of a UDP datagram the bytes that its length field counts are summed, of other messages all. The
+/// length in the pseudo header is that of what is summed; ICMPv4 has no pseudo header. While a
+/// source route has addresses left, those of the IP header aren't those that the sender summed.
 #[inline(always)]
 pub fn judge(addresses: &Addresses, message: &Message<'_>) -> Verdict
     ensures { result ≡ verdict_of addresses.now (as_read message.now) }

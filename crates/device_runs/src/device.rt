@@ -10,7 +10,8 @@ use std::io::{Read, Write};
 
 /// Gives bytes and takes bytes, one call at a time.
 ///
-/// A run over a device is a chain of transitions, so it states of faults what `transition` states.
+/// The contract of a run names the transitions that its calls made, so it says as much about failed
+/// calls as `transition` does.
 pub trait Device {
     // From one state this call, with what it gives or takes, may lead to another.
     ghost transition: { Self → Call → Self → Type 0 };

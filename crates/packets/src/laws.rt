@@ -145,9 +145,9 @@ pub fn forget_keeps()
         ≡ (course_after None course packets).lists name channel }
 {}
 
-/// Where the span that lasts began no later than the last fragment of a datagram that was accepted,
-/// its reassembly is dropped in time: let a packet come so many seconds after the fragment, and
-/// then one that comes so many seconds after each up to that one.
+/// Let the current span have begun when the last fragment of a datagram that was accepted came, or
+/// before. Its reassembly is dropped once a packet has come `seconds` or more after the fragment,
+/// and then another packet `seconds` or more after all packets up to that one.
 pub fn forget_drops()
     ensures { ForgetDrops }
 {

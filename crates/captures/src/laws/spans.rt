@@ -12,9 +12,9 @@ pub fn spans_keep()
     ensures { SpansKeep }
 {}
 
-/// Where the span that lasts began no later than a fragment came, its reassembly is dropped in
-/// time: let a packet come this many seconds after the fragment, and then one that comes this many
-/// seconds after each up to that one.
+/// Let the current span have begun when a fragment came or before. Its reassembly is dropped once a
+/// packet has come `seconds` or more after the fragment, and then another packet `seconds` or more
+/// after all packets up to that one.
 #[tactic(auto, using(crate::proofs::SpanLemmas::spans_drop))]
 pub fn spans_drop()
     ensures { SpansDrop }

@@ -152,7 +152,7 @@ fn answer_packet<S: BuildHasher>(
     }
 }
 
-// Writes the answer to an uncut message.
+// Writes the answer to an unfragmented message.
 fn write_whole(message: &WholeMessage<'_>, out: &mut [u8]) -> usize
     requires { 2 * length message.now.bytes.now + 20 ≤ length out.old }
     ensures end { result < length out.new }

@@ -58,7 +58,7 @@ pub fn refused_lines_are_inert()
     equal_names::<u32>();
 }
 
-/// A line with an uncut message may be replaced by a bad one, and no other answer changes.
+/// A line with an unfragmented message may be replaced by a bad one, and no other answer changes.
 pub fn whole_lines_are_inert()
     ensures { (earlier : List (List ℕ)) (line : List ℕ) (channel : ℕ) (frame : List ℕ)
         (addresses : Addresses) (number : ℕ) (bytes : List ℕ) (message : ReadMessage)

@@ -52,8 +52,8 @@ pub fn only_posted()
 }
 
 /// Where all frames were posted, with no two different messages under one name, a message that came
-/// in fragments has the answer of its uncut frame. It may have been cut in several ways, and its
-/// fragments may be mixed with others, in any order and repeated.
+/// in fragments has the answer of its unfragmented frame. It may have been cut in several ways, and
+/// its fragments may be mixed with others, in any order and repeated.
 pub fn cut_and_uncut_agree()
     // A fragment waits for the rest of the message of its name, or completes it and is answered
     // with all of it. Over IPv6, where the message was cut in several ways, two fragments may
@@ -65,8 +65,8 @@ pub fn cut_and_uncut_agree()
         ⊎ ((answer_after earlier line ≡ line_of_message name (sent name channel))
         ⊎ (answer_after earlier line ≡ codes "refused overlap")
         × (rule_over name.addresses ≡ Refuses)) }
-    // In the second case the uncut frame of the message, if it has one, has the same answer, after
-    // any lines and on any channel. Where the message can't be read, both are refused.
+    // In the second case the unfragmented frame of the message, if it has one, has the same answer,
+    // after any lines and on any channel. Where the message can't be read, both are refused.
     ensures agree { (sent : FragmentName → ℕ → List ℕ) (earlier others : List (List ℕ))
         (line uncut frame : List ℕ) (letter : Letter) (channel other : ℕ) (f : Fragment)
         → AreAllPosted sent (earlier ++ line ∷ [])
