@@ -9,12 +9,14 @@ ghost use Rattle.capture_programs.specs.Looks.{look_of};
 ghost use Rattle.capture_programs.specs.declared.looks.Look.TheVariants as look;
 ghost use Rattle.ep_base.specs.Traits.{CopyIsValue, CopyNeverFails, IsPlainData};
 
+use crate::captures_program::Mode;
 use crate::{Look, Subject};
 use ep_base::laws::traits::Value;
 
 /// A copy is the value and takes no memory. Equal are the values that are the same.
 pub fn types_are_plain_data()
     ensures look { IsPlainData ⟦<Look as Value>⟧ }
+    ensures mode { IsPlainData ⟦<Mode as Value>⟧ }
 {}
 
 /// A copy is the value and takes no memory.

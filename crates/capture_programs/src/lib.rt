@@ -1,10 +1,12 @@
 //! What the programs that read captures share: the arguments of each (`captures_arguments`,
 //! `packets_arguments`); their inputs, what one looks like by its first bytes; an output that may be
-//! closed; what they report on standard error, also how much is read; and the exit status.
+//! closed; what they report on standard error, also how much is read; and the exit status. And what
+//! `captures_cli` does else (`captures_program`).
 #![tactic(auto)]
 
 mod arguments;
 pub mod captures_arguments;
+pub mod captures_program;
 mod closable_writer;
 mod ending;
 mod exit_status;

@@ -3,12 +3,12 @@
 #![tactic(auto)]
 
 use capture_programs::captures_arguments::{PROGRAM, command};
+use capture_programs::captures_program::{Mode, Requested, exit_code, make, requested_by};
 use capture_programs::{
     ClosableWriter, Input, ProgressLine, ProgressReader, Subject, failure, len_of, parse_failure,
     report_skipped, unopened, words,
 };
 use captures::Skipped;
-use captures_program::{Mode, Requested, exit_code, make, requested_by};
 use std::fs::File;
 use std::io::Read;
 use std::process::ExitCode;

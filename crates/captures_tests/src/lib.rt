@@ -1,7 +1,6 @@
-//! Tests of `captures`, `capture_programs` and `captures_program` over their public calls. They are
-//! in a crate of their own, so that they are proved beside these and not with each of their
-//! functions once more. Functions that they share have no contracts: tests alone call them, and are
-//! run.
+//! Tests of `captures` and `capture_programs` over their public calls. They are in a crate of their
+//! own, so that they are proved beside these and not with each of their functions once more.
+//! Functions that they share have no contracts: tests alone call them, and are run.
 #![tactic(auto)]
 
 #[cfg(test)]

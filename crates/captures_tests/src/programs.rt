@@ -2,11 +2,11 @@
 use crate::checks::{equal, equal_bytes, holds, joined, repeated};
 use crate::packet_lines::refused;
 use capture_programs::captures_arguments::{PROGRAM, command};
+use capture_programs::captures_program::{Mode, exit_code, make, note, requested_by};
 use capture_programs::{
     Input, Look, ProgressLine, ProgressReader, ReportedError, Subject, look_at,
 };
 use captures::{CaptureError, Extra, Position, RunError, Skipped, TimeUnit, Unfit};
-use captures_program::{Mode, exit_code, make, note, requested_by};
 use fault_devices::{Fault, FaultReader, UnflushableWriter};
 use std::alloc::Global;
 use std::io::{ErrorKind, Read};

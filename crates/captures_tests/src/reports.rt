@@ -1,11 +1,11 @@
 //! What programs report on standard error, and outputs that are closed.
 use crate::checks::{equal, holds};
 use capture_programs::captures_arguments::{PROGRAM, command};
+use capture_programs::captures_program::{Mode, make};
 use capture_programs::{
     ClosableWriter, Subject, exit_code, failure, parse_failure, report_skipped, status, unopened,
 };
 use captures::{CaptureError, Extra, Position, RunError, Skipped, Unfit};
-use captures_program::{Mode, make};
 use fault_devices::{Fault, FaultWriter, UnflushableWriter};
 use std::alloc::Global;
 use std::cell::RefCell;

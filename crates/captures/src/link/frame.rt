@@ -131,13 +131,13 @@ pub(crate) fn report<'a>(passing: &mut Passing, link: Link, packet: &'a [u8]) ->
 {
     match reported(link, packet) {
         Ok(frame) => {
-            *passing = passing.with_packet();
+            passing.count_packet();
             Some(frame)
         }
         Err(reason) => match passing.unfit {
             Unfit::Refuse => None,
             Unfit::Skip => {
-                *passing = passing.with_reason(reason);
+                passing.count_passed_over(reason);
                 Some(Frame::of(&[]))
             }
         },

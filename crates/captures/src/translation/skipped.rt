@@ -46,26 +46,14 @@ impl Skipped {
         without_frame: 0,
     };
 
-    // One packet more.
-    fn with_reason(self, reason: Reason) -> Skipped
-        ensures { result ≡ with_reason self reason }
+    // Counts one packet more.
+    fn count(&mut self, reason: Reason)
+        ensures { self.new ≡ with_reason self.old reason }
     {
         match reason {
-            Reason::OtherLink => Skipped {
-                of_other_links: self.of_other_links.saturating_add(1),
-                too_long: self.too_long,
-                without_frame: self.without_frame,
-            },
-            Reason::TooLong => Skipped {
-                of_other_links: self.of_other_links,
-                too_long: self.too_long.saturating_add(1),
-                without_frame: self.without_frame,
-            },
-            Reason::NoFrame => Skipped {
-                of_other_links: self.of_other_links,
-                too_long: self.too_long,
-                without_frame: self.without_frame.saturating_add(1),
-            },
+            Reason::OtherLink => self.of_other_links = self.of_other_links.saturating_add(1),
+            Reason::TooLong => self.too_long = self.too_long.saturating_add(1),
+            Reason::NoFrame => self.without_frame = self.without_frame.saturating_add(1),
         }
     }
 }
@@ -91,28 +79,21 @@ impl Passing {
         }
     }
 
-    /// After one packet more that is reported.
-    pub(crate) fn with_packet(self) -> Passing
-        ensures { result ≡ record self { seen = capped (self.seen + 1) } }
+    /// Counts one packet more, which is reported.
+    pub(crate) fn count_packet(&mut self)
+        ensures { self.new ≡ record self.old { seen = capped (self.old.seen + 1) } }
     {
-        Passing {
-            unfit: self.unfit,
-            skipped: self.skipped,
-            seen: self.seen.saturating_add(1),
-        }
+        self.seen = self.seen.saturating_add(1);
     }
 
-    /// After one packet more that is passed over.
-    pub(crate) fn with_reason(self, reason: Reason) -> Passing
-        ensures { result ≡ record self {
-          seen = capped (self.seen + 1);
-          skipped = with_reason self.skipped reason;
+    /// Counts one packet more, which is passed over.
+    pub(crate) fn count_passed_over(&mut self, reason: Reason)
+        ensures { self.new ≡ record self.old {
+          seen = capped (self.old.seen + 1);
+          skipped = with_reason self.old.skipped reason;
         } }
     {
-        Passing {
-            unfit: self.unfit,
-            skipped: self.skipped.with_reason(reason),
-            seen: self.seen.saturating_add(1),
-        }
+        self.skipped.count(reason);
+        self.count_packet();
     }
 }

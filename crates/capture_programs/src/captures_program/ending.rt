@@ -3,12 +3,13 @@ ghost use Rattle.std.specs.Prelude.{◌≡◌};
 ghost use Rattle.std.specs.Process.{exit_status};
 ghost use Rattle.capture_programs.specs.ErrorStatus.{run_status};
 
-use crate::notes::note;
-use capture_programs::{Look, Subject};
+use crate::captures_program::notes::note;
+use crate::ending::{self, Subject};
+use crate::looks::Look;
 use captures::RunError;
 use std::process::ExitCode;
 
-/// [`capture_programs::exit_code`], with a note by what the input looks like. The status is 0, 3
+/// [`crate::exit_code`], with a note by what the input looks like. The status is 0, 3
 /// where the input is refused, 4 where a read or a write failed, and 5 out of memory or after too
 /// many reads.
 pub fn exit_code<P: Eprint>(
@@ -24,5 +25,5 @@ pub fn exit_code<P: Eprint>(
         Ok(()) => "",
         Err(error) => note(error, look),
     };
-    capture_programs::exit_code(rt, subject, made, closed, note)
+    ending::exit_code(rt, subject, made, closed, note)
 }

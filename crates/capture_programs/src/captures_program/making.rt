@@ -14,7 +14,7 @@ ghost use Rattle.captures.specs.declared.time.time_unit.TimeUnit.{TimeUnit};
 ghost use Rattle.captures.specs.declared.translation.run_error.RunError.{RunError};
 ghost use Rattle.captures.specs.declared.unfit.Unfit.{Unfit};
 
-use crate::Mode;
+use crate::captures_program::modes::Mode;
 use captures::{Extra, RunError, Skipped, TimeUnit, Unfit};
 use device_runs::flush_after;
 use std::alloc::Global;

@@ -1,5 +1,6 @@
 //! The note after an error: which of the two commands reads such an input.
-use capture_programs::{Look, compression_note};
+use crate::looks::Look;
+use crate::notes::{self, compression_note};
 use captures::{CaptureError, RunError};
 
 /// The note after an error, where the input looks like this. It has no contract: tests compare the
@@ -10,7 +11,7 @@ pub fn note(error: RunError, look: Look) -> &'static str {
             ": the input is text, `captures capture` reads lines of frames"
         }
         RunError::BadLine(1) => text_note(look),
-        _ => capture_programs::note(error, look),
+        _ => notes::note(error, look),
     }
 }
 

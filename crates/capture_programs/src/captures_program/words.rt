@@ -1,5 +1,5 @@
 //! What the words of the command line request.
-use crate::Mode;
+use crate::captures_program::modes::Mode;
 use captures::{Extra, TimeUnit, Unfit};
 use clap::ArgMatches;
 

@@ -1,5 +1,5 @@
 use Rattle.std.proofs.Common.{◌≡◌, ◌∙◌, sym}
-use Rattle.captures_program.proofs.making.make.Goals as goal
+use Rattle.capture_programs.proofs.captures_program.making.make.Goals as goal
 
 pub returns-in-Lines-clause-bytes : goal.returns-in-Lines-clause-bytes
 returns-in-Lines-clause-bytes g c extra unfit is =

@@ -1,9 +1,7 @@
 //! What `captures_cli` does but for the system that it runs on: what its words request, what it
 //! makes of its input, and how it ends.
-#![tactic(auto)]
 
 mod ending;
-pub mod laws;
 mod making;
 mod modes;
 mod notes;
