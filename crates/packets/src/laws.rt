@@ -145,7 +145,7 @@ pub fn forget_keeps()
         ≡ (course_after None course packets).lists name channel }
 {}
 
-/// Let the current span have begun when the last fragment of a datagram that was accepted came, or
+/// Let the current span have started when the last fragment of a datagram that was accepted came, or
 /// before. Its reassembly is dropped once a packet has come `seconds` or more after the fragment,
 /// and then another packet `seconds` or more after all packets up to that one.
 pub fn forget_drops()

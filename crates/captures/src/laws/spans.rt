@@ -12,9 +12,9 @@ pub fn spans_keep()
     ensures { SpansKeep }
 {}
 
-/// Let the current span have begun when a fragment came or before. Its reassembly is dropped once a
-/// packet has come `seconds` or more after the fragment, and then another packet `seconds` or more
-/// after all packets up to that one.
+/// Let the current span have started when a fragment came, or before. Its reassembly is dropped
+/// once a packet has come `seconds` or more after the fragment, and then another packet `seconds`
+/// or more after all packets up to that one.
 #[tactic(auto, using(crate::proofs::SpanLemmas::spans_drop))]
 pub fn spans_drop()
     ensures { SpansDrop }
