@@ -1,16 +1,17 @@
 -- Bytes once what is late is written.
-use Rattle.std.proofs.Common.{◌≡◌, ℕ, ◌+◌, ◌-◌, ◌<◌, ◌≤◌, Bool, true, false, not, ◌&&◌, ltb, ◌⊎◌, ◌↔◌, inl, inr, Option, Some, None}
+use Rattle.std.proofs.Common.{◌≡◌, ℕ, ◌+◌, ◌-◌, ◌<◌, ◌≤◌, Bool, true, false, not, leb, ◌⊎◌, ◌↔◌, inl, inr, Option, Some, None}
 use Rattle.std.proofs.Common.{List, [], ◌∷◌, ◌++◌, length, max, min, take, drop, get_or, unwrap_or, arith, sym, ap, ◌∙◌, refl, subst}
 use Rattle.std.proofs.lemmas.Bool.{cases_lt}
 use Rattle.std.proofs.lemmas.Bool.Decides.{nat_tests}
-use Rattle.std.proofs.lemmas.List.{take_more, get_or-take, get_or_past, length-take, get_or-drop, length-drop}
+use Rattle.std.proofs.lemmas.List.{take_all, take_more, get_or-take, get_or_past, length-take, get_or-drop, length-drop}
 use Rattle.std.proofs.lemmas.List.FromFn.{fill_by_all, get_or-map-range_with_len, length-map-range_with_len}
 use Rattle.std.specs.Option.{option_or}
-use Rattle.std.specs.Prelude.{IsTrue}
+use Rattle.std.specs.Global.{Box}
+use Rattle.std.specs.Prelude.{IsTrue, is_some}
 use Rattle.etherparse.specs.IpDefragBuf.{Writes}
 use Rattle.etherparse.specs.StoredFragment.{HasBytes}
-use Rattle.etherparse.specs.DeferredBytes.{AreInRoom, EndBy, HasBytesAfter, Write, byte_after, byte_of_write, bytes_after}
-use Rattle.etherparse.specs.DeferredBytes.{late_byte, late_len}
+use Rattle.etherparse.specs.DeferredBytes.{AreInRoom, EndBy, HasBytesAfter, Late, Write, byte_after, byte_of_write, bytes_after}
+use Rattle.etherparse.specs.DeferredBytes.{bytes_with, late_byte, late_in, late_len, with_write}
 
 option_or-none : {X : Type 0} (a : Option X) → option_or a None ≡ a
 option_or-none None = refl
@@ -66,6 +67,23 @@ after_is ws there xs len long h = fill_by_all (byte_after ws there) xs len 0 lon
 pub none_late : (there : List ℕ) (len : ℕ) → length there ≡ len → bytes_after [] there len ≡ there
 none_late there len is = sym (after_is [] there there len is (λ p h. refl))
 
+-- how many bytes there are with what is late, and which where nothing is
+pub with_len : (late : Late) (there : List ℕ) → length (bytes_with late there) ≡ late.len
+with_len late there = after_len late.writes there late.len
+
+pub as_long : (late : Option (Box Late)) (xs ys : List ℕ) → length xs ≡ length ys
+    → (late_in late xs).len ≡ (late_in late ys).len
+as_long None xs ys same = same
+as_long (Some late) xs ys same = refl
+
+pub with_none : (late : Option (Box Late)) (there : List ℕ) → late ≡ None
+    → there ≡ bytes_with (late_in late there) there
+with_none late there none = rw none (sym (none_late there (length there) refl))
+
+pub is_none_by : {X : Type 0} (o : Option X) (b : Bool) → is_some o ≡ not b → b ≡ true → o ≡ None
+is_none_by None b means is = refl
+is_none_by (Some x) b means is = absurd (cc (means, is))
+
 -- those below an index
 pub after_cut : (ws : List Write) (there cut : List ℕ) (len n : ℕ) → n ≤ len → cut ≡ take n there
     → bytes_after ws cut n ≡ take n (bytes_after ws there len)
@@ -74,6 +92,19 @@ after_cut ws there cut len n le is =
     (omega (arith, length-take n (bytes_after ws there len), after_len ws there len))
     (λ p h. let at = after_at ws there len p (omega (arith, h, le)) in
     grind (arith, get_or-take)))
+
+pub cut_with : (late now : Late) (seen there cut : List ℕ) (n : ℕ) → bytes_with late there ≡ seen
+    → n ≤ late.len → cut ≡ take n there → now.writes ≡ late.writes → now.len ≡ n
+    → bytes_with now cut ≡ take n seen
+cut_with late now seen there cut n sees le is same len =
+    ap (λ (ws : List Write). bytes_after ws cut now.len) same
+    ∙ ap (λ (k : ℕ). bytes_after late.writes cut k) len
+    ∙ after_cut late.writes there cut late.len n le is ∙ ap (λ (xs : List ℕ). take n xs) sees
+
+pub all_below : (late : Late) (seen there : List ℕ) (n : ℕ) → bytes_with late there ≡ seen
+    → late.len ≤ n → bytes_with late there ≡ take n seen
+all_below late seen there n sees le =
+    sees ∙ sym (take_all n seen (omega (arith, le, ap (λ (xs : List ℕ). length xs) sees, with_len late there)))
 
 -- one more write that is late
 pub writes_late : (ws : List Write) (w : Write) (there : List ℕ) (len new : ℕ) → length there ≤ len
@@ -116,44 +147,34 @@ end_push [] w len h le = (le, tt)
 end_push (v ∷ ws) w len h le = (h.0, end_push ws w len h.1 le)
 
 -- where one more is late, and nothing comes after what was cut
-pub in_room_late : (ws : List Write) (w : Write) (there : List ℕ) (len new capacity : ℕ) (cut : Bool)
-    → AreInRoom ws there len capacity cut → new ≡ max len (w.start + length w.bytes)
+pub in_room_late : (late : Late) (w : Write) (there : List ℕ) (new capacity : ℕ)
+    → AreInRoom late there capacity → new ≡ max late.len (w.start + length w.bytes)
     → w.start + length w.bytes ≤ capacity → w.start + length w.bytes ≤ 65535
-    → AreInRoom (ws ++ w ∷ []) there new capacity cut
-in_room_late ws w there len new capacity cut are is fits short = record {
+    → AreInRoom (with_write w new late) there capacity
+in_room_late late w there new capacity are is fits short = record {
   written = omega (arith, are.written, is);
   fits = omega (arith, are.fits, is, fits);
   short = omega (arith, are.short, is, short);
-  within = λ whole. end_push ws w new (end_later ws len new (omega (arith, is)) (are.within whole))
-      (omega (arith, is));
+  within = λ whole. end_push late.writes w new
+      (end_later late.writes late.len new (omega (arith, is)) (are.within whole)) (omega (arith, is));
 }
 
--- where it is written at once, over all that was late
-pub in_room_now : (ws : List Write) (flushed new bytes : List ℕ) (len new_len start capacity : ℕ)
-    → ws ≡ [] → length flushed ≡ len → Writes flushed new start bytes → length new ≤ capacity
-    → new_len ≡ max len (start + length bytes) → len ≤ 65535 → start + length bytes ≤ 65535
-    → AreInRoom ws new new_len capacity false
-in_room_now ws flushed new bytes len new_len start capacity none long w fits is was short = record {
-  written = omega (arith, w.size, long, is);
-  fits = omega (arith, w.size, long, is, fits);
-  short = omega (arith, was, short, is);
-  within = λ whole. rw none tt;
-}
+-- where none is late
+pub in_room_now : (there : List ℕ) (capacity : ℕ) → length there ≤ capacity → length there ≤ 65535
+    → AreInRoom (late_in None there) there capacity
+in_room_now there capacity fits short =
+    record { written = omega arith; fits = fits; short = short; within = λ whole. tt }
 
-pub writes_now : (seen flushed new bytes : List ℕ) (ws vs us : List Write) (there : List ℕ)
-    (len new_len start : ℕ) → bytes_after ws there len ≡ seen → flushed ≡ bytes_after vs there len
-    → vs ≡ ws → us ≡ [] → new_len ≡ max len (start + length bytes) → Writes flushed new start bytes
-    → Writes seen (bytes_after us new new_len) start bytes
-writes_now seen flushed new bytes ws vs us there len new_len start sees is same none long w =
-    let was : flushed ≡ bytes_after ws there len = is ∙ ap (λ (xs : List Write). bytes_after xs there len) same in
-    let size : length new ≡ new_len = omega (arith, w.size, ap (λ (xs : List ℕ). length xs) was, after_len ws there len, long) in
-    subst (λ (xs : List ℕ). Writes xs (bytes_after us new new_len) start bytes) (was ∙ sees)
-    (rw none (subst (λ (ys : List ℕ). Writes flushed ys start bytes) (sym (none_late new new_len size)) w))
+pub writes_now : (seen flushed new bytes : List ℕ) (start : ℕ) → flushed ≡ seen
+    → Writes flushed new start bytes → Writes seen (bytes_with (late_in None new) new) start bytes
+writes_now seen flushed new bytes start is w =
+    subst (λ (xs : List ℕ). Writes xs (bytes_after [] new (length new)) start bytes) is
+    (subst (λ (ys : List ℕ). Writes flushed ys start bytes) (sym (none_late new (length new) refl)) w)
 
-pub late_ends : (ws : List Write) (len new : ℕ) (cut is_late : Bool) → (cut ≡ false → EndBy len ws)
-    → len ≤ new → IsTrue (not (cut && ltb len new) && is_late) → EndBy len ws ⊎ (new ≡ len)
-late_ends ws len new false is_late within le requested = inl (within refl)
-late_ends ws len new true is_late within le requested = inr (grind (arith, nat_tests))
+pub late_ends : (ws : List Write) (len new : ℕ) (cut : Bool) → (cut ≡ false → EndBy len ws)
+    → len ≤ new → (cut ≡ true → new ≤ len) → EndBy len ws ⊎ (new ≡ len)
+late_ends ws len new false within le whole = inl (within refl)
+late_ends ws len new true within le whole = inr (omega (arith, le, whole refl))
 
 -- ---- one more of them is written
 
@@ -307,3 +328,8 @@ not_so r fails means of = ((λ f. cc f), (λ q. let holds = means.1 (of q) in cc
 
 pub just_so : {P Q : Type 0} (r : Bool) → IsTrue r ↔ P → (P → Q) → (Q → P) → IsTrue r ↔ Q
 just_so r means to of = ((λ holds. to (means.0 holds)), (λ q. means.1 (of q)))
+
+pub not_longer : {Q : Type 0} (a b : ℕ) → b < a → (Q → a ≤ b) → IsTrue (leb a b) ↔ Q
+not_longer a b lt fits =
+    let long : leb a b ≡ false = grind (arith, nat_tests) in
+    ((λ t. absurd (cc (t, long))), (λ q. absurd (omega (arith, lt, fits q))))

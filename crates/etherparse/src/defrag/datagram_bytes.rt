@@ -94,8 +94,18 @@ pub(super) fn write_at(buffer: &mut Vec<u8>, start: usize, bytes: &[u8])
     if start == buffer.len() {
         buffer.extend_from_slice(bytes).unwrap();
     } else {
-        let end = start + bytes.len();
-        buffer.resize(buffer.len().max(end), 0).unwrap();
-        buffer[start..end].copy_from_slice(bytes);
+        write_over(buffer, start, bytes);
     }
+}
+
+// Writes bytes so where they may come before the end, or after a gap.
+pub(super) fn write_over(buffer: &mut Vec<u8>, start: usize, bytes: &[u8])
+    requires room { start + length bytes.now ≤ vec_capacity buffer.old }
+    requires fits { start + length bytes.now ≤ 65535 }
+    ensures writes { Writes buffer.old.items buffer.new.items start bytes.now }
+    ensures room { vec_capacity buffer.old ≤ vec_capacity buffer.new }
+{
+    let end = start + bytes.len();
+    buffer.resize(buffer.len().max(end), 0).unwrap();
+    buffer[start..end].copy_from_slice(bytes);
 }

@@ -27,7 +27,7 @@ impl IpDefragBuf<(), DeferredBytes> {
         ensures value { result
             ≡ empty_of (tt {0}) (none_stored rule) (new_room bytes sections (none_stored rule)) }
     {
-        let bytes = DeferredBytes::new(bytes, alloc);
+        let bytes = DeferredBytes::new(bytes);
         match rule {
             OverlapRule::Overwrites => IpDefragBuf::empty((), bytes, sections, None),
             OverlapRule::Refuses => {

@@ -1,18 +1,37 @@
-use Rattle.std.proofs.Common.{arith, ap, sym, ◌∙◌, length, take}
-use Rattle.std.proofs.lemmas.List.{take_all}
-use Rattle.etherparse.specs.DeferredBytes.{BytesInRoom}
-use Rattle.etherparse.proofs.LateWrites.{after_cut, after_len}
+use Rattle.std.proofs.Common.{arith, ap, sym, ◌∙◌, take, true, List, ℕ, Option}
+use Rattle.std.specs.Global.{Box}
+use Rattle.etherparse.specs.DeferredBytes.{BytesInRoom, Late, bytes_with, late_in}
+use Rattle.etherparse.proofs.LateWrites.{all_below, cut_with, with_none}
 use Rattle.etherparse.proofs.defrag.deferred_bytes.DeferredBytesDatagramBytes.truncate.Goals as goal
 
-pub returns-then-len-self-clause-items : goal.returns-then-len-self-clause-items
-returns-then-len-self-clause-items c =
-    after_cut c.self.inside.late.items c.self.inside.written.items _ c.self.inside.len c.args.len
-    (omega (arith, c.if-len-self.true)) c.truncate.ensures.items
-    ∙ ap (λ (b : BytesInRoom). take c.args.len b.bytes) c.self.view_is
+pub returns-in-None-clause-items : goal.returns-in-None-clause-items
+returns-in-None-clause-items c =
+    sym (with_none c.self.inside.late c.truncate.new.self.items c.in-None.is) ∙ c.truncate.ensures.items
+    ∙ ap (λ (xs : List ℕ). take c.args.len xs)
+    (with_none c.self.inside.late c.self.inside.written.items c.in-None.is ∙ ap (λ (b : BytesInRoom). b.bytes) c.self.view_is)
 
-pub returns-else-len-self-clause-items : goal.returns-else-len-self-clause-items
-returns-else-len-self-clause-items c =
-    let long = after_len c.self.inside.late.items c.self.inside.written.items c.self.inside.len
-    in
-    let same = ap (λ (b : BytesInRoom). length b.bytes) c.self.view_is in
-    sym (take_all c.args.len c.args.self.now.bytes (omega (arith, long, same, c.if-len-self.false)))
+pub returns-then-len-deref-clause-items : goal.returns-then-len-deref-clause-items
+returns-then-len-deref-clause-items c =
+    let there = c.self.inside.written.items in
+    let sees =
+    sym (ap (λ (late : Option (Box Late)). bytes_with (late_in late there) there) c.in-Some.is)
+    ∙ ap (λ (b : BytesInRoom). b.bytes) c.self.view_is in
+    let was = c.behind-late.view_is ∙ c.deref.ensures in
+    let before = c.behind-late-then-len-deref.view_is ∙ c.deref_mut.ensures.value in
+    let after = c.behind-late-then-len-deref-2.view_is ∙ c.deref_mut-then-len-deref.ensures.value in
+    cut_with c.in-Some.late.value record {
+      writes = c.behind-late-then-len-deref-2.inside.writes.items;
+      len = c.behind-late-then-len-deref-2.inside.len;
+      cut = true;
+    }
+    c.args.self.now.bytes there c.truncate-then-len-deref.new.self.items c.args.len sees
+    (omega (arith, c.if-len-deref.true, ap (λ (l : Late). l.len) was)) c.truncate-then-len-deref.ensures.items
+    (ap (λ (l : Late). l.writes) after ∙ ap (λ (l : Late). l.writes) before) (ap (λ (l : Late). l.len) after)
+
+pub returns-else-len-deref-clause-items : goal.returns-else-len-deref-clause-items
+returns-else-len-deref-clause-items c =
+    let there = c.self.inside.written.items in
+    all_below c.in-Some.late.value c.args.self.now.bytes there c.args.len
+    (sym (ap (λ (late : Option (Box Late)). bytes_with (late_in late there) there) c.in-Some.is)
+    ∙ ap (λ (b : BytesInRoom). b.bytes) c.self.view_is)
+    (omega (arith, c.if-len-deref.false, ap (λ (l : Late). l.len) (c.behind-late.view_is ∙ c.deref.ensures)))
