@@ -26,7 +26,7 @@ Order = List DatagramName
 
 -- ---- how many bytes they take
 
--- what a datagram takes beside its bytes, about: 303 to 607 in the tables of a pool, 16 for ranges of
+-- what a datagram takes beside its bytes, about: 279 to 559 in the tables of a pool, 16 for ranges of
 -- bytes, 48 for fragments over IPv6, and 8 to 24 of the allocator for each of these buffers
 abbrev pub beside_bytes : ℕ
 beside_bytes = 640
