@@ -257,6 +257,13 @@ module _ (buf : Contents) (ss : List Placed) (a : Segment) (sound : IsSound buf)
       ≡ refusal_in buf (placed_in buf a)
   refusal_placed = rw placed_same (shows_refusal buf ss sound.sparse shows (placed_in buf a))
 
+  pub refused_not : (refused : Refused) → refusal_in buf (placed_in buf a) ≡ Some refused
+      → refusal_of buf.window buf.held.taken ss (placed buf.start buf.held.taken ss a) ≡ None → ⊥
+  refused_not refused is none = cc (refusal_placed, is, none)
+
+  pub no_byte_left : length (placed buf.start buf.held.taken ss a).bytes ≡ 0 → length (placed_in buf a).bytes ≡ 0
+  no_byte_left none = rw placed_same at none
+
   pub answers_refusal : (X : Type 0) (refused : Refused) → refusal_in buf (placed_in buf a) ≡ Some refused
       → AnswersAdd {X = X} (refusal_of buf.window buf.held.taken ss (placed buf.start buf.held.taken ss a)) (Err refused)
   answers_refusal X refused is = inl (refusal_placed ∙ is)

@@ -1,5 +1,5 @@
 -- The keys of connections.
-use Rattle.std.proofs.Common.{◌≡◌, ◌≢◌, ◌∙◌, ◌⊎◌, inl, inr, ℕ, Bool, true, false, List, refl, ap, sym}
+use Rattle.std.proofs.Common.{◌≡◌, ◌≢◌, ◌∙◌, ◌⊎◌, inl, inr, ℕ, Bool, true, false, List, Some, refl, ap, sym}
 use Rattle.std.specs.Ordering.{is_gt, ordering_reverse, ordering_then}
 use Rattle.std.specs.declared.cmp.Ordering.{Ordering}
 use Rattle.std.specs.declared.cmp.Ordering.TheVariants.{Less, Equal, Greater}
@@ -13,6 +13,8 @@ use Rattle.tcp_streams.specs.declared.endpoint.Endpoint.TheVariants.{V4, V6}
 use Rattle.tcp_streams.specs.declared.flow_key.FlowKey.{FlowKey}
 use Rattle.tcp_streams.specs.FlowKeys.{BothWays, KeysAreOfOneConnection, KeysTellEndpoints, flow_key}
 use Rattle.tcp_streams.specs.FlowKeys.{key_between, order_of, other_direction}
+use Rattle.tcp_streams.specs.PacketKeys.{PacketsBothWays}
+use Rattle.ep_packet.specs.Tags.{vlan_ids_of}
 
 pub order_is : (a b : Endpoint) → order.ghosts.cmp a b ≡ order_of a b
 order_is (V4 a p) (V4 b q) = refl
@@ -92,3 +94,7 @@ of_one_connection v w a b x y c d e = by (key_is v a b c) (key_is w x y d)
     by (inl p) (inr q) = let f = fields v w a b y x c d (sym p ∙ e ∙ q) in (f.0, f.1, inr (f.2, f.3))
     by (inr p) (inl q) = let f = fields v w b a x y c d (sym p ∙ e ∙ q) in (f.0, f.1, inr (f.3, f.2))
     by (inr p) (inr q) = let f = fields v w b a y x c d (sym p ∙ e ∙ q) in (f.0, f.1, inl (f.3, f.2))
+
+pub packets_both_ways : {C : Type 0} → PacketsBothWays C
+packets_both_ways there back a b channel differ e f g =
+    rw (e, f, g) (ap Some (both_ways (vlan_ids_of there.link_exts.items) a b channel differ))

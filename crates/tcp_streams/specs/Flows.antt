@@ -3,7 +3,7 @@ use Rattle.std.specs.Prelude.{◌≡◌, ℕ, ◌+◌, ◌-◌, ◌^◌, Bool, t
 use Rattle.std.specs.Prelude.{if◌then◌else◌, max, min, List, ◌∷◌, fold, map, slice_get, take}
 use Rattle.std.specs.Prelude.{Option, Some, None}
 use Rattle.std.specs.Option.{option_map_or}
-use Rattle.std.specs.Map.{lookup, lookup_entry, remove_entry}
+use Rattle.std.specs.Map.{lookup, lookup_entry, remove_entry, set_value}
 use Rattle.tcp_streams.specs.declared.connection_state.ConnectionState.TheVariants.{Unseen}
 use Rattle.tcp_streams.specs.declared.direction.Direction.{Direction}
 use Rattle.tcp_streams.specs.declared.direction.Direction.TheVariants.{FromLower}
@@ -81,6 +81,12 @@ table_with same table key packet value =
 abbrev pub dropped_flow : {K T : Type 0} → (K → K → Bool) → Table K T → K → Option (K × Flow T)
 dropped_flow same table key =
     if is_some (flow_at same table key) then None else slice_get table.flows (table.most - 1)
+
+-- the table with this value in the flow of a key, if there is one
+abbrev pub table_with_value : {K T : Type 0} → (K → K → Bool) → Table K T → K → T → Table K T
+table_with_value same table key value = option_map_or
+    (λ flow. record table { flows = set_value (same key) table.flows (record flow { value = value }) })
+    (flow_at same table key) table
 
 -- ---- what holds of all tables
 
