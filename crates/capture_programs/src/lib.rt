@@ -1,7 +1,7 @@
 //! What the programs that read captures share: the arguments of each (`captures_arguments`,
 //! `packets_arguments`); their inputs, what one looks like by its first bytes; an output that may be
-//! closed; what they report on standard error, also how much is read; and the exit status. And what
-//! `captures_cli` does else (`captures_program`).
+//! closed; what they report on standard error, also how much is read; and the exit status. All that
+//! `captures_cli` does beyond these is there, too (`captures_program`).
 #![tactic(auto)]
 
 mod arguments;

@@ -48,12 +48,14 @@ impl Words {
         Ok(words)
     }
 
-    /// Whether one of them is this condition.
+    /// Whether one of them is this condition. It has no contract: tests compare what is refused
+    /// beside `--no-checksums`.
     pub fn have(&self, condition: Condition) -> bool {
         self.words.iter().any(|word| matches!(word, Word::Test(other) if *other == condition))
     }
 
-    /// The expression that they write.
+    /// The expression that they write. It has no contract: [`Expression::of`] has one, and the column
+    /// of what is wrong is compared by tests.
     pub fn expression<'t>(&self, alloc: Global) -> Result<Expression, ExpressionError<'t>> {
         match Expression::of(alloc, self.words.as_slice()) {
             Ok(expression) => Ok(expression),

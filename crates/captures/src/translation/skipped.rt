@@ -79,7 +79,7 @@ impl Passing {
         }
     }
 
-    /// Counts one packet more, which is reported.
+    /// Counts one packet more.
     pub(crate) fn count_packet(&mut self)
         ensures { self.new ≡ record self.old { seen = capped (self.old.seen + 1) } }
     {
