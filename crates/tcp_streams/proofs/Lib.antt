@@ -1,4 +1,6 @@
 mod BufLemmas
+mod FlowKeyLemmas
+mod FlowLemmas
 mod GapLemmas
 mod LawLemmas
 mod NumberLaws
@@ -6,3 +8,4 @@ mod NumberLemmas
 mod QueueLemmas
 mod SegmentLemmas
 mod SparseLemmas
+mod StateLemmas

@@ -1,3 +1,6 @@
+pub mod ConnectionStates
+pub mod FlowKeys
+pub mod Flows
 pub mod Gaps
 pub mod Laws
 pub mod Placing

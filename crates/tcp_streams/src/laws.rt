@@ -4,6 +4,9 @@ ghost use Rattle.tcp_streams.specs.Laws.{CutsArePlaced, NumbersAreRelative, OneT
 ghost use Rattle.tcp_streams.specs.Laws.{OneTextHasNoConflict, OrderDoesNotMatter, TextStays};
 
 pub mod examples;
+pub mod flows;
+pub mod keys;
+pub mod states;
 pub mod traits;
 
 /// Segments of one text, cut, repeated, overlapping and in any order, have no conflict, and what

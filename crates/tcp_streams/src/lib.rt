@@ -3,6 +3,12 @@
 
 mod byte_queue;
 mod conflicts;
+mod connection_state;
+mod direction;
+mod endpoint;
+mod flow;
+mod flow_key;
+mod flows;
 mod gaps;
 pub mod laws;
 mod refusal;
@@ -12,6 +18,12 @@ mod sparse_bytes;
 mod stream_buf;
 
 pub use conflicts::Conflicts;
+pub use connection_state::{ConnectionState, Control};
+pub use direction::Direction;
+pub use endpoint::Endpoint;
+pub use flow::{Flow, FlowPacket, Traffic};
+pub use flow_key::FlowKey;
+pub use flows::Flows;
 pub use gaps::Gap;
 pub use refusal::Refused;
 pub use segment_flags::SegmentFlags;

@@ -1,0 +1,89 @@
+//! The table of connections: what is counted, and which flow is dropped.
+
+use crate::checks::{equal, fail, holds_in};
+use std::alloc::Global;
+use std::num::NonZeroUsize;
+use std::process::Abort;
+use tcp_streams::{ConnectionState, Control, Direction, Flow, FlowPacket, Flows, Traffic};
+
+const fn packet(time: u64, bytes: u64, direction: Direction, control: Control) -> FlowPacket {
+    FlowPacket {
+        time,
+        bytes,
+        direction,
+        control,
+    }
+}
+
+const SYN: FlowPacket = packet(20, 60, Direction::FromLower, Control::Syn);
+
+const ANSWER: FlowPacket = packet(10, 61, Direction::FromHigher, Control::SynAck);
+
+fn add(
+    rt: impl Abort + Copy,
+    table: &mut Flows<u8, u32>,
+    key: u32,
+    packet: FlowPacket,
+    value: u8,
+) -> Option<(u32, Flow<u8>)> {
+    match table.add(key, packet, value) {
+        Ok(dropped) => dropped,
+        Err(_) => fail(rt, "no memory"),
+    }
+}
+
+fn two_flows(rt: impl Abort + Copy, alloc: Global) -> Flows<u8, u32> {
+    let Some(two) = NonZeroUsize::new(2) else {
+        fail(rt, "two is zero")
+    };
+    match Flows::new(alloc, two) {
+        Ok(table) => table,
+        Err(_) => fail(rt, "no memory"),
+    }
+}
+
+#[test]
+fn packets_are_counted_by_direction(rt: HostRuntime) {
+    let mut table = two_flows(&rt, rt.alloc());
+    holds_in(&rt, "empty", table.is_empty());
+    equal(&rt, add(&rt, &mut table, 7, SYN, 1), None);
+    equal(&rt, add(&rt, &mut table, 7, ANSWER, 2), None);
+    let wanted = Flow {
+        from_lower: Traffic {
+            packets: 1,
+            bytes: 60,
+        },
+        from_higher: Traffic {
+            packets: 1,
+            bytes: 61,
+        },
+        first: 10,
+        last: 20,
+        state: ConnectionState::SynReceived {
+            opener: Direction::FromLower,
+        },
+        value: 1,
+    };
+    holds_in(&rt, "counted", table.get(&7) == Some(&wanted));
+    holds_in(&rt, "no other", table.get(&8).is_none());
+    equal(&rt, table.remove(&7), Some(wanted));
+    equal(&rt, table.len(), 0);
+}
+
+#[test]
+fn silent_flows_are_dropped_first(rt: HostRuntime) {
+    let mut table = two_flows(&rt, rt.alloc());
+    equal(&rt, add(&rt, &mut table, 1, SYN, 1), None);
+    equal(&rt, add(&rt, &mut table, 2, SYN, 2), None);
+    equal(&rt, add(&rt, &mut table, 1, ANSWER, 3), None);
+    let dropped = add(&rt, &mut table, 3, SYN, 4);
+    equal(
+        &rt,
+        dropped.map(|pair| (pair.0, pair.1.value)),
+        Some((2, 2)),
+    );
+    equal(&rt, table.len(), 2);
+    equal(&rt, table.pop_oldest().map(|pair| pair.0), Some(1));
+    equal(&rt, table.pop_oldest().map(|pair| pair.0), Some(3));
+    equal(&rt, table.pop_oldest(), None);
+}
