@@ -1,7 +1,7 @@
 -- What a buffer shows, and with one more segment.
 use Rattle.std.proofs.Common.{◌≡◌, ℕ, ◌+◌, ◌-◌, ◌<◌, ◌≤◌, ◌^◌, ◌↔◌, inl, inr, Bool, true, false, cond, not}
 use Rattle.std.proofs.Common.{Option, Some, None, List, [], ◌∷◌, ◌++◌, length, drop, get_or, arith, refl, sym, ap}
-use Rattle.std.proofs.Common.{◌∙◌}
+use Rattle.std.proofs.Common.{◌∙◌, ◌*◌}
 use Rattle.std.proofs.lemmas.Bool.{cases_lt}
 use Rattle.std.proofs.lemmas.Bool.Decides.{nat_tests}
 use Rattle.std.proofs.lemmas.List.{length-take, get_or-take}
@@ -257,6 +257,13 @@ module _ (buf : Contents) (ss : List Placed) (a : Segment) (sound : IsSound buf)
       ≡ refusal_in buf (placed_in buf a)
   refusal_placed = rw placed_same (shows_refusal buf ss sound.sparse shows (placed_in buf a))
 
+  pub refused_not : (refused : Refused) → refusal_in buf (placed_in buf a) ≡ Some refused
+      → refusal_of buf.window buf.held.taken ss (placed buf.start buf.held.taken ss a) ≡ None → ⊥
+  refused_not refused is none = cc (refusal_placed, is, none)
+
+  pub no_byte_left : length (placed buf.start buf.held.taken ss a).bytes ≡ 0 → length (placed_in buf a).bytes ≡ 0
+  no_byte_left none = rw placed_same at none
+
   pub answers_refusal : (X : Type 0) (refused : Refused) → refusal_in buf (placed_in buf a) ≡ Some refused
       → AnswersAdd {X = X} (refusal_of buf.window buf.held.taken ss (placed buf.start buf.held.taken ss a)) (Err refused)
   answers_refusal X refused is = inl (refusal_placed ∙ is)
@@ -308,7 +315,8 @@ module _ (old new : Contents) (s : Placed) (number : ℕ) (syn : Bool) where
 
 -- ---- memory
 
+pub few_gaps : (held : Sparse) → IsSparse held → 2 * length held.gaps ≤ length held.bytes
+few_gaps held sparse = omega (arith, gap_count held.taken (held_end held) held.gaps sparse.gaps)
+
 pub bounded : (buf : Contents) → IsSound buf → IsBounded buf
-bounded buf sound =
-    let count = gap_count buf.held.taken (held_end buf.held) buf.held.gaps sound.sparse.gaps in
-    let within = sound.window in (omega (arith, within), omega (arith, count))
+bounded buf sound = let within = sound.window in (omega (arith, within), few_gaps buf.held sound.sparse)

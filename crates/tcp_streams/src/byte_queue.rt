@@ -1,7 +1,7 @@
 //! Bytes of which the first ones are dropped again and again.
 
 ghost use Rattle.std.specs.Prelude.{◌≡◌, ◌++◌, ◌+◌, ◌-◌, ◌^◌, ◌<◌, ◌≤◌, List, ℕ, [], length, drop, replicate, OnOk};
-ghost use Rattle.std.specs.Prelude.{OnErr};
+ghost use Rattle.std.specs.Prelude.{IsOk, OnErr};
 ghost use Rattle.tcp_streams.specs.Gaps.{AreGapsIn, without};
 ghost use Rattle.tcp_streams.specs.Segments.{clashes};
 ghost use Rattle.tcp_streams.specs.SparseBytes.{sparse, byte_in, AddsBytes, counted};
@@ -53,7 +53,11 @@ impl ByteQueue {
     pub(crate) fn extend_from_slice(&mut self, bytes: &[u8]) -> Result<(), AllocError>
         ensures ok { OnOk result (self.new ≡ self.old ++ bytes.now) }
         ensures err { OnErr result (self.new ≡ self.old) }
+        ensures succeeds { length bytes.now ≡ 0 → IsOk result }
     {
+        if bytes.is_empty() {
+            return Ok(());
+        }
         self.bytes.extend_from_slice(bytes)
     }
 

@@ -2,7 +2,7 @@
 
 ghost use Rattle.std.specs.Prelude.{◌≡◌, ◌+◌, ◌-◌, ◌<◌, ◌≤◌, ◌^◌, [], ◌∷◌, ◌++◌, if◌then◌else◌, nat_lt, length};
 ghost use Rattle.std.specs.Prelude.{take, drop};
-ghost use Rattle.std.specs.Prelude.{replicate, vec_len, vec_capacity, IfOk, OnOk, OnErr};
+ghost use Rattle.std.specs.Prelude.{replicate, vec_len, vec_capacity, IfOk, IsOk, OnOk, OnErr};
 ghost use Rattle.std.specs.List.{AllWithin};
 ghost use Rattle.tcp_streams.specs.Gaps.{AreGapsIn, Reaches, without};
 ghost use Rattle.tcp_streams.specs.Segments.{byte_from, clashes};
@@ -104,6 +104,8 @@ impl SparseBytes {
             ≡ counted (clashes (byte_in self.old) position bytes.now)) }
         ensures err { OnErr result (self.new ≡ self.old) }
         ensures sound { IsSparse self.new }
+        // No bytes take no memory.
+        ensures succeeds { length bytes.now ≡ 0 → IsOk result }
     {
         let start = (position - self.taken) as usize;
         if start == self.bytes.len() {

@@ -1,8 +1,8 @@
 //! One direction of a TCP connection.
 
 ghost use Rattle.std.specs.Prelude.{◌≡◌, ℕ, ◌+◌, ◌<◌, ◌≤◌, ◌↔◌, ◌^◌, ◌++◌, ◌∷◌, ◌==◌, [], if◌then◌else◌, List};
-ghost use Rattle.std.specs.Prelude.{None, Some};
-ghost use Rattle.std.specs.Prelude.{IsTrue, IfOk, IfErr, OnOk, OnErr, IfSome, IfNone, not, is_some, length, drop};
+ghost use Rattle.std.specs.Prelude.{None, Some, false};
+ghost use Rattle.std.specs.Prelude.{IsTrue, IfOk, IfErr, IsOk, OnOk, OnErr, IfSome, IfNone, not, is_some, length, drop};
 ghost use Rattle.std.specs.Prelude.{min};
 ghost use Rattle.tcp_streams.specs.Placing.{Segment, segment, bytes_of, first_number, start_number, placed_at};
 ghost use Rattle.tcp_streams.specs.Placing.{placed};
@@ -173,6 +173,7 @@ impl StreamBuf {
         ensures shows { Shows result [] }
         ensures window { result.window ≡ window }
         ensures start { result.start ≡ None }
+        ensures joined_late { result.joined_late ≡ false }
         ensures taken { result.held.taken ≡ 0 }
     {
         StreamBuf {
@@ -256,6 +257,7 @@ impl StreamBuf {
         ensures added { (s : Placed) → IsLocated location bytes.now s
             → IfOk result (IsAdded self.old self.new s number syn) }
         ensures memory { IfErr result (λ e. e ≡ Refused.OutOfMemory) }
+        ensures succeeds { length bytes.now ≡ 0 → IsOk result }
         ensures err { OnErr result (self.new ≡ self.old) }
         ensures sound { IsSound self.new }
     {
@@ -313,6 +315,10 @@ impl StreamBuf {
         ensures taken { self.new.held.taken ≡ self.old.held.taken }
         ensures window { self.new.window ≡ self.old.window }
         ensures bounded { IsBounded self.new }
+        // A segment of which no byte is left takes no memory.
+        ensures succeeds { (ss : List Placed) → Shows self.old ss →
+            let s = placed self.old.start self.old.held.taken ss (segment sequence_number flags payload.now) in
+            refusal_of self.old.window self.old.held.taken ss s ≡ None → length s.bytes ≡ 0 → IsOk result }
     {
         let (location, bytes) = self.locate(sequence_number, flags, payload);
         let number = first_number(sequence_number, flags);
@@ -339,6 +345,7 @@ impl StreamBuf {
         ensures start { self.new.start ≡ self.old.start }
         ensures joined_late { self.new.joined_late ≡ self.old.joined_late }
         ensures window { self.new.window ≡ self.old.window }
+        ensures bounded { IsBounded self.new }
     {
         let count = count.min(self.held.available().len());
         self.held.consume(count);

@@ -1,8 +1,8 @@
-use Rattle.std.proofs.Common.{◌≡◌, ◌∙◌, ◌+◌, ◌≤◌, ap, ℕ, length, drop, min, arith}
-use Rattle.std.proofs.lemmas.List.{drop_min}
-use Rattle.tcp_streams.specs.SparseBytes.{available_end}
+use Rattle.std.proofs.Common.{◌≡◌, ◌∙◌, ◌+◌, ◌-◌, ◌≤◌, ap, ℕ, length, drop, min, arith}
+use Rattle.std.proofs.lemmas.List.{drop_min, length-drop}
+use Rattle.tcp_streams.specs.SparseBytes.{Sparse, available_end}
 use Rattle.tcp_streams.specs.StreamBuf.{available_in}
-use Rattle.tcp_streams.proofs.BufLemmas.{shows_consume, few_available}
+use Rattle.tcp_streams.proofs.BufLemmas.{bounded, few_available, few_gaps, shows_consume}
 use Rattle.tcp_streams.proofs.SparseLemmas.{consumed_available}
 use Rattle.tcp_streams.proofs.stream_buf.StreamBuf.consume.Goals as goal
 
@@ -33,3 +33,11 @@ returns-clause-available c =
 pub returns-clause-taken : goal.returns-clause-taken
 returns-clause-taken c =
     rw (c.consume.ensures.held, ← c.self.view_is) (ap (λ (n : ℕ). c.self.inside.held.taken + n) (count_is c))
+
+pub returns-clause-bounded : goal.returns-clause-bounded
+returns-clause-bounded c =
+    let was = bounded _ c.self.invariant in
+    let rest : length c.consume.new.self.bytes ≡ length c.self.inside.held.bytes - c.min-count.result =
+    ap (λ (held : Sparse). length held.bytes) c.consume.ensures.held
+    ∙ length-drop c.min-count.result c.self.inside.held.bytes in
+    (omega (arith, was.0, rest), few_gaps c.consume.new.self c.consume.ensures.sound)
