@@ -9,3 +9,4 @@ mod QueueLemmas
 mod SegmentLemmas
 mod SparseLemmas
 mod StateLemmas
+mod StayLemmas

@@ -11,7 +11,8 @@ use Rattle.tcp_streams.specs.declared.direction.Direction.TheVariants.{FromLower
 use Rattle.tcp_streams.specs.FlowKeys.{other_direction}
 
 -- what flags do, in the order in which an endpoint tests them (section 3.10.7.4): one that has no ACK
--- is dropped before its FIN is tested, and FIN beside SYN isn't processed
+-- is dropped before its FIN is tested. FIN beside SYN, which an endpoint may process later (section
+-- 3.10.7.2), doesn't count
 abbrev pub control_in : (syn ack fin rst : Bool) → Control
 control_in syn ack fin rst = if rst then Rst
     else (if syn then (if ack then SynAck else Syn)

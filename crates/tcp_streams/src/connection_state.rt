@@ -10,9 +10,9 @@ use super::direction::Direction;
 pub enum Control {
     /// RST.
     Rst,
-    /// SYN alone. Its FIN isn't processed.
+    /// SYN without ACK. A FIN beside it doesn't count.
     Syn,
-    /// SYN with ACK.
+    /// SYN with ACK. A FIN beside them doesn't count.
     SynAck,
     /// FIN with ACK.
     Fin,

@@ -1,10 +1,11 @@
 //! Connections by their keys.
 
 ghost use Rattle.std.specs.Prelude.{◌≡◌, ◌-◌, ◌≤◌, ◌↔◌, [], IfOk, IsOk, IsSome, IsTrue, OnErr, OnOk, length};
-ghost use Rattle.std.specs.Prelude.{option_copied, slice_get, take};
+ghost use Rattle.std.specs.Prelude.{option_copied, option_map, slice_get, take};
 ghost use Rattle.std.specs.List.{IsDistinct};
 ghost use Rattle.std.specs.NonZero.{non_zero_usize_get};
 ghost use Rattle.std.specs.Map.{keys_of, remove_entry};
+ghost use Rattle.std.specs.Map.Iter.{deref_pair};
 
 use super::flow::{Flow, FlowPacket};
 use super::flow_key::FlowKey;
@@ -12,6 +13,7 @@ use lru::LruCache;
 use std::alloc::{AllocError, Global};
 use std::hash::{BuildHasher, BuildHasherDefault, FoldHasher, Hash};
 use std::marker::Model;
+use std::mem;
 use std::num::NonZeroUsize;
 
 /// Connections by their keys, up to a number of them, with what is counted of each and a value of
@@ -44,6 +46,7 @@ impl<T: Drop, K: Eq + Hash + Drop> Flows<T, K, BuildHasherDefault<FoldHasher>> {
 
 impl<T: Drop, K: Eq + Hash + Drop, S: BuildHasher + Drop> Flows<T, K, S> {
     ghost use Rattle.tcp_streams.specs.Flows.{Table, counted_flow, dropped_flow, flow_at, table_with};
+    ghost use Rattle.tcp_streams.specs.Flows.{table_with_value};
 
     /// No connection, and at most so many, whose keys are hashed by this state. Where untrusted
     /// senders choose the keys, a [`std::hash::RandomState`] keeps them from colliding by intent.
@@ -90,6 +93,26 @@ impl<T: Drop, K: Eq + Hash + Drop, S: BuildHasher + Drop> Flows<T, K, S> {
         ensures { option_copied result ≡ flow_at K.eq self.now key.now }
     {
         self.flows.peek(key)
+    }
+
+    /// Puts this value into the flow of a key, and returns the one that was there. Where there is no
+    /// flow of the key, nothing changes, and the value is dropped. The order of flows stays.
+    pub fn replace_value(&mut self, key: &K, value: T) -> Option<T>
+        ensures value { result ≡ option_map (λ flow. flow.value) (flow_at K.eq self.old key.now) }
+        ensures table { self.new ≡ table_with_value K.eq self.old key.now value }
+    {
+        match self.flows.peek_mut(key) {
+            Some(flow) => Some(mem::replace(&mut flow.value, value)),
+            None => None,
+        }
+    }
+
+    /// The key and the flow whose last packet came before those of all others.
+    pub fn oldest(&self) -> Option<(&K, &Flow<T>)>
+        ensures { option_map deref_pair result
+            ≡ slice_get self.now.flows (length self.now.flows - 1) }
+    {
+        self.flows.peek_lru()
     }
 
     /// Takes out the flow of a key.

@@ -87,3 +87,21 @@ fn silent_flows_are_dropped_first(rt: HostRuntime) {
     equal(&rt, table.pop_oldest().map(|pair| pair.0), Some(3));
     equal(&rt, table.pop_oldest(), None);
 }
+
+#[test]
+fn values_are_replaced(rt: HostRuntime) {
+    let mut table = two_flows(&rt, rt.alloc());
+    equal(&rt, add(&rt, &mut table, 1, SYN, 1), None);
+    equal(&rt, add(&rt, &mut table, 2, SYN, 2), None);
+    equal(&rt, table.replace_value(&1, 9), Some(1));
+    equal(&rt, table.replace_value(&3, 9), None);
+    // It stays the oldest.
+    equal(
+        &rt,
+        table.oldest().map(|pair| (*pair.0, pair.1.value)),
+        Some((1, 9)),
+    );
+    let mut flow = Flow::new(2);
+    flow.count(SYN);
+    holds_in(&rt, "of one packet", table.get(&2) == Some(&flow));
+}

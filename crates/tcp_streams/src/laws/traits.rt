@@ -1,14 +1,21 @@
 //! What `Clone`, `PartialEq` and `Default` of the types here mean, each clause about the relation that
 //! the type's own impl names.
 
-ghost use Rattle.std.specs.Prelude.{false, None};
-ghost use Rattle.ep_base.specs.Traits.{DefaultIs, IsPlainData};
+ghost use Rattle.std.specs.Prelude.{◌≡◌, ◌++◌, ℕ, List, false, None, pos};
+ghost use Rattle.std.specs.Hash as fed;
+ghost use Rattle.ep_base.specs.Traits.{CopyIsValue, CopyNeverFails, DefaultIs, EqualIsSame, HashIsOf, HashIsOfIndex};
+ghost use Rattle.ep_base.specs.Traits.{IsPlainData};
+ghost use Rattle.tcp_streams.specs.ConnectionStates.{by_direction};
+ghost use Rattle.tcp_streams.specs.declared.direction.Direction.TheVariants.{FromLower};
+ghost use Rattle.tcp_streams.specs.declared.endpoint.Endpoint.TheVariants.{V4, V6};
+ghost use Rattle.tcp_streams.specs.declared.flow_key.FlowKey.{FlowKey as Key};
 
 use crate::{
-    Added, Conflicts, ConnectionState, Control, Direction, Distance, Endpoint, FlowPacket, Gap,
-    Refused, SegmentFlags, Traffic,
+    Added, Conflicts, ConnectionState, Control, Direction, Distance, Endpoint, Flow, FlowKey,
+    FlowPacket, Gap, Refused, SegmentFlags, Traffic,
 };
 use ep_base::laws::traits::Value;
+use std::hash::Hash;
 
 /// A copy is the value and takes no memory. Equal are the values that are the same: all fields.
 pub fn types_are_plain_data()
@@ -33,4 +40,30 @@ pub fn defaults_are_none()
     ensures segment_flags { DefaultIs (record { syn = false; fin = false; rst = false })
         ⟦<SegmentFlags as Default>⟧.is_default }
     ensures traffic { DefaultIs (record { packets = 0; bytes = 0 }) ⟦<Traffic as Default>⟧.is_default }
+{}
+
+/// A flow is copied and compared by all its fields, a value as its type is.
+pub fn flows_are_plain_data<T: Clone + PartialEq>()
+    requires copies { CopyIsValue T.is_clone }
+    requires never_fails { CopyNeverFails T.is_infallible }
+    requires equals { EqualIsSame T.eq }
+    ensures copies { CopyIsValue ⟦<Flow<T> as Clone>⟧.is_clone }
+    ensures never_fails { CopyNeverFails ⟦<Flow<T> as Clone>⟧.is_infallible }
+    ensures equals { EqualIsSame ⟦<Flow<T> as PartialEq>⟧.eq }
+{
+    types_are_plain_data();
+}
+
+/// A hasher is fed the index of a variant, and the bytes of an address and the port of an endpoint; of a
+/// key the identifiers of its VLAN tags, both endpoints and the channel.
+pub fn keys_are_hashed_by_all_fields<C: Hash>()
+    ensures direction { HashIsOfIndex (λ d. by_direction d FromLower 0 1)
+        ⟦<Direction as Hash>⟧.hash_input }
+    ensures v4 { (address : List ℕ) (port : ℕ) → ⟦<Endpoint as Hash>⟧.hash_input (V4 address port)
+        ≡ fed.isize (pos 0) ++ fed.slice fed.u8 address ++ fed.u16 port }
+    ensures v6 { (address : List ℕ) (port : ℕ) → ⟦<Endpoint as Hash>⟧.hash_input (V6 address port)
+        ≡ fed.isize (pos 1) ++ fed.slice fed.u8 address ++ fed.u16 port }
+    ensures key { HashIsOf (λ (k : Key C). fed.slice fed.u16 k.vlan_ids.items
+        ++ ⟦<Endpoint as Hash>⟧.hash_input k.lower ++ ⟦<Endpoint as Hash>⟧.hash_input k.higher
+        ++ C.hash_input k.channel_id) ⟦<FlowKey<C> as Hash>⟧.hash_input }
 {}
