@@ -1,5 +1,5 @@
 -- The keys of connections.
-use Rattle.std.proofs.Common.{◌≡◌, ◌≢◌, ◌∙◌, ◌⊎◌, ◌&&◌, inl, inr, ℕ, Bool, true, false, List, nat_eq, refl, ap, sym}
+use Rattle.std.proofs.Common.{◌≡◌, ◌∙◌, ◌⊎◌, ◌&&◌, inl, inr, ℕ, Bool, true, false, List, Some, nat_eq, refl, ap, sym}
 use Rattle.std.specs.Bool.{Decides}
 use Rattle.std.specs.Cmp.Lexicographic.{bytes_decides, pointwise}
 use Rattle.ep_base.proofs.Same.{field, last_field, record_same}
@@ -10,12 +10,12 @@ use Rattle.std.specs.declared.cmp.Ordering.TheVariants.{Less, Equal, Greater}
 use Rattle.std.proofs.lemmas.Cmp.{nat_cmp_total, nat_list_cmp_total}
 use Rattle.std.proofs.lemmas.Map.Lookups.{exact_bytes, exact_unsigned}
 use Rattle.tcp_streams.specs.contracts.endpoint.EndpointOrd.TheImpl as order
-use Rattle.tcp_streams.specs.declared.direction.Direction.{Direction}
-use Rattle.tcp_streams.specs.declared.direction.Direction.TheVariants.{FromLower, FromHigher}
 use Rattle.tcp_streams.specs.declared.endpoint.Endpoint.{Endpoint}
 use Rattle.tcp_streams.specs.declared.endpoint.Endpoint.TheVariants.{V4, V6}
 use Rattle.tcp_streams.specs.declared.flow_key.FlowKey.{FlowKey}
 use Rattle.tcp_streams.specs.FlowKeys.{BothWays, KeysAreOfOneConnection, KeysNameEndpoints, flow_key}
+use Rattle.tcp_streams.specs.PacketKeys.{PacketsBothWays}
+use Rattle.ep_packet.specs.Tags.{vlan_ids_of}
 use Rattle.tcp_streams.specs.FlowKeys.{ends_of, key_between, order_of, other_direction}
 
 pub order_is : (a b : Endpoint) → order.ghosts.cmp a b ≡ order_of a b
@@ -109,3 +109,7 @@ key_same {C} ends channels a b = record_same
     (field bytes_decides (λ (k : FlowKey C). k.vlan_ids.items) (field ends (λ (k : FlowKey C). k.lower)
     (field ends (λ (k : FlowKey C). k.higher) (last_field channels (λ (k : FlowKey C). k.channel_id)))))
     (λ v l h c i. record { vlan_ids = record { items = v i }; lower = l i; higher = h i; channel_id = c i })
+
+pub packets_both_ways : {C : Type 0} → PacketsBothWays C
+packets_both_ways there back a b channel differ e f g =
+    rw (e, f, g) (ap Some (both_ways (vlan_ids_of there.link_exts.items) a b channel differ))

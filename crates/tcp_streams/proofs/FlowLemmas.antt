@@ -1,7 +1,7 @@
 -- The table of connections.
-use Rattle.std.proofs.Common.{◌≡◌, ◌∙◌, ◌⊎◌, inl, inr, ℕ, zero, suc, ◌+◌, ◌-◌, ◌^◌, ◌<◌, ◌≤◌, min, max, Bool, true, false, not, ◌||◌}
+use Rattle.std.proofs.Common.{◌≡◌, ◌∙◌, ℕ, zero, suc, ◌+◌, ◌-◌, ◌^◌, ◌<◌, ◌≤◌, min, max, Bool, true, false, not}
 use Rattle.std.proofs.Common.{List, [], ◌∷◌, fold, length, map, filter, sum_by, take, slice_get, arith}
-use Rattle.std.proofs.Common.{Option, Some, None, option_map, is_some, refl, ap, sym}
+use Rattle.std.proofs.Common.{Option, Some, None, option_map, refl, ap, sym}
 use Rattle.std.proofs.Common.{◌&&◌, nat_eq}
 use Rattle.std.proofs.lemmas.Bool.Decides.{Decides-eqb}
 use Rattle.std.specs.Bool.{Decides}
@@ -21,9 +21,9 @@ use Rattle.tcp_streams.specs.declared.direction.Direction.TheVariants.{FromLower
 use Rattle.tcp_streams.specs.declared.flow.Flow.{Flow}
 use Rattle.tcp_streams.specs.declared.flow.FlowPacket.{FlowPacket}
 use Rattle.tcp_streams.specs.declared.flow.Traffic.{Traffic}
-use Rattle.tcp_streams.specs.Flows.{FlowsAreFound, FlowsAreIsolated, FlowsShowPackets, IsKept, Keyed, Table}
+use Rattle.tcp_streams.specs.Flows.{FlowsAreFound, FlowsAreIsolated, FlowsShowPackets, Keyed, Table}
 use Rattle.tcp_streams.specs.Flows.{capped, counted_flow, dropped_flow, flow_at, flow_of_value, flow_since, flow_with}
-use Rattle.tcp_streams.specs.Flows.{is_flow_of, is_from_lower, no_traffic, packets_in, signal_of, table_after, table_with}
+use Rattle.tcp_streams.specs.Flows.{is_flow_of, is_from_lower, no_traffic, signal_of, table_with}
 use Rattle.tcp_streams.specs.Flows.{traffic_of, traffic_with}
 
 -- ---- what a flow shows

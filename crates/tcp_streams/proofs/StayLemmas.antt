@@ -1,5 +1,5 @@
 -- How long a flow stays in the table.
-use Rattle.std.proofs.Common.{◌≡◌, ◌∙◌, ℕ, zero, suc, ◌+◌, ◌-◌, ◌<◌, ◌≤◌, Bool, true, false, cond, ◌||◌, List, [], ◌∷◌}
+use Rattle.std.proofs.Common.{◌≡◌, ◌∙◌, ℕ, zero, suc, ◌-◌, ◌<◌, ◌≤◌, Bool, true, false, cond, ◌||◌, List, [], ◌∷◌}
 use Rattle.std.proofs.Common.{Option, Some, None, option_map, length, take, slice_get, refl, ap, sym, subst, true≢false, arith}
 use Rattle.std.specs.Cmp.{IsEquivalence}
 use Rattle.std.specs.List.{AllByRecursion, IsDistinct, list_any}
@@ -7,7 +7,7 @@ use Rattle.std.specs.Map.{keys_of, lookup, lookup_entry, remove_entry}
 use Rattle.std.specs.Option.{option_map_or}
 use Rattle.std.proofs.lemmas.Map.Made.{length-le_from_is_member}
 use Rattle.tcp_streams.specs.declared.flow.Flow.{Flow}
-use Rattle.tcp_streams.specs.Flows.{FlowsStay, IsKept, Keyed, Table, dropped_flow, flow_at, is_flow_of, table_with}
+use Rattle.tcp_streams.specs.Flows.{FlowsStay, IsKept, Keyed, Table, dropped_flow, is_flow_of, table_with}
 use Rattle.lru.proofs.CallerLemmas.{Contains-lookup_entry}
 use Rattle.tcp_streams.proofs.FlowLemmas.{apart, lookup_of_entry}
 

@@ -1,6 +1,6 @@
 -- How far a TCP connection came, as someone sees it who reads the segments of both endpoints (RFC
 -- 9293, figure 5).
-use Rattle.std.specs.Prelude.{◌≡◌, Bool, not, ◌&&◌, if◌then◌else◌, List, ◌++◌, fold, map}
+use Rattle.std.specs.Prelude.{◌≡◌, Bool, not, if◌then◌else◌, List, fold, map}
 use Rattle.tcp_streams.specs.declared.connection_state.Control.{Control}
 use Rattle.tcp_streams.specs.declared.connection_state.Control.TheVariants.{Rst, Syn, SynAck, Fin, Ack, Nothing}
 use Rattle.tcp_streams.specs.declared.connection_state.ConnectionState.{ConnectionState}

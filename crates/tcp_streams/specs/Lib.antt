@@ -3,6 +3,7 @@ pub mod FlowKeys
 pub mod Flows
 pub mod Gaps
 pub mod Laws
+pub mod PacketKeys
 pub mod Placing
 pub mod Refusals
 pub mod Segments

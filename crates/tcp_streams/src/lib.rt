@@ -11,6 +11,7 @@ mod flow_key;
 mod flows;
 mod gaps;
 pub mod laws;
+mod packet_key;
 mod refusal;
 mod segment_flags;
 mod sequence_numbers;

@@ -1,9 +1,11 @@
 //! Keys of connections: the same both ways, of all parts, by hand.
 
-use crate::checks::{equal, holds_in};
+use crate::checks::{equal, fail, holds_in};
 use arrayvec::ArrayVec;
+use ep_packet::SlicedPacket;
 use ep_tag::VlanId;
-use tcp_streams::{Direction, Endpoint, FlowKey};
+use ep_tcpudp::TcpSlice;
+use tcp_streams::{Control, Direction, Endpoint, FlowKey};
 
 const CLIENT: Endpoint = Endpoint::V4 {
     address: [10, 0, 0, 2],
@@ -45,4 +47,28 @@ fn keys_are_the_same_both_ways(rt: HostRuntime) {
     let (six, direction) = between(CLIENT, OTHER, 3);
     equal(&rt, direction, Direction::FromLower);
     holds_in(&rt, "endpoint", there != six);
+}
+
+// SYN of the client: Ethernet II, IPv4 (RFC 791) and TCP (RFC 9293), without options.
+const FRAME: [u8; 54] = [
+    2, 0, 0, 0, 0, 1, 2, 0, 0, 0, 0, 2, 0x08, 0x00, // to, from, IPv4
+    0x45, 0, 0, 40, 0, 0, 0x40, 0, 64, 6, 0x26, 0xce, 10, 0, 0, 2, 10, 0, 0, 1, // 40 bytes, TCP
+    0xc3, 0x50, 0xc3, 0x51, 0, 0, 0, 1, 0, 0, 0, 0, 0x50, 0x02, 0xff, 0xff, 0, 0, 0, 0,
+];
+
+#[test]
+fn packets_have_keys(rt: HostRuntime) {
+    let Ok(packet) = SlicedPacket::from_ethernet(&FRAME) else {
+        fail(&rt, "the frame is refused")
+    };
+    let wanted = FlowKey::between(ArrayVec::new(), CLIENT, SERVER, 3);
+    holds_in(&rt, "key", FlowKey::of(&packet, 3) == Some(wanted));
+}
+
+#[test]
+fn segments_have_controls(rt: HostRuntime) {
+    let Ok(segment) = TcpSlice::from_slice(&FRAME[34..]) else {
+        fail(&rt, "the segment is refused")
+    };
+    equal(&rt, Control::of(&segment), Control::Syn);
 }

@@ -3,6 +3,7 @@
 ghost use Rattle.std.specs.Prelude.{◌≡◌};
 ghost use Rattle.ep_base.specs.Traits.{CopyIsValue, CopyNeverFails, EqualIsSame};
 ghost use Rattle.tcp_streams.specs.FlowKeys.{BothWays, KeysAreOfOneConnection, KeysNameEndpoints, order_of};
+ghost use Rattle.tcp_streams.specs.PacketKeys.{PacketsBothWays};
 ghost use Rattle.tcp_streams.specs.declared.endpoint.Endpoint.{Endpoint as End};
 
 use crate::{Endpoint, FlowKey};
@@ -11,6 +12,11 @@ use crate::{Endpoint, FlowKey};
 #[tactic(auto, using(crate::proofs::FlowKeyLemmas::both_ways))]
 pub fn keys_go_both_ways<C>()
     ensures { BothWays C }
+{}
+
+/// So have packets: those that go back have the key of those that go there, and the other direction.
+pub fn packets_go_both_ways<C>()
+    ensures { PacketsBothWays C }
 {}
 
 /// A key and a direction name the source and the destination.
