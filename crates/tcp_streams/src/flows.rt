@@ -1,6 +1,6 @@
 //! Connections by their keys.
 
-ghost use Rattle.std.specs.Prelude.{◌≡◌, ◌-◌, ◌≤◌, ◌↔◌, [], IfOk, IsOk, IsSome, IsTrue, OnErr, OnOk, length};
+ghost use Rattle.std.specs.Prelude.{◌≡◌, ◌-◌, ◌<◌, ◌≤◌, ◌↔◌, [], IfOk, IsOk, IsSome, IsTrue, OnErr, OnOk, length};
 ghost use Rattle.std.specs.Prelude.{option_copied, option_map, slice_get, take};
 ghost use Rattle.std.specs.List.{IsDistinct};
 ghost use Rattle.std.specs.NonZero.{non_zero_usize_get};
@@ -141,6 +141,7 @@ impl<T: Drop, K: Eq + Hash + Drop, S: BuildHasher + Drop> Flows<T, K, S> {
     pub fn len(&self) -> usize
         ensures len { result ≡ length self.now.flows }
         ensures most { result ≤ self.now.most }
+        ensures some { 0 < self.now.most }
         ensures keys { IsDistinct K.eq (keys_of self.now.flows) }
     {
         self.flows.len()
