@@ -1,4 +1,4 @@
-//! The bytes of TCP connections, put together from their segments.
+//! TCP connections: their keys, states and counts, and their bytes, put together from segments.
 #![tactic(auto)]
 
 mod byte_queue;

@@ -6,18 +6,19 @@ use std::num::NonZeroUsize;
 use std::process::Abort;
 use tcp_streams::{ConnectionState, Control, Direction, Flow, FlowPacket, Flows, Traffic};
 
-const fn packet(time: u64, bytes: u64, direction: Direction, control: Control) -> FlowPacket {
-    FlowPacket {
-        time,
-        bytes,
-        direction,
-        control,
-    }
-}
+const SYN: FlowPacket = FlowPacket {
+    time: 20,
+    bytes: 60,
+    direction: Direction::FromLower,
+    control: Control::Syn,
+};
 
-const SYN: FlowPacket = packet(20, 60, Direction::FromLower, Control::Syn);
-
-const ANSWER: FlowPacket = packet(10, 61, Direction::FromHigher, Control::SynAck);
+const ANSWER: FlowPacket = FlowPacket {
+    time: 10,
+    bytes: 61,
+    direction: Direction::FromHigher,
+    control: Control::SynAck,
+};
 
 fn add(
     rt: impl Abort + Copy,
