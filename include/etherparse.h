@@ -18,6 +18,22 @@
 extern "C" {
 #endif
 
+/* No message of a multicast group. */
+#define EP_GROUP_NONE 0
+/* A query without sources: version 1 of MLD, 1 or 2 of IGMP. */
+#define EP_GROUP_QUERY 1
+/* A query that may name sources: version 2 of MLD, 3 of IGMP. */
+#define EP_GROUP_QUERY_WITH_SOURCES 2
+/* A report of version 1: of one group. */
+#define EP_GROUP_REPORT 3
+/* Of IGMP: a report of version 2: of one group. */
+#define EP_GROUP_REPORT_V2 4
+/* A group is left. */
+#define EP_GROUP_LEAVE 5
+/* A report of records: version 2 of MLD, 3 of IGMP. */
+#define EP_GROUP_RECORDS 6
+/* A message that is shorter than its type needs. */
+#define EP_GROUP_TOO_SHORT 7
 /* No message, since there are too few bytes, or not the 20 of a timestamp message. */
 #define EP_ICMP_NONE 0
 /* A type and code that have no other kind. */
@@ -52,6 +68,26 @@ extern "C" {
 #define EP_WRONG_STATE 4
 /* A message is complete. */
 #define EP_COMPLETED 5
+/* No option is left. */
+#define EP_NDP_OPTION_NONE 0
+/* An option of another type, or of a length that its type doesn't have. */
+#define EP_NDP_OPTION_UNKNOWN 1
+/* The sender's link-layer address. */
+#define EP_NDP_OPTION_SOURCE_LINK_LAYER_ADDRESS 2
+/* The target's link-layer address. */
+#define EP_NDP_OPTION_TARGET_LINK_LAYER_ADDRESS 3
+/* A prefix. */
+#define EP_NDP_OPTION_PREFIX_INFORMATION 4
+/* The start of the packet that is redirected. */
+#define EP_NDP_OPTION_REDIRECTED_HEADER 5
+/* The link's greatest packet. */
+#define EP_NDP_OPTION_MTU 6
+/* Recursive DNS servers. */
+#define EP_NDP_OPTION_RECURSIVE_DNS_SERVER 7
+/* Domains in which names are searched. */
+#define EP_NDP_OPTION_DNS_SEARCH_LIST 8
+/* No option: `fault` says why, and nothing is read after it. */
+#define EP_NDP_OPTION_FAULT 9
 /* Nothing is refused. */
 #define EP_REFUSAL_NONE 0
 /* A layer has too few bytes. */
@@ -87,6 +123,22 @@ extern "C" {
 #define EP_FIELD_TRANSPORT 7
 #define EP_FIELD_OPTIONS_LEN 8
 #define EP_FIELD_PAYLOAD 9
+#define EP_FIELD_OUTER_PRIORITY 10
+#define EP_FIELD_INNER_PRIORITY 11
+#define EP_FIELD_DSCP 12
+#define EP_FIELD_ECN 13
+#define EP_FIELD_FRAGMENT_OFFSET 14
+#define EP_FIELD_FLOW_LABEL 15
+#define EP_FIELD_IPV4_OPTIONS 16
+#define EP_FIELD_HOP_BY_HOP 17
+#define EP_FIELD_DESTINATION_OPTIONS 18
+#define EP_FIELD_ROUTING 19
+#define EP_FIELD_FINAL_DESTINATION_OPTIONS 20
+#define EP_FIELD_CHECK_VALUE 21
+#define EP_FIELD_ICMP_KIND 22
+#define EP_FIELD_ICMP_MTU 23
+#define EP_FIELD_ICMP_POINTER 24
+#define EP_FIELD_ARP_ADDRESSES 25
 #define EP_LAYER_LINUX_SLL_HEADER 1
 #define EP_LAYER_ETHERNET2_HEADER 2
 #define EP_LAYER_ETHER_PAYLOAD 3
@@ -186,6 +238,20 @@ typedef struct {
     ep_message message;
 } ep_added;
 
+/* An ARP packet to build (RFC 826), but for its addresses. */
+typedef struct {
+    /* The type of the hardware: 1 Ethernet. */
+    uint16_t hw_addr_type;
+    /* The ether type of the protocol: 2048 IPv4. */
+    uint16_t proto_addr_type;
+    /* What it is for: 1 a request, 2 the reply. */
+    uint16_t operation;
+    /* The length of a hardware address in bytes: of Ethernet 6. */
+    uint8_t hw_addr_size;
+    /* The length of a protocol address in bytes: of IPv4 4. */
+    uint8_t proto_addr_size;
+} ep_arp_plan;
+
 /* The result of building a packet. */
 typedef struct {
     /* 0 where it is built, 1 where the output is shorter than the packet, 2 where there is no
@@ -204,6 +270,93 @@ typedef struct {
     /* How many bytes. */
     size_t len;
 } ep_part;
+
+/* What an ICMP message says beside its type and code, by its kind. The fields of other kinds are
+   0. */
+typedef struct {
+    /* The kind, one of EP_ICMP_.. */
+    uint32_t kind;
+    /* Of a packet too big: the greatest packet in bytes that the next link takes. Also of a
+       destination unreachable of ICMPv4 with code 4, where nodes that don't report it write 0. */
+    uint32_t mtu;
+    /* Of a parameter problem: the offset of the fault in the packet. With ICMPv4 only code 0 has
+       one. */
+    uint32_t pointer;
+    /* Of timestamps: when the request was last touched by its sender, in milliseconds since midnight
+       UT. */
+    uint32_t originate_timestamp;
+    /* Of timestamps: when the request was first touched by its receiver. */
+    uint32_t receive_timestamp;
+    /* Of timestamps: when the reply was last touched by its sender. */
+    uint32_t transmit_timestamp;
+    /* Of echoes and timestamps: the identifier, which the reply repeats. */
+    uint16_t id;
+    /* Of echoes and timestamps: the sequence number, which the reply repeats. */
+    uint16_t sequence_number;
+    /* Of a redirect: the address of the better gateway. */
+    uint8_t gateway[4];
+} ep_icmp_fields;
+
+/* What an `ep_plan` leaves open. Where all of it is 0, the packet is that of the plan alone. The
+   fields of headers that the packet doesn't have are ignored. Parts are places in bytes that are
+   passed beside it. */
+typedef struct {
+    /* Of IPv4: the options, at most 40 bytes, in whole words of 4. */
+    ep_part ipv4_options;
+    /* Of IPv6: hop-by-hop options: what follows the header's first two bytes, 6 bytes and a multiple
+       of 8, at most 2046; without them there is no such header. So also the three below. */
+    ep_part hop_by_hop;
+    /* Of IPv6: destination options before a routing header, or where there is none. */
+    ep_part destination_options;
+    /* Of IPv6: a routing header. */
+    ep_part routing;
+    /* Of IPv6 with a routing header: destination options at the end. */
+    ep_part final_destination_options;
+    /* Of an authentication header: the integrity check value, at most 1016 bytes, in whole words of
+       4. */
+    ep_part check_value;
+    /* Of ICMP: what the message says. Of kind EP_ICMP_NONE it is the echo of the plan. */
+    ep_icmp_fields icmp;
+    /* Of IPv6: the flow label, 0 to 1048575. */
+    uint32_t flow_label;
+    /* Of a fragment header: the identification. */
+    uint32_t fragment_identification;
+    /* Of an authentication header: the security parameters index. */
+    uint32_t spi;
+    /* Of an authentication header: the sequence number. */
+    uint32_t authentication_sequence;
+    /* Of IPv4: the identification. */
+    uint16_t identification;
+    /* Of IPv4, and of a fragment header: the offset of the payload in the datagram, in units of 8
+       bytes, 0 to 8191. */
+    uint16_t fragment_offset;
+    /* Of the first VLAN tag: the priority, 0 to 7. */
+    uint8_t outer_priority;
+    /* Of the second one: the priority, 0 to 7. */
+    uint8_t inner_priority;
+    /* The differentiated services code point, 0 to 63. */
+    uint8_t dscp;
+    /* Explicit congestion notification, 0 to 3. */
+    uint8_t ecn;
+    /* Of ICMP of kind EP_ICMP_UNKNOWN: the type. */
+    uint8_t icmp_type;
+    /* Of ICMP of kinds that have several: the code. */
+    uint8_t icmp_code;
+    /* Of ICMP of kind EP_ICMP_UNKNOWN: the four bytes after the checksum. */
+    uint8_t icmp_rest[4];
+    /* Of the first VLAN tag: whether the frame may be dropped first. */
+    bool outer_drop_eligible;
+    /* Of the second one. */
+    bool inner_drop_eligible;
+    /* Of IPv4: whether the flag don't fragment, which a plan sets, is not set. */
+    bool may_fragment;
+    /* Of IPv4, and of a fragment header: whether other fragments follow. */
+    bool more_fragments;
+    /* Of IPv6: whether there is a fragment header. */
+    bool has_fragment_header;
+    /* Whether there is an authentication header. */
+    bool has_authentication;
+} ep_choices;
 
 /* The extension headers of an IP packet that are left. */
 typedef struct {
@@ -242,31 +395,59 @@ typedef struct {
     bool more_fragments;
 } ep_extension;
 
-/* What an ICMP message says beside its type and code, by its kind. The fields of other kinds are
-   0. */
+/* The records of groups that are left in a report. */
 typedef struct {
-    /* The kind, one of EP_ICMP_.. */
+    /* Where they are. */
+    ep_part left;
+    /* How many of those that the report names aren't taken yet. */
+    uint32_t count;
+    /* Whether their addresses are of IPv6 and have 16 bytes, and not the 4 of IPv4. */
+    bool is_ipv6;
+} ep_group_records;
+
+/* A message of a multicast group: of IGMP over IPv4 (RFC 2236; RFC 3376), or of multicast
+   listener discovery over IPv6 (RFC 2710; RFC 3810). The fields of other kinds are 0. */
+typedef struct {
+    /* Of a query with sources: their addresses, of 4 or 16 bytes each; none: every source. */
+    ep_part sources;
+    /* Of a report of records: the records. */
+    ep_group_records records;
+    /* Of one that is too short: how many bytes it needs. */
+    size_t needed;
+    /* Of one that is too short: how many bytes it has. */
+    size_t there;
+    /* The kind, one of EP_GROUP_.. */
     uint32_t kind;
-    /* Of a packet too big: the greatest packet in bytes that the next link takes. Also of a
-       destination unreachable of ICMPv4 with code 4, where nodes that don't report it write 0. */
-    uint32_t mtu;
-    /* Of a parameter problem: the offset of the fault in the packet. With ICMPv4 only code 0 has
-       one. */
-    uint32_t pointer;
-    /* Of timestamps: when the request was last touched by its sender, in milliseconds since midnight
-       UT. */
-    uint32_t originate_timestamp;
-    /* Of timestamps: when the request was first touched by its receiver. */
-    uint32_t receive_timestamp;
-    /* Of timestamps: when the reply was last touched by its sender. */
-    uint32_t transmit_timestamp;
-    /* Of echoes and timestamps: the identifier, which the reply repeats. */
-    uint16_t id;
-    /* Of echoes and timestamps: the sequence number, which the reply repeats. */
-    uint16_t sequence_number;
-    /* Of a redirect: the address of the better gateway. */
-    uint8_t gateway[4];
-} ep_icmp_fields;
+    /* Of a query: how long a host may wait with its report. Without sources: of IGMP in tenths of a
+       second, 0: version 1; of MLD in milliseconds. With sources: as a code (RFC 3376, section
+       4.1.1; RFC 3810, section 5.1.3). */
+    uint16_t max_response;
+    /* Of kinds 1 to 5: the address of the group, the first 4 bytes, or all 16 of IPv6. Of a query
+       all zeros: every group. */
+    uint8_t group[16];
+} ep_group_message;
+
+/* The record of a group in a report (RFC 3376, section 4.2.4; RFC 3810, section 5.2.5). What it
+   doesn't have is 0. */
+typedef struct {
+    /* The record; of one that is cut off where it starts. */
+    ep_part bytes;
+    /* The addresses of its sources, of 4 or 16 bytes each. */
+    ep_part sources;
+    /* What follows them, of which neither standard defines any. */
+    ep_part auxiliary_data;
+    /* Of kind 2: how many bytes it needs: at first those before its sources, then all. */
+    size_t needed;
+    /* Of kind 2: how many bytes are left. */
+    size_t there;
+    /* 0 none, since none is left; 1 a record; 2 fewer bytes are left than a record needs: nothing is
+       read after it. */
+    uint32_t kind;
+    /* Its type: 1 to 6 (RFC 3376, section 4.2.12). */
+    uint8_t record_type;
+    /* The address of the group: the first 4 bytes, or all 16 where it is of IPv6. */
+    uint8_t group[16];
+} ep_group_record;
 
 /* A message of neighbor discovery for IPv6 (RFC 4861, section 4). The fields of other types are
    0. */
@@ -578,6 +759,45 @@ typedef struct {
     bool incomplete;
 } ep_lax_packet;
 
+/* An option of neighbor discovery (RFC 4861, section 4.6; RFC 8106, section 5), or why the bytes
+   are none. The fields of other kinds are 0. */
+typedef struct {
+    /* The option with its type and its length; of a fault where it starts. */
+    ep_part option;
+    /* What it carries. Of a link-layer address: the address, with what fills its last unit of 8
+       bytes. Of a redirected header: the packet. Of recursive DNS servers: their addresses, of 16
+       bytes each. Of a search list: names as labels, filled with zeros. Of an unknown one: what
+       follows type and length. */
+    ep_part carried;
+    /* Of fault 1: how many bytes it needs. */
+    size_t needed;
+    /* Of fault 1: how many bytes are left. */
+    size_t there;
+    /* Which option it is, one of EP_NDP_OPTION_.. */
+    uint32_t kind;
+    /* 0 none; 1 fewer bytes are left than the option needs; 2 its length is 0. */
+    uint32_t fault;
+    /* Of recursive DNS servers and of a search list: how long they may be used, in seconds; all
+       ones: for ever. */
+    uint32_t lifetime;
+    /* Of a prefix: how long it is on the link, in seconds; all ones: for ever. */
+    uint32_t valid_lifetime;
+    /* Of a prefix: how long addresses formed with it are preferred, in seconds; all ones: for ever. */
+    uint32_t preferred_lifetime;
+    /* Of an MTU: the link's greatest packet in bytes. */
+    uint32_t mtu;
+    /* The type; of a fault 0. */
+    uint8_t option_type;
+    /* Of a prefix: how many of its leading bits are valid, 0 to 128. */
+    uint8_t prefix_length;
+    /* Of a prefix: bit L: its addresses are on the link. */
+    bool on_link;
+    /* Of a prefix: bit A: a host may form an address with it. */
+    bool autonomous;
+    /* Of a prefix: the prefix, whose bits after `prefix_length` are to be ignored. */
+    uint8_t prefix[16];
+} ep_ndp_option;
+
 /* The headers of a packet to build. The fields of headers that it doesn't have are ignored.
    Lengths, checksums, ether types and the numbers of headers follow from it. */
 typedef struct {
@@ -708,6 +928,17 @@ typedef struct {
    it was. */
 ep_built ep_build(const ep_plan *plan, const uint8_t *payload, size_t payload_len, uint8_t *output, size_t output_len);
 
+/* Builds the packet of a plan with what it leaves open, and with this payload, as `ep_build`
+   does. The parts of the choices are places in the extra bytes. Where the choices are 0, the
+   packet is that of `ep_build`. */
+ep_built ep_build_with(const ep_plan *plan, const ep_choices *choices, const uint8_t *extra, size_t extra_len, const uint8_t *payload, size_t payload_len, uint8_t *output, size_t output_len);
+
+/* Builds an ARP packet after the link header and the tags of a plan, at the start of the output,
+   with the priorities of the choices. The addresses are four, one after the other: the hardware
+   and the protocol address of the sender, and those of the target. The status is as of
+   `ep_build`. A plan without a link header is refused, by its field `link`. */
+ep_built ep_build_arp(const ep_plan *plan, const ep_choices *choices, const ep_arp_plan *arp, const uint8_t *addresses, size_t addresses_len, uint8_t *output, size_t output_len);
+
 /* The checksum of the bytes, as a header has it, high byte first. */
 uint16_t ep_checksum(const uint8_t *bytes, size_t bytes_len);
 
@@ -745,6 +976,30 @@ ep_icmp_fields ep_icmpv6_fields(const uint8_t *message, size_t message_len);
 /* The message of neighbor discovery that an ICMPv6 message is. `icmp_type` is 0 where it is
    none. */
 ep_ndp ep_ndp_message(const uint8_t *message, size_t message_len);
+
+/* Where the options of a message of neighbor discovery are in its bytes. All fields are 0 where
+   the bytes are none. */
+ep_part ep_ndp_options(const uint8_t *message, size_t message_len);
+
+/* Takes the next option of neighbor discovery from those that are left in a part of the bytes,
+   which begins as the part that `ep_ndp_options` returns. Each call returns one, in their order,
+   and takes its bytes from the part. `kind` is 0 where none is left: at the end of the bytes, or
+   after a fault. */
+ep_ndp_option ep_ndp_option_next(const uint8_t *bytes, size_t bytes_len, ep_part *left);
+
+/* The message of IGMP that these bytes are: the payload of an IPv4 packet of protocol 2. `kind`
+   is 0 where they are of no known type. */
+ep_group_message ep_igmp_message(const uint8_t *message, size_t message_len);
+
+/* The message of multicast listener discovery that an ICMPv6 message is, header and payload.
+   `kind` is 0 where it is none. */
+ep_group_message ep_mld_message(const uint8_t *message, size_t message_len);
+
+/* Takes the next record from those that are left in a part of the bytes, which begin as the
+   records of the message that these bytes are. Each call returns one, in their order, and takes
+   it from those that are left. `kind` is 0 where none is left: after as many as the report
+   names, or after one that is cut off. */
+ep_group_record ep_group_record_next(const uint8_t *bytes, size_t bytes_len, ep_group_records *left);
 
 /* Opens a pool without fragments. The result is 0 where it is open, 2 where there is no memory,
    and 4 where it was open before. Where it isn't 0 nothing is changed. */

@@ -136,7 +136,8 @@ pub fn ndp_message(message: &[u8]) -> EpNdp
     }
 }
 
-fn no_icmp_fields(kind: u32) -> EpIcmpFields
+/// A kind without fields.
+pub(crate) fn no_icmp_fields(kind: u32) -> EpIcmpFields
     ensures { result ≡ record no_icmp_fields { kind = kind } }
 {
     EpIcmpFields {

@@ -3,9 +3,16 @@
 #![tactic(auto)]
 
 mod added;
+mod arp_plan;
 mod build;
+mod choices;
+mod chosen_icmp;
+mod chosen_ip;
+mod chosen_link;
 mod extension;
 mod frame_pool;
+mod group_message;
+mod group_record;
 mod header_parts;
 mod held;
 mod icmp_fields;
@@ -13,6 +20,7 @@ pub mod laws;
 mod lax_packet;
 mod link;
 mod message;
+mod ndp_option;
 mod net;
 mod packet;
 mod part;
@@ -26,14 +34,19 @@ mod transport;
 mod verdict;
 
 pub use added::EpAdded;
-pub use build::{EpBuilt, build_packet};
+pub use arp_plan::{EpArpPlan, build_arp};
+pub use build::{EpBuilt, build_packet, build_packet_with};
+pub use choices::EpChoices;
 pub use extension::{EpExtension, EpExtensions, next_extension};
+pub use group_message::{EpGroupMessage, igmp_message, mld_message};
+pub use group_record::{EpGroupRecord, EpGroupRecords, next_group_record};
 pub use header_parts::{ip_extensions, ipv4_options, tcp_options};
 pub use held::Held;
 pub use icmp_fields::{EpIcmpFields, EpNdp, icmpv4_fields, icmpv6_fields, ndp_message};
 pub use lax_packet::{EpLaxPacket, sliced_lax_ethernet, sliced_lax_ip, sliced_lax_linux_sll};
 pub use link::{EpLink, EpTag};
 pub use message::EpMessage;
+pub use ndp_option::{EpNdpOption, ndp_options, next_ndp_option};
 pub use net::{EpArp, EpIpv4, EpIpv6};
 pub use packet::{EpPacket, reported};
 pub use part::EpPart;
