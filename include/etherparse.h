@@ -123,22 +123,6 @@ extern "C" {
 #define EP_FIELD_TRANSPORT 7
 #define EP_FIELD_OPTIONS_LEN 8
 #define EP_FIELD_PAYLOAD 9
-#define EP_FIELD_OUTER_PRIORITY 10
-#define EP_FIELD_INNER_PRIORITY 11
-#define EP_FIELD_DSCP 12
-#define EP_FIELD_ECN 13
-#define EP_FIELD_FRAGMENT_OFFSET 14
-#define EP_FIELD_FLOW_LABEL 15
-#define EP_FIELD_IPV4_OPTIONS 16
-#define EP_FIELD_HOP_BY_HOP 17
-#define EP_FIELD_DESTINATION_OPTIONS 18
-#define EP_FIELD_ROUTING 19
-#define EP_FIELD_FINAL_DESTINATION_OPTIONS 20
-#define EP_FIELD_CHECK_VALUE 21
-#define EP_FIELD_ICMP_KIND 22
-#define EP_FIELD_ICMP_MTU 23
-#define EP_FIELD_ICMP_POINTER 24
-#define EP_FIELD_ARP_ADDRESSES 25
 #define EP_LAYER_LINUX_SLL_HEADER 1
 #define EP_LAYER_ETHERNET2_HEADER 2
 #define EP_LAYER_ETHER_PAYLOAD 3
@@ -238,20 +222,6 @@ typedef struct {
     ep_message message;
 } ep_added;
 
-/* An ARP packet to build (RFC 826), but for its addresses. */
-typedef struct {
-    /* The type of the hardware: 1 Ethernet. */
-    uint16_t hw_addr_type;
-    /* The ether type of the protocol: 2048 IPv4. */
-    uint16_t proto_addr_type;
-    /* What it is for: 1 a request, 2 the reply. */
-    uint16_t operation;
-    /* The length of a hardware address in bytes: of Ethernet 6. */
-    uint8_t hw_addr_size;
-    /* The length of a protocol address in bytes: of IPv4 4. */
-    uint8_t proto_addr_size;
-} ep_arp_plan;
-
 /* The result of building a packet. */
 typedef struct {
     /* 0 where it is built, 1 where the output is shorter than the packet, 2 where there is no
@@ -270,93 +240,6 @@ typedef struct {
     /* How many bytes. */
     size_t len;
 } ep_part;
-
-/* What an ICMP message says beside its type and code, by its kind. The fields of other kinds are
-   0. */
-typedef struct {
-    /* The kind, one of EP_ICMP_.. */
-    uint32_t kind;
-    /* Of a packet too big: the greatest packet in bytes that the next link takes. Also of a
-       destination unreachable of ICMPv4 with code 4, where nodes that don't report it write 0. */
-    uint32_t mtu;
-    /* Of a parameter problem: the offset of the fault in the packet. With ICMPv4 only code 0 has
-       one. */
-    uint32_t pointer;
-    /* Of timestamps: when the request was last touched by its sender, in milliseconds since midnight
-       UT. */
-    uint32_t originate_timestamp;
-    /* Of timestamps: when the request was first touched by its receiver. */
-    uint32_t receive_timestamp;
-    /* Of timestamps: when the reply was last touched by its sender. */
-    uint32_t transmit_timestamp;
-    /* Of echoes and timestamps: the identifier, which the reply repeats. */
-    uint16_t id;
-    /* Of echoes and timestamps: the sequence number, which the reply repeats. */
-    uint16_t sequence_number;
-    /* Of a redirect: the address of the better gateway. */
-    uint8_t gateway[4];
-} ep_icmp_fields;
-
-/* What an `ep_plan` leaves open. Where all of it is 0, the packet is that of the plan alone. The
-   fields of headers that the packet doesn't have are ignored. Parts are places in bytes that are
-   passed beside it. */
-typedef struct {
-    /* Of IPv4: the options, at most 40 bytes, in whole words of 4. */
-    ep_part ipv4_options;
-    /* Of IPv6: hop-by-hop options: what follows the header's first two bytes, 6 bytes and a multiple
-       of 8, at most 2046; without them there is no such header. So also the three below. */
-    ep_part hop_by_hop;
-    /* Of IPv6: destination options before a routing header, or where there is none. */
-    ep_part destination_options;
-    /* Of IPv6: a routing header. */
-    ep_part routing;
-    /* Of IPv6 with a routing header: destination options at the end. */
-    ep_part final_destination_options;
-    /* Of an authentication header: the integrity check value, at most 1016 bytes, in whole words of
-       4. */
-    ep_part check_value;
-    /* Of ICMP: what the message says. Of kind EP_ICMP_NONE it is the echo of the plan. */
-    ep_icmp_fields icmp;
-    /* Of IPv6: the flow label, 0 to 1048575. */
-    uint32_t flow_label;
-    /* Of a fragment header: the identification. */
-    uint32_t fragment_identification;
-    /* Of an authentication header: the security parameters index. */
-    uint32_t spi;
-    /* Of an authentication header: the sequence number. */
-    uint32_t authentication_sequence;
-    /* Of IPv4: the identification. */
-    uint16_t identification;
-    /* Of IPv4, and of a fragment header: the offset of the payload in the datagram, in units of 8
-       bytes, 0 to 8191. */
-    uint16_t fragment_offset;
-    /* Of the first VLAN tag: the priority, 0 to 7. */
-    uint8_t outer_priority;
-    /* Of the second one: the priority, 0 to 7. */
-    uint8_t inner_priority;
-    /* The differentiated services code point, 0 to 63. */
-    uint8_t dscp;
-    /* Explicit congestion notification, 0 to 3. */
-    uint8_t ecn;
-    /* Of ICMP of kind EP_ICMP_UNKNOWN: the type. */
-    uint8_t icmp_type;
-    /* Of ICMP of kinds that have several: the code. */
-    uint8_t icmp_code;
-    /* Of ICMP of kind EP_ICMP_UNKNOWN: the four bytes after the checksum. */
-    uint8_t icmp_rest[4];
-    /* Of the first VLAN tag: whether the frame may be dropped first. */
-    bool outer_drop_eligible;
-    /* Of the second one. */
-    bool inner_drop_eligible;
-    /* Of IPv4: whether the flag don't fragment, which a plan sets, is not set. */
-    bool may_fragment;
-    /* Of IPv4, and of a fragment header: whether other fragments follow. */
-    bool more_fragments;
-    /* Of IPv6: whether there is a fragment header. */
-    bool has_fragment_header;
-    /* Whether there is an authentication header. */
-    bool has_authentication;
-} ep_choices;
 
 /* The extension headers of an IP packet that are left. */
 typedef struct {
@@ -448,6 +331,32 @@ typedef struct {
     /* The address of the group: the first 4 bytes, or all 16 where it is of IPv6. */
     uint8_t group[16];
 } ep_group_record;
+
+/* What an ICMP message says beside its type and code, by its kind. The fields of other kinds are
+   0. */
+typedef struct {
+    /* The kind, one of EP_ICMP_.. */
+    uint32_t kind;
+    /* Of a packet too big: the greatest packet in bytes that the next link takes. Also of a
+       destination unreachable of ICMPv4 with code 4, where nodes that don't report it write 0. */
+    uint32_t mtu;
+    /* Of a parameter problem: the offset of the fault in the packet. With ICMPv4 only code 0 has
+       one. */
+    uint32_t pointer;
+    /* Of timestamps: when the request was last touched by its sender, in milliseconds since midnight
+       UT. */
+    uint32_t originate_timestamp;
+    /* Of timestamps: when the request was first touched by its receiver. */
+    uint32_t receive_timestamp;
+    /* Of timestamps: when the reply was last touched by its sender. */
+    uint32_t transmit_timestamp;
+    /* Of echoes and timestamps: the identifier, which the reply repeats. */
+    uint16_t id;
+    /* Of echoes and timestamps: the sequence number, which the reply repeats. */
+    uint16_t sequence_number;
+    /* Of a redirect: the address of the better gateway. */
+    uint8_t gateway[4];
+} ep_icmp_fields;
 
 /* A message of neighbor discovery for IPv6 (RFC 4861, section 4). The fields of other types are
    0. */
@@ -927,17 +836,6 @@ typedef struct {
    and 3 where a field of the plan, or the payload, is refused. Where it isn't 0 the output is as
    it was. */
 ep_built ep_build(const ep_plan *plan, const uint8_t *payload, size_t payload_len, uint8_t *output, size_t output_len);
-
-/* Builds the packet of a plan with what it leaves open, and with this payload, as `ep_build`
-   does. The parts of the choices are places in the extra bytes. Where the choices are 0, the
-   packet is that of `ep_build`. */
-ep_built ep_build_with(const ep_plan *plan, const ep_choices *choices, const uint8_t *extra, size_t extra_len, const uint8_t *payload, size_t payload_len, uint8_t *output, size_t output_len);
-
-/* Builds an ARP packet after the link header and the tags of a plan, at the start of the output,
-   with the priorities of the choices. The addresses are four, one after the other: the hardware
-   and the protocol address of the sender, and those of the target. The status is as of
-   `ep_build`. A plan without a link header is refused, by its field `link`. */
-ep_built ep_build_arp(const ep_plan *plan, const ep_choices *choices, const ep_arp_plan *arp, const uint8_t *addresses, size_t addresses_len, uint8_t *output, size_t output_len);
 
 /* The checksum of the bytes, as a header has it, high byte first. */
 uint16_t ep_checksum(const uint8_t *bytes, size_t bytes_len);

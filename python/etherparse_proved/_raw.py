@@ -107,22 +107,6 @@ FIELD_IP_VERSION = 6
 FIELD_TRANSPORT = 7
 FIELD_OPTIONS_LEN = 8
 FIELD_PAYLOAD = 9
-FIELD_OUTER_PRIORITY = 10
-FIELD_INNER_PRIORITY = 11
-FIELD_DSCP = 12
-FIELD_ECN = 13
-FIELD_FRAGMENT_OFFSET = 14
-FIELD_FLOW_LABEL = 15
-FIELD_IPV4_OPTIONS = 16
-FIELD_HOP_BY_HOP = 17
-FIELD_DESTINATION_OPTIONS = 18
-FIELD_ROUTING = 19
-FIELD_FINAL_DESTINATION_OPTIONS = 20
-FIELD_CHECK_VALUE = 21
-FIELD_ICMP_KIND = 22
-FIELD_ICMP_MTU = 23
-FIELD_ICMP_POINTER = 24
-FIELD_ARP_ADDRESSES = 25
 LAYER_LINUX_SLL_HEADER = 1
 LAYER_ETHERNET2_HEADER = 2
 LAYER_ETHER_PAYLOAD = 3
@@ -217,18 +201,6 @@ class EpAdded(c.Structure):
     ]
 
 
-class EpArpPlan(c.Structure):
-    """An ARP packet to build (RFC 826), but for its addresses."""
-
-    _fields_ = [
-        ("hw_addr_type", c.c_uint16),
-        ("proto_addr_type", c.c_uint16),
-        ("operation", c.c_uint16),
-        ("hw_addr_size", c.c_uint8),
-        ("proto_addr_size", c.c_uint8),
-    ]
-
-
 class EpBuilt(c.Structure):
     """The result of building a packet."""
 
@@ -245,55 +217,6 @@ class EpPart(c.Structure):
     _fields_ = [
         ("offset", c.c_size_t),
         ("len", c.c_size_t),
-    ]
-
-
-class EpIcmpFields(c.Structure):
-    """What an ICMP message says beside its type and code, by its kind. The fields of other kinds are 0."""
-
-    _fields_ = [
-        ("kind", c.c_uint32),
-        ("mtu", c.c_uint32),
-        ("pointer", c.c_uint32),
-        ("originate_timestamp", c.c_uint32),
-        ("receive_timestamp", c.c_uint32),
-        ("transmit_timestamp", c.c_uint32),
-        ("id", c.c_uint16),
-        ("sequence_number", c.c_uint16),
-        ("gateway", c.c_uint8 * 4),
-    ]
-
-
-class EpChoices(c.Structure):
-    """What an `ep_plan` leaves open. Where all of it is 0, the packet is that of the plan alone. The fields of headers that the packet doesn't have are ignored. Parts are places in bytes that are passed beside it."""
-
-    _fields_ = [
-        ("ipv4_options", EpPart),
-        ("hop_by_hop", EpPart),
-        ("destination_options", EpPart),
-        ("routing", EpPart),
-        ("final_destination_options", EpPart),
-        ("check_value", EpPart),
-        ("icmp", EpIcmpFields),
-        ("flow_label", c.c_uint32),
-        ("fragment_identification", c.c_uint32),
-        ("spi", c.c_uint32),
-        ("authentication_sequence", c.c_uint32),
-        ("identification", c.c_uint16),
-        ("fragment_offset", c.c_uint16),
-        ("outer_priority", c.c_uint8),
-        ("inner_priority", c.c_uint8),
-        ("dscp", c.c_uint8),
-        ("ecn", c.c_uint8),
-        ("icmp_type", c.c_uint8),
-        ("icmp_code", c.c_uint8),
-        ("icmp_rest", c.c_uint8 * 4),
-        ("outer_drop_eligible", c.c_bool),
-        ("inner_drop_eligible", c.c_bool),
-        ("may_fragment", c.c_bool),
-        ("more_fragments", c.c_bool),
-        ("has_fragment_header", c.c_bool),
-        ("has_authentication", c.c_bool),
     ]
 
 
@@ -359,6 +282,22 @@ class EpGroupRecord(c.Structure):
         ("kind", c.c_uint32),
         ("record_type", c.c_uint8),
         ("group", c.c_uint8 * 16),
+    ]
+
+
+class EpIcmpFields(c.Structure):
+    """What an ICMP message says beside its type and code, by its kind. The fields of other kinds are 0."""
+
+    _fields_ = [
+        ("kind", c.c_uint32),
+        ("mtu", c.c_uint32),
+        ("pointer", c.c_uint32),
+        ("originate_timestamp", c.c_uint32),
+        ("receive_timestamp", c.c_uint32),
+        ("transmit_timestamp", c.c_uint32),
+        ("id", c.c_uint16),
+        ("sequence_number", c.c_uint16),
+        ("gateway", c.c_uint8 * 4),
     ]
 
 
@@ -677,16 +616,14 @@ assert c.sizeof(EpRefusal) == 40
 assert c.sizeof(EpPartRefusal) == 24
 assert c.sizeof(EpMessage) == 56
 assert c.sizeof(EpAdded) == 128
-assert c.sizeof(EpArpPlan) == 8
 assert c.sizeof(EpBuilt) == 16
 assert c.sizeof(EpPart) == 16
-assert c.sizeof(EpIcmpFields) == 32
-assert c.sizeof(EpChoices) == 168
 assert c.sizeof(EpExtensions) == 24
 assert c.sizeof(EpExtension) == 56
 assert c.sizeof(EpGroupRecords) == 24
 assert c.sizeof(EpGroupMessage) == 80
 assert c.sizeof(EpGroupRecord) == 88
+assert c.sizeof(EpIcmpFields) == 32
 assert c.sizeof(EpNdp) == 64
 assert c.sizeof(EpLink) == 32
 assert c.sizeof(EpTag) == 48
@@ -711,10 +648,6 @@ def declare_etherparse(library: c.CDLL) -> None:
     """Gives the calls of libetherparse their types."""
     library.ep_build.argtypes = [c.POINTER(EpPlan), c.c_char_p, c.c_size_t, c.POINTER(c.c_uint8), c.c_size_t]
     library.ep_build.restype = EpBuilt
-    library.ep_build_with.argtypes = [c.POINTER(EpPlan), c.POINTER(EpChoices), c.c_char_p, c.c_size_t, c.c_char_p, c.c_size_t, c.POINTER(c.c_uint8), c.c_size_t]
-    library.ep_build_with.restype = EpBuilt
-    library.ep_build_arp.argtypes = [c.POINTER(EpPlan), c.POINTER(EpChoices), c.POINTER(EpArpPlan), c.c_char_p, c.c_size_t, c.POINTER(c.c_uint8), c.c_size_t]
-    library.ep_build_arp.restype = EpBuilt
     library.ep_checksum.argtypes = [c.c_char_p, c.c_size_t]
     library.ep_checksum.restype = c.c_uint16
     library.ep_checksum_is_right.argtypes = [c.c_char_p, c.c_size_t]

@@ -115,38 +115,6 @@ pub const FIELD_TRANSPORT: u32 = 7;
 pub const FIELD_OPTIONS_LEN: u32 = 8;
 /// The field `payload` of a plan.
 pub const FIELD_PAYLOAD: u32 = 9;
-/// The field `outer_priority` of a plan.
-pub const FIELD_OUTER_PRIORITY: u32 = 10;
-/// The field `inner_priority` of a plan.
-pub const FIELD_INNER_PRIORITY: u32 = 11;
-/// The field `dscp` of a plan.
-pub const FIELD_DSCP: u32 = 12;
-/// The field `ecn` of a plan.
-pub const FIELD_ECN: u32 = 13;
-/// The field `fragment_offset` of a plan.
-pub const FIELD_FRAGMENT_OFFSET: u32 = 14;
-/// The field `flow_label` of a plan.
-pub const FIELD_FLOW_LABEL: u32 = 15;
-/// The field `ipv4_options` of a plan.
-pub const FIELD_IPV4_OPTIONS: u32 = 16;
-/// The field `hop_by_hop` of a plan.
-pub const FIELD_HOP_BY_HOP: u32 = 17;
-/// The field `destination_options` of a plan.
-pub const FIELD_DESTINATION_OPTIONS: u32 = 18;
-/// The field `routing` of a plan.
-pub const FIELD_ROUTING: u32 = 19;
-/// The field `final_destination_options` of a plan.
-pub const FIELD_FINAL_DESTINATION_OPTIONS: u32 = 20;
-/// The field `check_value` of a plan.
-pub const FIELD_CHECK_VALUE: u32 = 21;
-/// The field `icmp_kind` of a plan.
-pub const FIELD_ICMP_KIND: u32 = 22;
-/// The field `icmp_mtu` of a plan.
-pub const FIELD_ICMP_MTU: u32 = 23;
-/// The field `icmp_pointer` of a plan.
-pub const FIELD_ICMP_POINTER: u32 = 24;
-/// The field `arp_addresses` of a plan.
-pub const FIELD_ARP_ADDRESSES: u32 = 25;
 /// The layer `linux sll header`.
 pub const LAYER_LINUX_SLL_HEADER: u32 = 1;
 /// The layer `ethernet2 header`.
@@ -323,22 +291,6 @@ pub struct EpAdded {
     pub message: EpMessage,
 }
 
-/// An ARP packet to build (RFC 826), but for its addresses.
-#[repr(C)]
-#[derive(Clone, Copy, Debug, PartialEq, Eq)]
-pub struct EpArpPlan {
-    /// The type of the hardware: 1 Ethernet.
-    pub hw_addr_type: u16,
-    /// The ether type of the protocol: 2048 IPv4.
-    pub proto_addr_type: u16,
-    /// What it is for: 1 a request, 2 the reply.
-    pub operation: u16,
-    /// The length of a hardware address in bytes: of Ethernet 6.
-    pub hw_addr_size: u8,
-    /// The length of a protocol address in bytes: of IPv4 4.
-    pub proto_addr_size: u8,
-}
-
 /// The result of building a packet.
 #[repr(C)]
 #[derive(Clone, Copy, Debug, PartialEq, Eq)]
@@ -360,94 +312,6 @@ pub struct EpPart {
     pub offset: usize,
     /// How many bytes.
     pub len: usize,
-}
-
-/// What an ICMP message says beside its type and code, by its kind. The fields of other kinds are 0.
-#[repr(C)]
-#[derive(Clone, Copy, Debug, PartialEq, Eq)]
-pub struct EpIcmpFields {
-    /// The kind, one of EP_ICMP_..
-    pub kind: u32,
-    /// Of a packet too big: the greatest packet in bytes that the next link takes. Also of a
-    /// destination unreachable of ICMPv4 with code 4, where nodes that don't report it write 0.
-    pub mtu: u32,
-    /// Of a parameter problem: the offset of the fault in the packet. With ICMPv4 only code 0 has one.
-    pub pointer: u32,
-    /// Of timestamps: when the request was last touched by its sender, in milliseconds since
-    /// midnight UT.
-    pub originate_timestamp: u32,
-    /// Of timestamps: when the request was first touched by its receiver.
-    pub receive_timestamp: u32,
-    /// Of timestamps: when the reply was last touched by its sender.
-    pub transmit_timestamp: u32,
-    /// Of echoes and timestamps: the identifier, which the reply repeats.
-    pub id: u16,
-    /// Of echoes and timestamps: the sequence number, which the reply repeats.
-    pub sequence_number: u16,
-    /// Of a redirect: the address of the better gateway.
-    pub gateway: [u8; 4],
-}
-
-/// What an `ep_plan` leaves open. Where all of it is 0, the packet is that of the plan alone. The
-/// fields of headers that the packet doesn't have are ignored. Parts are places in bytes that are
-/// passed beside it.
-#[repr(C)]
-#[derive(Clone, Copy, Debug, PartialEq, Eq)]
-pub struct EpChoices {
-    /// Of IPv4: the options, at most 40 bytes, in whole words of 4.
-    pub ipv4_options: EpPart,
-    /// Of IPv6: hop-by-hop options: what follows the header's first two bytes, 6 bytes and a multiple of
-    /// 8, at most 2046; without them there is no such header. So also the three below.
-    pub hop_by_hop: EpPart,
-    /// Of IPv6: destination options before a routing header, or where there is none.
-    pub destination_options: EpPart,
-    /// Of IPv6: a routing header.
-    pub routing: EpPart,
-    /// Of IPv6 with a routing header: destination options at the end.
-    pub final_destination_options: EpPart,
-    /// Of an authentication header: the integrity check value, at most 1016 bytes, in whole words of 4.
-    pub check_value: EpPart,
-    /// Of ICMP: what the message says. Of kind EP_ICMP_NONE it is the echo of the plan.
-    pub icmp: EpIcmpFields,
-    /// Of IPv6: the flow label, 0 to 1048575.
-    pub flow_label: u32,
-    /// Of a fragment header: the identification.
-    pub fragment_identification: u32,
-    /// Of an authentication header: the security parameters index.
-    pub spi: u32,
-    /// Of an authentication header: the sequence number.
-    pub authentication_sequence: u32,
-    /// Of IPv4: the identification.
-    pub identification: u16,
-    /// Of IPv4, and of a fragment header: the offset of the payload in the datagram, in units of 8 bytes, 0
-    /// to 8191.
-    pub fragment_offset: u16,
-    /// Of the first VLAN tag: the priority, 0 to 7.
-    pub outer_priority: u8,
-    /// Of the second one: the priority, 0 to 7.
-    pub inner_priority: u8,
-    /// The differentiated services code point, 0 to 63.
-    pub dscp: u8,
-    /// Explicit congestion notification, 0 to 3.
-    pub ecn: u8,
-    /// Of ICMP of kind EP_ICMP_UNKNOWN: the type.
-    pub icmp_type: u8,
-    /// Of ICMP of kinds that have several: the code.
-    pub icmp_code: u8,
-    /// Of ICMP of kind EP_ICMP_UNKNOWN: the four bytes after the checksum.
-    pub icmp_rest: [u8; 4],
-    /// Of the first VLAN tag: whether the frame may be dropped first.
-    pub outer_drop_eligible: bool,
-    /// Of the second one.
-    pub inner_drop_eligible: bool,
-    /// Of IPv4: whether the flag don't fragment, which a plan sets, is not set.
-    pub may_fragment: bool,
-    /// Of IPv4, and of a fragment header: whether other fragments follow.
-    pub more_fragments: bool,
-    /// Of IPv6: whether there is a fragment header.
-    pub has_fragment_header: bool,
-    /// Whether there is an authentication header.
-    pub has_authentication: bool,
 }
 
 /// The extension headers of an IP packet that are left.
@@ -549,6 +413,32 @@ pub struct EpGroupRecord {
     pub record_type: u8,
     /// The address of the group: the first 4 bytes, or all 16 where it is of IPv6.
     pub group: [u8; 16],
+}
+
+/// What an ICMP message says beside its type and code, by its kind. The fields of other kinds are 0.
+#[repr(C)]
+#[derive(Clone, Copy, Debug, PartialEq, Eq)]
+pub struct EpIcmpFields {
+    /// The kind, one of EP_ICMP_..
+    pub kind: u32,
+    /// Of a packet too big: the greatest packet in bytes that the next link takes. Also of a
+    /// destination unreachable of ICMPv4 with code 4, where nodes that don't report it write 0.
+    pub mtu: u32,
+    /// Of a parameter problem: the offset of the fault in the packet. With ICMPv4 only code 0 has one.
+    pub pointer: u32,
+    /// Of timestamps: when the request was last touched by its sender, in milliseconds since
+    /// midnight UT.
+    pub originate_timestamp: u32,
+    /// Of timestamps: when the request was first touched by its receiver.
+    pub receive_timestamp: u32,
+    /// Of timestamps: when the reply was last touched by its sender.
+    pub transmit_timestamp: u32,
+    /// Of echoes and timestamps: the identifier, which the reply repeats.
+    pub id: u16,
+    /// Of echoes and timestamps: the sequence number, which the reply repeats.
+    pub sequence_number: u16,
+    /// Of a redirect: the address of the better gateway.
+    pub gateway: [u8; 4],
 }
 
 /// A message of neighbor discovery for IPv6 (RFC 4861, section 4). The fields of other types are 0.
@@ -1068,8 +958,6 @@ pub struct NetlinesSession {
 
 extern "C" {
     pub(crate) fn ep_build(plan: *const EpPlan, payload: *const u8, payload_len: usize, output: *mut u8, output_len: usize) -> EpBuilt;
-    pub(crate) fn ep_build_with(plan: *const EpPlan, choices: *const EpChoices, extra: *const u8, extra_len: usize, payload: *const u8, payload_len: usize, output: *mut u8, output_len: usize) -> EpBuilt;
-    pub(crate) fn ep_build_arp(plan: *const EpPlan, choices: *const EpChoices, arp: *const EpArpPlan, addresses: *const u8, addresses_len: usize, output: *mut u8, output_len: usize) -> EpBuilt;
     pub(crate) fn ep_checksum(bytes: *const u8, bytes_len: usize) -> u16;
     pub(crate) fn ep_checksum_is_right(bytes: *const u8, bytes_len: usize) -> bool;
     pub(crate) fn ep_tcp_options(packet: *const EpPacket) -> EpPart;
@@ -1114,16 +1002,14 @@ const _: () = assert!(std::mem::size_of::<EpRefusal>() == 40);
 const _: () = assert!(std::mem::size_of::<EpPartRefusal>() == 24);
 const _: () = assert!(std::mem::size_of::<EpMessage>() == 56);
 const _: () = assert!(std::mem::size_of::<EpAdded>() == 128);
-const _: () = assert!(std::mem::size_of::<EpArpPlan>() == 8);
 const _: () = assert!(std::mem::size_of::<EpBuilt>() == 16);
 const _: () = assert!(std::mem::size_of::<EpPart>() == 16);
-const _: () = assert!(std::mem::size_of::<EpIcmpFields>() == 32);
-const _: () = assert!(std::mem::size_of::<EpChoices>() == 168);
 const _: () = assert!(std::mem::size_of::<EpExtensions>() == 24);
 const _: () = assert!(std::mem::size_of::<EpExtension>() == 56);
 const _: () = assert!(std::mem::size_of::<EpGroupRecords>() == 24);
 const _: () = assert!(std::mem::size_of::<EpGroupMessage>() == 80);
 const _: () = assert!(std::mem::size_of::<EpGroupRecord>() == 88);
+const _: () = assert!(std::mem::size_of::<EpIcmpFields>() == 32);
 const _: () = assert!(std::mem::size_of::<EpNdp>() == 64);
 const _: () = assert!(std::mem::size_of::<EpLink>() == 32);
 const _: () = assert!(std::mem::size_of::<EpTag>() == 48);

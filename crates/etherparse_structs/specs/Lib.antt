@@ -1,6 +1,4 @@
-pub mod ArpPlan
 pub mod Build
-pub mod Choices
 pub mod Extension
 pub mod FramePool
 pub mod GroupMessage

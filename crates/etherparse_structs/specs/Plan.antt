@@ -35,22 +35,6 @@ field_number field.IpVersion = 6
 field_number field.Transport = 7
 field_number field.OptionsLen = 8
 field_number field.Payload = 9
-field_number field.OuterPriority = 10
-field_number field.InnerPriority = 11
-field_number field.Dscp = 12
-field_number field.Ecn = 13
-field_number field.FragmentOffset = 14
-field_number field.FlowLabel = 15
-field_number field.Ipv4Options = 16
-field_number field.HopByHop = 17
-field_number field.DestinationOptions = 18
-field_number field.Routing = 19
-field_number field.FinalDestinationOptions = 20
-field_number field.CheckValue = 21
-field_number field.IcmpKind = 22
-field_number field.IcmpMtu = 23
-field_number field.IcmpPointer = 24
-field_number field.ArpAddresses = 25
 
 -- the headers that a plan describes, where its kinds and numbers are known
 abbrev pub link_in : EpPlan → Option LinkHeader

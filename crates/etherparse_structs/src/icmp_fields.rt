@@ -136,8 +136,7 @@ pub fn ndp_message(message: &[u8]) -> EpNdp
     }
 }
 
-/// A kind without fields.
-pub(crate) fn no_icmp_fields(kind: u32) -> EpIcmpFields
+fn no_icmp_fields(kind: u32) -> EpIcmpFields
     ensures { result ≡ record no_icmp_fields { kind = kind } }
 {
     EpIcmpFields {

@@ -3,12 +3,7 @@
 #![tactic(auto)]
 
 mod added;
-mod arp_plan;
 mod build;
-mod choices;
-mod chosen_icmp;
-mod chosen_ip;
-mod chosen_link;
 mod extension;
 mod frame_pool;
 mod group_message;
@@ -34,9 +29,7 @@ mod transport;
 mod verdict;
 
 pub use added::EpAdded;
-pub use arp_plan::{EpArpPlan, build_arp};
-pub use build::{EpBuilt, build_packet, build_packet_with};
-pub use choices::EpChoices;
+pub use build::{EpBuilt, build_packet};
 pub use extension::{EpExtension, EpExtensions, next_extension};
 pub use group_message::{EpGroupMessage, igmp_message, mld_message};
 pub use group_record::{EpGroupRecord, EpGroupRecords, next_group_record};

@@ -83,7 +83,7 @@ pub struct EpPlan {
     pub options: [u8; 40],
 }
 
-/// The fields of a plan, and of what it leaves open, that may describe what no packet has.
+/// The fields of a plan that may describe what no packet has.
 #[derive(Clone, Copy, Debug, PartialEq, Eq)]
 pub enum PlanField {
     /// No such link header.
@@ -104,38 +104,6 @@ pub enum PlanField {
     OptionsLen,
     /// A payload that is longer than the length field of the IP header can state.
     Payload,
-    /// A priority above 7.
-    OuterPriority,
-    /// A priority above 7.
-    InnerPriority,
-    /// A code point above 63.
-    Dscp,
-    /// A number above 3.
-    Ecn,
-    /// An offset above 8191.
-    FragmentOffset,
-    /// A label above 1048575.
-    FlowLabel,
-    /// More than 40 bytes, or a part of a word of 4.
-    Ipv4Options,
-    /// A payload of a length that no such header has.
-    HopByHop,
-    /// A payload of a length that no such header has.
-    DestinationOptions,
-    /// A payload of a length that no such header has.
-    Routing,
-    /// A payload of a length that no such header has, or no routing header before it.
-    FinalDestinationOptions,
-    /// More than 1016 bytes, or a part of a word of 4.
-    CheckValue,
-    /// No such kind of ICMP message, or none of this version.
-    IcmpKind,
-    /// A length that doesn't fit 16 bits, over IPv4.
-    IcmpMtu,
-    /// An offset above 255, over IPv4.
-    IcmpPointer,
-    /// More or fewer bytes than four addresses of the given lengths have.
-    ArpAddresses,
 }
 
 /// The number of the field.
@@ -152,21 +120,5 @@ pub(crate) fn field_number(field: PlanField) -> u32
         PlanField::Transport => 7,
         PlanField::OptionsLen => 8,
         PlanField::Payload => 9,
-        PlanField::OuterPriority => 10,
-        PlanField::InnerPriority => 11,
-        PlanField::Dscp => 12,
-        PlanField::Ecn => 13,
-        PlanField::FragmentOffset => 14,
-        PlanField::FlowLabel => 15,
-        PlanField::Ipv4Options => 16,
-        PlanField::HopByHop => 17,
-        PlanField::DestinationOptions => 18,
-        PlanField::Routing => 19,
-        PlanField::FinalDestinationOptions => 20,
-        PlanField::CheckValue => 21,
-        PlanField::IcmpKind => 22,
-        PlanField::IcmpMtu => 23,
-        PlanField::IcmpPointer => 24,
-        PlanField::ArpAddresses => 25,
     }
 }

@@ -69,8 +69,8 @@ fn headers_of_capture(plan: &EpPlan) -> Result<PacketBuilderStep<IpHeaders>, Pla
     )
 }
 
-/// Nothing, unless there are tags, which only an Ethernet II header has after it.
-pub(crate) fn no_tags(plan: &EpPlan) -> Result<(), PlanField>
+// Only an Ethernet II header has tags after it.
+fn no_tags(plan: &EpPlan) -> Result<(), PlanField>
     requires { (plan.now.link == 1) ≡ false }
     ensures { result ≡ unless (wrong_tags plan.now) tt }
 {
@@ -80,8 +80,7 @@ pub(crate) fn no_tags(plan: &EpPlan) -> Result<(), PlanField>
     }
 }
 
-/// The identifier of a tag, or the field that has none.
-pub(crate) fn vlan_id(id: u16, field: PlanField) -> Result<VlanId, PlanField>
+fn vlan_id(id: u16, field: PlanField) -> Result<VlanId, PlanField>
     ensures { result ≡ unless (wrong_id id field) id }
 {
     match VlanId::try_new(id) {

@@ -84,18 +84,6 @@ pub fn plan_fields()
     ensures transport { (field_number field.Transport ≡ 7)
         × (field_number field.OptionsLen ≡ 8) }
     ensures payload { field_number field.Payload ≡ 9 }
-    ensures priorities { (field_number field.OuterPriority ≡ 10)
-        × (field_number field.InnerPriority ≡ 11) }
-    ensures traffic { (field_number field.Dscp ≡ 12) × (field_number field.Ecn ≡ 13)
-        × (field_number field.FragmentOffset ≡ 14) × (field_number field.FlowLabel ≡ 15)
-        × (field_number field.Ipv4Options ≡ 16) }
-    ensures extensions { (field_number field.HopByHop ≡ 17)
-        × (field_number field.DestinationOptions ≡ 18) × (field_number field.Routing ≡ 19)
-        × (field_number field.FinalDestinationOptions ≡ 20)
-        × (field_number field.CheckValue ≡ 21) }
-    ensures icmp { (field_number field.IcmpKind ≡ 22) × (field_number field.IcmpMtu ≡ 23)
-        × (field_number field.IcmpPointer ≡ 24) }
-    ensures arp { field_number field.ArpAddresses ≡ 25 }
 {}
 
 /// The verdicts on a message that can be read: no checksum, a right one, a wrong one.
