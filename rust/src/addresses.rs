@@ -29,7 +29,7 @@ impl Address for Ipv6Addr {
     }
 }
 
-/// Addresses of IPv4 or IPv6, one after the other.
+/// Addresses one after the other: of IPv4 where `A` is [`Ipv4Addr`], of IPv6 where it is [`Ipv6Addr`].
 #[derive(Clone, Debug, PartialEq, Eq, Hash)]
 pub struct Addresses<'a, A> {
     bytes: &'a [u8],

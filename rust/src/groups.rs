@@ -9,7 +9,7 @@ use std::iter::FusedIterator;
 use std::marker::PhantomData;
 use std::net::{Ipv4Addr, Ipv6Addr};
 
-/// A message of the Internet group management protocol: type, group and sources.
+/// A message of the Internet group management protocol (RFC 2236; RFC 3376): type, group and sources.
 #[derive(Clone, Debug, PartialEq, Eq)]
 pub enum IgmpMessage<'a> {
     /// A query of version 1 or 2 (type 17, 8 bytes; RFC 2236, section 2).
@@ -47,7 +47,7 @@ pub enum IgmpMessage<'a> {
     ReportV3(GroupRecords<'a, Ipv4Addr>),
 }
 
-/// A message of multicast listener discovery: type, group and sources.
+/// A message of multicast listener discovery (RFC 2710; RFC 3810): type, group and sources.
 #[derive(Clone, Debug, PartialEq, Eq)]
 pub enum MldMessage<'a> {
     /// A query of version 1 (type 130, 24 bytes; RFC 2710, section 3).
@@ -131,8 +131,8 @@ impl fmt::Display for GroupRecordError {
 
 impl Error for GroupRecordError {}
 
-/// The records of a report, one after the other: as many as it names, or up to the first that is cut off, whose fault is the
-/// last item.
+/// The records of a report, one after the other (RFC 3376, section 4.2; RFC 3810, section 5.2): as many as it names, or up to the
+/// first that is cut off, whose fault is the last item.
 #[derive(Clone, Debug, PartialEq, Eq)]
 pub struct GroupRecords<'a, A> {
     records: &'a [u8],

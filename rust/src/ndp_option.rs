@@ -96,8 +96,8 @@ impl fmt::Display for NdpOptionError {
 
 impl Error for NdpOptionError {}
 
-/// The options of a message of neighbor discovery, one after the other, up to the end or the first fault, which is the last
-/// item.
+/// The options of a message of neighbor discovery, one after the other (RFC 4861, section 4.6), up to the end or the first fault,
+/// which is the last item.
 #[derive(Clone, Debug)]
 pub struct NdpOptionsIterator<'a> {
     options: &'a [u8],
