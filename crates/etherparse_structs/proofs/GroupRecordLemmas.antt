@@ -1,17 +1,17 @@
 -- The records of multicast groups that are left in a part of bytes.
-use Rattle.std.proofs.Common.{◌≡◌, ◌∙◌, sym, ap, subst, refl, ⊎_elim, ℕ, zero, suc, ◌+◌, ◌-◌, ◌<◌, ◌≤◌, ◌*◌, ◌==◌, Bool, true, false}
+use Rattle.std.proofs.Common.{◌≡◌, ◌∙◌, sym, ap, subst, refl, ℕ, zero, suc, ◌+◌, ◌-◌, ◌≤◌, ◌==◌, Bool, true, false}
 use Rattle.std.proofs.Common.{List, [], ◌∷◌, length, take, drop, Option, Some, None, Result, Ok, Err, arith}
 use Rattle.std.specs.Iterator.{YieldsFirst}
 use Rattle.std.specs.Prelude.{if◌then◌else◌}
 use Rattle.std.proofs.lemmas.Bool.Decides.{nat_tests}
 use Rattle.std.proofs.lemmas.List.{get_or-take, length-take-le, take-take}
 use Rattle.etherparse.specs.base.Bytes.{num}
-use Rattle.etherparse.specs.icmp.Multicast.{RecordsLeft, record_and, record_len, records_of, records_within, size_at, sources_end, sources_of}
+use Rattle.etherparse.specs.icmp.Multicast.{RecordsLeft, record_and, record_len, records_within, size_at, sources_end, sources_of}
 use Rattle.etherparse.specs.icmp.declared.transport.multicast.multicast_error.GroupRecordError.{GroupRecordError}
-use Rattle.etherparse_structs.specs.GroupRecord.{address_len, after_size, cut_struct, first_record, first_size, group_records_left, group_struct}
+use Rattle.etherparse_structs.specs.GroupRecord.{address_len, after_size, cut_struct, first_record, group_records_left, group_struct}
 use Rattle.etherparse_structs.specs.GroupRecord.{group_structs, no_group_record, record_of_size, record_struct, records_after}
 use Rattle.etherparse_structs.specs.GroupRecord.{some_group_record, struct_of_first}
-use Rattle.etherparse_structs.specs.Part.{part_after, part_at, part_bytes}
+use Rattle.etherparse_structs.specs.Part.{part_after, part_bytes}
 use Rattle.etherparse_structs.specs.declared.group_record.EpGroupRecord.{EpGroupRecord}
 use Rattle.etherparse_structs.specs.declared.group_record.EpGroupRecords.{EpGroupRecords}
 use Rattle.etherparse_structs.specs.declared.part.EpPart.{EpPart}
@@ -172,9 +172,10 @@ parts_of_size bytes part v size h =
     let ends = sources_most n size here h in
     let first : take size here ≡ take size (drop part.offset bytes) =
     take-take size part.len (drop part.offset bytes) (omega (arith, most, part_most bytes part)) in
-    let long : length (take size here) ≡ size = length-take-le size here most in
-    (rw long (sym first),
-    inner_part bytes part (4 + n) (sources_end n (take size here) - (4 + n)) size (omega (arith, ends)) most)
+    let long : length (take size here) ≡ size = length-take-le size here most in (
+      rw long (sym first),
+      inner_part bytes part (4 + n) (sources_end n (take size here) - (4 + n)) size (omega (arith, ends)) most,
+    )
 
 parts_by : (bytes : List ℕ) (left : EpGroupRecords) (t : Bool) (s : Size) (record' : List ℕ)
     → size_here left.is_ipv6 (part_bytes bytes left.left) ≡ s

@@ -1,5 +1,5 @@
 -- The options of neighbor discovery that are left in a part of bytes.
-use Rattle.std.proofs.Common.{◌≡◌, ◌∙◌, sym, ap, subst, refl, ⊎_elim, ℕ, zero, suc, ◌+◌, ◌-◌, ◌<◌, ◌≤◌, ◌*◌, ◌==◌, Bool, true, false}
+use Rattle.std.proofs.Common.{◌≡◌, ◌∙◌, sym, ap, subst, refl, ⊎_elim, ℕ, zero, suc, ◌+◌, ◌-◌, ◌≤◌, ◌==◌, Bool, true, false}
 use Rattle.std.proofs.Common.{List, [], ◌∷◌, length, take, drop, Option, Some, None, Result, Ok, Err, IfSome, arith, eqb}
 use Rattle.std.specs.Prelude.{if◌then◌else◌}
 use Rattle.std.specs.Iterator.{YieldsFirst}
@@ -7,8 +7,8 @@ use Rattle.std.proofs.lemmas.Bool.Decides.{nat_tests}
 use Rattle.std.proofs.lemmas.Bool.{cases_Bool}
 use Rattle.std.proofs.lemmas.List.{drop_all, get_or-take, length-drop, length-take-le, take_all}
 use Rattle.etherparse.specs.base.Bytes.{num}
-use Rattle.etherparse.specs.icmp.NdpOptions.{IsOption, Left, is_end, item_at, items_of, items_within, left_after, option_of}
-use Rattle.etherparse.specs.icmp.NdpOptions.{option_of_kind, option_or_fault, rest_after, size_at, size_of}
+use Rattle.etherparse.specs.icmp.NdpOptions.{IsOption, item_at, items_of, items_within, left_after, option_of}
+use Rattle.etherparse.specs.icmp.NdpOptions.{option_of_kind, option_or_fault, rest_after, size_at}
 use Rattle.etherparse.specs.icmp.declared.transport.icmpv6.ndp.ndp_option.NdpOption.{NdpOption}
 use Rattle.etherparse.specs.icmp.declared.transport.icmpv6.ndp.ndp_option_error.NdpOptionError.{NdpOptionError}
 use Rattle.ep_icmp.proofs.NdpItems.{items-end, left_of, sized, step_err, step_ok}
@@ -171,8 +171,10 @@ none_case : (bytes : List ℕ) (left after : EpPart)
     (some_ndp_option (option_struct_in left.offset (item_at (left_in bytes left)))) after
 none_case bytes left after ends is =
     let none : eqb (length (part_bytes bytes after)) 0 ≡ true = rw is refl in
-    rw ends (ap (structs_from left.offset) (items-end (left_in bytes left) ends),
-    ap (structs_from after.offset) (items-end (left_in bytes after) none))
+    rw ends (
+      ap (structs_from left.offset) (items-end (left_in bytes left) ends),
+      ap (structs_from after.offset) (items-end (left_in bytes after) none),
+    )
 
 abbrev size_here : List ℕ → Result ℕ NdpOptionError
 size_here bytes = size_at (length bytes - length bytes) bytes

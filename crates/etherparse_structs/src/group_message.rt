@@ -6,8 +6,8 @@ ghost use Rattle.etherparse.specs.icmp.Mld as mld;
 ghost use Rattle.etherparse_structs.specs.GroupMessage.{about_group, igmp_struct, igmp_struct_in, mld_struct, mld_struct_in};
 ghost use Rattle.etherparse_structs.specs.GroupMessage.{no_group_message, short_struct};
 
-use crate::group_record::{EpGroupRecords, padded};
 use crate::EpPart;
+use crate::group_record::{EpGroupRecords, padded};
 use etherparse::icmpv6::mld::MldMessage;
 use etherparse::igmp::IgmpMessage;
 use etherparse::multicast::MulticastError;

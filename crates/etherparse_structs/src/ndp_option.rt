@@ -137,7 +137,10 @@ fn first_option(options: &[u8]) -> (Option<Result<NdpOption<'_>, NdpOptionError>
     (item, options.len() - iterator.rest().len())
 }
 
-fn option_struct_in(place: usize, item: Option<Result<NdpOption<'_>, NdpOptionError>>) -> EpNdpOption
+fn option_struct_in(
+    place: usize,
+    item: Option<Result<NdpOption<'_>, NdpOptionError>>,
+) -> EpNdpOption
     requires { IfSome item (λ i. place + item_len i < 2 ^ 64) }
     ensures { result ≡ option_struct_in place item.entry }
 {
@@ -176,10 +179,22 @@ fn option_struct(place: usize, option: NdpOption<'_>) -> EpNdpOption
 {
     match option {
         NdpOption::SourceLinkLayerAddress(address) => {
-            carrying(NDP_OPTION_SOURCE_LINK_LAYER_ADDRESS, 1, place, 2, address.slice())
+            carrying(
+                NDP_OPTION_SOURCE_LINK_LAYER_ADDRESS,
+                1,
+                place,
+                2,
+                address.slice(),
+            )
         }
         NdpOption::TargetLinkLayerAddress(address) => {
-            carrying(NDP_OPTION_TARGET_LINK_LAYER_ADDRESS, 2, place, 2, address.slice())
+            carrying(
+                NDP_OPTION_TARGET_LINK_LAYER_ADDRESS,
+                2,
+                place,
+                2,
+                address.slice(),
+            )
         }
         NdpOption::PrefixInformation(prefix) => prefix_struct(place, prefix),
         NdpOption::RedirectedHeader(packet) => {
@@ -194,7 +209,13 @@ fn option_struct(place: usize, option: NdpOption<'_>) -> EpNdpOption
             addresses,
         } => EpNdpOption {
             lifetime,
-            ..carrying(NDP_OPTION_RECURSIVE_DNS_SERVER, 25, place, 8, addresses.slice())
+            ..carrying(
+                NDP_OPTION_RECURSIVE_DNS_SERVER,
+                25,
+                place,
+                8,
+                addresses.slice(),
+            )
         },
         NdpOption::DnsSearchList { lifetime, names } => EpNdpOption {
             lifetime,

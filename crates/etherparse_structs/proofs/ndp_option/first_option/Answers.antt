@@ -1,5 +1,5 @@
-use Rattle.std.proofs.Common.{◌∙◌, ap, ℕ, List, length}
-use Rattle.etherparse.specs.icmp.NdpOptions.{Left, item_at}
+use Rattle.std.proofs.Common.{◌∙◌, ap}
+use Rattle.etherparse.specs.icmp.NdpOptions.{item_at}
 use Rattle.etherparse_structs.proofs.NdpOptionLemmas.{item_most}
 use Rattle.etherparse_structs.proofs.ndp_option.first_option.Goals as goal
 
