@@ -23,9 +23,6 @@ Size = Result ℕ GroupRecordError
 abbrev Item : Type 0
 Item = Result (List ℕ) GroupRecordError
 
-abbrev pub left_of : List ℕ → ℕ → ℕ → RecordsLeft
-left_of rest end count = record { rest = rest; end = end; count = count }
-
 size_most : (n offset size : ℕ) (bytes : List ℕ) → size_at n offset bytes ≡ Ok size → size ≤ length bytes
 size_most n offset size bytes h = grind (arith, nat_tests)
 

@@ -24,13 +24,6 @@ Item = Result NdpOption NdpOptionError
 
 -- ---- the sizes of options
 
-is_option : (offset n : ℕ) (bytes : List ℕ) → size_at offset bytes ≡ Ok n → IsOption (take n bytes)
-is_option offset n bytes h =
-    let size = sized offset n bytes h in
-    let second : num (take n bytes) 1 1 ≡ num bytes 1 1 = get_or-take n bytes 1 0 (omega arith) in
-    let whole = length-take-le n bytes size.2 in
-    record { some = rw second (omega arith); whole = rw second (omega arith) }
-
 option_size : (bytes : List ℕ) → IsOption bytes → option_len (option_of bytes) ≡ length bytes
 option_size bytes is =
     let two = length-drop 2 bytes in
@@ -40,8 +33,11 @@ option_size bytes is =
 taken_size : (offset n : ℕ) (bytes : List ℕ) → size_at offset bytes ≡ Ok n
     → option_len (option_of (take n bytes)) ≡ n
 taken_size offset n bytes h =
-    option_size (take n bytes) (is_option offset n bytes h)
-    ∙ length-take-le n bytes (sized offset n bytes h).2
+    let size = sized offset n bytes h in
+    let second : num (take n bytes) 1 1 ≡ num bytes 1 1 = get_or-take n bytes 1 0 (omega arith) in
+    let whole = length-take-le n bytes size.2 in
+    option_size (take n bytes) (record { some = rw second (omega arith); whole = rw second (omega arith) })
+    ∙ whole
 
 most_by : (r : Result ℕ NdpOptionError) (offset : ℕ) (bytes : List ℕ) → size_at offset bytes ≡ r
     → (item_len (option_or_fault r bytes) ≤ length bytes) × (length (rest_after r bytes) ≤ length bytes)
