@@ -18,6 +18,22 @@
 extern "C" {
 #endif
 
+/* No message of a multicast group. */
+#define EP_GROUP_NONE 0
+/* A query without sources: version 1 of MLD, 1 or 2 of IGMP. */
+#define EP_GROUP_QUERY 1
+/* A query that may name sources: version 2 of MLD, 3 of IGMP. */
+#define EP_GROUP_QUERY_WITH_SOURCES 2
+/* A report of version 1: of one group. */
+#define EP_GROUP_REPORT 3
+/* Of IGMP: a report of version 2: of one group. */
+#define EP_GROUP_REPORT_V2 4
+/* A group is left. */
+#define EP_GROUP_LEAVE 5
+/* A report of records: version 2 of MLD, 3 of IGMP. */
+#define EP_GROUP_RECORDS 6
+/* A message that is shorter than its type needs. */
+#define EP_GROUP_TOO_SHORT 7
 /* No message, since there are too few bytes, or not the 20 of a timestamp message. */
 #define EP_ICMP_NONE 0
 /* A type and code that have no other kind. */
@@ -52,6 +68,26 @@ extern "C" {
 #define EP_WRONG_STATE 4
 /* A message is complete. */
 #define EP_COMPLETED 5
+/* No option is left. */
+#define EP_NDP_OPTION_NONE 0
+/* An option of another type, or of a length that its type doesn't have. */
+#define EP_NDP_OPTION_UNKNOWN 1
+/* The sender's link-layer address. */
+#define EP_NDP_OPTION_SOURCE_LINK_LAYER_ADDRESS 2
+/* The target's link-layer address. */
+#define EP_NDP_OPTION_TARGET_LINK_LAYER_ADDRESS 3
+/* A prefix. */
+#define EP_NDP_OPTION_PREFIX_INFORMATION 4
+/* The start of the packet that is redirected. */
+#define EP_NDP_OPTION_REDIRECTED_HEADER 5
+/* The link's greatest packet. */
+#define EP_NDP_OPTION_MTU 6
+/* Recursive DNS servers. */
+#define EP_NDP_OPTION_RECURSIVE_DNS_SERVER 7
+/* Domains in which names are searched. */
+#define EP_NDP_OPTION_DNS_SEARCH_LIST 8
+/* No option: `fault` says why, and nothing is read after it. */
+#define EP_NDP_OPTION_FAULT 9
 /* Nothing is refused. */
 #define EP_REFUSAL_NONE 0
 /* A layer has too few bytes. */
@@ -241,6 +277,60 @@ typedef struct {
     /* Of a fragment header: whether other fragments follow. */
     bool more_fragments;
 } ep_extension;
+
+/* The records of groups that are left in a report. */
+typedef struct {
+    /* Where they are. */
+    ep_part left;
+    /* How many of those that the report names aren't taken yet. */
+    uint32_t count;
+    /* Whether their addresses are of IPv6 and have 16 bytes, and not the 4 of IPv4. */
+    bool is_ipv6;
+} ep_group_records;
+
+/* A message of a multicast group: of IGMP over IPv4 (RFC 2236; RFC 3376), or of multicast
+   listener discovery over IPv6 (RFC 2710; RFC 3810). The fields of other kinds are 0. */
+typedef struct {
+    /* Of a query with sources: their addresses, of 4 or 16 bytes each; none: every source. */
+    ep_part sources;
+    /* Of a report of records: the records. */
+    ep_group_records records;
+    /* Of one that is too short: how many bytes it needs. */
+    size_t needed;
+    /* Of one that is too short: how many bytes it has. */
+    size_t there;
+    /* The kind, one of EP_GROUP_.. */
+    uint32_t kind;
+    /* Of a query: how long a host may wait with its report. Without sources: of IGMP in tenths of a
+       second, 0: version 1; of MLD in milliseconds. With sources: as a code (RFC 3376, section
+       4.1.1; RFC 3810, section 5.1.3). */
+    uint16_t max_response;
+    /* Of kinds 1 to 5: the address of the group, the first 4 bytes, or all 16 of IPv6. Of a query
+       all zeros: every group. */
+    uint8_t group[16];
+} ep_group_message;
+
+/* The record of a group in a report (RFC 3376, section 4.2.4; RFC 3810, section 5.2.5). What it
+   doesn't have is 0. */
+typedef struct {
+    /* The record; of one that is cut off where it starts. */
+    ep_part bytes;
+    /* The addresses of its sources, of 4 or 16 bytes each. */
+    ep_part sources;
+    /* What follows them, of which neither standard defines any. */
+    ep_part auxiliary_data;
+    /* Of kind 2: how many bytes it needs: at first those before its sources, then all. */
+    size_t needed;
+    /* Of kind 2: how many bytes are left. */
+    size_t there;
+    /* 0 none, since none is left; 1 a record; 2 fewer bytes are left than a record needs: nothing is
+       read after it. */
+    uint32_t kind;
+    /* Its type: 1 to 6 (RFC 3376, section 4.2.12). */
+    uint8_t record_type;
+    /* The address of the group: the first 4 bytes, or all 16 where it is of IPv6. */
+    uint8_t group[16];
+} ep_group_record;
 
 /* What an ICMP message says beside its type and code, by its kind. The fields of other kinds are
    0. */
@@ -578,6 +668,45 @@ typedef struct {
     bool incomplete;
 } ep_lax_packet;
 
+/* An option of neighbor discovery (RFC 4861, section 4.6; RFC 8106, section 5), or why the bytes
+   are none. The fields of other kinds are 0. */
+typedef struct {
+    /* The option with its type and its length; of a fault where it starts. */
+    ep_part option;
+    /* What it carries. Of a link-layer address: the address, with what fills its last unit of 8
+       bytes. Of a redirected header: the packet. Of recursive DNS servers: their addresses, of 16
+       bytes each. Of a search list: names as labels, filled with zeros. Of an unknown one: what
+       follows type and length. */
+    ep_part carried;
+    /* Of fault 1: how many bytes it needs. */
+    size_t needed;
+    /* Of fault 1: how many bytes are left. */
+    size_t there;
+    /* Which option it is, one of EP_NDP_OPTION_.. */
+    uint32_t kind;
+    /* 0 none; 1 fewer bytes are left than the option needs; 2 its length is 0. */
+    uint32_t fault;
+    /* Of recursive DNS servers and of a search list: how long they may be used, in seconds; all
+       ones: for ever. */
+    uint32_t lifetime;
+    /* Of a prefix: how long it is on the link, in seconds; all ones: for ever. */
+    uint32_t valid_lifetime;
+    /* Of a prefix: how long addresses formed with it are preferred, in seconds; all ones: for ever. */
+    uint32_t preferred_lifetime;
+    /* Of an MTU: the link's greatest packet in bytes. */
+    uint32_t mtu;
+    /* The type; of a fault 0. */
+    uint8_t option_type;
+    /* Of a prefix: how many of its leading bits are valid, 0 to 128. */
+    uint8_t prefix_length;
+    /* Of a prefix: bit L: its addresses are on the link. */
+    bool on_link;
+    /* Of a prefix: bit A: a host may form an address with it. */
+    bool autonomous;
+    /* Of a prefix: the prefix, whose bits after `prefix_length` are to be ignored. */
+    uint8_t prefix[16];
+} ep_ndp_option;
+
 /* The headers of a packet to build. The fields of headers that it doesn't have are ignored.
    Lengths, checksums, ether types and the numbers of headers follow from it. */
 typedef struct {
@@ -745,6 +874,30 @@ ep_icmp_fields ep_icmpv6_fields(const uint8_t *message, size_t message_len);
 /* The message of neighbor discovery that an ICMPv6 message is. `icmp_type` is 0 where it is
    none. */
 ep_ndp ep_ndp_message(const uint8_t *message, size_t message_len);
+
+/* Where the options of a message of neighbor discovery are in its bytes. All fields are 0 where
+   the bytes are none. */
+ep_part ep_ndp_options(const uint8_t *message, size_t message_len);
+
+/* Takes the next option of neighbor discovery from those that are left in a part of the bytes,
+   which begins as the part that `ep_ndp_options` returns. Each call returns one, in their order,
+   and takes its bytes from the part. `kind` is 0 where none is left: at the end of the bytes, or
+   after a fault. */
+ep_ndp_option ep_ndp_option_next(const uint8_t *bytes, size_t bytes_len, ep_part *left);
+
+/* The message of IGMP that these bytes are: the payload of an IPv4 packet of protocol 2. `kind`
+   is 0 where they are of no known type. */
+ep_group_message ep_igmp_message(const uint8_t *message, size_t message_len);
+
+/* The message of multicast listener discovery that an ICMPv6 message is, header and payload.
+   `kind` is 0 where it is none. */
+ep_group_message ep_mld_message(const uint8_t *message, size_t message_len);
+
+/* Takes the next record from those that are left in a part of the bytes, which begin as the
+   records of the message that these bytes are. Each call returns one, in their order, and takes
+   it from those that are left. `kind` is 0 where none is left: after as many as the report
+   names, or after one that is cut off. */
+ep_group_record ep_group_record_next(const uint8_t *bytes, size_t bytes_len, ep_group_records *left);
 
 /* Opens a pool without fragments. The result is 0 where it is open, 2 where there is no memory,
    and 4 where it was open before. Where it isn't 0 nothing is changed. */

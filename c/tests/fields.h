@@ -256,3 +256,44 @@ static const struct field ndp_fields[] = {
     {"target", 25, 16, 'b'},
     {"destination", 41, 16, 'b'},
 };
+
+static const struct field ndp_option_fields[] = {
+    {"option", 0, 16, 'p'},
+    {"carried", 16, 16, 'p'},
+    {"needed", 32, 8, 'n'},
+    {"there", 40, 8, 'n'},
+    {"kind", 48, 4, 'n'},
+    {"fault", 52, 4, 'n'},
+    {"lifetime", 56, 4, 'n'},
+    {"valid_lifetime", 60, 4, 'n'},
+    {"preferred_lifetime", 64, 4, 'n'},
+    {"mtu", 68, 4, 'n'},
+    {"option_type", 72, 1, 'n'},
+    {"prefix_length", 73, 1, 'n'},
+    {"on_link", 74, 1, 'n'},
+    {"autonomous", 75, 1, 'n'},
+    {"prefix", 76, 16, 'b'},
+};
+
+static const struct field group_message_fields[] = {
+    {"sources", 0, 16, 'p'},
+    {"records.left", 16, 16, 'p'},
+    {"records.count", 32, 4, 'n'},
+    {"records.is_ipv6", 36, 1, 'n'},
+    {"needed", 40, 8, 'n'},
+    {"there", 48, 8, 'n'},
+    {"kind", 56, 4, 'n'},
+    {"max_response", 60, 2, 'n'},
+    {"group", 62, 16, 'b'},
+};
+
+static const struct field group_record_fields[] = {
+    {"bytes", 0, 16, 'p'},
+    {"sources", 16, 16, 'p'},
+    {"auxiliary_data", 32, 16, 'p'},
+    {"needed", 48, 8, 'n'},
+    {"there", 56, 8, 'n'},
+    {"kind", 64, 4, 'n'},
+    {"record_type", 68, 1, 'n'},
+    {"group", 69, 16, 'b'},
+};

@@ -22,6 +22,26 @@ static void add_part(const char *what, ep_part part) {
     if (part.len) snprintf(found + at, sizeof found - at, "%s part=%zu+%zu\n", what, part.offset, part.len);
 }
 
+/* The options of a message of neighbor discovery. */
+static void read_ndp_options(const uint8_t *message, size_t len) {
+    ep_part options = ep_ndp_options(message, len);
+    ep_ndp_option option;
+    add_part("ndp_options", options);
+    while ((option = ep_ndp_option_next(message, len, &options)).kind)
+        add_line("ndp_option", ndp_option_fields, COUNT(ndp_option_fields), &option);
+    check(!options.len && !ep_ndp_option_next(message, len, &options).kind, "after the last option come no others");
+}
+
+/* A message of a multicast group, and its records. */
+static void read_group(const char *what, const uint8_t *message, size_t len, ep_group_message group) {
+    ep_group_records records = group.records;
+    ep_group_record record;
+    if (group.kind) add_line(what, group_message_fields, COUNT(group_message_fields), &group);
+    while ((record = ep_group_record_next(message, len, &records)).kind)
+        add_line("group_record", group_record_fields, COUNT(group_record_fields), &record);
+    check(!records.count && !ep_group_record_next(message, len, &records).kind, "after the last record come no others");
+}
+
 static void read_fields(const uint8_t *frame, size_t len) {
     const ep_packet packet = ep_slice_ethernet(frame, len);
     const uint8_t *message = frame + packet.icmp.header.offset;
@@ -46,6 +66,13 @@ static void read_fields(const uint8_t *frame, size_t len) {
     if (packet.transport == 58) {
         ep_ndp ndp = ep_ndp_message(message, message_len);
         if (ndp.icmp_type) add_line("ndp", ndp_fields, COUNT(ndp_fields), &ndp);
+        read_ndp_options(message, message_len);
+        read_group("mld", message, message_len, ep_mld_message(message, message_len));
+    }
+    if (packet.net == 4 && packet.ipv4.payload_number == 2 && !packet.ipv4.is_part) {
+        message = frame + packet.ipv4.payload.offset;
+        message_len = packet.ipv4.payload.len;
+        read_group("igmp", message, message_len, ep_igmp_message(message, message_len));
     }
 }
 
@@ -62,6 +89,25 @@ static int parts_beyond_are_cut(void) {
     right &= !ep_extension_next(bytes, 4, &headers).layer && headers.left.offset == 0 && headers.next_header == 44;
     right &= !ep_extension_next(bytes, 4, &none).layer;
     right &= !ep_tcp_options(&packet).len && !ep_ip_extensions(&packet).left.len;
+    return right;
+}
+
+/* The same of options of neighbor discovery and of records. */
+static int parts_of_messages_beyond_are_cut(void) {
+    static const uint8_t mtu[] = {5, 1, 0, 0, 0, 0, 5, 220}, group[] = {4, 0, 0, 0, 239, 1, 2, 3};
+    ep_part beyond = {8, 8}, far = {SIZE_MAX, SIZE_MAX}, longer = {0, SIZE_MAX}, shorter = {0, 7};
+    ep_group_records records = {{0, SIZE_MAX}, 2, false}, none = {{0, 8}, 0, false};
+    ep_group_records far_ones = {{SIZE_MAX, 20}, UINT32_MAX, true};
+    int right = !ep_ndp_option_next(mtu, 8, &beyond).kind && beyond.offset == 8;
+    right &= !ep_ndp_option_next(mtu, 8, &far).kind && far.offset == SIZE_MAX;
+    right &= ep_ndp_option_next(mtu, 8, &longer).mtu == 1500 && longer.offset == 8;
+    right &= !ep_ndp_option_next(mtu, 8, &longer).kind && longer.offset == 8;
+    right &= ep_ndp_option_next(mtu, 8, &shorter).there == 7 && shorter.offset == 7 && !shorter.len;
+    right &= ep_group_record_next(group, 8, &records).record_type == 4 && records.left.offset == 8 && records.count == 1;
+    right &= ep_group_record_next(group, 8, &records).needed == 8 && records.left.offset == 8 && !records.count;
+    right &= ep_group_record_next(group, 8, &far_ones).needed == 20 && far_ones.left.offset == SIZE_MAX && !far_ones.count;
+    right &= !ep_group_record_next(group, 8, &none).kind && none.left.len == 8;
+    right &= !ep_ndp_options(mtu, 8).len && !ep_ndp_options(mtu, 0).len && !ep_mld_message(group, 8).kind;
     return right;
 }
 
@@ -86,5 +132,6 @@ int main(int argc, char **argv) {
     }
     fclose(table);
     check(parts_beyond_are_cut(), "parts that the bytes don't have");
+    check(parts_of_messages_beyond_are_cut(), "parts that the messages don't have");
     return counted();
 }

@@ -44,8 +44,38 @@ from ._fields import (
     UnreadableOption,
     WindowScale,
 )
+from ._groups import (
+    GroupRecord,
+    IgmpLeave,
+    IgmpMessage,
+    IgmpQuery,
+    IgmpQueryV3,
+    IgmpReportV1,
+    IgmpReportV2,
+    IgmpReportV3,
+    MldDone,
+    MldMessage,
+    MldQuery,
+    MldQueryV2,
+    MldReport,
+    MldReportV2,
+    ShortGroupMessage,
+    UnreadableRecord,
+)
 from ._handles import InUse, Message, PartRefused, Pool, Session, answers
 from ._layers import Arp, Icmp, Ipv4, Ipv6, Link, Tag, Tcp, Udp
+from ._ndp_options import (
+    DnsSearchList,
+    LinkMtu,
+    NdpOption,
+    PrefixInformation,
+    RecursiveDnsServer,
+    RedirectedHeader,
+    SourceLinkLayerAddress,
+    TargetLinkLayerAddress,
+    UnknownNdpOption,
+    UnreadableNdpOption,
+)
 from ._packets import (
     LaxPacket,
     Packet,
@@ -68,15 +98,19 @@ from ._plans import BuildRefused, PlannedCapture, PlannedEcho, PlannedEthernet, 
 __version__ = "1.0.0"
 
 __all__ = [
-    "Arp", "Authentication", "BuildRefused", "DestinationOptions", "DestinationUnreachable", "EchoReply", "EchoRequest",
-    "Extension", "Fragment", "GatewayRedirect", "HopByHopOptions", "Icmp", "IcmpMessage", "InUse", "Ipv4", "Ipv6",
-    "LaxPacket", "Link", "MaximumSegmentSize", "Message", "NdpMessage", "NeighborAdvertisement", "NeighborRedirect",
-    "NeighborSolicitation", "NoOperation", "Packet", "PacketTooBig", "ParameterProblem", "PartRefused", "PlannedCapture",
-    "PlannedEcho", "PlannedEthernet", "PlannedTcp", "PlannedUdp", "Pool", "Refused", "RouterAdvertisement",
-    "RouterSolicitation", "Routing", "Sack", "SackPermitted", "Session", "Tag", "Tcp", "TcpOption", "TimeExceeded",
-    "TimestampReply", "TimestampRequest", "Timestamps", "Udp", "UnknownIcmp", "UnreadableOption", "Verdict", "WindowScale",
-    "answers", "build", "checksum", "checksum_is_right", "slice_ethernet", "slice_ethernet_lax", "slice_ip", "slice_ip_lax",
-    "slice_linux_sll", "slice_linux_sll_lax", "verdict_ethernet", "verdict_ip", "verdict_linux_sll",
+    "Arp", "Authentication", "BuildRefused", "DestinationOptions", "DestinationUnreachable", "DnsSearchList", "EchoReply",
+    "EchoRequest", "Extension", "Fragment", "GatewayRedirect", "GroupRecord", "HopByHopOptions", "Icmp", "IcmpMessage",
+    "IgmpLeave", "IgmpMessage", "IgmpQuery", "IgmpQueryV3", "IgmpReportV1", "IgmpReportV2", "IgmpReportV3", "InUse", "Ipv4",
+    "Ipv6", "LaxPacket", "Link", "LinkMtu", "MaximumSegmentSize", "Message", "MldDone", "MldMessage", "MldQuery", "MldQueryV2",
+    "MldReport", "MldReportV2", "NdpMessage", "NdpOption", "NeighborAdvertisement", "NeighborRedirect", "NeighborSolicitation",
+    "NoOperation", "Packet", "PacketTooBig", "ParameterProblem", "PartRefused", "PlannedCapture", "PlannedEcho",
+    "PlannedEthernet", "PlannedTcp", "PlannedUdp", "Pool", "PrefixInformation", "RecursiveDnsServer", "RedirectedHeader",
+    "Refused", "RouterAdvertisement", "RouterSolicitation", "Routing", "Sack", "SackPermitted", "Session", "ShortGroupMessage",
+    "SourceLinkLayerAddress", "Tag", "TargetLinkLayerAddress", "Tcp", "TcpOption", "TimeExceeded", "TimestampReply",
+    "TimestampRequest", "Timestamps", "Udp", "UnknownIcmp", "UnknownNdpOption", "UnreadableNdpOption", "UnreadableOption",
+    "UnreadableRecord", "Verdict", "WindowScale", "answers", "build", "checksum", "checksum_is_right", "slice_ethernet",
+    "slice_ethernet_lax", "slice_ip", "slice_ip_lax", "slice_linux_sll", "slice_linux_sll_lax", "verdict_ethernet",
+    "verdict_ip", "verdict_linux_sll",
 ]  # fmt: skip
 
 # In errors and pickles each is named by the package, whatever module of it has it.

@@ -346,8 +346,8 @@ def extensions_of(frame: bytes, packet: _raw.EpPacket) -> List[Extension]:
     return found
 
 
-def _message(frame: bytes, packet: Any) -> bytes:
-    """Its ICMP message."""
+def icmp_bytes(frame: bytes, packet: Any) -> bytes:
+    """The bytes of its ICMP message, header and payload."""
     icmp = packet.icmp
     return frame[icmp.header.offset :][: icmp.header.len + icmp.payload.len]
 
@@ -357,7 +357,7 @@ def icmp_message_of(frame: bytes, packet: Any) -> Optional[IcmpMessage]:
     if packet.transport not in (1, 58):
         return None
     call = etherparse.ep_icmpv4_fields if packet.transport == 1 else etherparse.ep_icmpv6_fields
-    message = _message(frame, packet)
+    message = icmp_bytes(frame, packet)
     return _icmp(call(message, len(message)), packet.icmp)
 
 
@@ -365,5 +365,5 @@ def ndp_message_of(frame: bytes, packet: Any) -> Optional[NdpMessage]:
     """Its message of neighbor discovery, if it has one."""
     if packet.transport != 58:
         return None
-    message = _message(frame, packet)
+    message = icmp_bytes(frame, packet)
     return _ndp(etherparse.ep_ndp_message(message, len(message)))

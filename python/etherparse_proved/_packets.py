@@ -18,9 +18,11 @@ from ._fields import (
     ndp_message_of,
     tcp_options_of,
 )
+from ._groups import IgmpMessage, MldMessage, igmp_message_of, mld_message_of
 from ._layers import Arp, Icmp, Ipv4, Ipv6, Link, Tag, Tcp, Udp
 from ._lazy import Lazy, Reader, part, reads
 from ._libraries import etherparse
+from ._ndp_options import NdpOption, ndp_options_of
 
 
 def names_of(prefix: str) -> Dict[int, str]:
@@ -184,6 +186,18 @@ class Packet(Lazy):
     def ndp_message(self) -> Optional[NdpMessage]:
         """The message of neighbor discovery, if there is one."""
         return ndp_message_of(*self._sliced())
+
+    def ndp_options(self) -> List[NdpOption]:
+        """The options of the message of neighbor discovery; a last one may be an UnreadableNdpOption."""
+        return ndp_options_of(*self._sliced())
+
+    def igmp_message(self) -> Optional[IgmpMessage]:
+        """The message of IGMP, if there is one: in an IPv4 packet that is no fragment."""
+        return igmp_message_of(*self._sliced())
+
+    def mld_message(self) -> Optional[MldMessage]:
+        """The message of multicast listener discovery, if there is one."""
+        return mld_message_of(*self._sliced())
 
 
 def _stop(_: bytes, raw: bytes, at: int) -> Optional[Refused]:

@@ -2,6 +2,22 @@
 
 import ctypes as c
 
+# No message of a multicast group.
+GROUP_NONE = 0
+# A query without sources: version 1 of MLD, 1 or 2 of IGMP.
+GROUP_QUERY = 1
+# A query that may name sources: version 2 of MLD, 3 of IGMP.
+GROUP_QUERY_WITH_SOURCES = 2
+# A report of version 1: of one group.
+GROUP_REPORT = 3
+# Of IGMP: a report of version 2: of one group.
+GROUP_REPORT_V2 = 4
+# A group is left.
+GROUP_LEAVE = 5
+# A report of records: version 2 of MLD, 3 of IGMP.
+GROUP_RECORDS = 6
+# A message that is shorter than its type needs.
+GROUP_TOO_SHORT = 7
 # No message, since there are too few bytes, or not the 20 of a timestamp message.
 ICMP_NONE = 0
 # A type and code that have no other kind.
@@ -36,6 +52,26 @@ REFUSED = 3
 WRONG_STATE = 4
 # A message is complete.
 COMPLETED = 5
+# No option is left.
+NDP_OPTION_NONE = 0
+# An option of another type, or of a length that its type doesn't have.
+NDP_OPTION_UNKNOWN = 1
+# The sender's link-layer address.
+NDP_OPTION_SOURCE_LINK_LAYER_ADDRESS = 2
+# The target's link-layer address.
+NDP_OPTION_TARGET_LINK_LAYER_ADDRESS = 3
+# A prefix.
+NDP_OPTION_PREFIX_INFORMATION = 4
+# The start of the packet that is redirected.
+NDP_OPTION_REDIRECTED_HEADER = 5
+# The link's greatest packet.
+NDP_OPTION_MTU = 6
+# Recursive DNS servers.
+NDP_OPTION_RECURSIVE_DNS_SERVER = 7
+# Domains in which names are searched.
+NDP_OPTION_DNS_SEARCH_LIST = 8
+# No option: `fault` says why, and nothing is read after it.
+NDP_OPTION_FAULT = 9
 # Nothing is refused.
 REFUSAL_NONE = 0
 # A layer has too few bytes.
@@ -207,6 +243,45 @@ class EpExtension(c.Structure):
         ("number", c.c_uint8),
         ("next_header", c.c_uint8),
         ("more_fragments", c.c_bool),
+    ]
+
+
+class EpGroupRecords(c.Structure):
+    """The records of groups that are left in a report."""
+
+    _fields_ = [
+        ("left", EpPart),
+        ("count", c.c_uint32),
+        ("is_ipv6", c.c_bool),
+    ]
+
+
+class EpGroupMessage(c.Structure):
+    """A message of a multicast group: of IGMP over IPv4 (RFC 2236; RFC 3376), or of multicast listener discovery over IPv6 (RFC 2710; RFC 3810). The fields of other kinds are 0."""
+
+    _fields_ = [
+        ("sources", EpPart),
+        ("records", EpGroupRecords),
+        ("needed", c.c_size_t),
+        ("there", c.c_size_t),
+        ("kind", c.c_uint32),
+        ("max_response", c.c_uint16),
+        ("group", c.c_uint8 * 16),
+    ]
+
+
+class EpGroupRecord(c.Structure):
+    """The record of a group in a report (RFC 3376, section 4.2.4; RFC 3810, section 5.2.5). What it doesn't have is 0."""
+
+    _fields_ = [
+        ("bytes", EpPart),
+        ("sources", EpPart),
+        ("auxiliary_data", EpPart),
+        ("needed", c.c_size_t),
+        ("there", c.c_size_t),
+        ("kind", c.c_uint32),
+        ("record_type", c.c_uint8),
+        ("group", c.c_uint8 * 16),
     ]
 
 
@@ -427,6 +502,28 @@ class EpLaxPacket(c.Structure):
     ]
 
 
+class EpNdpOption(c.Structure):
+    """An option of neighbor discovery (RFC 4861, section 4.6; RFC 8106, section 5), or why the bytes are none. The fields of other kinds are 0."""
+
+    _fields_ = [
+        ("option", EpPart),
+        ("carried", EpPart),
+        ("needed", c.c_size_t),
+        ("there", c.c_size_t),
+        ("kind", c.c_uint32),
+        ("fault", c.c_uint32),
+        ("lifetime", c.c_uint32),
+        ("valid_lifetime", c.c_uint32),
+        ("preferred_lifetime", c.c_uint32),
+        ("mtu", c.c_uint32),
+        ("option_type", c.c_uint8),
+        ("prefix_length", c.c_uint8),
+        ("on_link", c.c_bool),
+        ("autonomous", c.c_bool),
+        ("prefix", c.c_uint8 * 16),
+    ]
+
+
 class EpPlan(c.Structure):
     """The headers of a packet to build. The fields of headers that it doesn't have are ignored. Lengths, checksums, ether types and the numbers of headers follow from it."""
 
@@ -523,6 +620,9 @@ assert c.sizeof(EpBuilt) == 16
 assert c.sizeof(EpPart) == 16
 assert c.sizeof(EpExtensions) == 24
 assert c.sizeof(EpExtension) == 56
+assert c.sizeof(EpGroupRecords) == 24
+assert c.sizeof(EpGroupMessage) == 80
+assert c.sizeof(EpGroupRecord) == 88
 assert c.sizeof(EpIcmpFields) == 32
 assert c.sizeof(EpNdp) == 64
 assert c.sizeof(EpLink) == 32
@@ -535,6 +635,7 @@ assert c.sizeof(EpTcp) == 64
 assert c.sizeof(EpIcmp) == 40
 assert c.sizeof(EpPacket) == 656
 assert c.sizeof(EpLaxPacket) == 704
+assert c.sizeof(EpNdpOption) == 96
 assert c.sizeof(EpPlan) == 176
 assert c.sizeof(EpPool) == 16
 assert c.sizeof(EpTcpBlock) == 8
@@ -567,6 +668,16 @@ def declare_etherparse(library: c.CDLL) -> None:
     library.ep_icmpv6_fields.restype = EpIcmpFields
     library.ep_ndp_message.argtypes = [c.c_char_p, c.c_size_t]
     library.ep_ndp_message.restype = EpNdp
+    library.ep_ndp_options.argtypes = [c.c_char_p, c.c_size_t]
+    library.ep_ndp_options.restype = EpPart
+    library.ep_ndp_option_next.argtypes = [c.c_char_p, c.c_size_t, c.POINTER(EpPart)]
+    library.ep_ndp_option_next.restype = EpNdpOption
+    library.ep_igmp_message.argtypes = [c.c_char_p, c.c_size_t]
+    library.ep_igmp_message.restype = EpGroupMessage
+    library.ep_mld_message.argtypes = [c.c_char_p, c.c_size_t]
+    library.ep_mld_message.restype = EpGroupMessage
+    library.ep_group_record_next.argtypes = [c.c_char_p, c.c_size_t, c.POINTER(EpGroupRecords)]
+    library.ep_group_record_next.restype = EpGroupRecord
     library.ep_pool_new.argtypes = [c.POINTER(EpPool)]
     library.ep_pool_new.restype = c.c_uint32
     library.ep_pool_add.argtypes = [c.POINTER(EpPool), c.c_char_p, c.c_size_t, c.c_uint64, c.c_uint32, c.POINTER(c.c_uint8), c.c_size_t]

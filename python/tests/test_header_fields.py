@@ -3,6 +3,7 @@
 import dataclasses
 import pickle
 import unittest
+from ipaddress import IPv4Address, IPv6Address
 from pathlib import Path
 
 import etherparse_proved as ep
@@ -38,6 +39,36 @@ NDP = {
     ep.NeighborAdvertisement: (136, 24),
     ep.NeighborRedirect: (137, 40),
 }
+# The kind and the type of each option of neighbor discovery, and how many bytes come before those that it carries.
+NDP_OPTIONS = {
+    ep.UnknownNdpOption: (1, 0, 2),
+    ep.SourceLinkLayerAddress: (2, 1, 2),
+    ep.TargetLinkLayerAddress: (3, 2, 2),
+    ep.PrefixInformation: (4, 3, 32),
+    ep.RedirectedHeader: (5, 4, 8),
+    ep.LinkMtu: (6, 5, 8),
+    ep.RecursiveDnsServer: (7, 25, 8),
+    ep.DnsSearchList: (8, 31, 8),
+}
+NDP_FAULTS = {"too few bytes": 1, "length 0": 2}
+# The kind of each message of a group.
+IGMP = {
+    ep.IgmpQuery: 1,
+    ep.IgmpQueryV3: 2,
+    ep.IgmpReportV1: 3,
+    ep.IgmpReportV2: 4,
+    ep.IgmpLeave: 5,
+    ep.IgmpReportV3: 6,
+    ep.ShortGroupMessage: 7,
+}
+MLD = {
+    ep.MldQuery: 1,
+    ep.MldQueryV2: 2,
+    ep.MldReport: 3,
+    ep.MldDone: 5,
+    ep.MldReportV2: 6,
+    ep.ShortGroupMessage: 7,
+}
 # The fields of which the table has other names.
 NAMES = {
     "size": "maximum_segment_size",
@@ -49,19 +80,31 @@ NAMES = {
     "originate": "originate_timestamp",
     "receive": "receive_timestamp",
     "transmit": "transmit_timestamp",
+    "max_response_time": "max_response",
+    "max_response_delay": "max_response",
+    "max_response_code": "max_response",
 }
-LEFT_OUT = ("reason", "payload", "check_value", "code", "icmp_type", "rest", "blocks")
+# What options of neighbor discovery carry, of which the table has the part.
+CARRIED = ("address", "packet", "addresses", "names", "data")
+LEFT_OUT = ("reason", "payload", "check_value", "code", "icmp_type", "rest", "blocks", "sources")
 
 
 def line(what, value, **fields):
-    """A line with these fields and those of a value, without those that are 0: its words after the first in any order."""
+    """A line with these fields and those of a value."""
     for field in dataclasses.fields(value):
         if field.name not in LEFT_OUT:
             fields[NAMES.get(field.name, field.name)] = getattr(value, field.name)
+    return words(what, **fields)
+
+
+def words(what, **fields):
+    """A line with these fields, without those that are 0: its words after the first in any order."""
     texts = {
         name: number.packed.hex() if hasattr(number, "packed") else number if type(number) is str else str(int(number))
         for name, number in fields.items()
     }
+    if "group" in texts:
+        texts["group"] = texts["group"].ljust(32, "0") if int(texts["group"], 16) else "0"
     return [what, *sorted(f"{name}={text}" for name, text in texts.items() if text != "0")]
 
 
@@ -90,6 +133,61 @@ def extension_lines(start, extensions):
         start += size
 
 
+def carried_by(option):
+    """The bytes that an option of neighbor discovery carries."""
+    if isinstance(option, ep.RecursiveDnsServer):
+        return b"".join(address.packed for address in option.addresses)
+    return next(value for name, value in vars(option).items() if name in CARRIED)
+
+
+def ndp_option_lines(first, options):
+    """Of options of which the first is at this offset of its message."""
+    start = first
+    for option in options:
+        if isinstance(option, ep.UnreadableNdpOption):
+            fields = {"kind": 9, "fault": NDP_FAULTS[option.reason], "needed": option.needed, "there": option.there}
+            yield words("ndp_option", option=f"{first + option.offset}+0", **fields)
+            continue
+        kind, option_type, before = NDP_OPTIONS[type(option)]
+        size, parts = before, {}
+        if not isinstance(option, (ep.PrefixInformation, ep.LinkMtu)):
+            carried = carried_by(option)
+            size = before + len(carried)
+            parts["carried"] = f"{start + before}+{len(carried)}"
+        fields = {name: value for name, value in vars(option).items() if name not in CARRIED}
+        option_type = fields.pop("kind", option_type)
+        yield words("ndp_option", option=f"{start}+{size}", kind=kind, option_type=option_type, **parts, **fields)
+        start += size
+
+
+def group_lines(what, size, message):
+    """Of a message of a group of this length, and of its records."""
+    kinds, before, length = (IGMP, 12, 4) if what == "igmp" else (MLD, 28, 16)
+    fields = {"kind": kinds[type(message)]}
+    if hasattr(message, "sources"):
+        fields["sources"] = f"{before}+{length * len(message.sources)}"
+    if not hasattr(message, "records"):
+        yield line(what, message, **fields)
+        return
+    left = {"records.left": f"8+{size - 8}", "records.count": message.count, "records.is_ipv6": what == "mld"}
+    yield words(what, **fields, **left)
+    start = 8
+    for record in message.records:
+        if isinstance(record, ep.UnreadableRecord):
+            yield words("group_record", bytes=f"{8 + record.offset}+0", needed=record.needed, there=record.there, kind=2)
+            continue
+        sources = start + 4 + length
+        data = sources + length * len(record.sources)
+        end = data + len(record.auxiliary_data)
+        parts = {
+            "bytes": f"{start}+{end - start}",
+            "sources": f"{sources}+{data - sources}",
+            "auxiliary_data": f"{data}+{end - data}",
+        }
+        yield words("group_record", kind=1, record_type=record.kind, group=record.group, **parts)
+        start = end
+
+
 def lines(packet):
     yield from map(option_line, packet.tcp_options())
     ip = packet.ipv4 or packet.ipv6
@@ -100,6 +198,12 @@ def lines(packet):
     if ndp:
         icmp_type, options_offset = NDP[type(ndp)]
         yield line("ndp", ndp, icmp_type=icmp_type, options_offset=options_offset)
+        yield from ndp_option_lines(options_offset, packet.ndp_options())
+    mld, igmp = packet.mld_message(), packet.igmp_message()
+    if mld:
+        yield from group_lines("mld", len(packet.icmp.header) + len(packet.icmp.payload), mld)
+    if igmp:
+        yield from group_lines("igmp", len(packet.payload), igmp)
 
 
 class HeaderFields(unittest.TestCase):
@@ -120,10 +224,13 @@ class HeaderFields(unittest.TestCase):
                     self.assertEqual(list(lines(packet)), found)
                     options = [it[1] for it in wanted if it[0] == "ipv4_options"]
                     self.assertEqual([f"part=34+{len(it)}" for it in [packet.ipv4_options()] if it], options)
-            met.update(map(type, packet.tcp_options() + packet.extensions() + [packet.icmp_message(), packet.ndp_message()]))
+            messages = [packet.icmp_message(), packet.ndp_message(), packet.mld_message(), packet.igmp_message()]
+            records = [record for message in messages for record in getattr(message, "records", ())]
+            met.update(map(type, packet.tcp_options() + packet.extensions() + packet.ndp_options() + messages + records))
             count += 1
-        self.assertEqual(count, 48)
-        self.assertEqual(met, {type(None), ep.UnreadableOption, *KINDS, *HEADERS, *ICMP, *NDP})
+        self.assertEqual(count, 93)
+        kinds = {ep.UnreadableOption, *KINDS, *HEADERS, *ICMP, *NDP, ep.UnreadableNdpOption, *NDP_OPTIONS, *IGMP, *MLD}
+        self.assertEqual(met, {type(None), *kinds, ep.GroupRecord, ep.UnreadableRecord})
 
     def test_values(self):
         frame = next(frame for head, frame, _ in self.rows() if head.startswith("maximum segment size, selective"))
@@ -139,6 +246,56 @@ class HeaderFields(unittest.TestCase):
         made = ep.Packet(**{field.name: getattr(packet, field.name) for field in dataclasses.fields(packet)})
         with self.assertRaisesRegex(ValueError, "made by hand"):
             made.tcp_options()
+
+    def packet_of(self, start):
+        """The packet of the row whose head begins so."""
+        return ep.slice_ethernet(next(frame for head, frame, _ in self.rows() if head.startswith(start)))
+
+    def test_values_of_ndp_options(self):
+        options = self.packet_of("router advertisement with the options").ndp_options()
+        prefix = ep.PrefixInformation(64, True, True, 2592000, 604800, IPv6Address("2001:db8::"))
+        servers = IPv6Address("2001:db8::53"), IPv6Address("2001:db8::54")
+        self.assertEqual(
+            options,
+            [
+                ep.SourceLinkLayerAddress(bytes.fromhex("020000000001")),
+                ep.LinkMtu(1500),
+                prefix,
+                ep.RecursiveDnsServer(3600, servers),
+                ep.DnsSearchList(3600, b"\x07example\x03com\0\0\0\0"),
+                ep.UnknownNdpOption(24, bytes.fromhex("300800000e1020010db800000000")),
+            ],
+        )
+        self.assertEqual(pickle.loads(pickle.dumps(options)), options)
+        packet = self.packet_of("redirect with the target's")
+        address, redirected = packet.ndp_options()
+        self.assertEqual(address, ep.TargetLinkLayerAddress(bytes.fromhex("020000000009")))
+        self.assertEqual(redirected, ep.RedirectedHeader(packet.icmp.payload[48:]))
+        last = self.packet_of("a prefix of which half is missing").ndp_options()[-1]
+        self.assertEqual(last, ep.UnreadableNdpOption(0, "too few bytes", 32, 16))
+        self.assertEqual(self.packet_of("an option of length 0").ndp_options()[-1], ep.UnreadableNdpOption(8, "length 0"))
+        self.assertEqual(self.packet_of("no options").ndp_options(), [])
+
+    def test_values_of_groups(self):
+        report = self.packet_of("IGMP: report of version 3 with a record of each").igmp_message()
+        sources = IPv4Address("10.0.0.1"), IPv4Address("10.0.0.2")
+        self.assertEqual(report.records[2], ep.GroupRecord(3, IPv4Address("239.1.2.3"), sources, b""))
+        self.assertEqual(report.records[4].auxiliary_data.hex(), "deadbeef01020304")
+        self.assertEqual(pickle.loads(pickle.dumps(report)), report)
+        self.assertEqual(type(report).__module__, "etherparse_proved")
+        query = self.packet_of("IGMP: query of version 3 for two").igmp_message()
+        self.assertEqual(query, ep.IgmpQueryV3(138, IPv4Address("239.1.2.3"), sources))
+        sources = IPv6Address("2001:db8::1"), IPv6Address("2001:db8::2")
+        report = self.packet_of("report of version 2 with a record of each").mld_message()
+        self.assertEqual(report.records[2], ep.GroupRecord(3, IPv6Address("ff05::1:3"), sources, b""))
+        self.assertEqual(report.records[4].auxiliary_data.hex(), "deadbeef")
+        query = self.packet_of("query of version 2 for two").mld_message()
+        self.assertEqual(query, ep.MldQueryV2(33768, IPv6Address("ff05::1:3"), sources))
+        report = self.packet_of("report of version 2 that names two more").mld_message()
+        self.assertEqual((report.count, len(report.records), report.records[1]), (3, 2, ep.UnreadableRecord(20, 20, 0)))
+        packet = self.packet_of("IGMP: report of version 1")
+        self.assertEqual((packet.mld_message(), packet.ndp_options()), (None, []))
+        self.assertIsNone(self.packet_of("report of version 1").igmp_message())
 
     def test_codes(self):
         header = "0200000000020200000000010800450000200007000040010000" + "0a0000010a000002"

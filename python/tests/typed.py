@@ -57,6 +57,21 @@ def headers(packet: ep.Packet) -> Tuple[List[ep.Extension], Optional[ep.IcmpMess
     return packet.extensions(), packet.icmp_message(), packet.ndp_message(), packet.ipv4_options()
 
 
+def servers(packet: ep.Packet) -> List[IPv6Address]:
+    options: List[ep.NdpOption] = packet.ndp_options()
+    return [address for option in options if isinstance(option, ep.RecursiveDnsServer) for address in option.addresses]
+
+
+def sources(packet: ep.Packet) -> List[Union[IPv4Address, IPv6Address]]:
+    igmp, mld = packet.igmp_message(), packet.mld_message()
+    found: List[Union[IPv4Address, IPv6Address]] = []
+    if isinstance(igmp, ep.IgmpReportV3):
+        found += [source for record in igmp.records if isinstance(record, ep.GroupRecord) for source in record.sources]
+    if isinstance(mld, ep.MldQueryV2):
+        found += mld.sources
+    return found
+
+
 version: str = ep.__version__
 verdict: Optional[ep.Verdict] = ep.verdict_ip(b"")
 cut: ep.Packet = ep.slice_ip_lax(b"")
@@ -80,4 +95,5 @@ ep.PlannedUdp("1", 2)  # type: ignore[arg-type]
 ep.PlannedTcp(1, 2, syns=True)  # type: ignore[call-arg]
 ep.build(b"", source="::1", destination="::2", transport="udp")  # type: ignore[arg-type]
 ep.slice_ethernet(b"").tcp_options()[0].size  # type: ignore[union-attr]
+ep.slice_ethernet(b"").igmp_message().group  # type: ignore[union-attr]
 ep.no_such_call  # type: ignore[attr-defined]

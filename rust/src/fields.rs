@@ -383,7 +383,7 @@ impl<'a> Packet<'a> {
     }
 
     /// The ICMP message from its header on, header and payload; of which version it is.
-    fn icmp_message(&self) -> Option<(bool, &'a [u8])> {
+    pub(crate) fn icmp_message(&self) -> Option<(bool, &'a [u8])> {
         let icmp = &self.fields().icmp;
         let message = EpPart { offset: icmp.header.offset, len: icmp.header.len + icmp.payload.len };
         match self.fields().transport {

@@ -8,7 +8,10 @@
 
 #![deny(missing_docs)]
 
+mod addresses;
 mod fields;
+mod groups;
+mod ndp_option;
 mod packet;
 mod plan;
 mod planned_tcp;
@@ -16,10 +19,13 @@ mod pool;
 pub mod raw;
 mod refusal;
 
+pub use addresses::Addresses;
 pub use fields::{
     AuthenticationExtension, Extension, Extensions, FragmentExtension, IcmpEchoHeader, IcmpType, NdpMessage, RawExtension,
     TcpOptionElement, TcpOptionReadError, TcpOptionsIterator, TimestampMessage,
 };
+pub use groups::{GroupRecord, GroupRecordError, GroupRecords, IgmpMessage, MldMessage, MulticastError};
+pub use ndp_option::{NdpOption, NdpOptionError, NdpOptionsIterator, PrefixInformation};
 pub use packet::{LaxPacket, Link, Net, Packet, Stop, Transport};
 pub use plan::{
     build, BuildError, Plan, PlanField, PlannedAddresses, PlannedEcho, PlannedLink, PlannedTransport,

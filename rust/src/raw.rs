@@ -1,6 +1,22 @@
 //! The exports and their structs. Written by `tools/bindings`.
 #![allow(dead_code)]
 
+/// No message of a multicast group.
+pub const GROUP_NONE: u32 = 0;
+/// A query without sources: version 1 of MLD, 1 or 2 of IGMP.
+pub const GROUP_QUERY: u32 = 1;
+/// A query that may name sources: version 2 of MLD, 3 of IGMP.
+pub const GROUP_QUERY_WITH_SOURCES: u32 = 2;
+/// A report of version 1: of one group.
+pub const GROUP_REPORT: u32 = 3;
+/// Of IGMP: a report of version 2: of one group.
+pub const GROUP_REPORT_V2: u32 = 4;
+/// A group is left.
+pub const GROUP_LEAVE: u32 = 5;
+/// A report of records: version 2 of MLD, 3 of IGMP.
+pub const GROUP_RECORDS: u32 = 6;
+/// A message that is shorter than its type needs.
+pub const GROUP_TOO_SHORT: u32 = 7;
 /// No message, since there are too few bytes, or not the 20 of a timestamp message.
 pub const ICMP_NONE: u32 = 0;
 /// A type and code that have no other kind.
@@ -35,6 +51,26 @@ pub const REFUSED: u32 = 3;
 pub const WRONG_STATE: u32 = 4;
 /// A message is complete.
 pub const COMPLETED: u32 = 5;
+/// No option is left.
+pub const NDP_OPTION_NONE: u32 = 0;
+/// An option of another type, or of a length that its type doesn't have.
+pub const NDP_OPTION_UNKNOWN: u32 = 1;
+/// The sender's link-layer address.
+pub const NDP_OPTION_SOURCE_LINK_LAYER_ADDRESS: u32 = 2;
+/// The target's link-layer address.
+pub const NDP_OPTION_TARGET_LINK_LAYER_ADDRESS: u32 = 3;
+/// A prefix.
+pub const NDP_OPTION_PREFIX_INFORMATION: u32 = 4;
+/// The start of the packet that is redirected.
+pub const NDP_OPTION_REDIRECTED_HEADER: u32 = 5;
+/// The link's greatest packet.
+pub const NDP_OPTION_MTU: u32 = 6;
+/// Recursive DNS servers.
+pub const NDP_OPTION_RECURSIVE_DNS_SERVER: u32 = 7;
+/// Domains in which names are searched.
+pub const NDP_OPTION_DNS_SEARCH_LIST: u32 = 8;
+/// No option: `fault` says why, and nothing is read after it.
+pub const NDP_OPTION_FAULT: u32 = 9;
 /// Nothing is refused.
 pub const REFUSAL_NONE: u32 = 0;
 /// A layer has too few bytes.
@@ -317,6 +353,66 @@ pub struct EpExtension {
     pub next_header: u8,
     /// Of a fragment header: whether other fragments follow.
     pub more_fragments: bool,
+}
+
+/// The records of groups that are left in a report.
+#[repr(C)]
+#[derive(Clone, Copy, Debug, PartialEq, Eq)]
+pub struct EpGroupRecords {
+    /// Where they are.
+    pub left: EpPart,
+    /// How many of those that the report names aren't taken yet.
+    pub count: u32,
+    /// Whether their addresses are of IPv6 and have 16 bytes, and not the 4 of IPv4.
+    pub is_ipv6: bool,
+}
+
+/// A message of a multicast group: of IGMP over IPv4 (RFC 2236; RFC 3376), or of multicast listener
+/// discovery over IPv6 (RFC 2710; RFC 3810). The fields of other kinds are 0.
+#[repr(C)]
+#[derive(Clone, Copy, Debug, PartialEq, Eq)]
+pub struct EpGroupMessage {
+    /// Of a query with sources: their addresses, of 4 or 16 bytes each; none: every source.
+    pub sources: EpPart,
+    /// Of a report of records: the records.
+    pub records: EpGroupRecords,
+    /// Of one that is too short: how many bytes it needs.
+    pub needed: usize,
+    /// Of one that is too short: how many bytes it has.
+    pub there: usize,
+    /// The kind, one of EP_GROUP_..
+    pub kind: u32,
+    /// Of a query: how long a host may wait with its report. Without sources: of IGMP in tenths of a
+    /// second, 0: version 1; of MLD in milliseconds. With sources: as a code (RFC 3376, section
+    /// 4.1.1; RFC 3810, section 5.1.3).
+    pub max_response: u16,
+    /// Of kinds 1 to 5: the address of the group, the first 4 bytes, or all 16 of IPv6. Of a query all
+    /// zeros: every group.
+    pub group: [u8; 16],
+}
+
+/// The record of a group in a report (RFC 3376, section 4.2.4; RFC 3810, section 5.2.5). What it doesn't
+/// have is 0.
+#[repr(C)]
+#[derive(Clone, Copy, Debug, PartialEq, Eq)]
+pub struct EpGroupRecord {
+    /// The record; of one that is cut off where it starts.
+    pub bytes: EpPart,
+    /// The addresses of its sources, of 4 or 16 bytes each.
+    pub sources: EpPart,
+    /// What follows them, of which neither standard defines any.
+    pub auxiliary_data: EpPart,
+    /// Of kind 2: how many bytes it needs: at first those before its sources, then all.
+    pub needed: usize,
+    /// Of kind 2: how many bytes are left.
+    pub there: usize,
+    /// 0 none, since none is left; 1 a record; 2 fewer bytes are left than a record needs: nothing is
+    /// read after it.
+    pub kind: u32,
+    /// Its type: 1 to 6 (RFC 3376, section 4.2.12).
+    pub record_type: u8,
+    /// The address of the group: the first 4 bytes, or all 16 where it is of IPv6.
+    pub group: [u8; 16],
 }
 
 /// What an ICMP message says beside its type and code, by its kind. The fields of other kinds are 0.
@@ -677,6 +773,47 @@ pub struct EpLaxPacket {
     pub incomplete: bool,
 }
 
+/// An option of neighbor discovery (RFC 4861, section 4.6; RFC 8106, section 5), or why the bytes are
+/// none. The fields of other kinds are 0.
+#[repr(C)]
+#[derive(Clone, Copy, Debug, PartialEq, Eq)]
+pub struct EpNdpOption {
+    /// The option with its type and its length; of a fault where it starts.
+    pub option: EpPart,
+    /// What it carries. Of a link-layer address: the address, with what fills its last unit of 8
+    /// bytes. Of a redirected header: the packet. Of recursive DNS servers: their addresses, of 16
+    /// bytes each. Of a search list: names as labels, filled with zeros. Of an unknown one: what
+    /// follows type and length.
+    pub carried: EpPart,
+    /// Of fault 1: how many bytes it needs.
+    pub needed: usize,
+    /// Of fault 1: how many bytes are left.
+    pub there: usize,
+    /// Which option it is, one of EP_NDP_OPTION_..
+    pub kind: u32,
+    /// 0 none; 1 fewer bytes are left than the option needs; 2 its length is 0.
+    pub fault: u32,
+    /// Of recursive DNS servers and of a search list: how long they may be used, in seconds; all ones:
+    /// for ever.
+    pub lifetime: u32,
+    /// Of a prefix: how long it is on the link, in seconds; all ones: for ever.
+    pub valid_lifetime: u32,
+    /// Of a prefix: how long addresses formed with it are preferred, in seconds; all ones: for ever.
+    pub preferred_lifetime: u32,
+    /// Of an MTU: the link's greatest packet in bytes.
+    pub mtu: u32,
+    /// The type; of a fault 0.
+    pub option_type: u8,
+    /// Of a prefix: how many of its leading bits are valid, 0 to 128.
+    pub prefix_length: u8,
+    /// Of a prefix: bit L: its addresses are on the link.
+    pub on_link: bool,
+    /// Of a prefix: bit A: a host may form an address with it.
+    pub autonomous: bool,
+    /// Of a prefix: the prefix, whose bits after `prefix_length` are to be ignored.
+    pub prefix: [u8; 16],
+}
+
 /// The headers of a packet to build. The fields of headers that it doesn't have are ignored.
 /// Lengths, checksums, ether types and the numbers of headers follow from it.
 #[repr(C)]
@@ -831,6 +968,11 @@ extern "C" {
     pub(crate) fn ep_icmpv4_fields(message: *const u8, message_len: usize) -> EpIcmpFields;
     pub(crate) fn ep_icmpv6_fields(message: *const u8, message_len: usize) -> EpIcmpFields;
     pub(crate) fn ep_ndp_message(message: *const u8, message_len: usize) -> EpNdp;
+    pub(crate) fn ep_ndp_options(message: *const u8, message_len: usize) -> EpPart;
+    pub(crate) fn ep_ndp_option_next(bytes: *const u8, bytes_len: usize, left: *mut EpPart) -> EpNdpOption;
+    pub(crate) fn ep_igmp_message(message: *const u8, message_len: usize) -> EpGroupMessage;
+    pub(crate) fn ep_mld_message(message: *const u8, message_len: usize) -> EpGroupMessage;
+    pub(crate) fn ep_group_record_next(bytes: *const u8, bytes_len: usize, left: *mut EpGroupRecords) -> EpGroupRecord;
     pub(crate) fn ep_pool_new(pool: *mut EpPool) -> u32;
     pub(crate) fn ep_pool_add(pool: *mut EpPool, frame: *const u8, frame_len: usize, time: u64, channel: u32, output: *mut u8, output_len: usize) -> EpAdded;
     pub(crate) fn ep_pool_add_linux_sll(pool: *mut EpPool, packet: *const u8, packet_len: usize, time: u64, channel: u32, output: *mut u8, output_len: usize) -> EpAdded;
@@ -864,6 +1006,9 @@ const _: () = assert!(std::mem::size_of::<EpBuilt>() == 16);
 const _: () = assert!(std::mem::size_of::<EpPart>() == 16);
 const _: () = assert!(std::mem::size_of::<EpExtensions>() == 24);
 const _: () = assert!(std::mem::size_of::<EpExtension>() == 56);
+const _: () = assert!(std::mem::size_of::<EpGroupRecords>() == 24);
+const _: () = assert!(std::mem::size_of::<EpGroupMessage>() == 80);
+const _: () = assert!(std::mem::size_of::<EpGroupRecord>() == 88);
 const _: () = assert!(std::mem::size_of::<EpIcmpFields>() == 32);
 const _: () = assert!(std::mem::size_of::<EpNdp>() == 64);
 const _: () = assert!(std::mem::size_of::<EpLink>() == 32);
@@ -876,6 +1021,7 @@ const _: () = assert!(std::mem::size_of::<EpTcp>() == 64);
 const _: () = assert!(std::mem::size_of::<EpIcmp>() == 40);
 const _: () = assert!(std::mem::size_of::<EpPacket>() == 656);
 const _: () = assert!(std::mem::size_of::<EpLaxPacket>() == 704);
+const _: () = assert!(std::mem::size_of::<EpNdpOption>() == 96);
 const _: () = assert!(std::mem::size_of::<EpPlan>() == 176);
 const _: () = assert!(std::mem::size_of::<EpPool>() == 16);
 const _: () = assert!(std::mem::size_of::<EpTcpBlock>() == 8);

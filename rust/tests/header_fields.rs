@@ -1,10 +1,11 @@
 //! What the wrapper reads beyond the fields of a packet: c/tests/header_fields.txt says how its lines read.
 
 use etherparse_proved::{
-    slice_ethernet, slice_ethernet_lax, Extension, IcmpType, NdpMessage, Packet, RawExtension, TcpOptionElement, TcpOptionReadError,
+    slice_ethernet, slice_ethernet_lax, Addresses, Extension, GroupRecord, GroupRecordError, GroupRecords, IcmpType, IgmpMessage,
+    MldMessage, MulticastError, NdpMessage, NdpOption, NdpOptionError, Packet, RawExtension, TcpOptionElement, TcpOptionReadError,
 };
 use std::fs;
-use std::net::Ipv6Addr;
+use std::net::{IpAddr, Ipv4Addr, Ipv6Addr};
 
 const TABLE: &str = concat!(env!("CARGO_MANIFEST_DIR"), "/../c/tests/header_fields.txt");
 
@@ -116,13 +117,14 @@ fn icmp_line(icmp: IcmpType) -> String {
 }
 
 fn ndp_line(message: NdpMessage) -> String {
+    let options_offset = options_offset(message);
     let with = |line: String, name: &str, address: Ipv6Addr| format!("{line} {name}={}", hex(&address.octets()));
     match message {
-        NdpMessage::RouterSolicitation => line("ndp", &[("options_offset", 8), ("icmp_type", 133)]),
+        NdpMessage::RouterSolicitation => line("ndp", &[("options_offset", options_offset), ("icmp_type", 133)]),
         NdpMessage::RouterAdvertisement { cur_hop_limit, managed, other, router_lifetime, reachable_time, retrans_timer } => line(
             "ndp",
             &[
-                ("options_offset", 16),
+                ("options_offset", options_offset),
                 ("reachable_time", reachable_time as usize),
                 ("retrans_timer", retrans_timer as usize),
                 ("router_lifetime", router_lifetime.into()),
@@ -133,17 +135,158 @@ fn ndp_line(message: NdpMessage) -> String {
             ],
         ),
         NdpMessage::NeighborSolicitation { target } => {
-            with(line("ndp", &[("options_offset", 24), ("icmp_type", 135)]), "target", target)
+            with(line("ndp", &[("options_offset", options_offset), ("icmp_type", 135)]), "target", target)
         }
         NdpMessage::NeighborAdvertisement { router, solicited, overrides, target } => {
             let flags = [("router", router.into()), ("solicited", solicited.into()), ("overrides", overrides.into())];
-            let fields = line("ndp", &[("options_offset", 24), ("icmp_type", 136), flags[0], flags[1], flags[2]]);
+            let fields = line("ndp", &[("options_offset", options_offset), ("icmp_type", 136), flags[0], flags[1], flags[2]]);
             with(fields, "target", target)
         }
         NdpMessage::Redirect { target, destination } => {
-            let fields = line("ndp", &[("options_offset", 40), ("icmp_type", 137)]);
+            let fields = line("ndp", &[("options_offset", options_offset), ("icmp_type", 137)]);
             with(with(fields, "target", target), "destination", destination)
         }
+    }
+}
+
+/// An option that starts at this offset of its message, and where it ends.
+fn ndp_option_line(start: usize, option: NdpOption<'_>) -> (String, usize) {
+    let of_len = |len: usize, fields: &[(&str, usize)]| (line(&format!("ndp_option option={start}+{len}"), fields), start + len);
+    let carrying = |before: usize, carried: &[u8], fields: &[(&str, usize)]| {
+        let len = carried.len();
+        let parts = format!("ndp_option option={start}+{} carried={}+{len}", before + len, start + before);
+        (line(&parts, fields), start + before + len)
+    };
+    match option {
+        NdpOption::SourceLinkLayerAddress(address) => carrying(2, address, &[("kind", 2), ("option_type", 1)]),
+        NdpOption::TargetLinkLayerAddress(address) => carrying(2, address, &[("kind", 3), ("option_type", 2)]),
+        NdpOption::PrefixInformation(prefix) => {
+            let fields = [
+                ("kind", 4),
+                ("valid_lifetime", prefix.valid_lifetime as usize),
+                ("preferred_lifetime", prefix.preferred_lifetime as usize),
+                ("option_type", 3),
+                ("prefix_length", prefix.prefix_length.into()),
+                ("on_link", prefix.on_link.into()),
+                ("autonomous", prefix.autonomous.into()),
+            ];
+            let (line, end) = of_len(32, &fields);
+            (format!("{line} prefix={}", hex(&prefix.prefix.octets())), end)
+        }
+        NdpOption::RedirectedHeader(packet) => carrying(8, packet, &[("kind", 5), ("option_type", 4)]),
+        NdpOption::Mtu(mtu) => of_len(8, &[("kind", 6), ("mtu", mtu as usize), ("option_type", 5)]),
+        NdpOption::RecursiveDnsServer { lifetime, addresses } => {
+            let carried: Vec<u8> = addresses.flat_map(|address| address.octets()).collect();
+            carrying(8, &carried, &[("kind", 7), ("lifetime", lifetime as usize), ("option_type", 25)])
+        }
+        NdpOption::DnsSearchList { lifetime, names } => {
+            carrying(8, names, &[("kind", 8), ("lifetime", lifetime as usize), ("option_type", 31)])
+        }
+        NdpOption::Unknown { kind, bytes } => carrying(2, bytes, &[("kind", 1), ("option_type", kind.into())]),
+    }
+}
+
+/// Why there is no option, of which the first is at this offset of its message.
+fn ndp_fault_line(first: usize, error: NdpOptionError) -> String {
+    match error {
+        NdpOptionError::UnexpectedEnd { offset, needed_len, actual_len } => {
+            let fields = [("needed", needed_len), ("there", actual_len), ("kind", 9), ("fault", 1)];
+            line(&format!("ndp_option option={}+0", first + offset), &fields)
+        }
+        NdpOptionError::ZeroLength { offset } => {
+            line(&format!("ndp_option option={}+0", first + offset), &[("kind", 9), ("fault", 2)])
+        }
+    }
+}
+
+/// A line with the address of a group, unless that is all zeros.
+fn about(line: String, group: impl Into<IpAddr>) -> String {
+    match group.into() {
+        group if group.is_unspecified() => line,
+        IpAddr::V4(group) => format!("{line} group={:0<32}", hex(&group.octets())),
+        IpAddr::V6(group) => format!("{line} group={}", hex(&group.octets())),
+    }
+}
+
+/// The lines of a report of records in a message of this length.
+fn report_lines<'a, A>(what: &str, len: usize, records: GroupRecords<'a, A>) -> Vec<String>
+where
+    A: Into<IpAddr>,
+    GroupRecords<'a, A>: Iterator<Item = Result<GroupRecord<'a, A>, GroupRecordError>>,
+    Addresses<'a, A>: ExactSizeIterator,
+{
+    let is_ipv6 = what == "mld";
+    let address_len = if is_ipv6 { 16 } else { 4 };
+    let report = format!("{what} records.left=8+{}", len - 8);
+    let fields = [("records.count", records.count_left().into()), ("records.is_ipv6", is_ipv6.into()), ("kind", 6)];
+    let mut lines = vec![line(&report, &fields)];
+    let mut start = 8;
+    for record in records {
+        lines.push(match record {
+            Ok(record) => {
+                let at = start;
+                let sources = at + 4 + address_len;
+                let data = sources + address_len * record.sources.len();
+                start = data + record.auxiliary_data.len();
+                let bytes = format!("group_record bytes={at}+{} sources={sources}+{}", start - at, data - sources);
+                let bytes = format!("{bytes} auxiliary_data={data}+{}", start - data);
+                about(line(&bytes, &[("kind", 1), ("record_type", record.kind.into())]), record.group)
+            }
+            Err(error) => {
+                let fields = [("needed", error.needed_len), ("there", error.actual_len), ("kind", 2)];
+                line(&format!("group_record bytes={}+0", 8 + error.offset), &fields)
+            }
+        });
+    }
+    lines
+}
+
+fn too_short_line(what: &str, error: MulticastError) -> Vec<String> {
+    vec![line(what, &[("needed", error.needed_len), ("there", error.actual_len), ("kind", 7)])]
+}
+
+fn igmp_lines(len: usize, message: Result<IgmpMessage<'_>, MulticastError>) -> Vec<String> {
+    let of_group = |kind: usize, max_response: u8, group: Ipv4Addr| {
+        about(line("igmp", &[("kind", kind), ("max_response", max_response.into())]), group)
+    };
+    vec![match message {
+        Ok(IgmpMessage::Query { max_response_time, group }) => of_group(1, max_response_time, group),
+        Ok(IgmpMessage::QueryV3 { max_response_code, group, sources }) => {
+            let query = format!("igmp sources=12+{}", 4 * sources.len());
+            about(line(&query, &[("kind", 2), ("max_response", max_response_code.into())]), group)
+        }
+        Ok(IgmpMessage::ReportV1 { group }) => of_group(3, 0, group),
+        Ok(IgmpMessage::ReportV2 { group }) => of_group(4, 0, group),
+        Ok(IgmpMessage::Leave { group }) => of_group(5, 0, group),
+        Ok(IgmpMessage::ReportV3(records)) => return report_lines("igmp", len, records),
+        Err(error) => return too_short_line("igmp", error),
+    }]
+}
+
+fn mld_lines(len: usize, message: Result<MldMessage<'_>, MulticastError>) -> Vec<String> {
+    let of_group = |kind: usize, max_response: u16, group: Ipv6Addr| {
+        about(line("mld", &[("kind", kind), ("max_response", max_response.into())]), group)
+    };
+    vec![match message {
+        Ok(MldMessage::Query { max_response_delay, group }) => of_group(1, max_response_delay, group),
+        Ok(MldMessage::QueryV2 { max_response_code, group, sources }) => {
+            let query = format!("mld sources=28+{}", 16 * sources.len());
+            about(line(&query, &[("kind", 2), ("max_response", max_response_code.into())]), group)
+        }
+        Ok(MldMessage::Report { group }) => of_group(3, 0, group),
+        Ok(MldMessage::Done { group }) => of_group(5, 0, group),
+        Ok(MldMessage::ReportV2(records)) => return report_lines("mld", len, records),
+        Err(error) => return too_short_line("mld", error),
+    }]
+}
+
+/// The offset of the options in a message of neighbor discovery.
+fn options_offset(message: NdpMessage) -> usize {
+    match message {
+        NdpMessage::RouterSolicitation => 8,
+        NdpMessage::RouterAdvertisement { .. } => 16,
+        NdpMessage::NeighborSolicitation { .. } | NdpMessage::NeighborAdvertisement { .. } => 24,
+        NdpMessage::Redirect { .. } => 40,
     }
 }
 
@@ -158,6 +301,22 @@ fn lines(packet: &Packet<'_>) -> Vec<String> {
     }
     lines.extend(packet.icmp_type().map(icmp_line));
     lines.extend(packet.ndp().map(ndp_line));
+    let first = packet.ndp().map_or(0, options_offset);
+    start = first;
+    for option in packet.ndp_options() {
+        match option {
+            Ok(option) => {
+                let (line, end) = ndp_option_line(start, option);
+                lines.push(line);
+                start = end;
+            }
+            Err(error) => lines.push(ndp_fault_line(first, error)),
+        }
+    }
+    let fields = packet.fields();
+    let icmp_len = fields.icmp.header.len + fields.icmp.payload.len;
+    lines.extend(packet.mld().into_iter().flat_map(|message| mld_lines(icmp_len, message)));
+    lines.extend(packet.igmp().into_iter().flat_map(|message| igmp_lines(fields.ipv4.payload.len, message)));
     lines
 }
 
@@ -176,7 +335,7 @@ fn table() {
         assert_eq!(packet.ipv4_options().len(), options.map_or(0, |len| len.parse().unwrap()), "{row}");
         rows += 1;
     }
-    assert_eq!(rows, 48);
+    assert_eq!(rows, 93);
 }
 
 #[test]

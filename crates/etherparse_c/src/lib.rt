@@ -5,6 +5,7 @@
 mod build;
 mod checksum;
 mod fields;
+mod groups;
 mod pool;
 mod slice;
 mod verdict;

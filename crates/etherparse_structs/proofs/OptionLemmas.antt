@@ -4,7 +4,7 @@ use Rattle.std.proofs.Common.{List, [], ◌∷◌, map, length, take, drop, Opti
 use Rattle.std.proofs.Common.{drop_of_length-le, ⊎_elim, ◌<◌}
 use Rattle.std.proofs.lemmas.Bool.{cases_lt}
 use Rattle.std.proofs.lemmas.Bool.Decides.{nat_tests}
-use Rattle.std.proofs.lemmas.List.{drop-drop, drop-take, length-drop, length-take}
+use Rattle.std.proofs.lemmas.List.{drop-drop, drop-take, length-drop, length-take, length-take-le, take-take}
 use Rattle.std.specs.Iterator.{YieldsFirst}
 use Rattle.std.specs.Prelude.{if◌then◌else◌}
 use Rattle.etherparse.specs.base.Bytes.{num}
@@ -14,7 +14,7 @@ use Rattle.etherparse.specs.tcpudp.declared.transport.tcp_option_element.TcpOpti
 use Rattle.etherparse.specs.tcpudp.declared.transport.tcp_option_element.TcpOptionElement.TheVariants as element
 use Rattle.etherparse.specs.tcpudp.declared.transport.tcp_option_read_error.TcpOptionReadError.{TcpOptionReadError}
 use Rattle.etherparse.specs.tcpudp.declared.transport.tcp_option_read_error.TcpOptionReadError.TheVariants as fault
-use Rattle.etherparse_structs.specs.Part.{part_after, part_bytes}
+use Rattle.etherparse_structs.specs.Part.{part_after, part_at, part_bytes}
 use Rattle.etherparse_structs.specs.TcpOption.{element_struct, option_struct, option_struct_in, options_left, some_option}
 use Rattle.etherparse_structs.specs.declared.part.EpPart.{EpPart}
 use Rattle.etherparse_structs.specs.declared.tcp_option.EpTcpOption.{EpTcpOption}
@@ -23,7 +23,7 @@ abbrev Item : Type 0
 Item = Result TcpOptionElement TcpOptionReadError
 
 -- what is left of the first bytes after fewer of them
-drop_taken : (n m : ℕ) (bytes : List ℕ) → n ≤ m
+pub drop_taken : (n m : ℕ) (bytes : List ℕ) → n ≤ m
     → take (m - n) (drop n bytes) ≡ drop n (take m bytes)
 drop_taken n m bytes fits =
     let whole : n + (m - n) ≡ m = omega arith in
@@ -38,6 +38,24 @@ after_first bytes part n fits =
 
 pub part_most : (bytes : List ℕ) (part : EpPart) → length (part_bytes bytes part) ≤ part.len
 part_most bytes part = omega (arith, length-take part.len (drop part.offset bytes))
+
+-- so many bytes after the first ones of the first bytes of a part are where they are
+pub inner_part : (bytes : List ℕ) (part : EpPart) (from m size : ℕ) → from + m ≤ size
+    → size ≤ length (part_bytes bytes part)
+    → part_bytes bytes (part_at (part.offset + from) (take m (drop from (take size (part_bytes bytes part)))))
+    ≡ take m (drop from (take size (part_bytes bytes part)))
+inner_part bytes part from m size fits most =
+    let b = drop part.offset bytes in
+    let whole : take size (part_bytes bytes part) ≡ take size b =
+    take-take size part.len b (omega (arith, most, part_most bytes part)) in
+    let flat : take m (drop from (take size (part_bytes bytes part))) ≡ take m (drop from b) =
+    ap (λ (xs : List ℕ). take m (drop from xs)) whole
+    ∙ ap (take m) (sym (drop_taken from size b (omega (arith, fits))))
+    ∙ take-take m (size - from) (drop from b) (omega (arith, fits)) in
+    let long : length (take m (drop from b)) ≡ m =
+    length-take-le m (drop from b)
+    (omega (arith, fits, most, length-drop from b, length-take part.len b)) in
+    rw (flat, long) (ap (take m) (sym (drop-drop from part.offset bytes)))
 
 -- a suffix by its length
 suffix_of : (n : ℕ) (xs : List ℕ) → drop (length xs - length (drop n xs)) xs ≡ drop n xs

@@ -1,11 +1,14 @@
 pub mod Build
 pub mod Extension
 pub mod FramePool
+pub mod GroupMessage
+pub mod GroupRecord
 pub mod IcmpFields
 pub mod LaxPacket
 pub mod LaxParts
 pub mod Link
 pub mod Message
+pub mod NdpOption
 pub mod Net
 pub mod Packet
 pub mod Part
