@@ -67,9 +67,11 @@ const AT_ONCE: &[Step] = &[
 
 fn follow(rt: impl Abort + Copy, steps: &[Step]) {
     let mut state = ConnectionState::Unseen;
-    for Step(name, direction, [syn, ack, fin, rst], wanted) in steps {
-        state = state.after(*direction, Control::of_flags(*syn, *ack, *fin, *rst));
-        equal_in(rt, name, &state, wanted);
+    for step in steps {
+        let (name, wanted) = (step.0, step.3);
+        let [syn, ack, fin, rst] = step.2;
+        state = state.after(step.1, Control::of_flags(syn, ack, fin, rst));
+        equal_in(rt, name, &state, &wanted);
     }
 }
 
