@@ -4,6 +4,7 @@ pub mod Prefixes
 pub mod IpDscpKnown
 pub mod IpEcn
 pub mod IpNumber
+pub mod IpRegistry
 pub mod Layer
 pub mod LenError
 pub mod LenSource

@@ -6,6 +6,7 @@ mod ip_dscp_unknown_value_error;
 mod ip_ecn;
 mod ip_frag_offset;
 mod ip_number;
+mod ip_number_texts;
 pub mod ip_numbers;
 mod ipv6_flow_label;
 

@@ -1,7 +1,7 @@
 //! The definitions and laws at values from outside: each clause states a value of a standard or one
 //! that was calculated by hand, so that a definition can't change with the code.
 
-ghost use Rattle.std.specs.Prelude.{◌≡◌, ◌==◌, ◌%◌, ℕ, ⊤, [], ◌∷◌, true, false, Ok, Err, pos};
+ghost use Rattle.std.specs.Prelude.{◌≡◌, ◌==◌, ◌%◌, ℕ, ⊤, [], ◌∷◌, true, false, Ok, Err, Some, None, codes, map, pos, replicate};
 ghost use Rattle.std.specs.Hash as fed;
 ghost use Rattle.std.specs.List.{flat_map};
 ghost use Rattle.std.specs.Ordering.{nat_cmp};
@@ -16,6 +16,7 @@ ghost use Rattle.ep_base.specs.declared.net.ip_dscp_known.IpDscpKnown.TheVariant
 ghost use Rattle.ep_base.specs.declared.net.ip_ecn.IpEcn.TheVariants as notification;
 ghost use Rattle.ep_base.specs.IpDscpKnown.{IsKnown};
 ghost use Rattle.ep_base.specs.IpEcn.{IsEcn};
+ghost use Rattle.ep_base.specs.IpRegistry.{keyword_of, protocol_of};
 ghost use Rattle.ep_base.specs.LenError.{CanMove, offset_by, too_few_bytes};
 ghost use Rattle.ep_base.specs.SliceError as slice_error;
 ghost use Rattle.ep_base.specs.Traits.{CopyIsValue, CopyNeverFails, DefaultIs, EqualIsSame, HashIsOf, OrderIsOf};
@@ -194,3 +195,26 @@ pub fn bytes_changed_to_the_other_end()
 {
     one_changed_byte();
 }
+
+/// Keywords and protocols of IANA's registry: those that are there and those that are not, the last
+/// number before the unassigned ones and those after them.
+pub fn registered_texts()
+    ensures keywords { map keyword_of (0 ∷ 6 ∷ 17 ∷ 34 ∷ 39 ∷ 41 ∷ 58 ∷ 107 ∷ 132 ∷ 138 ∷ 142 ∷ 143 ∷ 144 ∷
+        255 ∷ []) ≡ map (λ text. Some text)
+        (codes "HOPOPT" ∷ codes "TCP" ∷ codes "UDP" ∷ codes "3PC" ∷ codes "TP++" ∷ codes "IPv6" ∷
+        codes "IPv6-ICMP" ∷ codes "A/N" ∷ codes "SCTP" ∷ codes "manet" ∷ codes "ROHC" ∷
+        codes "Ethernet" ∷ codes "AGGFRAG" ∷ codes "Reserved" ∷ []) }
+    ensures no_keywords { map keyword_of (61 ∷ 63 ∷ 68 ∷ 99 ∷ 114 ∷ 145 ∷ 252 ∷ 253 ∷ 254 ∷ 256 ∷ []) ≡
+        replicate 10 None }
+    ensures protocols { map protocol_of (0 ∷ 6 ∷ 17 ∷ 34 ∷ 39 ∷ 41 ∷ 58 ∷ 99 ∷ 114 ∷ 132 ∷ 142 ∷ 143 ∷ 144 ∷
+        253 ∷ 254 ∷ []) ≡ map (λ text. Some text)
+        (codes "IPv6 Hop-by-Hop Option" ∷ codes "Transmission Control" ∷ codes "User Datagram" ∷
+        codes "Third Party Connect Protocol" ∷ codes "TP++ Transport Protocol" ∷
+        codes "IPv6 encapsulation" ∷ codes "ICMP for IPv6" ∷ codes "any private encryption scheme" ∷
+        codes "any 0-hop protocol" ∷ codes "Stream Control Transmission Protocol" ∷
+        codes "Robust Header Compression" ∷ codes "Ethernet" ∷
+        codes "AGGFRAG encapsulation payload for ESP" ∷
+        codes "Use for experimentation and testing" ∷
+        codes "Use for experimentation and testing" ∷ []) }
+    ensures no_protocols { map protocol_of (124 ∷ 125 ∷ 137 ∷ 145 ∷ 252 ∷ 255 ∷ []) ≡ replicate 6 None }
+{}

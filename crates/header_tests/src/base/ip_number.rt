@@ -199,3 +199,27 @@ fn ip_number_calls(rt: HostRuntime) {
     equal(rt, (IpNumber::ICMP < IpNumber::TCP), true);
     reads(rt, &IpNumber::UDP, "17");
 }
+
+// The keyword and the protocol of a number.
+fn texts(number: u8) -> [Option<&'static str>; 2] {
+    let number = IpNumber(number);
+    [number.keyword_str(), number.protocol_str()]
+}
+
+// Against IANA's registry.
+#[test]
+fn registered_texts(rt: HostRuntime) {
+    equal(
+        rt,
+        texts(0),
+        [Some("HOPOPT"), Some("IPv6 Hop-by-Hop Option")],
+    );
+    equal(rt, texts(17), [Some("UDP"), Some("User Datagram")]);
+    equal(rt, texts(114), [None, Some("any 0-hop protocol")]);
+    equal(rt, texts(128), [Some("SSCOPMCE"), None]);
+    equal(rt, texts(143), [Some("Ethernet"), Some("Ethernet")]);
+    equal(rt, texts(255), [Some("Reserved"), None]);
+    for number in 145..=252u8 {
+        equal(rt, texts(number), [None, None]);
+    }
+}
