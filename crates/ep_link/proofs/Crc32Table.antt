@@ -4,7 +4,7 @@ use Rattle.std.proofs.Common.{arith, zero, suc, bit_xor}
 use Rattle.std.proofs.lemmas.Nat.{xor_block, xor_comm, xor_lt, xor_shr}
 use Rattle.std.proofs.lemmas.Nat.Bits.{bit_at_xor, bit_at_lowest, same_from_bits}
 use Rattle.std.specs.Int.Bits.{xor_self, xor_zero_r}
-use Rattle.ep_link.specs.Crc32.{polynomial, step, steps, after_byte, are_of}
+use Rattle.ep_link.specs.Crc32Register.{low_powers, step, steps, after_byte, are_of}
 
 tabled_from : (f : ℕ → ℕ) (k : ℕ) (xs : List ℕ) (i : ℕ) → are_of f k xs ≡ true → i < length xs
     → slice_index_or xs i 0 ≡ f (k + i)
@@ -27,21 +27,21 @@ xor_swapped a b c d = same_from_bits _ _ (λ i. simp bit_at_xor (omega arith))
 
 -- what is added as the lowest bit falls out
 abbrev added : ℕ → ℕ
-added r = if r % 2 == 1 then polynomial else 0
+added r = if r % 2 == 1 then low_powers else 0
 
 added_xor : (a b : ℕ) → added (bit_xor a b) ≡ bit_xor (added a) (added b)
 added_xor a b =
     let lowest : bit_xor a b % 2 ≡ (a % 2 + b % 2) % 2 = simp bit_at_lowest at (bit_at_xor a b 0) in
-    grind (arith, lowest, xor_self polynomial, xor_zero_r)
+    grind (arith, lowest, xor_self low_powers, xor_zero_r)
 
-step_xor : (a b : ℕ) → step (bit_xor a b) ≡ bit_xor (step a) (step b)
+pub step_xor : (a b : ℕ) → step (bit_xor a b) ≡ bit_xor (step a) (step b)
 step_xor a b = rw (xor_shr a b 1, added_xor a b) (xor_swapped (a / 2) (b / 2) (added a) (added b))
 
 steps_xor : (n a b : ℕ) → steps n (bit_xor a b) ≡ bit_xor (steps n a) (steps n b)
 steps_xor zero a b = λ i. bit_xor a b
 steps_xor (suc n) a b = rw (step_xor a b) (steps_xor n (step a) (step b))
 
-step_even : (m : ℕ) → step (m * 2) ≡ m
+pub step_even : (m : ℕ) → step (m * 2) ≡ m
 step_even m =
     let half : m * 2 / 2 ≡ m = omega arith in
     let even : m * 2 % 2 ≡ 0 = omega arith in

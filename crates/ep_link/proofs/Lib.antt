@@ -1,6 +1,8 @@
 mod ArpPrefix
 mod ArpEncoding
 mod ArpEthIpv4Encoding
+mod Crc32Division
+mod Crc32Register
 mod Crc32Table
 mod EthernetEncoding
 mod SameFrames

@@ -2,6 +2,7 @@ pub mod Arp
 pub mod ArpEthIpv4
 pub mod ArpNew
 pub mod Crc32
+pub mod Crc32Register
 pub mod Ethernet
 pub mod Frame
 pub mod Link

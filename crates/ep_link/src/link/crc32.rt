@@ -1,6 +1,7 @@
 //! The cyclic redundancy check of frames (IEEE 802.3, section 3.2.9).
 ghost use Rattle.std.specs.Prelude.{◌≡◌, IsTrue};
-ghost use Rattle.ep_link.specs.Crc32.{after_byte, are_of, crc32, steps};
+ghost use Rattle.ep_link.specs.Crc32.{crc32};
+ghost use Rattle.ep_link.specs.Crc32Register.{after_byte, are_of, steps};
 
 /// The CRC-32 of the bytes.
 pub(super) fn crc32(bytes: &[u8]) -> u32

@@ -1,5 +1,5 @@
 use Rattle.std.proofs.Common.{◌≡◌, drop}
-use Rattle.ep_link.specs.Crc32.{after_bytes}
+use Rattle.ep_link.proofs.Crc32Register.{after_bytes}
 use Rattle.ep_link.proofs.link.crc32.crc32.Given as goal
 
 abbrev pub invariant-loop-byte : goal.invariant-loop-byte
