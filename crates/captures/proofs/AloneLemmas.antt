@@ -6,7 +6,7 @@ use Rattle.std.specs.Prelude.{IsTrue, if◌then◌else◌}
 use Rattle.std.proofs.Math.Seq.{take-append_seam, drop-append_seam}
 use Rattle.std.proofs.lemmas.List.{get_or-append-add}
 use Rattle.hex.specs.Hex.{IsBytes}
-use Rattle.captures.specs.Framed.{reported_frame}
+use Rattle.captures.specs.Framed.{frame_wire_len, reported_frame}
 use Rattle.captures.specs.Lines.{packets_of}
 use Rattle.captures.specs.Numbers.{half, word}
 use Rattle.captures.specs.Pcap.{is_magic}
@@ -86,10 +86,15 @@ abbrev pub timed_origin : Section → ByteOrder → List ℕ → ℕ → Origin
 timed_origin section order block interface = record {
   channel = section.first + interface;
   time = clock_time (clock_at section interface) (word order block 12) (word order block 16);
+  wire_len = frame_wire_len (link_at section interface) (word order block 24);
 }
 
-abbrev pub untimed_origin : Section → Origin
-untimed_origin section = record { channel = section.first; time = 0 }
+abbrev pub untimed_origin : Section → ByteOrder → List ℕ → Origin
+untimed_origin section order block = record {
+  channel = section.first;
+  time = 0;
+  wire_len = frame_wire_len (link_at section 0) (word order block 8);
+}
 
 -- what a section header says, by whether its version is read
 abbrev pub header_content : Section → ByteOrder → List ℕ → Bool → Content
@@ -108,7 +113,7 @@ content_at section order block kind =
     (link_at section (word order block 8)) (take (word order block 20) (drop 28 block))
     else (if kind == obsolete_packet then Holds (timed_origin section order block (half order block 8))
     (link_at section (half order block 8)) (take (word order block 20) (drop 28 block))
-    else (if kind == simple_packet then Holds (untimed_origin section) (link_at section 0)
+    else (if kind == simple_packet then Holds (untimed_origin section order block) (link_at section 0)
     (take (captured_len section.snap_len (word order block 8)) (drop 12 block)) else Nothing))))
 
 pub content_is : (section : Section) (order : ByteOrder) (block : List ℕ) (content : Content)
@@ -193,7 +198,7 @@ module _ (bytes u r u' r' : List ℕ) (all : IsBytes bytes) (parts : bytes ≡ u
   record_alone : (order : ByteOrder) (time_unit : TimeUnit) (link : Link) (passing : Passing)
       → IsRecordUnit order time_unit link passing u after frame
       → IsRecordUnit order time_unit link passing u' after' frame'
-      → origin ≡ record_origin order time_unit u → origin' ≡ record_origin order time_unit u' → One
+      → origin ≡ record_origin order time_unit link u → origin' ≡ record_origin order time_unit link u' → One
   record_alone order time_unit link passing i i' from from' =
       let p = i.is_record in
       let p' = i'.is_record in

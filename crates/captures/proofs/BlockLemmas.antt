@@ -17,9 +17,6 @@ use Rattle.captures.specs.declared.byte_order.ByteOrder.{ByteOrder}
 use Rattle.captures.specs.declared.pcapng.section.Section.{Section}
 use Rattle.captures.specs.declared.origin.Origin.{Origin}
 
-abbrev origin_at : ℕ → Origin
-origin_at time = record { channel = 0; time = time }
-
 pub match_as : {A : Type 0} (found : Option A) (P P' : Type 0) (Q Q' : A → Type 0) → (P → P')
     → ((x : A) → Q x → Q' x) → MatchOption found P Q → MatchOption found P' Q'
 match_as None P P' Q Q' none some m = none m
@@ -74,10 +71,10 @@ pub word_prefix : (order : ByteOrder) (prefix rest : List ℕ) (p : ℕ) → p +
 word_prefix order prefix rest p fits = grind (arith, get_or_append_left)
 
 -- a record's origin is read from its head
-pub origin_prefix : (order : ByteOrder) (time_unit : TimeUnit) (head packet : List ℕ)
+pub origin_prefix : (order : ByteOrder) (time_unit : TimeUnit) (link : Link) (head packet : List ℕ)
     → 16 ≤ length head
-    → record_origin order time_unit head ≡ record_origin order time_unit (head ++ packet)
-origin_prefix order time_unit head packet long = grind (arith, word_prefix)
+    → record_origin order time_unit link head ≡ record_origin order time_unit link (head ++ packet)
+origin_prefix order time_unit link head packet long = grind (arith, word_prefix)
 
 pub word_of : (order : ByteOrder) (bytes prefix rest : List ℕ) (p : ℕ) → bytes ≡ prefix ++ rest
     → p + 4 ≤ length prefix → word order bytes p ≡ word order prefix p

@@ -5,6 +5,7 @@ use Rattle.std.specs.Prelude.{min}
 use Rattle.std.specs.List.{AllByRecursion}
 use Rattle.captures.proofs.ByteLemmas.{Bytes, bytes_by, bytes_at, bytes_drop, bytes_take, bytes_prefix, bytes_back}
 use Rattle.captures.proofs.FramedLemmas.{reported_bytes, reported_fits}
+use Rattle.captures.specs.Framed.{frame_wire_len}
 use Rattle.captures.specs.ComeBack.{HasLine, CapturedPacketsHaveLines}
 use Rattle.captures.specs.Lines.{Packet, packets_of}
 use Rattle.captures.specs.Numbers.{half, word}
@@ -24,14 +25,18 @@ use Rattle.captures.specs.declared.origin.Origin.{Origin}
 most_time : (n : ℕ) → min n TIME_LIMIT ≤ TIME_LIMIT
 most_time n = omega arith
 
+most_wire_len : (link : Link) (n : ℕ) → frame_wire_len link n < 2 ^ 32
+most_wire_len link n = omega arith
+
 -- ---- a unit's packet
 
 abbrev Fit : Origin → List ℕ → Type 0
 Fit origin frame = AllByRecursion HasLine (packets_of origin frame)
 
 fits_line : (origin : Origin) (frame : List ℕ) → length frame ≤ FRAME_LIMIT → Bytes frame
-    → origin.channel < 2 ^ 32 → origin.time ≤ TIME_LIMIT → Fit origin frame
-fits_line origin frame short bytes number time = grind (arith, bytes_at)
+    → origin.channel < 2 ^ 32 → origin.time ≤ TIME_LIMIT → origin.wire_len < 2 ^ 32
+    → Fit origin frame
+fits_line origin frame short bytes number time wire_len = grind (arith, bytes_at)
 
 none_fits : (origin : Origin) (frame : List ℕ) → frame ≡ [] → Fit origin frame
 none_fits origin frame none = subst (λ (f : List ℕ). Fit origin f) (sym none) tt
@@ -54,6 +59,9 @@ timed_fits interface section order block after origin frame range bytes number l
     let in' = says.fits in
     let time = ap (λ (o : Origin). o.time) becomes.1 in
     let reported_time = says.time in
+    let on_wire = ap (λ (o : Origin). o.wire_len) becomes.1 in
+    let reported_len = says.wire in
+    let most_len = most_wire_len link (word order block 24) in
     let most = most_time (moved (clock_at section interface).offset
     (nanoseconds_of (clock_at section interface).resolution
     (2 ^ 32 * word order block 12 + word order block 16))) in
@@ -88,6 +96,9 @@ block_fits section order block after origin frame range bytes
     let first = says.number in
     let time = ap (λ (o : Origin). o.time) becomes.1 in
     let reported_time = says.time in
+    let on_wire = ap (λ (o : Origin). o.wire_len) becomes.1 in
+    let reported_len = says.wire in
+    let most_len = most_wire_len link (word order block 8) in
     let held' : Bytes held = grind (arith, bytes_take, bytes_drop) in
     grind (arith, fits_line, reported_fits, reported_bytes)
 block_fits section order block after origin frame range bytes Nothing says becomes = grind arith
@@ -108,6 +119,8 @@ unit_fits (Classic order time_unit link passing) unit after origin frame range b
     let zero' = ap (λ (o : Origin). o.channel) is.1 in
     let i = is.0 in
     let time = ap (λ (o : Origin). o.time) is.1 in
+    let on_wire = ap (λ (o : Origin). o.wire_len) is.1 in
+    let most_len = most_wire_len link (word order unit 12) in
     let most = most_time (1000000000 * word order unit 0
     + nanoseconds_in time_unit * word order unit 4) in
     let p = i.is_record in grind (arith, fits_line, reported_fits, reported_bytes, bytes_back)

@@ -1,10 +1,11 @@
 -- What is written of the lines of packets.
-use Rattle.std.proofs.Common.{◌≡◌, sym, ap, refl, subst, ℕ, ◌≤◌, List, [], ◌∷◌, ◌++◌, length, map, Some, append_assoc}
-use Rattle.std.proofs.Common.{append-nil, arith}
+use Rattle.std.proofs.Common.{◌≡◌, sym, ap, refl, subst, ℕ, ◌/◌, ◌<◌, ◌≤◌, ◌==◌, ◌^◌, Bool, true, false, List, [], ◌∷◌, ◌++◌}
+use Rattle.std.proofs.Common.{length, map, Some, append_assoc, append-nil, arith, eqb-true}
+use Rattle.std.specs.Prelude.{if◌then◌else◌}
 use Rattle.std.specs.List.{AllByRecursion, flat_map}
 use Rattle.captures.specs.ComeBack.{HasLine, at_no_time, on_one_channel, LinesComeBack, at_its_time, with_time}
 use Rattle.captures.specs.ComeBack.{without_time, TimedLinesComeBack}
-use Rattle.captures.specs.Lines.{Packet, packets_of, line_of, lines_of, timed_line_of}
+use Rattle.captures.specs.Lines.{Packet, packets_of, line_of, lines_of, origin_text, timed_line_of, wire_text}
 use Rattle.captures.specs.CaptureRuns.{IsCapture}
 use Rattle.captures.specs.Skipping.{none_skipped}
 use Rattle.captures.specs.Encoding.{IsWritable, capture_of, timed_packets, packets_in}
@@ -15,8 +16,9 @@ use Rattle.captures.specs.declared.time.time_unit.TimeUnit.{TimeUnit}
 use Rattle.captures.specs.declared.unfit.Unfit.{Unfit}
 use Rattle.captures.proofs.EncodingLemmas.{capture_is}
 use Rattle.captures.proofs.TextLemmas.{ends_ended}
-use Rattle.line_grammar.specs.TimedLines.{TimedFrame, timed_frame_of}
-use Rattle.line_grammar.specs.Written.{written_frame, written_timed_frame}
+use Rattle.captures.proofs.WireLemmas.{wired_frame, wired_one_line}
+use Rattle.captures.specs.CapturedFrames.{CapturedFrame, captured_frame_of}
+use Rattle.line_grammar.specs.Written.{time_text, written_frame}
 use Rattle.line_grammar.proofs.WrittenLemmas.{written_frame-one_line}
 use Rattle.line_grammar.proofs.WrittenTimes.{written_frame-timed, written_timed_frame-one_line}
 use Rattle.line_grammar.proofs.WrittenTimes.{written_timed_frame-timed}
@@ -32,8 +34,8 @@ unfolding text_of
 line_is packet rest = grind (arith, append_assoc)
 
 line_gives_frame : (packet : Packet) → HasLine packet
-    → timed_frame_of (text_of packet) ≡ Some (at_no_time packet)
-unfolding text_of
+    → captured_frame_of (text_of packet) ≡ Some (at_no_time packet)
+unfolding text_of captured_frame_of
 line_gives_frame packet fits = grind (arith, written_frame-timed)
 
 one_line : (packet : Packet) → HasLine packet → HasNoNewline (text_of packet)
@@ -44,30 +46,58 @@ one_line packet fits =
 -- ---- and with times
 
 timed_text_of : Packet → List ℕ
-timed_text_of packet =
-    written_timed_frame packet.origin.channel packet.frame packet.origin.time
+timed_text_of packet = written_frame packet.origin.channel packet.frame
+    ++ origin_text (length packet.frame) packet.origin.time packet.origin.wire_len
 
 timed_line_is : (packet : Packet) (rest : List ℕ)
     → timed_line_of packet ++ rest ≡ timed_text_of packet ++ 10 ∷ rest
 unfolding timed_text_of
 timed_line_is packet rest = grind (arith, append_assoc)
 
+-- by whether the frame has as many bytes as it had on the wire
+given_by : (whole : Bool) (packet : Packet) → (packet.origin.wire_len == length packet.frame) ≡ whole
+    → HasLine packet → captured_frame_of (written_frame packet.origin.channel packet.frame
+    ++ (if whole then time_text packet.origin.time
+    else wire_text packet.origin.time packet.origin.wire_len)) ≡ Some (at_its_time packet)
+unfolding captured_frame_of
+given_by true packet whole fits =
+    let same = eqb-true packet.origin.wire_len (length packet.frame) whole in
+    let few : packet.origin.time / 1000000000 < 2 ^ 32 = omega (arith, fits.time) in
+    rw (
+      written_timed_frame-timed packet.origin.channel packet.frame packet.origin.time fits.number
+          fits.bytes fits.some fits.short few,
+      same,
+    ) refl
+given_by false packet whole fits =
+    wired_frame packet.origin.channel packet.frame packet.origin.time packet.origin.wire_len
+    fits.number fits.bytes fits.some fits.short (omega (arith, fits.time)) fits.wire_len
+
 timed_line_gives_frame : (packet : Packet) → HasLine packet
-    → timed_frame_of (timed_text_of packet) ≡ Some (at_its_time packet)
+    → captured_frame_of (timed_text_of packet) ≡ Some (at_its_time packet)
 unfolding timed_text_of
-timed_line_gives_frame packet fits = grind (arith, written_timed_frame-timed)
+timed_line_gives_frame packet fits = given_by _ packet refl fits
+
+line_by : (whole : Bool) (packet : Packet) → HasLine packet
+    → HasNoNewline (written_frame packet.origin.channel packet.frame
+    ++ (if whole then time_text packet.origin.time
+    else wire_text packet.origin.time packet.origin.wire_len))
+line_by true packet fits =
+    written_timed_frame-one_line packet.origin.channel packet.frame packet.origin.time fits.number
+    fits.bytes (omega (arith, fits.time))
+line_by false packet fits =
+    wired_one_line packet.origin.channel packet.frame packet.origin.time packet.origin.wire_len
+    fits.number fits.bytes (omega (arith, fits.time)) fits.wire_len
 
 timed_one_line : (packet : Packet) → HasLine packet → HasNoNewline (timed_text_of packet)
 unfolding timed_text_of
 timed_one_line packet fits =
-    written_timed_frame-one_line packet.origin.channel packet.frame packet.origin.time fits.number
-    fits.bytes (omega (arith, fits.time))
+    line_by (packet.origin.wire_len == length packet.frame) packet fits
 
 -- ---- all lines
 
-module _ (line text : Packet → List ℕ) (timed : Packet → TimedFrame)
+module _ (line text : Packet → List ℕ) (timed : Packet → CapturedFrame)
     (ended : (packet : Packet) (rest : List ℕ) → line packet ++ rest ≡ text packet ++ 10 ∷ rest)
-    (gives_frames : (packet : Packet) → HasLine packet → timed_frame_of (text packet) ≡ Some (timed packet))
+    (gives_frames : (packet : Packet) → HasLine packet → captured_frame_of (text packet) ≡ Some (timed packet))
     (one : (packet : Packet) → HasLine packet → HasNoNewline (text packet)) where
   all_ended : (packets : List Packet) → flat_map line packets ≡ with_line_ends (map text packets)
   all_ended [] = refl
@@ -97,7 +127,7 @@ module _ (line text : Packet → List ℕ) (timed : Packet → TimedFrame)
   )
 
 -- the frames' capture
-module _ (time_unit : TimeUnit) (timed : Packet → TimedFrame) (reported : Packet → Packet)
+module _ (time_unit : TimeUnit) (timed : Packet → CapturedFrame) (reported : Packet → Packet)
     (fits : (packet : Packet) → HasLine packet → IsWritable (timed packet))
     (same : (packet : Packet) → HasLine packet
     → timed_packets time_unit (timed packet) ≡ reported packet ∷ []) where
@@ -123,14 +153,19 @@ one_packet : (origin : Origin) (frame : List ℕ) → 1 ≤ length frame
     → packets_of origin frame ≡ record { origin = origin; frame = frame } ∷ []
 one_packet origin frame some = grind arith
 
-packet_at : (time : ℕ) (packet : Packet) (origin : Origin) → HasLine packet
-    → origin.channel ≡ 0 → origin.time ≡ time
-    → packets_of origin packet.frame ≡ on_one_channel time packet ∷ []
-packet_at time packet origin fits none is = grind arith
+packet_at : (time wire_len : ℕ) (packet : Packet) (origin : Origin) → HasLine packet
+    → origin.channel ≡ 0 → origin.time ≡ time → origin.wire_len ≡ wire_len
+    → packets_of origin packet.frame ≡ on_one_channel time wire_len packet ∷ []
+packet_at time wire_len packet origin fits none is same = grind arith
 
 without_writable : (packet : Packet) → HasLine packet → IsWritable (at_no_time packet)
 without_writable packet fits =
-    record { short = fits.short; seconds = omega arith; nanoseconds = omega arith }
+    let short = fits.short in record {
+      short = fits.short;
+      seconds = omega arith;
+      nanoseconds = omega arith;
+      wire_len = omega arith;
+    }
 
 without_same : (time_unit : TimeUnit) (packet : Packet) → HasLine packet
     → timed_packets time_unit (at_no_time packet) ≡ without_time packet ∷ []
@@ -138,7 +173,12 @@ without_same time_unit packet fits = grind arith
 
 timed_writable : (packet : Packet) → HasLine packet → IsWritable (at_its_time packet)
 timed_writable packet fits = let few = fits.time in
-    record { short = fits.short; seconds = omega arith; nanoseconds = omega arith }
+    record {
+      short = fits.short;
+      seconds = omega arith;
+      nanoseconds = omega arith;
+      wire_len = fits.wire_len;
+    }
 
 timed_same : (time_unit : TimeUnit) (packet : Packet) → HasLine packet
     → timed_packets time_unit (at_its_time packet) ≡ with_time time_unit packet ∷ []

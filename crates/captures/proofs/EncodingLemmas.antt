@@ -15,7 +15,7 @@ use Rattle.captures.specs.Pcap.{IsPacketRecord}
 use Rattle.captures.specs.CaptureRuns.{IsCapture}
 use Rattle.captures.specs.Encoding.{file_header, record_head, record_of, capture_of, packets_in, parts_in, origin_of}
 use Rattle.captures.specs.Encoding.{IsWritable}
-use Rattle.line_grammar.specs.TimedLines.{TimedFrame}
+use Rattle.captures.specs.CapturedFrames.{CapturedFrame}
 use Rattle.captures.specs.declared.time.time_unit.TimeUnit.TheVariants.{Microseconds, Nanoseconds}
 use Rattle.captures.specs.Units.{Row, in_a_row, IsRecordUnit, OpensFile, record_origin}
 use Rattle.captures.specs.declared.byte_order.ByteOrder.TheVariants.{Little}
@@ -25,21 +25,22 @@ use Rattle.captures.specs.declared.translation.state.State.TheVariants.{Classic}
 use Rattle.captures.specs.declared.time.time_unit.TimeUnit.{TimeUnit}
 use Rattle.captures.specs.declared.origin.Origin.{Origin}
 
-abbrev origin_at : ℕ → Origin
-origin_at time = record { channel = 0; time = time }
+abbrev nowhere : Origin
+nowhere = record { channel = 0; time = 0; wire_len = 0 }
 
 -- the bytes of a number encode it
 encoded : (n : ℕ) → n < 2 ^ 32
     → n % 256 + 256 * (n / 256 % 256 + 256 * (n / 65536 % 256 + 256 * (n / 16777216 % 256))) ≡ n
 encoded n fits = omega arith
 
-record_is : (time_unit : TimeUnit) (timed : TimedFrame) → length timed.frame ≤ FRAME_LIMIT
-    → IsPacketRecord Little (record_of time_unit timed) timed.frame
-record_is time_unit timed fits = record {
-  head = record_head timed.seconds (parts_in time_unit timed.nanoseconds) (length timed.frame) (length timed.frame);
+record_is : (time_unit : TimeUnit) (given : CapturedFrame) → length given.frame ≤ FRAME_LIMIT
+    → IsPacketRecord Little (record_of time_unit given) given.frame
+record_is time_unit given fits = record {
+  head = record_head given.seconds (parts_in time_unit given.nanoseconds) (length given.frame)
+      given.wire_len;
   parts = refl;
   size = refl;
-  captured = encoded (length timed.frame) (omega arith);
+  captured = encoded (length given.frame) (omega arith);
 }
 
 -- an Ethernet packet is its frame, if it has bytes or none
@@ -65,47 +66,47 @@ at_frames time_unit passing = Classic Little time_unit Ethernet passing
 abbrev one_more : Passing → Passing
 one_more passing = record passing { seen = capped (passing.seen + 1) }
 
-after_frames : Passing → List TimedFrame → Passing
+after_frames : Passing → List CapturedFrame → Passing
 after_frames passing [] = passing
-after_frames passing (timed ∷ frames) = after_frames (one_more passing) frames
+after_frames passing (given ∷ frames) = after_frames (one_more passing) frames
 
-none_more : (passing : Passing) (frames : List TimedFrame)
+none_more : (passing : Passing) (frames : List CapturedFrame)
     → (after_frames passing frames).skipped ≡ passing.skipped
 unfolding after_frames
 none_more passing [] = refl
-none_more passing (timed ∷ frames) = none_more (one_more passing) frames
+none_more passing (given ∷ frames) = none_more (one_more passing) frames
 
-is_unit : (time_unit : TimeUnit) (passing : Passing) (timed : TimedFrame) → length timed.frame ≤ FRAME_LIMIT
-    → IsRecordUnit Little time_unit Ethernet passing (record_of time_unit timed)
-    (at_frames time_unit (one_more passing)) timed.frame
-is_unit time_unit passing timed fits = grind (arith, record_is, own_read, own_fits, own_reported)
+is_unit : (time_unit : TimeUnit) (passing : Passing) (given : CapturedFrame) → length given.frame ≤ FRAME_LIMIT
+    → IsRecordUnit Little time_unit Ethernet passing (record_of time_unit given)
+    (at_frames time_unit (one_more passing)) given.frame
+is_unit time_unit passing given fits = grind (arith, record_is, own_read, own_fits, own_reported)
 
-units_of : TimeUnit → List TimedFrame → List (List ℕ)
+units_of : TimeUnit → List CapturedFrame → List (List ℕ)
 units_of time_unit [] = []
-units_of time_unit (timed ∷ frames) = record_of time_unit timed ∷ units_of time_unit frames
+units_of time_unit (given ∷ frames) = record_of time_unit given ∷ units_of time_unit frames
 
-in_a_row-units_of : (time_unit : TimeUnit) (frames : List TimedFrame)
+in_a_row-units_of : (time_unit : TimeUnit) (frames : List CapturedFrame)
     → in_a_row (units_of time_unit frames) ≡ flat_map (record_of time_unit) frames
 unfolding units_of
 in_a_row-units_of time_unit [] = refl
-in_a_row-units_of time_unit (timed ∷ frames) = grind (arith, in_a_row-units_of time_unit frames)
+in_a_row-units_of time_unit (given ∷ frames) = grind (arith, in_a_row-units_of time_unit frames)
 
-its_origin : (time_unit : TimeUnit) (timed : TimedFrame) → IsWritable timed
-    → origin_of time_unit timed ≡ record_origin Little time_unit (record_of time_unit timed)
-its_origin time_unit timed fits = grind arith
+its_origin : (time_unit : TimeUnit) (given : CapturedFrame) → IsWritable given
+    → origin_of time_unit given ≡ record_origin Little time_unit Ethernet (record_of time_unit given)
+its_origin time_unit given fits = grind arith
 
-row_of : (time_unit : TimeUnit) (passing : Passing) (frames : List TimedFrame)
+row_of : (time_unit : TimeUnit) (passing : Passing) (frames : List CapturedFrame)
     → AllByRecursion IsWritable frames
     → Row (at_frames time_unit passing) (units_of time_unit frames) (packets_in time_unit frames)
     (at_frames time_unit (after_frames passing frames))
 unfolding units_of after_frames
 row_of time_unit passing [] all = (refl, refl)
-row_of time_unit passing (timed ∷ frames) all = (
+row_of time_unit passing (given ∷ frames) all = (
   at_frames time_unit (one_more passing),
-  origin_of time_unit timed,
-  timed.frame,
+  origin_of time_unit given,
+  given.frame,
   packets_in time_unit frames,
-  (is_unit time_unit passing timed all.0.short, its_origin time_unit timed all.0),
+  (is_unit time_unit passing given all.0.short, its_origin time_unit given all.0),
   row_of time_unit (one_more passing) frames all.1,
   refl,
 )
@@ -123,7 +124,7 @@ header_is unfit Nanoseconds = record {
   next = refl;
 }
 
-pub capture_is : (unfit : Unfit) (time_unit : TimeUnit) (frames : List TimedFrame)
+pub capture_is : (unfit : Unfit) (time_unit : TimeUnit) (frames : List CapturedFrame)
     → AllByRecursion IsWritable frames
     → IsCapture unfit (capture_of time_unit frames) (packets_in time_unit frames) none_skipped
 capture_is unfit time_unit frames all = record {
@@ -132,7 +133,7 @@ capture_is unfit time_unit frames all = record {
     units = file_header time_unit ∷ units_of time_unit frames;
     row = (
       at_frames time_unit (passing_from unfit),
-      origin_at 0,
+      nowhere,
       [],
       packets_in time_unit frames,
       inl (header_is unfit time_unit, refl),

@@ -14,7 +14,7 @@ abbrev pub section_after : (packets : ℕ) → Section
 section_after packets =
     record described_section { passing = record (passing_from Refuse) { seen = packets } }
 
-pub simple : (before : ℕ) → IsSimplePacket (section_after before) Little simple_block (origin_at 0)
+pub simple : (before : ℕ) → IsSimplePacket (section_after before) Little simple_block (origin_at 0 15)
     Sll2 cooked_packet
 simple before = record {
   kind = refl;
@@ -23,12 +23,13 @@ simple before = record {
   number = refl;
   time = refl;
   over = refl;
+  wire = refl;
   captured = refl;
   bytes = refl;
 }
 
 pub cut_simple : (before : ℕ) → IsSimplePacket (section_after before) Little cut_simple_block
-    (origin_at 0) Sll2 (take 22 (drop 12 cut_simple_block))
+    (origin_at 0 1494) Sll2 (take 22 (drop 12 cut_simple_block))
 cut_simple before = record {
   kind = refl;
   size = omega arith;
@@ -36,13 +37,14 @@ cut_simple before = record {
   number = refl;
   time = refl;
   over = refl;
+  wire = refl;
   captured = refl;
   bytes = refl;
 }
 
 abbrev pub HasTimed : List ℕ → Type 0
 HasTimed block = (before : ℕ) → IsTimedPacket 0 (section_after before) Little block
-    (origin_at 1700000000250000000) Sll2 cooked_packet
+    (origin_at 1700000000250000000 1494) Sll2 cooked_packet
 
 pub enhanced : HasTimed enhanced_block
 enhanced before = record {
@@ -52,6 +54,7 @@ enhanced before = record {
   fits = omega arith;
   time = refl;
   over = refl;
+  wire = refl;
   captured = refl;
   bytes = refl;
 }
@@ -64,6 +67,7 @@ obsolete before = record {
   fits = omega arith;
   time = refl;
   over = refl;
+  wire = refl;
   captured = refl;
   bytes = refl;
 }

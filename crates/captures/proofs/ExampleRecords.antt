@@ -11,7 +11,7 @@ use Rattle.captures.specs.declared.time.time_unit.TimeUnit.TheVariants.{Nanoseco
 use Rattle.captures.specs.declared.translation.state.State.TheVariants.{Start}
 use Rattle.captures.specs.declared.unfit.Unfit.TheVariants.{Refuse}
 
-pub opens_file : IsUnit (Start Refuse) file_header (file_after 0) (origin_at 0) []
+pub opens_file : IsUnit (Start Refuse) file_header (file_after 0) (origin_at 0 0) []
 opens_file = grind arith
 
 pub holds_packet : IsPacketRecord Big packet_record cooked_packet
@@ -21,7 +21,7 @@ holds_packet =
 -- after so many packets
 pub is_record : (before : ℕ) → IsRecordUnit Big Nanoseconds Sll2
     (record (passing_from Refuse) { seen = before }) packet_record
-    (file_after (capped (before + 1))) (packet_at 1700000000250000000).frame
+    (file_after (capped (before + 1))) (packet_at 1700000000250000000 1494).frame
 is_record before = record {
   packet = cooked_packet;
   is_record = holds_packet;
@@ -33,14 +33,14 @@ is_record before = record {
 
 -- whatever follows it
 pub passes_record : (rest : List ℕ) → Passes (Start Refuse) (file_header ++ packet_record ++ rest)
-    (packet_at 1700000000250000000 ∷ []) (file_after 1) rest
+    (packet_at 1700000000250000000 1494 ∷ []) (file_after 1) rest
 passes_record rest =
-    let reported = packet_at 1700000000250000000 in
+    let reported = packet_at 1700000000250000000 1494 in
     record {
       units = file_header ∷ packet_record ∷ [];
       row = (
         file_after 0,
-        origin_at 0,
+        origin_at 0 0,
         [],
         reported ∷ [],
         opens_file,

@@ -1,16 +1,23 @@
 -- The first packet of some bytes.
-use Rattle.std.proofs.Common.{◌≡◌, subst, ℕ, ◌-◌, ◌<◌, ◌==◌, arith, true, false, List, [], ◌∷◌, ◌++◌, length}
+use Rattle.std.proofs.Common.{◌≡◌, ◌∙◌, sym, ap, ap₂, refl, subst, ℕ, ◌-◌, ◌<◌, ◌==◌, arith, true, false, List, [], ◌∷◌}
+use Rattle.std.proofs.Common.{◌++◌, length, inl, inr}
 use Rattle.std.proofs.Common.{append_assoc, length-append, append-nil, Option}
-use Rattle.captures.specs.Framed.{FrameParts, frame_bytes}
+use Rattle.captures.specs.Framed.{FrameParts, frame_bytes, frame_wire_len}
+use Rattle.captures.specs.Numbers.{word}
+use Rattle.captures.specs.Pcapng.{Says, block_wire_len}
+use Rattle.captures.specs.Pcapng.Content.{Holds}
 use Rattle.captures.specs.PacketSteps.{HasNone, IsFirst, IsFromEnd, origin_of, taken_of}
 use Rattle.captures.specs.Lines.{Packet as TakenPacket, noted, reported}
-use Rattle.captures.specs.Units.{HasPacket, Passes, StandsAt, Takes, in_a_row}
+use Rattle.captures.specs.Units.{HasPacket, IsOn, IsUnit, Passes, StandsAt, Takes, in_a_row, no_section}
+use Rattle.captures.specs.declared.byte_order.ByteOrder.{ByteOrder}
 use Rattle.captures.specs.declared.capture_error.CaptureError.{CaptureError}
 use Rattle.captures.specs.declared.link.kind.Link.{Link}
 use Rattle.captures.specs.declared.origin.Origin.{Origin}
 use Rattle.captures.specs.declared.packet.Packet.{Packet}
+use Rattle.captures.specs.declared.pcapng.section.Section.{Section}
 use Rattle.captures.specs.declared.text.ledger.Ledger.{Ledger}
 use Rattle.captures.specs.declared.translation.state.State.{State}
+use Rattle.captures.specs.declared.translation.state.State.TheVariants.{Start, Classic, Pcapng}
 use Rattle.captures.proofs.UnitLemmas.{Reported, lines_from-append, no_packets_of, noted_all-append, one_packet}
 use Rattle.captures.proofs.UnitLemmas.{passes_none, passes_unit}
 
@@ -27,6 +34,57 @@ passes_empty state mid after bytes rest rest' origin link wire_len frame p h non
 pub some_bytes : (frame : FrameParts) → (length (frame_bytes frame) == 0) ≡ false
     → 0 < length (frame_bytes frame)
 some_bytes frame some = grind arith
+
+-- ---- the length of a packet's frame on the wire, by that of the packet
+
+held_wire_len : (section : Section) (order : ByteOrder) (block : List ℕ) (origin : Origin) (link : Link)
+    (packet : List ℕ) (wire_len : ℕ) → Says section order block (Holds origin link packet)
+    → block_wire_len order block ≡ wire_len → origin.wire_len ≡ frame_wire_len link wire_len
+held_wire_len section order block origin link packet wire_len (inl h) is =
+    let which : block_wire_len order block ≡ word order block 24 = rw h.0 refl in
+    sym h.1.wire ∙ ap (frame_wire_len link) (sym which ∙ is)
+held_wire_len section order block origin link packet wire_len (inr (inl h)) is =
+    let which : block_wire_len order block ≡ word order block 24 = rw h.0 refl in
+    sym h.1.wire ∙ ap (frame_wire_len link) (sym which ∙ is)
+held_wire_len section order block origin link packet wire_len (inr (inr h)) is =
+    let which : block_wire_len order block ≡ word order block 8 = rw h.kind refl in
+    sym h.wire ∙ ap (frame_wire_len link) (sym which ∙ is)
+
+on_wire : (state : State) (unit : List ℕ) (after : State) (origin : Origin) (link : Link)
+    (wire_len : ℕ) (frame : FrameParts) → IsUnit state unit after origin (frame_bytes frame)
+    → IsOn state unit origin link wire_len frame → origin.wire_len ≡ frame_wire_len link wire_len
+on_wire (Start unfit) unit after origin link wire_len frame is on =
+    held_wire_len (no_section unfit) on.0 unit origin link on.2.packet wire_len on.2.says on.2.wire
+on_wire (Classic order time_unit link' passing) unit after origin link wire_len frame is on =
+    ap (λ (o : Origin). o.wire_len) is.1
+    ∙ ap₂ frame_wire_len on.0 on.1.wire
+on_wire (Pcapng section) unit after origin link wire_len frame is on =
+    held_wire_len section on.0 unit origin link on.2.packet wire_len on.2.says on.2.wire
+
+origin_is : (state : State) (bytes : List ℕ) (after : State) (origin : Origin) (link : Link)
+    (wire_len : ℕ) (frame : FrameParts) (rest : List ℕ)
+    → HasPacket state bytes after origin link wire_len frame rest → 0 < length (frame_bytes frame)
+    → origin ≡ record {
+      channel = origin.channel;
+      time = origin.time;
+      wire_len = frame_wire_len link wire_len;
+    }
+origin_is state bytes after origin link wire_len frame rest h some =
+    let same = on_wire state h.has_unit.unit after origin link wire_len frame h.has_unit.is_unit
+    (h.is_on some) in
+    λ i. record { channel = origin.channel; time = origin.time; wire_len = same i }
+
+pub with_wire_len : (state : State) (bytes : List ℕ) (after : State) (origin : Origin) (link : Link)
+    (wire_len : ℕ) (frame : FrameParts) (rest : List ℕ)
+    → HasPacket state bytes after origin link wire_len frame rest → 0 < length (frame_bytes frame)
+    → HasPacket state bytes after (record {
+      channel = origin.channel;
+      time = origin.time;
+      wire_len = frame_wire_len link wire_len;
+    }) link wire_len frame rest
+with_wire_len state bytes after origin link wire_len frame rest h some =
+    subst (λ (o : Origin). HasPacket state bytes after o link wire_len frame rest)
+    (origin_is state bytes after origin link wire_len frame rest h some) h
 
 -- where the frame of a unit is, after other units
 pub from_end : (bytes rest part : List ℕ) (at from : ℕ) (units : List (List ℕ))

@@ -13,7 +13,7 @@ use Rattle.captures.specs.Endings.{cause}
 use Rattle.captures.specs.Lines.{Packet, lines_of}
 use Rattle.captures.specs.CaptureRuns.{ArePassedOver, IsCapture, PassesOver, Runs, capture_to_lines}
 use Rattle.captures.specs.Encoding.{capture_of}
-use Rattle.line_grammar.specs.TimedLines.{TimedFrame}
+use Rattle.captures.specs.CapturedFrames.{CapturedFrame}
 use Rattle.captures.specs.Texts.{IsText, WritesCapture, lines_to_capture}
 use Rattle.captures.specs.declared.extra.Extra.{Extra}
 use Rattle.captures.specs.declared.time.time_unit.TimeUnit.{TimeUnit}
@@ -30,10 +30,10 @@ runs_ok extra unfit skipped limit a b result runs =
 
 pub writes_ok : (time_unit : TimeUnit) (limit : ℕ) (a b : Known) (result : Result Unit RunError)
     → WritesCapture time_unit KnownCall limit a b result
-    → OnOk result (IfSome a.input (λ bytes. (frames : List TimedFrame) × IsText bytes frames
+    → OnOk result (IfSome a.input (λ bytes. (frames : List CapturedFrame) × IsText bytes frames
     × Appends a.output b.output (capture_of time_unit frames)))
 writes_ok time_unit limit a b result runs =
-    goes_ok (lines_to_capture time_unit) cause limit a b (λ bytes. (frames : List TimedFrame) × IsText bytes
+    goes_ok (lines_to_capture time_unit) cause limit a b (λ bytes. (frames : List CapturedFrame) × IsText bytes
     frames
     × Appends a.output b.output (capture_of time_unit frames))
     (λ read written whole appended.

@@ -8,7 +8,6 @@ use Rattle.captures.specs.declared.byte_order.ByteOrder.{ByteOrder}
 use Rattle.captures.specs.declared.capture_error.CaptureError.TheVariants.{BadBlock, FrameTooLong, InterfaceLimit}
 use Rattle.captures.specs.declared.capture_error.CaptureError.TheVariants.{LinkType}
 use Rattle.captures.specs.declared.pcapng.section.Section.{Section}
-use Rattle.std.proofs.Math.Bool.{and-false}
 
 pub read_version : (major minor : ℕ) → major ≡ 1 → (minor ≡ 0) ⊎ (minor ≡ 2)
     → is_read_version major minor ≡ true

@@ -30,4 +30,5 @@ mod Translating
 mod UnfitLemmas
 mod UnitLemmas
 mod WindowLemmas
+mod WireLemmas
 mod Writing

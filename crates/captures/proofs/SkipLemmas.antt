@@ -19,7 +19,7 @@ use Rattle.captures.specs.declared.text.ledger.Ledger.{Ledger}
 
 -- of no packet
 abbrev pub no_origin : Origin
-no_origin = record { channel = 0; time = 0 }
+no_origin = record { channel = 0; time = 0; wire_len = 0 }
 
 -- after this many more bytes
 abbrev pub following : LongBlock → ℕ → LongBlock

@@ -2,7 +2,7 @@
 use Rattle.std.proofs.Common.{◌≡◌, ◌∙◌, sym, ap, refl, ℕ, false, true, arith, List, [], ◌∷◌, ◌++◌, length, drop}
 use Rattle.std.proofs.Common.{append-nil, length-append}
 use Rattle.std.specs.Prelude.{slice_index}
-use Rattle.line_grammar.specs.TimedLines.{TimedFrame}
+use Rattle.captures.specs.CapturedFrames.{CapturedFrame}
 use Rattle.captures.specs.Texts.{is_newline, with_line_ends, GiveFrames, IsText}
 use Rattle.lines.specs.Lines.{HasNoNewline}
 
@@ -24,7 +24,7 @@ line_same (a ∷ l) [] xs ys p q same = grind arith
 line_same (a ∷ l) (b ∷ m) xs ys p q same =
     grind (arith, line_same l m xs ys p.1 q.1 (tail_same a b (l ++ 10 ∷ xs) (m ++ 10 ∷ ys) same))
 
-lines_alone : (ls ms : List (List ℕ)) (fs gs : List TimedFrame) → GiveFrames ls fs → GiveFrames ms gs
+lines_alone : (ls ms : List (List ℕ)) (fs gs : List CapturedFrame) → GiveFrames ls fs → GiveFrames ms gs
     → with_line_ends ls ≡ with_line_ends ms → fs ≡ gs
 lines_alone [] [] fs gs p q same = p ∙ sym q
 lines_alone [] (m ∷ ms) fs gs p q same = let sizes = ap length same in
@@ -37,6 +37,6 @@ lines_alone (l ∷ ls) (m ∷ ms) fs gs p q same =
     let later = lines_alone ls ms p.1 q.1 p.4 q.4 split.1 in
     grind arith
 
-pub text_alone : (bytes : List ℕ) (frames frames' : List TimedFrame) → IsText bytes frames
+pub text_alone : (bytes : List ℕ) (frames frames' : List CapturedFrame) → IsText bytes frames
     → IsText bytes frames' → frames ≡ frames'
 text_alone bytes frames frames' p q = grind (arith, append-nil, lines_alone)

@@ -1,14 +1,16 @@
 -- Lines at the start of a text.
-use Rattle.std.proofs.Common.{◌≡◌, ◌∙◌, sym, ap, refl, subst, ℕ, ◌+◌, ◌-◌, ◌<◌, ◌≤◌, Bool, true, false, List, [], ◌∷◌}
+use Rattle.std.proofs.Common.{◌≡◌, ◌∙◌, sym, ap, refl, subst, ℕ, ◌+◌, ◌<◌, ◌≤◌, Bool, true, false, List, [], ◌∷◌}
 use Rattle.std.proofs.Common.{◌++◌, length, take, drop, get_or, Some, None, append_assoc, append-nil, length-append}
 use Rattle.std.proofs.Common.{arith, eqb-true}
-use Rattle.std.specs.Prelude.{position, nat_lt}
+use Rattle.std.specs.Prelude.{position, nat_lt, if◌then◌else◌}
 use Rattle.std.specs.List.{flat_map, position_or_len, before_first, after_first}
 use Rattle.std.proofs.lemmas.Bool.{lt-ltb}
 use Rattle.std.proofs.lemmas.List.Sums.{split_at_first, passes_at_first}
 use Rattle.std.proofs.lemmas.List.Concat.{flat_map-append}
-use Rattle.line_grammar.specs.TimedLines.{timed_frame_of, TimedFrame}
-use Rattle.line_grammar.specs.declared.frame_limits.TheConstants.{TIMED_LINE_LIMIT}
+use Rattle.captures.specs.CapturedFrames.{CapturedFrame, captured_frame_of, fault_of}
+use Rattle.captures.specs.declared.limits.TheConstants.{CAPTURED_LINE_LIMIT}
+use Rattle.captures.specs.declared.text.bad_line.LineFault.{LineFault}
+use Rattle.captures.specs.declared.text.bad_line.LineFault.TheVariants.{NoFrame}
 use Rattle.captures.specs.Encoding.{record_of}
 use Rattle.captures.specs.Texts.{is_newline, with_line_ends, GiveFrames, GivesFrames, ends_line, with_last_line_end}
 use Rattle.captures.specs.Texts.{IsLeftLine}
@@ -65,7 +67,7 @@ with_line_ends-append : (xs ys : List (List ℕ)) → with_line_ends (xs ++ ys) 
 with_line_ends-append [] ys = refl
 with_line_ends-append (x ∷ xs) ys = grind (arith, with_line_ends-append xs ys, append_assoc)
 
-GiveFrames-append : (xs ys : List (List ℕ)) (fs gs : List TimedFrame) → GiveFrames xs fs → GiveFrames ys gs
+GiveFrames-append : (xs ys : List (List ℕ)) (fs gs : List CapturedFrame) → GiveFrames xs fs → GiveFrames ys gs
     → GiveFrames (xs ++ ys) (fs ++ gs)
 GiveFrames-append [] ys fs gs p q = rw p q
 GiveFrames-append (x ∷ xs) ys fs gs p q =
@@ -75,7 +77,7 @@ pub gives_frames_start : (bytes : List ℕ) → GivesFrames bytes 0 [] bytes
 gives_frames_start bytes = record { lines = []; each = refl; number = refl; parts = refl }
 
 -- lines in the rest and what follows it
-pub gives_frames_more : (bytes chunk rest rest' : List ℕ) (m n : ℕ) (fs gs : List TimedFrame)
+pub gives_frames_more : (bytes chunk rest rest' : List ℕ) (m n : ℕ) (fs gs : List CapturedFrame)
     → GivesFrames bytes m fs rest → GivesFrames (rest ++ chunk) n gs rest'
     → GivesFrames (bytes ++ chunk) (m + n) (fs ++ gs) rest'
 gives_frames_more bytes chunk rest rest' m n fs gs p q = record {
@@ -87,15 +89,15 @@ gives_frames_more bytes chunk rest rest' m n fs gs p q = record {
 }
 
 -- one more line
-pub gives_frames_line : (bytes rest line rest' : List ℕ) (n : ℕ) (fs : List TimedFrame)
-    (timed : TimedFrame) → GivesFrames bytes n fs rest → rest ≡ line ++ 10 ∷ rest' → HasNoNewline line
-    → timed_frame_of line ≡ Some timed
-    → GivesFrames bytes (n + 1) (fs ++ timed ∷ []) rest'
-gives_frames_line bytes rest line rest' n fs timed p parts whole is =
-    subst (λ l. GivesFrames l (n + 1) (fs ++ timed ∷ []) rest') (append-nil bytes)
-    (gives_frames_more bytes [] rest rest' n 1 fs (timed ∷ []) p (record {
+pub gives_frames_line : (bytes rest line rest' : List ℕ) (n : ℕ) (fs : List CapturedFrame)
+    (given : CapturedFrame) → GivesFrames bytes n fs rest → rest ≡ line ++ 10 ∷ rest' → HasNoNewline line
+    → captured_frame_of line ≡ Some given
+    → GivesFrames bytes (n + 1) (fs ++ given ∷ []) rest'
+gives_frames_line bytes rest line rest' n fs given p parts whole is =
+    subst (λ l. GivesFrames l (n + 1) (fs ++ given ∷ []) rest') (append-nil bytes)
+    (gives_frames_more bytes [] rest rest' n 1 fs (given ∷ []) p (record {
       lines = line ∷ [];
-      each = (timed, [], whole, is, refl, refl);
+      each = (given, [], whole, is, refl, refl);
       number = refl;
       parts = grind (arith, append-nil, append_assoc);
     }))
@@ -120,7 +122,7 @@ ends_ended [] = refl
 ends_ended (line ∷ lines) = grind (arith, ends_ended lines, ends_line-prefix, ends_newline)
 
 -- what ends an incomplete line
-pub closed_is : (bytes rest : List ℕ) (n : ℕ) (fs : List TimedFrame) → GivesFrames bytes n fs rest
+pub closed_is : (bytes rest : List ℕ) (n : ℕ) (fs : List CapturedFrame) → GivesFrames bytes n fs rest
     → HasNoNewline rest → with_last_line_end bytes ≡ bytes ++ coming true rest []
 closed_is bytes rest n fs p none =
     grind (arith, append-nil, ends_ended, ends_line-prefix, ends_none)
@@ -134,7 +136,7 @@ text_ends : (started chunk : List ℕ) → ends_line (started ++ coming true sta
 text_ends started chunk = grind (arith, ends_line-prefix)
 
 -- nothing is left of a text that is ended
-pub ended_rest : (started chunk text rest : List ℕ) (n : ℕ) (fs : List TimedFrame)
+pub ended_rest : (started chunk text rest : List ℕ) (n : ℕ) (fs : List CapturedFrame)
     → text ≡ started ++ coming true started chunk → GivesFrames text n fs rest → HasNoNewline rest → rest ≡ []
 ended_rest started chunk text rest n fs parts p none =
     not_ended (with_line_ends p.lines) rest (ap ends_line (sym p.parts ∙ parts) ∙ text_ends started
@@ -143,26 +145,27 @@ ended_rest started chunk text rest n fs parts p none =
 -- ---- what is taken
 
 -- where no line ends any more
-left_by : (rest : List ℕ) (b : Bool) → nat_lt TIMED_LINE_LIMIT (length rest) ≡ b
-    → HasNoNewline rest → IsLeftLine b rest
+left_by : (rest : List ℕ) (b : Bool) → nat_lt CAPTURED_LINE_LIMIT (length rest) ≡ b
+    → HasNoNewline rest → IsLeftLine (if b then Some NoFrame else None) rest
 left_by rest b is none = grind arith
 
 pub left_line : (rest : List ℕ) → HasNoNewline rest
-    → IsLeftLine (nat_lt TIMED_LINE_LIMIT (length rest)) rest
-left_line rest none = left_by rest (nat_lt TIMED_LINE_LIMIT (length rest)) refl none
+    → IsLeftLine (if nat_lt CAPTURED_LINE_LIMIT (length rest) then Some NoFrame else None) rest
+left_line rest none = left_by rest (nat_lt CAPTURED_LINE_LIMIT (length rest)) refl none
 
-pub left_bad : (rest line rest' : List ℕ) → rest ≡ line ++ 10 ∷ rest' → HasNoNewline line
-    → timed_frame_of line ≡ None → IsLeftLine true rest
-left_bad rest line rest' parts whole none = grind arith
+pub left_bad : (rest line rest' : List ℕ) (fault : LineFault) → rest ≡ line ++ 10 ∷ rest'
+    → HasNoNewline line → captured_frame_of line ≡ None → fault_of line ≡ fault
+    → IsLeftLine (Some fault) rest
+left_bad rest line rest' fault parts whole none why = grind arith
 
-pub records-append : (time_unit : TimeUnit) (fs gs : List TimedFrame)
+pub records-append : (time_unit : TimeUnit) (fs gs : List CapturedFrame)
     → flat_map (record_of time_unit) (fs ++ gs)
     ≡ flat_map (record_of time_unit) fs ++ flat_map (record_of time_unit) gs
 records-append time_unit fs gs = flat_map-append (record_of time_unit) fs gs
 
 -- this many lines are taken, and their records written
 pub record Taking (time_unit : TimeUnit) (bytes : List ℕ) (count : ℕ) (rest written : List ℕ) : Type 0 where
-  pub frames : List TimedFrame
+  pub frames : List CapturedFrame
   pub gives_frames : GivesFrames bytes count frames rest
   pub encoded : written ≡ flat_map (record_of time_unit) frames
 
@@ -170,12 +173,12 @@ pub taking_start : (time_unit : TimeUnit) (bytes written : List ℕ) → written
     → Taking time_unit bytes 0 bytes written
 taking_start time_unit bytes written none = grind arith
 
-pub taking_line : (time_unit : TimeUnit) (bytes rest line rest' written written' : List ℕ) (n : ℕ) (timed : TimedFrame)
+pub taking_line : (time_unit : TimeUnit) (bytes rest line rest' written written' : List ℕ) (n : ℕ) (given : CapturedFrame)
     → Taking time_unit bytes n rest written → rest ≡ line ++ 10 ∷ rest' → HasNoNewline line
-    → timed_frame_of line ≡ Some timed
-    → written' ≡ written ++ record_of time_unit timed → Taking time_unit bytes (n + 1) rest' written'
-taking_line time_unit bytes rest line rest' written written' n timed t parts whole is more = record {
-  frames = t.frames ++ timed ∷ [];
-  gives_frames = gives_frames_line bytes rest line rest' n t.frames timed t.gives_frames parts whole is;
+    → captured_frame_of line ≡ Some given
+    → written' ≡ written ++ record_of time_unit given → Taking time_unit bytes (n + 1) rest' written'
+taking_line time_unit bytes rest line rest' written written' n given t parts whole is more = record {
+  frames = t.frames ++ given ∷ [];
+  gives_frames = gives_frames_line bytes rest line rest' n t.frames given t.gives_frames parts whole is;
   encoded = grind (arith, append-nil, records-append);
 }

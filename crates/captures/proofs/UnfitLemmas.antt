@@ -63,6 +63,7 @@ timed_kept interface section order block origin link packet t = record {
   fits = t.fits;
   time = t.time;
   over = t.over;
+  wire = t.wire;
   captured = t.captured;
   bytes = t.bytes;
 }
@@ -84,6 +85,7 @@ says_kept section order block (Holds origin link packet) (inr (inr s)) = inr (in
   number = s.number;
   time = s.time;
   over = s.over;
+  wire = s.wire;
   captured = s.captured;
   bytes = s.bytes;
 }))

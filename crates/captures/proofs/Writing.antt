@@ -1,12 +1,14 @@
 -- What a run from lines to a capture makes of its input.
-use Rattle.std.proofs.Common.{◌≡◌, ◌∙◌, sym, ap, refl, subst, ℕ, ◌+◌, ◌*◌, ◌<◌, ◌≤◌, arith, Bool, true, false, List, []}
-use Rattle.std.proofs.Common.{◌∷◌, ◌++◌, length, length-append, Some, None, Ok, Err, append_assoc, append-nil}
+use Rattle.std.proofs.Common.{◌≡◌, ◌∙◌, sym, ap, refl, subst, ℕ, ◌+◌, ◌*◌, ◌<◌, ◌≤◌, arith, true, List, []}
+use Rattle.std.proofs.Common.{◌∷◌, ◌++◌, length, length-append, Option, Some, None, Ok, Err, append_assoc, append-nil}
 use Rattle.std.specs.Io.Iter.{u64_saturate}
 use Rattle.captures.specs.declared.limits.TheConstants.{INPUT_CAPACITY}
 use Rattle.device_runs.specs.declared.limits.TheConstants.{READ_COUNT_LIMIT}
+use Rattle.captures.specs.declared.text.bad_line.BadLine.{BadLine}
+use Rattle.captures.specs.declared.text.bad_line.LineFault.{LineFault}
 use Rattle.captures.specs.declared.translation.refusal.Refusal.TheVariants.{InLine}
 use Rattle.captures.specs.Encoding.{file_header, capture_of}
-use Rattle.line_grammar.specs.TimedLines.{TimedFrame}
+use Rattle.captures.specs.CapturedFrames.{CapturedFrame}
 use Rattle.captures.specs.Texts.{GivesFrames, IsIncompleteLine, TakesLines, with_last_line_end, with_line_ends}
 use Rattle.captures.specs.Texts.{lines_to_capture}
 use Rattle.captures.specs.Translations.{Begins, Translates, Finishes}
@@ -19,13 +21,13 @@ ended_count [] = omega arith
 ended_count (line ∷ lines) = grind (arith, ended_count lines, lines, length-append)
 
 -- a line has a byte at least
-gives_frames_count : (bytes rest : List ℕ) (n : ℕ) (fs : List TimedFrame)
+gives_frames_count : (bytes rest : List ℕ) (n : ℕ) (fs : List CapturedFrame)
     → GivesFrames bytes n fs rest → n ≤ length bytes
 gives_frames_count bytes rest n fs p = grind (arith, ended_count, length-append)
 
 -- the frames of this many lines are written, and an incomplete line is held
 abbrev pub Writes : TimeUnit → ℕ → (held read written : List ℕ) → Type 0
-Writes time_unit count held read written = (frames : List TimedFrame) × GivesFrames read count frames held
+Writes time_unit count held read written = (frames : List CapturedFrame) × GivesFrames read count frames held
     × IsIncompleteLine held × (written ≡ capture_of time_unit frames)
 
 pub writes_start : (time_unit : TimeUnit)
@@ -38,9 +40,9 @@ writes_start time_unit = record {
   shows = ([], gives_frames_start [], (tt, omega arith), sym (append-nil (file_header time_unit)));
 }
 
-module _ (time_unit : TimeUnit) (count n : ℕ) (held more bytes rest read written text : List ℕ) (bad : Bool)
+module _ (time_unit : TimeUnit) (count n : ℕ) (held more bytes rest read written text : List ℕ) (fault : Option LineFault)
     (writes : Writes time_unit count held read written) (parts : bytes ≡ held ++ more)
-    (t : TakesLines time_unit bytes n rest text bad) where
+    (t : TakesLines time_unit bytes n rest text fault) where
   lines : GivesFrames (read ++ more) (count + n) (writes.0 ++ t.frames) rest
   lines = gives_frames_more read more held rest count n writes.0 t.frames writes.1
       (subst (λ l. GivesFrames l n t.frames rest) parts t.gives_frames)
@@ -59,27 +61,27 @@ module _ (time_unit : TimeUnit) (count n count' : ℕ) (held chunk bytes rest re
     (fits : length (read ++ chunk) ≤ INPUT_CAPACITY * READ_COUNT_LIMIT)
     (is : count' ≡ u64_saturate (count + n)) where
   -- a chunk is read,
-  pub writes_more : TakesLines time_unit bytes n rest text false
+  pub writes_more : TakesLines time_unit bytes n rest text None
       → Translates (lines_to_capture time_unit) (Writes time_unit count') rest (read ++ chunk) (written ++ text) None
   writes_more t =
       let frames = writes.0 ++ t.frames in
-      let gives_frames = lines time_unit count n held chunk bytes rest read written text false writes parts t in
+      let gives_frames = lines time_unit count n held chunk bytes rest read written text None writes parts t in
       let same = counted count n count' (read ++ chunk)
       (gives_frames_count (read ++ chunk) rest (count + n) frames gives_frames) fits is in
-      let all = whole time_unit count n held chunk bytes rest read written text false writes parts t in
+      let all = whole time_unit count n held chunk bytes rest read written text None writes parts t in
       grind arith
 
   -- in which a line gives no frame
-  pub writes_bad : (shown : List ℕ → List ℕ → List ℕ → Type 0) (number : ℕ)
-      → number ≡ u64_saturate (count' + 1) → TakesLines time_unit bytes n rest text true
+  pub writes_bad : (shown : List ℕ → List ℕ → List ℕ → Type 0) (fault : LineFault) (line : BadLine)
+      → line ≡ record { number = u64_saturate (count' + 1); fault = fault } → TakesLines time_unit bytes n rest text (Some fault)
       → Translates (lines_to_capture time_unit) shown rest (read ++ chunk) (written ++ text) (Some (InLine
-      number))
-  writes_bad shown number next t =
+      line))
+  writes_bad shown fault line next t =
       let frames = writes.0 ++ t.frames in
-      let gives_frames = lines time_unit count n held chunk bytes rest read written text true writes parts t in
+      let gives_frames = lines time_unit count n held chunk bytes rest read written text (Some fault) writes parts t in
       let few = gives_frames_count (read ++ chunk) rest (count + n) frames gives_frames in
       let same = counted count n count' (read ++ chunk) few fits is in
-      let all = whole time_unit count n held chunk bytes rest read written text true writes parts t in
+      let all = whole time_unit count n held chunk bytes rest read written text (Some fault) writes parts t in
       grind arith
 
 -- the end is reported, and no line is incomplete,
@@ -102,26 +104,27 @@ module _ (time_unit : TimeUnit) (count n count' : ℕ) (held bytes rest read wri
   all_known = closed_is read held count writes.0 writes.1 writes.2.0
       ∙ ap (λ l. read ++ l) (ends_some held some)
 
-  pub writes_last : TakesLines time_unit bytes n rest text false
+  pub writes_last : TakesLines time_unit bytes n rest text None
       → Finishes (lines_to_capture time_unit) read (written ++ text) (Ok tt)
   writes_last t =
       let frames = writes.0 ++ t.frames in
       let gives_frames = subst (λ l. GivesFrames l (count + n) frames rest) (sym all_known)
-      (lines time_unit count n held (10 ∷ []) bytes rest read written text false writes parts t) in
-      let all = whole time_unit count n held (10 ∷ []) bytes rest read written text false writes parts t in
+      (lines time_unit count n held (10 ∷ []) bytes rest read written text None writes parts t) in
+      let all = whole time_unit count n held (10 ∷ []) bytes rest read written text None writes parts t in
       let none = ended_rest held [] bytes rest n t.frames
       (parts ∙ ap (λ l. held ++ l) (sym (ends_some held some))) t.gives_frames t.left.0 in
       grind arith
 
   pub writes_last_bad : length read ≤ INPUT_CAPACITY * READ_COUNT_LIMIT
-      → count' ≡ u64_saturate (count + n) → (number : ℕ) → number ≡ u64_saturate (count' + 1)
-      → TakesLines time_unit bytes n rest text true
-      → Finishes (lines_to_capture time_unit) read (written ++ text) (Err (InLine number))
-  writes_last_bad fits is number next t =
+      → count' ≡ u64_saturate (count + n) → (fault : LineFault) (line : BadLine)
+      → line ≡ record { number = u64_saturate (count' + 1); fault = fault }
+      → TakesLines time_unit bytes n rest text (Some fault)
+      → Finishes (lines_to_capture time_unit) read (written ++ text) (Err (InLine line))
+  writes_last_bad fits is fault line next t =
       let frames = writes.0 ++ t.frames in
-      let known = lines time_unit count n held (10 ∷ []) bytes rest read written text true writes parts t in
+      let known = lines time_unit count n held (10 ∷ []) bytes rest read written text (Some fault) writes parts t in
       let few = gives_frames_count (read ++ 10 ∷ []) rest (count + n) frames known in
       let size = length-append read (10 ∷ []) in
       let gives_frames = subst (λ l. GivesFrames l (count + n) frames rest) (sym all_known) known in
-      let all = whole time_unit count n held (10 ∷ []) bytes rest read written text true writes parts t in
+      let all = whole time_unit count n held (10 ∷ []) bytes rest read written text (Some fault) writes parts t in
       grind arith

@@ -5,7 +5,7 @@ use Rattle.std.specs.Int.{to_le_bytes, w32}
 use Rattle.std.specs.List.{flat_map}
 use Rattle.captures.specs.Lines.{Packet, packets_of}
 use Rattle.captures.specs.Times.{nanoseconds_in, record_time}
-use Rattle.line_grammar.specs.TimedLines.{TimedFrame}
+use Rattle.captures.specs.CapturedFrames.{CapturedFrame}
 use Rattle.line_grammar.specs.declared.frame_limits.TheConstants.{FRAME_LIMIT}
 use Rattle.captures.specs.declared.origin.Origin.{Origin}
 use Rattle.captures.specs.declared.time.time_unit.TimeUnit.{TimeUnit}
@@ -29,29 +29,32 @@ record_head seconds parts len wire_len = to_le_bytes w32 seconds
 abbrev pub parts_in : TimeUnit → ℕ → ℕ
 parts_in time_unit nanoseconds = nanoseconds / nanoseconds_in time_unit
 
-abbrev pub record_of : TimeUnit → TimedFrame → List ℕ
-record_of time_unit timed =
-    record_head timed.seconds (parts_in time_unit timed.nanoseconds) (length timed.frame)
-    (length timed.frame) ++ timed.frame
+abbrev pub record_of : TimeUnit → CapturedFrame → List ℕ
+record_of time_unit given =
+    record_head given.seconds (parts_in time_unit given.nanoseconds) (length given.frame)
+    given.wire_len ++ given.frame
 
-abbrev pub capture_of : TimeUnit → List TimedFrame → List ℕ
+abbrev pub capture_of : TimeUnit → List CapturedFrame → List ℕ
 capture_of time_unit frames = file_header time_unit ++ flat_map (record_of time_unit) frames
 
-abbrev pub origin_of : TimeUnit → TimedFrame → Origin
-origin_of time_unit timed = record {
+abbrev pub origin_of : TimeUnit → CapturedFrame → Origin
+origin_of time_unit given = record {
   channel = 0;
-  time = record_time time_unit timed.seconds (parts_in time_unit timed.nanoseconds);
+  time = record_time time_unit given.seconds (parts_in time_unit given.nanoseconds);
+  wire_len = given.wire_len;
 }
 
-abbrev pub timed_packets : TimeUnit → TimedFrame → List Packet
-timed_packets time_unit timed = packets_of (origin_of time_unit timed) timed.frame
+abbrev pub timed_packets : TimeUnit → CapturedFrame → List Packet
+timed_packets time_unit given = packets_of (origin_of time_unit given) given.frame
 
 -- the packets that some frames are, on the one interface that a classic capture has
-abbrev pub packets_in : TimeUnit → List TimedFrame → List Packet
+abbrev pub packets_in : TimeUnit → List CapturedFrame → List Packet
 packets_in time_unit frames = flat_map (timed_packets time_unit) frames
 
--- a frame that a line can hold, at a time of 32 bits of seconds
-pub record IsWritable (timed : TimedFrame) : Type 0 where
-  pub short : length timed.frame ≤ FRAME_LIMIT
-  pub seconds : timed.seconds < 2 ^ 32
-  pub nanoseconds : timed.nanoseconds < 1000000000
+-- a frame that a line can hold, at a time of 32 bits of seconds and of a length of 32 bits on the
+-- wire
+pub record IsWritable (given : CapturedFrame) : Type 0 where
+  pub short : length given.frame ≤ FRAME_LIMIT
+  pub seconds : given.seconds < 2 ^ 32
+  pub nanoseconds : given.nanoseconds < 1000000000
+  pub wire_len : given.wire_len < 2 ^ 32

@@ -17,7 +17,7 @@ cause WriteZero = Stopped NothingTaken
 cause Memory = OutOfMemory
 cause TooManyReads = OutOfReads
 cause (Capture error position) = Refused (InCapture error position)
-cause (BadLine number) = Refused (InLine number)
+cause (BadLine line) = Refused (InLine line)
 
 -- why a reader gives no further packet
 abbrev pub read_cause : ReadError → Ending Refusal

@@ -112,15 +112,15 @@ empty_block =
 abbrev pub cooked_packet : List ℕ
 cooked_packet = 8 ∷ 0 ∷ 0 ∷ 0 ∷ 0 ∷ 0 ∷ 0 ∷ 3 ∷ 0 ∷ 1 ∷ 4 ∷ 6 ∷ 2 ∷ 0 ∷ 0 ∷ 0 ∷ 0 ∷ 1 ∷ 0 ∷ 0 ∷ 0x45 ∷ []
 
--- where and when
-abbrev pub origin_at : (time : ℕ) → Origin
-origin_at time = record { channel = 0; time = time }
+-- when, and of how many bytes on the wire its frame is: 14 in the place of 20 before it
+abbrev pub origin_at : (time wire_len : ℕ) → Origin
+origin_at time wire_len = record { channel = 0; time = time; wire_len = wire_len }
 
 -- as a frame: no destination, the sender's address, the ether type, and the packet's bytes
 
-abbrev pub packet_at : (time : ℕ) → Packet
-packet_at time = record {
-  origin = origin_at time;
+abbrev pub packet_at : (time wire_len : ℕ) → Packet
+packet_at time wire_len = record {
+  origin = origin_at time wire_len;
   frame = 0 ∷ 0 ∷ 0 ∷ 0 ∷ 0 ∷ 0 ∷ 2 ∷ 0 ∷ 0 ∷ 0 ∷ 0 ∷ 1 ∷ 8 ∷ 0 ∷ 0x45 ∷ [];
 }
 
@@ -140,6 +140,6 @@ numbered number = record {
 
 abbrev pub longer_packet : Packet
 longer_packet = record {
-  origin = origin_at 0;
+  origin = origin_at 0 1494;
   frame = 0 ∷ 0 ∷ 0 ∷ 0 ∷ 0 ∷ 0 ∷ 2 ∷ 0 ∷ 0 ∷ 0 ∷ 0 ∷ 1 ∷ 8 ∷ 0 ∷ 0x45 ∷ 0x17 ∷ [];
 }

@@ -1,6 +1,6 @@
 -- Captured packets as Ethernet II frames, by the link that they were captured on (the registry of
 -- link types, tcpdump.org/linktypes.html, and the layouts that it gives).
-use Rattle.std.specs.Prelude.{ℕ, ◌+◌, ◌-◌, ◌/◌, ◌==◌, ◌||◌, nat_lt, Bool, if◌then◌else◌, List, [], ◌∷◌, ◌++◌}
+use Rattle.std.specs.Prelude.{ℕ, ◌+◌, ◌-◌, ◌/◌, ◌==◌, ◌||◌, min, nat_lt, Bool, if◌then◌else◌, List, [], ◌∷◌, ◌++◌}
 use Rattle.std.specs.Prelude.{length, drop, slice_index, Option, Some, None, Result, Ok, Err, ◌≡◌}
 use Rattle.std.specs.Option.{option_map}
 use Rattle.std.specs.Int.{to_be_bytes, w16}
@@ -39,6 +39,11 @@ head_len Loop = 4
 head_len Sll = 16
 head_len Sll2 = 20
 head_len (Other number) = 0
+
+-- how many bytes the frame of a packet had on the wire, where the packet itself had so many: the
+-- greatest number of 32 bits stands for all greater ones
+abbrev pub frame_wire_len : Link → ℕ → ℕ
+frame_wire_len link wire_len = min (14 + wire_len - head_len link) 4294967295
 
 -- the captured bytes of a packet at most, so that a line can hold its frame
 abbrev pub captured_limit : Link → ℕ

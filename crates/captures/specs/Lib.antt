@@ -1,4 +1,5 @@
 pub mod CaptureRuns
+pub mod CapturedFrames
 pub mod ComeBack
 pub mod Dropped
 pub mod Endings

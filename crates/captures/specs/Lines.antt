@@ -1,6 +1,7 @@
 -- The packets of a capture, and the lines that are written of them.
-use Rattle.std.specs.Prelude.{ℕ, ◌+◌, ◌==◌, ◌&&◌, nat_lt, Bool, if◌then◌else◌, List, [], ◌∷◌, ◌++◌}
-use Rattle.line_grammar.specs.Written.{written_forget, written_frame, written_timed_frame}
+use Rattle.std.specs.Prelude.{ℕ, ◌+◌, ◌/◌, ◌%◌, ◌==◌, ◌&&◌, nat_lt, Bool, if◌then◌else◌, List, [], ◌∷◌, ◌++◌, codes}
+use Rattle.std.specs.Prelude.{decimal, length}
+use Rattle.line_grammar.specs.Written.{time_text, written_forget, written_frame}
 use Rattle.captures.specs.Numbers.{capped}
 use Rattle.captures.specs.Spans.{have_passed}
 use Rattle.captures.specs.declared.extra.Extra.{Extra}
@@ -8,8 +9,8 @@ use Rattle.captures.specs.declared.extra.Extra.TheVariants.{Nothing, Times, Forg
 use Rattle.captures.specs.declared.origin.Origin.{Origin}
 use Rattle.captures.specs.declared.text.ledger.Ledger.{Ledger}
 
--- a packet, of which at least one byte was captured: the number of its interface and its time, and
--- its bytes
+-- a packet, of which at least one byte was captured: the number of its interface, its time and the
+-- length of its frame on the wire, and the bytes of that
 pub record Packet : Type 0 where
   pub origin : Origin
   pub frame : List ℕ
@@ -23,10 +24,21 @@ packets_of origin (byte ∷ bytes) = record { origin = origin; frame = byte ∷ 
 abbrev pub line_of : Packet → List ℕ
 line_of packet = written_frame packet.origin.channel packet.frame ++ 10 ∷ []
 
--- the same line with the packet's time
+-- a time with its nanoseconds, be they 0, and the length of a frame on the wire
+abbrev pub wire_text : (time wire_len : ℕ) → List ℕ
+wire_text time wire_len = codes " " ++ decimal (time / 1000000000) ++ codes " "
+    ++ decimal (time / 1000 % 1000000) ++ codes " " ++ decimal (time % 1000) ++ codes " " ++ decimal wire_len
+
+-- what follows the digits of a frame of so many bytes: its time, and its length on the wire where
+-- that is another
+abbrev pub origin_text : (len time wire_len : ℕ) → List ℕ
+origin_text len time wire_len =
+    if wire_len == len then time_text time else wire_text time wire_len
+
+-- the same line with that
 abbrev pub timed_line_of : Packet → List ℕ
-timed_line_of packet =
-    written_timed_frame packet.origin.channel packet.frame packet.origin.time ++ 10 ∷ []
+timed_line_of packet = written_frame packet.origin.channel packet.frame
+    ++ origin_text (length packet.frame) packet.origin.time packet.origin.wire_len ++ 10 ∷ []
 
 -- the line that has all reassemblies dropped of which no fragment came on the line with this number
 -- or later

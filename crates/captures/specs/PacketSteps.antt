@@ -1,6 +1,6 @@
 -- The packets of some bytes of a capture, one after the other.
 use Rattle.std.specs.Prelude.{◌≡◌, ℕ, ◌<◌, nat_lt, Bool, List, [], ◌∷◌, ◌++◌, length, Option, None, MatchOption}
-use Rattle.captures.specs.Framed.{captured_len, frame_bytes}
+use Rattle.captures.specs.Framed.{captured_len, frame_bytes, frame_wire_len}
 use Rattle.captures.specs.Lines.{Packet as TakenPacket}
 use Rattle.captures.specs.Units.{HasPacket, IsLeft, Passes, seen_in}
 use Rattle.captures.specs.declared.capture_error.CaptureError.{CaptureError}
@@ -11,7 +11,11 @@ use Rattle.captures.specs.declared.reading.packets.Packets.{Packets}
 use Rattle.captures.specs.declared.translation.state.State.{State}
 
 abbrev pub origin_of : Packet → Origin
-origin_of packet = record { channel = packet.interface; time = packet.time }
+origin_of packet = record {
+  channel = packet.interface;
+  time = packet.time;
+  wire_len = frame_wire_len packet.link packet.wire_len;
+}
 
 -- what is taken of a packet, beside its link and the parts of its frame
 abbrev pub taken_of : Packet → TakenPacket

@@ -1,7 +1,8 @@
 -- A capture as units in a row: a file header and packet records, or blocks.
 use Rattle.std.specs.Prelude.{◌≡◌, ◌≢◌, ◌⊎◌, ℕ, ◌-◌, ◌%◌, ◌<◌, ◌≤◌, List, [], ◌∷◌, ◌++◌, length, Option, Some, None}
 use Rattle.std.specs.Prelude.{replicate}
-use Rattle.captures.specs.Framed.{FrameParts, frame_bytes, frame_parts, link_of, refused_type, reported_frame, taken_limit}
+use Rattle.captures.specs.Framed.{FrameParts, frame_bytes, frame_parts, frame_wire_len, link_of, refused_type}
+use Rattle.captures.specs.Framed.{reported_frame, taken_limit}
 use Rattle.captures.specs.declared.unfit.Unfit.{Unfit}
 use Rattle.captures.specs.Numbers.{word}
 use Rattle.captures.specs.Lines.{Packet, packets_of, lines_from, noted_all}
@@ -61,10 +62,13 @@ pub record IsBlockUnit (section : Section) (unit : List ℕ) (after : State) (or
   pub reads : Reads section order unit next origin frame
   pub becomes : after ≡ Pcapng next
 
--- a classic capture has one interface. The time is at the start of a record
-abbrev pub record_origin : ByteOrder → TimeUnit → List ℕ → Origin
-record_origin order time_unit unit =
-    record { channel = 0; time = record_time time_unit (word order unit 0) (word order unit 4) }
+-- a classic capture has one interface. A record begins with the time
+abbrev pub record_origin : ByteOrder → TimeUnit → Link → List ℕ → Origin
+record_origin order time_unit link unit = record {
+  channel = 0;
+  time = record_time time_unit (word order unit 0) (word order unit 4);
+  wire_len = frame_wire_len link (record_wire_len order unit);
+}
 
 -- a packet record of such a link, of a packet that is reported or passed over
 pub record IsRecordUnit (order : ByteOrder) (time_unit : TimeUnit) (link : Link) (passing : Passing)
@@ -84,7 +88,7 @@ IsUnit (Start unfit) unit after origin frame =
     ⊎ ((word Big unit 0 ≡ section_header) × IsBlockUnit (no_section unfit) unit after origin frame)
 IsUnit (Classic order time_unit link passing) unit after origin frame =
     IsRecordUnit order time_unit link passing unit after frame
-    × (origin ≡ record_origin order time_unit unit)
+    × (origin ≡ record_origin order time_unit link unit)
 IsUnit (Pcapng section) unit after origin frame = IsBlockUnit section unit after origin frame
 
 -- the packets that were passed over by then
@@ -285,17 +289,16 @@ pub record HasUnit (state : State) (bytes : List ℕ) (after : State) (origin : 
 
 -- a block in this byte order holds a packet, captured on such a link, of so many bytes on the wire,
 -- whose frame has these parts
-pub record IsHeldOn (section : Section) (order : ByteOrder) (block : List ℕ) (link : Link)
-    (wire_len : ℕ) (frame : FrameParts) : Type 0 where
-  pub origin : Origin
+pub record IsHeldOn (section : Section) (order : ByteOrder) (block : List ℕ) (origin : Origin)
+    (link : Link) (wire_len : ℕ) (frame : FrameParts) : Type 0 where
   pub packet : List ℕ
   pub says : Says section order block (Holds origin link packet)
   pub wire : block_wire_len order block ≡ wire_len
   pub parts : frame_parts link packet ≡ Some frame
 
-abbrev pub IsBlockOn : Section → List ℕ → Link → ℕ → FrameParts → Type 0
-IsBlockOn section block link wire_len frame = (order : ByteOrder)
-    × HasOrder section.order block order × IsHeldOn section order block link wire_len frame
+abbrev pub IsBlockOn : Section → List ℕ → Origin → Link → ℕ → FrameParts → Type 0
+IsBlockOn section block origin link wire_len frame = (order : ByteOrder)
+    × HasOrder section.order block order × IsHeldOn section order block origin link wire_len frame
 
 -- a record of a packet on a classic capture's link, of so many bytes on the wire, as a frame in
 -- these parts
@@ -308,18 +311,20 @@ pub record IsRecordOn (order : ByteOrder) (link : Link) (record' : List ℕ) (wi
 
 -- the packet of a unit was captured on such a link, had so many bytes on the wire, and its frame has
 -- these parts
-abbrev pub IsOn : State → List ℕ → Link → ℕ → FrameParts → Type 0
-IsOn (Start unfit) unit link wire_len frame = IsBlockOn (no_section unfit) unit link wire_len frame
-IsOn (Classic order time_unit link' passing) unit link wire_len frame = (link' ≡ link)
+abbrev pub IsOn : State → List ℕ → Origin → Link → ℕ → FrameParts → Type 0
+IsOn (Start unfit) unit origin link wire_len frame =
+    IsBlockOn (no_section unfit) unit origin link wire_len frame
+IsOn (Classic order time_unit link' passing) unit origin link wire_len frame = (link' ≡ link)
     × IsRecordOn order link unit wire_len frame
-IsOn (Pcapng section) unit link wire_len frame = IsBlockOn section unit link wire_len frame
+IsOn (Pcapng section) unit origin link wire_len frame =
+    IsBlockOn section unit origin link wire_len frame
 
 -- the bytes begin with a unit, and the packet that is reported of it, if one is, was captured on
 -- such a link and had so many bytes on the wire
 pub record HasPacket (state : State) (bytes : List ℕ) (after : State) (origin : Origin)
     (link : Link) (wire_len : ℕ) (frame : FrameParts) (rest : List ℕ) : Type 0 where
   pub has_unit : HasUnit state bytes after origin (frame_bytes frame) rest
-  pub is_on : 0 < length (frame_bytes frame) → IsOn state has_unit.unit link wire_len frame
+  pub is_on : 0 < length (frame_bytes frame) → IsOn state has_unit.unit origin link wire_len frame
 
 -- these bytes are at this offset
 pub record StandsAt (bytes : List ℕ) (at : ℕ) (part : List ℕ) : Type 0 where

@@ -30,7 +30,7 @@ ghost use Rattle.captures.specs.declared.translation.skipped.Skipped.{Skipped};
 ghost use Rattle.captures.specs.declared.unfit.Unfit.{Unfit};
 ghost use Rattle.captures.specs.declared.unfit.Unfit.TheVariants.{Refuse, Skip};
 ghost use Rattle.captures.specs.Encoding.{IsWritable, capture_of, packets_in};
-ghost use Rattle.line_grammar.specs.TimedLines.{TimedFrame};
+ghost use Rattle.captures.specs.CapturedFrames.{CapturedFrame};
 ghost use Rattle.captures.specs.declared.extra.Extra.{Extra};
 ghost use Rattle.captures.specs.declared.extra.Extra.TheVariants.{Forget};
 ghost use Rattle.captures.specs.declared.text.ledger.Ledger.{Ledger};
@@ -41,15 +41,15 @@ pub mod spans;
 use crate::limits::{BLOCK_LIMIT, FIRST_UNIT_LEN, INPUT_CAPACITY, SKIPPED_LIMIT, TIME_LIMIT};
 use crate::pcapng::section::ETHERNET;
 use crate::{
-    CaptureError, Extra, FRAME_LIMIT, Header, Link, Position, ReadError, RunError, Skipped,
-    TimeUnit, Unfit,
+    BadLine, CaptureError, Extra, FRAME_LIMIT, Header, LineFault, Link, Position, ReadError,
+    RunError, Skipped, TimeUnit, Unfit,
 };
 use device_runs::Fault;
 use ep_base::laws::traits::Value;
 
 /// What is written is read again, as the same frames in the same order, at their times.
 pub fn written_frames_are_read()
-    ensures { (frames : List TimedFrame) → AllByRecursion IsWritable frames
+    ensures { (frames : List CapturedFrame) → AllByRecursion IsWritable frames
         → (unfit : Unfit) (time_unit : TimeUnit)
         → IsCapture unfit (capture_of time_unit frames) (packets_in time_unit frames)
         none_skipped }
@@ -91,7 +91,7 @@ pub fn reported_is_alone()
 
 /// The frames of a text of lines are determined by its bytes.
 pub fn text_is_alone()
-    ensures { (bytes : List ℕ) (frames frames' : List TimedFrame) → IsText bytes frames
+    ensures { (bytes : List ℕ) (frames frames' : List CapturedFrame) → IsText bytes frames
         → IsText bytes frames' → frames ≡ frames' }
 {}
 
@@ -135,7 +135,8 @@ pub fn lines_come_back()
 {}
 
 /// With times the packets of that capture have their times too, in whole microseconds, or in
-/// nanoseconds where the capture is written in these.
+/// nanoseconds where the capture is written in these, and their frames the lengths that they had on
+/// the wire.
 pub fn timed_lines_come_back()
     ensures { TimedLinesComeBack }
 {}
@@ -150,7 +151,7 @@ pub fn lines_are_short()
 /// The line of two bytes.
 pub fn worked_line()
     ensures { line_of (record {
-      origin = record { channel = 7; time = 0 };
+      origin = record { channel = 7; time = 0; wire_len = 2 };
       frame = 0x0a ∷ 0xff ∷ [];
     }) ≡ codes "frame 7 0aff\n" }
 {}
@@ -206,6 +207,8 @@ pub fn types_are_plain_data()
     ensures capture_error { IsPlainData ⟦<CaptureError as Value>⟧ }
     ensures position { IsPlainData ⟦<Position as Value>⟧ }
     ensures run_error { IsPlainData ⟦<RunError as Value>⟧ }
+    ensures bad_line { IsPlainData ⟦<BadLine as Value>⟧ }
+    ensures line_fault { IsPlainData ⟦<LineFault as Value>⟧ }
     ensures unfit { IsPlainData ⟦<Unfit as Value>⟧ }
     ensures extra { IsPlainData ⟦<Extra as Value>⟧ }
     ensures time_unit { IsPlainData ⟦<TimeUnit as Value>⟧ }

@@ -35,6 +35,7 @@ pub use reading::packet_reader::PacketReader;
 pub use reading::packets::Packets;
 pub use reading::read_error::ReadError;
 pub use spans::Spans;
+pub use text::bad_line::{BadLine, LineFault};
 pub use time::time_unit::TimeUnit;
 pub use translation::run_captures::{run, run_over};
 pub use translation::run_error::RunError;

@@ -56,6 +56,7 @@ impl<'a> Packet<'a> {
         Origin {
             channel: self.interface,
             time: self.time,
+            wire_len: self.link.frame_wire_len(self.wire_len),
         }
     }
 }

@@ -2,6 +2,7 @@
 
 pub mod blocks;
 pub mod classic;
+mod lengths;
 mod limits;
 pub mod links;
 pub mod long_blocks;

@@ -6,7 +6,9 @@ use capture_programs::captures_program::{Mode, exit_code, make, note, requested_
 use capture_programs::{
     Input, Look, ProgressLine, ProgressReader, ReportedError, Subject, look_at,
 };
-use captures::{CaptureError, Extra, Position, RunError, Skipped, TimeUnit, Unfit};
+use captures::{
+    BadLine, CaptureError, Extra, LineFault, Position, RunError, Skipped, TimeUnit, Unfit,
+};
 use fault_devices::{Fault, FaultReader, UnflushableWriter};
 use std::alloc::Global;
 use std::io::{ErrorKind, Read};
@@ -189,6 +191,21 @@ const DESCRIPTION: Position = Position {
     block: Some(1),
 };
 
+const BAD_LINE: RunError = RunError::BadLine(BadLine {
+    number: 7,
+    fault: LineFault::NoFrame,
+});
+
+const FIRST_LINE: RunError = RunError::BadLine(BadLine {
+    number: 1,
+    fault: LineFault::NoFrame,
+});
+
+const NO_FRACTION: RunError = RunError::BadLine(BadLine {
+    number: 1,
+    fault: LineFault::NoFraction,
+});
+
 // Each error with what is reported of it, and the status.
 #[rattlefmt::skip]
 const ERRORS: &[(RunError, &str, u8)] = &[
@@ -197,7 +214,8 @@ const ERRORS: &[(RunError, &str, u8)] = &[
     (RunError::WriteZero, "the output takes no more bytes", 4),
     (RunError::Memory, "out of memory", 5),
     (RunError::TooManyReads, "too many reads", 5),
-    (RunError::BadLine(7), "line 7 has no frame", 3),
+    (BAD_LINE, "line 7 has no frame", 3),
+    (NO_FRACTION, "line 1 has a time without its fraction, the microseconds", 3),
     (RunError::Capture(CaptureError::NotCapture, THIRD), "no capture file", 3),
     (
         RunError::Capture(CaptureError::LinkType(105), THIRD),
@@ -439,12 +457,12 @@ fn a_look_takes_nothing(rt: HostRuntime) {
 #[rattlefmt::skip]
 const NO_LINES: &[(RunError, Look, &str)] = &[
     (
-        RunError::BadLine(1),
+        FIRST_LINE,
         Look::Capture,
         "line 1 has no frame: the input is a capture, `captures lines` reads it",
     ),
-    (RunError::BadLine(1), Look::Gzip, "line 1 has no frame: the input is compressed, `gzip -dc` opens it"),
-    (RunError::BadLine(1), Look::Text, "line 1 has no frame"),
+    (FIRST_LINE, Look::Gzip, "line 1 has no frame: the input is compressed, `gzip -dc` opens it"),
+    (FIRST_LINE, Look::Text, "line 1 has no frame"),
     (RunError::Read, Look::Directory, "the input cannot be read: it is a directory"),
 ];
 

@@ -5,7 +5,7 @@ use capture_programs::captures_program::{Mode, make};
 use capture_programs::{
     ClosableWriter, Subject, exit_code, failure, parse_failure, report_skipped, status, unopened,
 };
-use captures::{CaptureError, Extra, Position, RunError, Skipped, Unfit};
+use captures::{BadLine, CaptureError, Extra, LineFault, Position, RunError, Skipped, Unfit};
 use fault_devices::{Fault, FaultWriter, UnflushableWriter};
 use std::alloc::Global;
 use std::cell::RefCell;
@@ -65,6 +65,11 @@ const THIRD: Position = Position {
     block: None,
 };
 
+const BAD_LINE: RunError = RunError::BadLine(BadLine {
+    number: 2,
+    fault: LineFault::NoFrame,
+});
+
 // Of each error what is reported: the name of the input where the error is about it.
 #[rattlefmt::skip]
 const REPORTS: &[(Subject<'static>, RunError, &str, &str)] = &[
@@ -81,13 +86,13 @@ const REPORTS: &[(Subject<'static>, RunError, &str, &str)] = &[
         "",
         "packets: a b/x.pcap: packet 3, byte 112: the capture ends within a packet\n",
     ),
-    (FILE, RunError::BadLine(2), "", "packets: a b/x.pcap: line 2 has no frame\n"),
+    (FILE, BAD_LINE, "", "packets: a b/x.pcap: line 2 has no frame\n"),
     (FILE, RunError::TooManyReads, "", "packets: a b/x.pcap: too many reads\n"),
     (FILE, RunError::Write, "", "packets: the output cannot be written\n"),
     (FILE, RunError::WriteZero, "", "packets: the output takes no more bytes\n"),
     (FILE, RunError::Memory, "", "packets: out of memory\n"),
     (STANDARD_INPUT, RunError::Read, "", "captures: standard input: the input cannot be read\n"),
-    (STANDARD_INPUT, RunError::BadLine(1), "", "captures: standard input: line 1 has no frame\n"),
+    (STANDARD_INPUT, BAD_LINE, "", "captures: standard input: line 2 has no frame\n"),
     (STANDARD_INPUT, RunError::Write, "", "captures: the output cannot be written\n"),
 ];
 

@@ -1,6 +1,6 @@
 //! The kinds of links that packets are captured on.
 ghost use Rattle.std.specs.Prelude.{◌≡◌};
-ghost use Rattle.captures.specs.Framed.{captured_limit, head_len, link_of, refused_type, taken_limit};
+ghost use Rattle.captures.specs.Framed.{captured_limit, frame_wire_len, head_len, link_of, refused_type, taken_limit};
 
 use crate::FRAME_LIMIT;
 use crate::limits::SKIPPED_LIMIT;
@@ -80,6 +80,16 @@ impl Link {
         ensures { result ≡ captured_limit self }
     {
         FRAME_LIMIT - HEADER_LEN + self.head_len()
+    }
+
+    /// How many bytes the frame of a packet had on the wire, where the packet itself had so many. The
+    /// greatest number of 32 bits stands for all greater ones.
+    #[inline(always)]
+    pub(crate) fn frame_wire_len(self, wire_len: u32) -> u32
+        ensures { result ≡ frame_wire_len self wire_len }
+    {
+        let len = (HEADER_LEN as u64 + u64::from(wire_len)).saturating_sub(self.head_len() as u64);
+        len.min(4_294_967_295) as u32
     }
 
     /// How many bytes a packet's own header has, which an Ethernet II header replaces in its frame.

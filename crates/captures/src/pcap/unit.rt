@@ -25,7 +25,7 @@ const RECORD_HEAD_LEN: usize = 16;
 /// A unit, and what follows it.
 #[derive(Drop)]
 pub(crate) struct Unit<'a> {
-    /// The interface and the time of the packet in it.
+    /// The interface and the time of the packet in it, and the length of its frame on the wire.
     pub origin: Origin,
     /// The link that it was captured on.
     pub link: Link,
@@ -51,7 +51,7 @@ pub(crate) fn next_unit<'a>(
     ensures at { IfOk result
         (λ found. IfSome found (λ u. StandsAt bytes.now u.at u.frame.bytes)) }
     ensures room { IfOk result
-        (λ found. IfSome found (λ u. 46 + 2 * length (frame_bytes u.frame) + 5 * length u.rest.now
+        (λ found. IfSome found (λ u. 52 + 2 * length (frame_bytes u.frame) + 5 * length u.rest.now
         ≤ 5 * length bytes.now)) }
     ensures refused { IfErr result (λ e. Refuses state.old bytes.now e × (state.new ≡ state.old)) }
 {
@@ -80,7 +80,7 @@ fn first_unit<'a>(
     ensures at { IfOk result
         (λ found. IfSome found (λ u. StandsAt bytes.now u.at u.frame.bytes)) }
     ensures room { IfOk result
-        (λ found. IfSome found (λ u. 46 + 2 * length (frame_bytes u.frame) + 5 * length u.rest.now
+        (λ found. IfSome found (λ u. 52 + 2 * length (frame_bytes u.frame) + 5 * length u.rest.now
         ≤ 5 * length bytes.now)) }
     ensures refused { IfErr result
         (λ e. Refuses (Start unfit) bytes.now e × (state.new ≡ state.old)) }
@@ -108,7 +108,7 @@ fn first_block<'a>(
     ensures at { IfOk result
         (λ found. IfSome found (λ u. StandsAt bytes.now u.at u.frame.bytes)) }
     ensures room { IfOk result
-        (λ found. IfSome found (λ u. 46 + 2 * length (frame_bytes u.frame) + 5 * length u.rest.now
+        (λ found. IfSome found (λ u. 52 + 2 * length (frame_bytes u.frame) + 5 * length u.rest.now
         ≤ 5 * length bytes.now)) }
     ensures refused { IfErr result
         (λ e. Refuses (Start unfit) bytes.now e × (state.new ≡ state.old)) }
@@ -138,7 +138,7 @@ fn file_header<'a>(
     ensures at { IfOk result
         (λ found. IfSome found (λ u. StandsAt bytes.now u.at u.frame.bytes)) }
     ensures room { IfOk result
-        (λ found. IfSome found (λ u. 46 + 2 * length (frame_bytes u.frame) + 5 * length u.rest.now
+        (λ found. IfSome found (λ u. 52 + 2 * length (frame_bytes u.frame) + 5 * length u.rest.now
         ≤ 5 * length bytes.now)) }
     ensures refused { IfErr result
         (λ e. Refuses (Start unfit) bytes.now e × (state.new ≡ state.old)) }
@@ -155,6 +155,7 @@ fn file_header<'a>(
         origin: Origin {
             channel: 0,
             time: 0,
+            wire_len: 0,
         },
         link,
         wire_len: 0,
@@ -219,7 +220,7 @@ fn packet_record<'a>(
     ensures at { IfOk result
         (λ found. IfSome found (λ u. StandsAt bytes.now u.at u.frame.bytes)) }
     ensures room { IfOk result
-        (λ found. IfSome found (λ u. 46 + 2 * length (frame_bytes u.frame) + 5 * length u.rest.now
+        (λ found. IfSome found (λ u. 52 + 2 * length (frame_bytes u.frame) + 5 * length u.rest.now
         ≤ 5 * length bytes.now)) }
     ensures refused { IfErr result
         (λ e. Refuses (Classic order time_unit link passing.old) bytes.now e
@@ -244,7 +245,7 @@ fn packet_record<'a>(
         return Err(CaptureError::NoFrame);
     };
     Ok(Some(Unit {
-        origin: record_origin(order, time_unit, head),
+        origin: record_origin(order, time_unit, link, head),
         link,
         wire_len: order.word(head, 12),
         at: RECORD_HEAD_LEN + (packet.len() - frame.bytes().len()),
@@ -253,13 +254,14 @@ fn packet_record<'a>(
     }))
 }
 
-// Where and when the packet of a record was captured.
-fn record_origin(order: ByteOrder, time_unit: TimeUnit, head: &[u8]) -> Origin
+// Where and when the packet of a record was captured, and of how many bytes.
+fn record_origin(order: ByteOrder, time_unit: TimeUnit, link: Link, head: &[u8]) -> Origin
     requires { 16 ≤ length head.now }
-    ensures { result ≡ record_origin order time_unit head.now }
+    ensures { result ≡ record_origin order time_unit link head.now }
 {
     Origin {
         channel: 0,
         time: time_unit.time(order.word(head, 0), order.word(head, 4)),
+        wire_len: link.frame_wire_len(order.word(head, 12)),
     }
 }

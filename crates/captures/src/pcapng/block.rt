@@ -75,9 +75,9 @@ pub(crate) fn read_block<'a>(
     ensures reads { IfOk result
         (λ r. Reads section.old order block.now section.new r.origin (frame_bytes r.frame)) }
     ensures on { IfOk result (λ r. 0 < length (frame_bytes r.frame)
-        → IsHeldOn section.old order block.now r.link r.wire_len r.frame) }
+        → IsHeldOn section.old order block.now r.origin r.link r.wire_len r.frame) }
     ensures at { IfOk result (λ r. StandsAt block.now r.at r.frame.bytes) }
-    ensures room { IfOk result (λ r. 46 + 2 * length (frame_bytes r.frame) ≤ 5 * length block.now) }
+    ensures room { IfOk result (λ r. 52 + 2 * length (frame_bytes r.frame) ≤ 5 * length block.now) }
     ensures refused { IfErr result
         (λ e. RefusesBlock section.old order block.now e × (section.new ≡ section.old)) }
 {
@@ -100,6 +100,7 @@ fn nothing<'a>() -> Reading<'a>
         origin: Origin {
             channel: 0,
             time: 0,
+            wire_len: 0,
         },
         link: Link::Ethernet,
         wire_len: 0,
@@ -118,9 +119,9 @@ fn begin_section<'a>(
     ensures reads { IfOk result
         (λ r. Reads section.old order block.now section.new r.origin (frame_bytes r.frame)) }
     ensures on { IfOk result (λ r. 0 < length (frame_bytes r.frame)
-        → IsHeldOn section.old order block.now r.link r.wire_len r.frame) }
+        → IsHeldOn section.old order block.now r.origin r.link r.wire_len r.frame) }
     ensures at { IfOk result (λ r. StandsAt block.now r.at r.frame.bytes) }
-    ensures room { IfOk result (λ r. 46 + 2 * length (frame_bytes r.frame) ≤ 5 * length block.now) }
+    ensures room { IfOk result (λ r. 52 + 2 * length (frame_bytes r.frame) ≤ 5 * length block.now) }
     ensures refused { IfErr result
         (λ e. RefusesBlock section.old order block.now e × (section.new ≡ section.old)) }
 {
@@ -157,9 +158,9 @@ fn describe_interface<'a>(
     ensures reads { IfOk result
         (λ r. Reads section.old order block.now section.new r.origin (frame_bytes r.frame)) }
     ensures on { IfOk result (λ r. 0 < length (frame_bytes r.frame)
-        → IsHeldOn section.old order block.now r.link r.wire_len r.frame) }
+        → IsHeldOn section.old order block.now r.origin r.link r.wire_len r.frame) }
     ensures at { IfOk result (λ r. StandsAt block.now r.at r.frame.bytes) }
-    ensures room { IfOk result (λ r. 46 + 2 * length (frame_bytes r.frame) ≤ 5 * length block.now) }
+    ensures room { IfOk result (λ r. 52 + 2 * length (frame_bytes r.frame) ≤ 5 * length block.now) }
     ensures refused { IfErr result
         (λ e. RefusesBlock section.old order block.now e × (section.new ≡ section.old)) }
 {
@@ -266,9 +267,9 @@ fn read_packet<'a>(
     ensures reads { IfOk result
         (λ r. Reads section.old order block.now section.new r.origin (frame_bytes r.frame)) }
     ensures on { IfOk result (λ r. 0 < length (frame_bytes r.frame)
-        → IsHeldOn section.old order block.now r.link r.wire_len r.frame) }
+        → IsHeldOn section.old order block.now r.origin r.link r.wire_len r.frame) }
     ensures at { IfOk result (λ r. StandsAt block.now r.at r.frame.bytes) }
-    ensures room { IfOk result (λ r. 46 + 2 * length (frame_bytes r.frame) ≤ 5 * length block.now) }
+    ensures room { IfOk result (λ r. 52 + 2 * length (frame_bytes r.frame) ≤ 5 * length block.now) }
     ensures refused { IfErr result
         (λ e. RefusesBlock section.old order block.now e × (section.new ≡ section.old)) }
 {
@@ -337,10 +338,16 @@ fn timed_packet<'a>(
         return None;
     }
     let time = clock_at(section, interface).time(order.word(block, 12), order.word(block, 16));
+    let link = link_at(section, interface);
+    let wire_len = order.word(block, 24);
     Some(Held {
-        origin: Origin { channel, time },
-        link: link_at(section, interface),
-        wire_len: order.word(block, 24),
+        origin: Origin {
+            channel,
+            time,
+            wire_len: link.frame_wire_len(wire_len),
+        },
+        link,
+        wire_len,
         at: 28,
         captured,
         packet: &block[28..28 + captured as usize],
@@ -367,12 +374,14 @@ fn simple_packet<'a>(section: &Section, order: ByteOrder, block: &'a [u8]) -> Op
     if captured as usize > block.len() - 16 {
         return None;
     }
+    let link = link_at(section, 0);
     Some(Held {
         origin: Origin {
             channel: section.first,
             time: 0,
+            wire_len: link.frame_wire_len(wire_len),
         },
-        link: link_at(section, 0),
+        link,
         wire_len,
         at: 12,
         captured,

@@ -31,7 +31,7 @@ pub(crate) fn section_unit<'a>(
     ensures at { IfOk result
         (λ found. IfSome found (λ u. StandsAt bytes.now u.at u.frame.bytes)) }
     ensures room { IfOk result
-        (λ found. IfSome found (λ u. 46 + 2 * length (frame_bytes u.frame) + 5 * length u.rest.now
+        (λ found. IfSome found (λ u. 52 + 2 * length (frame_bytes u.frame) + 5 * length u.rest.now
         ≤ 5 * length bytes.now)) }
     ensures refused { IfErr result
         (λ e. RefusesAt section.old bytes.now e × (section.new ≡ section.old)) }

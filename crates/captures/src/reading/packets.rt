@@ -90,7 +90,7 @@ impl<'a> Packets<'a> {
     pub(crate) fn step(&mut self) -> Option<Packet<'a>>
         ensures steps { StepsTo self.old result self.new }
         ensures fits { length self.new.rest.now ≤ length self.old.rest.now }
-        ensures room { IfSome result (λ packet. 46 + 2 * length (frame_bytes packet.frame)
+        ensures room { IfSome result (λ packet. 52 + 2 * length (frame_bytes packet.frame)
             + 5 * length self.new.rest.now ≤ 5 * length self.old.rest.now) }
     {
         let prefix = first_packet(&mut self.state, self.rest);

@@ -26,7 +26,7 @@ pub(crate) struct FirstPacket<'a> {
 pub(crate) fn first_packet<'a>(state: &mut State, bytes: &'a [u8]) -> FirstPacket<'a>
     ensures found { IsFirstPacket state.old bytes.now state.new result }
     ensures fits { length result.rest.now ≤ length bytes.now }
-    ensures room { IfSome result.packet (λ packet. 46 + 2 * length (frame_bytes packet.frame)
+    ensures room { IfSome result.packet (λ packet. 52 + 2 * length (frame_bytes packet.frame)
         + 5 * length result.rest.now ≤ 5 * length bytes.now) }
 {
     let mut rest = bytes;

@@ -45,8 +45,8 @@ impl Ledger {
         origin: Origin,
         frame: &Frame<'_>,
     ) -> usize
-        requires { used + 46 + 2 * length (frame_bytes frame.now) ≤ length out.old }
-        ensures end { result ≤ used + 46 + 2 * length (frame_bytes frame.now) }
+        requires { used + 52 + 2 * length (frame_bytes frame.now) ≤ length out.old }
+        ensures end { result ≤ used + 52 + 2 * length (frame_bytes frame.now) }
         ensures text { take result out.new ≡ take used out.old
             ++ reported self.old (record { origin = origin; frame = frame_bytes frame.now }) }
         ensures noted { self.new ≡ noted self.old (record { origin = origin; frame = frame_bytes frame.now }) }

@@ -1,9 +1,9 @@
 //! The line of a packet.
-ghost use Rattle.std.specs.Prelude.{◌≡◌, ◌+◌, ◌*◌, ◌<◌, ◌≤◌, ◌++◌, codes, length, take, decimal};
+ghost use Rattle.std.specs.Prelude.{◌≡◌, ◌+◌, ◌*◌, ◌/◌, ◌%◌, ◌≤◌, ◌++◌, codes, length, take, decimal};
 ghost use Rattle.hex.specs.Hex.{encode_lower};
 ghost use Rattle.captures.specs.Framed.{frame_bytes};
-ghost use Rattle.captures.specs.Lines.{forget_line, line_of, timed_line_of};
-ghost use Rattle.line_grammar.specs.Written.{nanoseconds_text, time_text};
+ghost use Rattle.captures.specs.Lines.{forget_line, line_of, origin_text, timed_line_of, wire_text};
+ghost use Rattle.line_grammar.specs.Written.{time_text};
 
 use crate::link::frame::Frame;
 use crate::origin::Origin;
@@ -22,7 +22,7 @@ pub(crate) fn append_line(out: &mut [u8], used: usize, origin: Origin, frame: &F
     append(out, digits, b"\n")
 }
 
-/// The same with the packet's time.
+/// The same with the packet's time, and the length of its frame on the wire where it has another.
 #[inline(always)]
 pub(crate) fn append_timed_line(
     out: &mut [u8],
@@ -30,14 +30,14 @@ pub(crate) fn append_timed_line(
     origin: Origin,
     frame: &Frame<'_>,
 ) -> usize
-    requires { used + 42 + 2 * length (frame_bytes frame.now) ≤ length out.old }
-    ensures end { result ≤ used + 42 + 2 * length (frame_bytes frame.now) }
+    requires { used + 52 + 2 * length (frame_bytes frame.now) ≤ length out.old }
+    ensures end { result ≤ used + 52 + 2 * length (frame_bytes frame.now) }
     ensures text { take result out.new ≡ take used out.old
         ++ timed_line_of (record { origin = origin; frame = frame_bytes frame.now }) }
 {
     let digits = append_frame(out, used, origin.channel, frame);
-    let time = append_time(out, digits, origin.time);
-    append(out, time, b"\n")
+    let end = append_origin(out, digits, origin.time, origin.wire_len, frame.len());
+    append(out, end, b"\n")
 }
 
 /// The same of the line that has reassemblies dropped.
@@ -94,31 +94,62 @@ fn append_long_head(out: &mut [u8], used: usize, channel: u32) -> usize
     append(out, number, b" ")
 }
 
-fn append_time(out: &mut [u8], used: usize, time: u64) -> usize
-    requires { used + 24 ≤ length out.old }
-    ensures end { result ≤ used + 24 }
-    ensures text { take result out.new ≡ take used out.old ++ time_text time }
+// What follows the digits of a frame of so many bytes.
+fn append_origin(out: &mut [u8], used: usize, time: u64, wire_len: u32, len: usize) -> usize
+    requires { used + 34 ≤ length out.old }
+    ensures end { result ≤ used + 34 }
+    ensures text { take result out.new ≡ take used out.old ++ origin_text len time wire_len }
 {
-    let space = append(out, used, b" ");
-    let seconds = time / 1_000_000_000;
-    let second = append(out, space, Buffer::new().format(seconds).as_bytes());
-    let between = append(out, second, b" ");
-    let microseconds = (time / 1000 % 1_000_000) as u32;
-    let parts = append(out, between, Buffer::new().format(microseconds).as_bytes());
-    append_nanoseconds(out, parts, (time % 1000) as u32)
+    if wire_len as usize == len {
+        append_time(out, used, time)
+    } else {
+        append_length(out, used, time, wire_len)
+    }
 }
 
-fn append_nanoseconds(out: &mut [u8], used: usize, nanoseconds: u32) -> usize
-    requires few { nanoseconds < 1000 }
-    requires room { used + 4 ≤ length out.old }
-    ensures end { result ≤ used + 4 }
-    ensures text { take result out.new ≡ take used out.old ++ nanoseconds_text nanoseconds }
+fn append_time(out: &mut [u8], used: usize, time: u64) -> usize
+    requires { used + 23 ≤ length out.old }
+    ensures end { result ≤ used + 23 }
+    ensures text { take result out.new ≡ take used out.old ++ time_text time }
 {
+    let microseconds = append_microseconds(out, used, time);
+    let nanoseconds = time % 1000;
     if nanoseconds == 0 {
-        return used;
+        microseconds
+    } else {
+        append_number(out, microseconds, nanoseconds)
     }
+}
+
+// A time with its nanoseconds, and the length of a frame on the wire.
+fn append_length(out: &mut [u8], used: usize, time: u64, wire_len: u32) -> usize
+    requires { used + 34 ≤ length out.old }
+    ensures end { result ≤ used + 34 }
+    ensures text { take result out.new ≡ take used out.old ++ wire_text time wire_len }
+{
+    let microseconds = append_microseconds(out, used, time);
+    let nanoseconds = append_number(out, microseconds, time % 1000);
+    append_number(out, nanoseconds, u64::from(wire_len))
+}
+
+// A time up to its microseconds.
+fn append_microseconds(out: &mut [u8], used: usize, time: u64) -> usize
+    requires { used + 19 ≤ length out.old }
+    ensures end { result ≤ used + 19 }
+    ensures text { take result out.new ≡ take used out.old ++ (codes " "
+        ++ decimal (time / 1000000000) ++ codes " " ++ decimal (time / 1000 % 1000000)) }
+{
+    let seconds = append_number(out, used, time / 1_000_000_000);
+    append_number(out, seconds, time / 1000 % 1_000_000)
+}
+
+fn append_number(out: &mut [u8], used: usize, number: u64) -> usize
+    requires { used + 1 + length (decimal number) ≤ length out.old }
+    ensures end { result ≡ used + 1 + length (decimal number) }
+    ensures text { take result out.new ≡ take used out.old ++ codes " " ++ decimal number }
+{
     let space = append(out, used, b" ");
-    append(out, space, Buffer::new().format(nanoseconds).as_bytes())
+    append(out, space, Buffer::new().format(number).as_bytes())
 }
 
 /// Puts a text after the first `used` bytes, and returns how many are used then.

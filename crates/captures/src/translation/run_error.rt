@@ -6,6 +6,7 @@ ghost use Rattle.captures.specs.declared.translation.run_error.RunError.TheVaria
 
 use crate::CaptureError;
 use crate::position::Position;
+use crate::text::bad_line::BadLine;
 use crate::translation::refusal::Refusal;
 use device_runs::Fault;
 use thiserror::Error;
@@ -32,11 +33,9 @@ pub enum RunError {
     /// at this position.
     #[error("{1}: {0}")]
     Capture(CaptureError, Position),
-    /// The line with this number, counted from 1, of the input of
-    /// [`write_capture`](crate::write_capture) gives no frame, or one that a line of `run` can't
-    /// hold.
-    #[error("line {0} has no frame")]
-    BadLine(u64),
+    /// This line of the input of [`write_capture`](crate::write_capture) gives no frame.
+    #[error("{0}")]
+    BadLine(BadLine),
 }
 
 impl From<Fault> for RunError {
@@ -57,7 +56,7 @@ impl From<Refusal> for RunError {
     fn from(refusal: Refusal) -> RunError {
         match refusal {
             Refusal::InCapture(error, position) => RunError::Capture(error, position),
-            Refusal::InLine(number) => RunError::BadLine(number),
+            Refusal::InLine(line) => RunError::BadLine(line),
         }
     }
 }

@@ -1,16 +1,18 @@
 //! A run the other way: reads of lines, and the packet records of the frames that they give.
-ghost use Rattle.std.specs.Prelude.{◌≡◌, ◌≤◌, ◌*◌, List, length, OnOk, IfSome, IsErrOf};
+ghost use Rattle.std.specs.Prelude.{◌≡◌, ◌≤◌, ◌+◌, ◌*◌, List, length, OnOk, IfSome, IsErrOf};
+ghost use Rattle.std.specs.Io.Iter.{u64_saturate};
 ghost use Rattle.std.specs.Io.KnownBytes.{Appends, IsAtEnd};
 ghost use Rattle.device_runs.specs.Known.{KnownCall, Transfers, known_of};
 ghost use Rattle.captures.specs.Endings.{ending_of};
 ghost use Rattle.captures.specs.Encoding.{capture_of};
-ghost use Rattle.line_grammar.specs.TimedLines.{TimedFrame};
+ghost use Rattle.captures.specs.CapturedFrames.{CapturedFrame};
 ghost use Rattle.captures.specs.Texts.{GivesFrames, IsIncompleteLine, IsText, WritesCapture, lines_to_capture};
 ghost use Rattle.captures.specs.declared.time.time_unit.TimeUnit.{TimeUnit};
 ghost use Rattle.captures.specs.declared.limits.TheConstants.{INPUT_CAPACITY};
 ghost use Rattle.device_runs.specs.declared.limits.TheConstants.{READ_COUNT_LIMIT};
 
 use crate::pcap::writer::file_header;
+use crate::text::bad_line::{BadLine, LineFault};
 use crate::text::line_records::take_lines;
 use crate::translation::refusal::Refusal;
 use crate::translation::translator::{Finished, Translated, Translator, run_translator};
@@ -24,10 +26,12 @@ use std::io::{Read, Write};
 ///
 /// A line is `frame CHANNEL HEX`, as [`run`](crate::run) writes it, or `frame CHANNEL HEX SECONDS
 /// MICROSECONDS` with the time since the year 1970 began, or `frame CHANNEL HEX SECONDS MICROSECONDS
-/// NANOSECONDS`; without a time it is 0. A capture in microseconds has whole ones. The hex digits may
-/// be of either case. The channel is a number and isn't written: a classic capture has one
-/// interface. A line that isn't of this form, or whose frame has no byte or more than
-/// [`FRAME_LIMIT`](crate::FRAME_LIMIT), ends the run, after the packets before it are written.
+/// NANOSECONDS`; without a time it is 0. A capture in microseconds has whole ones. After its
+/// nanoseconds a line may have how many bytes the frame had on the wire, of 32 bits; without that
+/// they are as many as it has. The hex digits may be of either case. The channel is a number and isn't
+/// written: a classic capture has one interface. A line that isn't of this form, or whose frame has no
+/// byte or more than [`FRAME_LIMIT`](crate::FRAME_LIMIT), ends the run, after the packets before it are
+/// written.
 ///
 /// The file header is written before the first read, and the packets of all whole lines before the
 /// next read. A read that gives nothing reports the end, and nothing is read after it. Any fault of
@@ -40,7 +44,7 @@ pub fn write_capture<R: Read, W: Write>(
 ) -> Result<(), RunError>
     // All frames are written, and no byte is left to read.
     ensures ok { OnOk result
-        (IfSome (R.remaining reader.old) (λ bytes. (frames : List TimedFrame) × IsText bytes frames
+        (IfSome (R.remaining reader.old) (λ bytes. (frames : List CapturedFrame) × IsText bytes frames
         × Appends (W.contents writer.old) (W.contents writer.new) (capture_of time_unit frames))) }
     ensures end { OnOk result (IsAtEnd (R.remaining reader.new)) }
 
@@ -95,6 +99,18 @@ struct FrameWriter {
     count: u64,
 }
 
+impl FrameWriter {
+    // The line after those that gave frames, where it gives none.
+    fn next_line(&self, fault: LineFault) -> BadLine
+        ensures { result ≡ record { number = u64_saturate (self.now.count + 1); fault = fault } }
+    {
+        BadLine {
+            number: self.count.saturating_add(1),
+            fault,
+        }
+    }
+}
+
 impl Translator for FrameWriter {
     ghost task = { λ writer. lines_to_capture writer.time_unit };
 
@@ -104,18 +120,18 @@ impl Translator for FrameWriter {
 
     ghost most = { INPUT_CAPACITY * READ_COUNT_LIMIT };
 
-    ghost shows = { λ writer held read written. (frames : List TimedFrame)
+    ghost shows = { λ writer held read written. (frames : List CapturedFrame)
         × GivesFrames read writer.count frames held
         × IsIncompleteLine held × (written ≡ capture_of writer.time_unit frames) };
 
     fn translate<'a>(&mut self, bytes: &'a [u8], out: &mut [u8]) -> Translated<'a> {
         let taken = take_lines(self.time_unit, bytes, out);
         self.count = self.count.saturating_add(taken.count as u64);
-        if taken.is_bad {
+        if let Some(fault) = taken.fault {
             return Translated {
                 used: taken.used,
                 rest: taken.rest,
-                refusal: Some(Refusal::InLine(self.count.saturating_add(1))),
+                refusal: Some(Refusal::InLine(self.next_line(fault))),
             };
         }
         Translated {
@@ -136,10 +152,10 @@ impl Translator for FrameWriter {
         input[left] = b'\n';
         let taken = take_lines(self.time_unit, &input[..left + 1], out);
         self.count = self.count.saturating_add(taken.count as u64);
-        if taken.is_bad {
+        if let Some(fault) = taken.fault {
             return Finished {
                 used: taken.used,
-                result: Err(Refusal::InLine(self.count.saturating_add(1))),
+                result: Err(Refusal::InLine(self.next_line(fault))),
             };
         }
         Finished {

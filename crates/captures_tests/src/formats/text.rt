@@ -2,7 +2,7 @@
 //! Calls have no contracts: tests alone make them, and are run.
 use crate::checks::{equal, joined, repeated};
 use crate::packet_lines::{LINES, reports};
-use captures::{RunError, TimeUnit, write_capture};
+use captures::{BadLine, LineFault, RunError, TimeUnit, write_capture};
 use fault_devices::{Fault, FaultReader};
 use std::io::{ErrorKind, Read};
 use std::process::Abort;
@@ -46,7 +46,22 @@ fn lines_come_back(rt: HostRuntime) {
     reports(rt, capture, Ok(()), LINES);
 }
 
-const BAD: Result<(), RunError> = Err(RunError::BadLine(1));
+/// A run that ends at a first line without a frame.
+pub const BAD: Result<(), RunError> = Err(RunError::BadLine(BadLine {
+    number: 1,
+    fault: LineFault::NoFrame,
+}));
+
+const SECOND_BAD: Result<(), RunError> = Err(RunError::BadLine(BadLine {
+    number: 2,
+    fault: LineFault::NoFrame,
+}));
+
+// After the seconds of a time its microseconds are missing.
+const NO_FRACTION: Result<(), RunError> = Err(RunError::BadLine(BadLine {
+    number: 1,
+    fault: LineFault::NoFraction,
+}));
 
 // Each with how its run ends, and what follows the file header.
 #[rattlefmt::skip]
@@ -57,12 +72,20 @@ const TEXTS: &[(&[u8], Result<(), RunError>, &[u8])] = &[
     // a time
     (b"frame 4294967295 01 1700000000 250000\n", Ok(()), b"\x00\xf1\x53\x65\x90\xd0\x03\x00\x01\0\0\0\x01\0\0\0\x01"),
     (b"frame 0 01 4294967295 999999\n", Ok(()), b"\xff\xff\xff\xff\x3f\x42\x0f\x00\x01\0\0\0\x01\0\0\0\x01"),
-    // a million microseconds, a second beyond 32 bits, half a time, a thousand nanoseconds
+    // a million microseconds, a second beyond 32 bits, no time, a thousand nanoseconds
     (b"frame 0 01 0 1000000\n", BAD, b""),
     (b"frame 0 01 4294967296 0\n", BAD, b""),
     (b"frame 0 01 \n", BAD, b""),
-    (b"frame 0 01 5\n", BAD, b""),
     (b"frame 0 01 5 6 1000\n", BAD, b""),
+    // the seconds alone; after no frame they are not what is missing
+    (b"frame 0 01 5\n", NO_FRACTION, b""),
+    (b"frame 0 00 1700000000\n", NO_FRACTION, b""),
+    (b"frame 0 01 4294967295", NO_FRACTION, b""),
+    (b"frame 0 01 4294967296\n", BAD, b""),
+    (b"frame 0 01 1700000000.25\n", BAD, b""),
+    (b"frame 0 01 5 \n", BAD, b""),
+    (b"frame 0 0 5\n", BAD, b""),
+    (b"frame 0  5\n", BAD, b""),
     // no channel, one beyond 32 bits, one of 11 digits
     (b"frame  01\n", BAD, b""),
     (b"frame 4294967296 01\n", BAD, b""),
@@ -77,8 +100,8 @@ const TEXTS: &[(&[u8], Result<(), RunError>, &[u8])] = &[
     (b"Frame 0 01\n", BAD, b""),
     (b"frame 0 01\r\n", BAD, b""),
     // the packets before a bad line are written
-    (b"frame 0 01\nforget\nframe 0 02\n", Err(RunError::BadLine(2)), b"\0\0\0\0\0\0\0\0\x01\0\0\0\x01\0\0\0\x01"),
-    (b"frame 0 01\nframe 0 0", Err(RunError::BadLine(2)), b"\0\0\0\0\0\0\0\0\x01\0\0\0\x01\0\0\0\x01"),
+    (b"frame 0 01\nforget\nframe 0 02\n", SECOND_BAD, b"\0\0\0\0\0\0\0\0\x01\0\0\0\x01\0\0\0\x01"),
+    (b"frame 0 01\nframe 0 0", SECOND_BAD, b"\0\0\0\0\0\0\0\0\x01\0\0\0\x01\0\0\0\x01"),
 ];
 
 #[test]
@@ -98,10 +121,11 @@ fn prefix_of_two(n: usize) -> (Result<(), RunError>, &'static [u8]) {
         0 => (Ok(()), b""),
         10 => (Ok(()), b"\0\0\0\0\0\0\0\0\x01\0\0\0\x01\0\0\0\x0a"),
         12 => (Ok(()), b"\0\0\0\0\0\0\0\0\x02\0\0\0\x02\0\0\0\x0a\xff"),
-        1..=15 => (Err(RunError::BadLine(1)), b""),
+        14 => (NO_FRACTION, b""),
+        1..=15 => (BAD, b""),
         16 | 17 => (Ok(()), b"\x05\0\0\0\x06\0\0\0\x02\0\0\0\x02\0\0\0\x0a\xff"),
         18..=26 => (
-            Err(RunError::BadLine(2)),
+            SECOND_BAD,
             b"\x05\0\0\0\x06\0\0\0\x02\0\0\0\x02\0\0\0\x0a\xff",
         ),
         _ => (
@@ -124,11 +148,10 @@ fn each_prefix_of_a_text(rt: HostRuntime) {
 
 #[test]
 fn longest_frame(rt: HostRuntime) {
-    let bad = Err(RunError::BadLine(1));
     for (len, wanted, size) in [
         (99_991, Ok(()), 24 + 16 + 99_991),
-        (99_992, bad, 24),
-        (200_000, bad, 24),
+        (99_992, BAD, 24),
+        (200_000, BAD, 24),
     ] {
         // A frame of so many bytes, all of them 0.
         let line = joined(
@@ -136,7 +159,7 @@ fn longest_frame(rt: HostRuntime) {
             &[
                 b"frame 0000000000 ",
                 repeated(rt, b"00", len).as_slice(),
-                b" 0000000000 0000000000 0000000000",
+                b" 0000000000 0000000000 0000000000 0000000000",
             ],
         );
         let capture = capture_of(rt, TimeUnit::Microseconds, &mut line.as_slice(), wanted);
@@ -144,16 +167,16 @@ fn longest_frame(rt: HostRuntime) {
     }
 }
 
-// The longest line that gives a frame has 200,032 bytes. After one more nothing is read.
+// The longest line that gives a frame has 200,043 bytes. After one more nothing is read.
 #[test]
 fn line_without_end(rt: HostRuntime) {
-    for (len, wanted) in [(200_032, RunError::Read), (200_033, RunError::BadLine(1))] {
+    for (len, wanted) in [(200_043, Err(RunError::Read)), (200_044, BAD)] {
         let text = repeated(rt, b"0", len);
         let fault = Fault::Fails(ErrorKind::Other);
         let mut reader = text
             .as_slice()
             .chain(FaultReader::failing(b"", 1, 0, fault));
-        let capture = capture_of(rt, TimeUnit::Microseconds, &mut reader, Err(wanted));
+        let capture = capture_of(rt, TimeUnit::Microseconds, &mut reader, wanted);
         equal(rt, capture.len(), 24);
     }
 }

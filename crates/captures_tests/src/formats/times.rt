@@ -5,7 +5,7 @@ use crate::checks::{append, equal, joined};
 use crate::formats::classic::{
     BIG_MICROSECONDS, BIG_NANOSECONDS, LITTLE_MICROSECONDS, LITTLE_NANOSECONDS,
 };
-use crate::formats::text::capture_of;
+use crate::formats::text::{BAD, capture_of};
 use crate::packet_lines::reports_all;
 use captures::{Extra, RunError, TimeUnit};
 use std::process::Abort;
@@ -190,8 +190,6 @@ fn clocks_after_the_32nd(rt: HostRuntime) {
     reports_all(rt, Extra::Times, file.as_slice(), lines);
 }
 
-const BAD: Result<(), RunError> = Err(RunError::BadLine(1));
-
 // A line, how a run of it ends, and what follows the file header of a capture in microseconds, and
 // in nanoseconds.
 const CAPTURED: &[(&str, Result<(), RunError>, &[u8], &[u8])] = &[
@@ -210,7 +208,6 @@ const CAPTURED: &[(&str, Result<(), RunError>, &[u8], &[u8])] = &[
     ("frame 0 01 5 6 1000\n", BAD, b"", b""),
     ("frame 0 01 5 1000000 0\n", BAD, b"", b""),
     ("frame 0 01 5 6 \n", BAD, b"", b""),
-    ("frame 0 01 5 6 7 8\n", BAD, b"", b""),
     ("forget 1\n", BAD, b"", b""),
 ];
 

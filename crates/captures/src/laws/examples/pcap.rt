@@ -1,7 +1,7 @@
 //! Classic captures (draft-ietf-opsawg-pcap, sections 4 and 5).
 
 ghost use Rattle.std.specs.Prelude.{◌≡◌, ◌^◌, ℕ, List, [], ◌∷◌, ◌++◌, replicate, length, codes, true, false, None};
-ghost use Rattle.line_grammar.specs.TimedLines.{TimedFrame};
+ghost use Rattle.captures.specs.CapturedFrames.{CapturedFrame};
 ghost use Rattle.captures.specs.Examples.{empty_record, file_after, file_header, numbered, packet_at, packet_record};
 ghost use Rattle.captures.specs.Framed.{link_of};
 ghost use Rattle.captures.specs.Lines.{blank};
@@ -61,7 +61,7 @@ pub fn packet_records()
 /// A capture of one packet, whose first 21 bytes of 1500 were captured on LINUX_SLL2.
 pub fn captures_of_records()
     ensures { IsCapture Refuse (file_header ++ packet_record)
-        (packet_at 1700000000250000000 ∷ []) none_skipped }
+        (packet_at 1700000000250000000 1494 ∷ []) none_skipped }
 {}
 
 /// A packet of which no byte was captured has a number too, and the one after it the next.
@@ -92,13 +92,19 @@ pub fn packets_before_a_rest()
         (codes "frame 0 000000000000020000000001080045\n") None (blank Nothing) }
 {}
 
-/// The greatest frame that is written has as many bytes as a line can hold, and its time is the
-/// last nanosecond of 32 bits of seconds.
+/// The greatest frame that is written has as many bytes as a line can hold, its time is the last
+/// nanosecond of 32 bits of seconds, and its length on the wire the greatest number of 32 bits.
 pub fn greatest_written_frames()
     ensures greatest { (frame : List ℕ) → length frame ≡ 99_991 → IsWritable
-        (record { seconds = 4_294_967_295; nanoseconds = 999_999_999; frame = frame }) }
-    ensures longer { (timed : TimedFrame) → length timed.frame ≡ 99_992 → IsWritable timed → ⊥ }
-    ensures later { (timed : TimedFrame) → timed.seconds ≡ 2 ^ 32 → IsWritable timed → ⊥ }
-    ensures nanoseconds { (timed : TimedFrame) → timed.nanoseconds ≡ 1_000_000_000
-        → IsWritable timed → ⊥ }
+        (record {
+          seconds = 4_294_967_295;
+          nanoseconds = 999_999_999;
+          wire_len = 4_294_967_295;
+          frame = frame;
+        }) }
+    ensures longer { (given : CapturedFrame) → length given.frame ≡ 99_992 → IsWritable given → ⊥ }
+    ensures later { (given : CapturedFrame) → given.seconds ≡ 2 ^ 32 → IsWritable given → ⊥ }
+    ensures on_wire { (given : CapturedFrame) → given.wire_len ≡ 2 ^ 32 → IsWritable given → ⊥ }
+    ensures nanoseconds { (given : CapturedFrame) → given.nanoseconds ≡ 1_000_000_000
+        → IsWritable given → ⊥ }
 {}

@@ -99,7 +99,7 @@ pub fn long_packets_are_passed_over()
 pub fn captures_of_blocks()
     ensures { IsCapture Refuse (section_block ++ (interface_block ++ (simple_block
         ++ (cut_simple_block ++ enhanced_block))))
-        (packet_at 0 ∷ longer_packet ∷ packet_at 1700000000250000000 ∷ []) none_skipped }
+        (packet_at 0 15 ∷ longer_packet ∷ packet_at 1700000000250000000 1494 ∷ []) none_skipped }
 {}
 
 /// A packet of another link that is passed over has a number too, and so has one of which no byte
@@ -114,14 +114,14 @@ pub fn numbers_of_blocks()
 /// A packet in a block of each kind, after the description of that interface: a simple packet has
 /// no time, an older kind counts dropped packets after its interface's number.
 pub fn packets_of_blocks()
-    ensures simple { IsSimplePacket described_section Little simple_block (origin_at 0) Sll2
+    ensures simple { IsSimplePacket described_section Little simple_block (origin_at 0 15) Sll2
         cooked_packet }
     ensures timed { IsTimedPacket 0 described_section Little enhanced_block
-        (origin_at 1700000000250000000) Sll2 cooked_packet }
+        (origin_at 1700000000250000000 1494) Sll2 cooked_packet }
     ensures enhanced { IsEnhancedPacket described_section Little enhanced_block
-        (origin_at 1700000000250000000) Sll2 cooked_packet }
+        (origin_at 1700000000250000000 1494) Sll2 cooked_packet }
     ensures obsolete { IsObsoletePacket described_section Little obsolete_block
-        (origin_at 1700000000250000000) Sll2 cooked_packet }
+        (origin_at 1700000000250000000 1494) Sll2 cooked_packet }
 {}
 
 /// How many bytes a packet had on the wire, by a block of each kind, and by an enhanced one whose

@@ -33,7 +33,7 @@ returns-clause-found c =
             next = ap (Classic c.args.order c.args.time_unit c.args.link)
                 c.in-Some-report.ensures.reported.1;
           },
-          c.record_origin.ensures ∙ origin_prefix c.args.order c.args.time_unit head packet
+          c.record_origin.ensures ∙ origin_prefix c.args.order c.args.time_unit c.args.link head packet
               (omega (arith, c.split_at.ensures.front_len)),
         );
       };

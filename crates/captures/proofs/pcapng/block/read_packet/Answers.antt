@@ -70,7 +70,6 @@ pub returns-clause-on : goal.returns-clause-on
 returns-clause-on c some =
     let held = c.in-Some.held in
     record {
-      origin = held.origin;
       packet = held.packet.now;
       says = c.in-Some.ensures.found;
       wire = c.in-Some.ensures.wire;

@@ -1,7 +1,7 @@
-use Rattle.std.proofs.Common.{rules, arith, ◌≡◌, ◌∙◌, ◌+◌, ◌-◌, ◌<◌, sym, ap, subst, refl, length, take, drop, ℕ, List}
+use Rattle.std.proofs.Common.{rules, arith, ◌≡◌, ◌∙◌, ◌+◌, ◌-◌, ◌<◌, sym, ap, subst, length, take, drop, ℕ, List}
 use Rattle.std.proofs.Common.{Some, None}
 use Rattle.std.proofs.lemmas.List.{length-drop}
-use Rattle.line_grammar.specs.TimedLines.{timed_frame_of}
+use Rattle.captures.specs.CapturedFrames.{captured_frame_of, fault_of}
 use Rattle.captures.proofs.TextLemmas.{taking_line, found_line, none_found, left_line, left_bad}
 use Rattle.captures.proofs.text.line_records.take_lines.Goals as goal
 use Rattle.lines.proofs.Feeding.{after_line}
@@ -11,14 +11,16 @@ returns-in_default-append_record-clause-takes c =
     let taking = c.lines.invariant.taking in
     let rest = c.lines.rest.now in
     let found = found_line rest c.in-Some.end (sym c.newline_in.ensures ∙ c.in-Some.is) in
-    let none = subst (λ (l : List ℕ). timed_frame_of l ≡ None) c.split_at.ensures.front
+    let none = subst (λ (l : List ℕ). captured_frame_of l ≡ None) c.split_at.ensures.front
     c.in_default-append_record.ensures.record in
+    let why = subst (λ (l : List ℕ). fault_of l ≡ c.fault_in.result) c.split_at.ensures.front
+    (sym c.fault_in.ensures.fault) in
     record {
       frames = taking.frames;
       gives_frames = taking.gives_frames;
-      encoded = c.in_default-append_record.ensures.same refl ∙ taking.encoded;
-      left = left_bad rest (take c.in-Some.end rest)
-          (drop (c.in-Some.end + 1) rest) found.1 found.0 none;
+      encoded = c.fault_in.ensures.same ∙ c.in_default-append_record.ensures.same ∙ taking.encoded;
+      left = left_bad rest (take c.in-Some.end rest) (drop (c.in-Some.end + 1) rest) _ found.1
+          found.0 none why;
     }
 
 pub lines-preserved : goal.lines-preserved
@@ -31,7 +33,7 @@ lines-preserved c =
     let found = found_line rest end (sym c.newline_in.ensures ∙ c.in-Some.is) in
     let lt : end < length rest = search rules in
     let record' = c.in-Some-append_record.ensures.record in
-    let is = subst (λ (l : List ℕ). timed_frame_of l ≡ Some record'.0)
+    let is = subst (λ (l : List ℕ). captured_frame_of l ≡ Some record'.0)
     c.split_at.ensures.front record'.1 in
     let after : take (length c.split_at.result.1.now - 1) (drop 1 c.split_at.result.1.now)
     ≡ drop (end + 1) rest =
@@ -55,6 +57,6 @@ returns-clause-takes c =
       frames = taking.frames;
       gives_frames = taking.gives_frames;
       encoded = taking.encoded;
-      left = left_line c.lines.rest.now
-          (none_found c.lines.rest.now (sym c.newline_in.ensures ∙ c.in_default.is));
+      left = rw c.fault_of_length.ensures (left_line c.lines.rest.now
+          (none_found c.lines.rest.now (sym c.newline_in.ensures ∙ c.in_default.is)));
     }

@@ -2,6 +2,7 @@ use Rattle.std.proofs.Common.{arith, refl, [], ◌∷◌}
 use Rattle.captures.specs.Examples.{cooked_packet, empty_record, file_after, file_header, origin_at, packet_record}
 use Rattle.captures.specs.Units.{record_origin}
 use Rattle.captures.specs.declared.byte_order.ByteOrder.TheVariants.{Big}
+use Rattle.captures.specs.declared.link.kind.Link.TheVariants.{Sll2}
 use Rattle.captures.specs.declared.time.time_unit.TimeUnit.TheVariants.{Nanoseconds}
 use Rattle.captures.proofs.ExampleRecords.{holds_packet, is_record, opens_file}
 use Rattle.captures.proofs.UnitLemmas.{passes_start}
@@ -18,13 +19,13 @@ returns c = (
       units = file_header ∷ empty_record ∷ [];
       row = (
         file_after 0,
-        origin_at 0,
+        origin_at 0 0,
         [],
         [],
         opens_file,
         (
           file_after 1,
-          record_origin Big Nanoseconds empty_record,
+          record_origin Big Nanoseconds Sll2 empty_record,
           [],
           [],
           (

@@ -16,7 +16,7 @@ returns-clause-link c = record {
   has_order = inl (λ e. let same : 0x06000000 ≡ 0x0a0d0d0a = e in absurd (omega arith), refl);
   is_block = record { size = omega arith; words = refl; prefix = refl; back = refl };
   refused = (
-    origin_at 1700000000250000000,
+    origin_at 1700000000250000000 1514,
     Other 9,
     cooked_packet,
     inl (
@@ -28,6 +28,7 @@ returns-clause-link c = record {
         fits = omega arith;
         time = refl;
         over = refl;
+        wire = refl;
         captured = refl;
         bytes = refl;
       },

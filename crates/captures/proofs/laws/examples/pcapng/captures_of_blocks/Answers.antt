@@ -29,7 +29,7 @@ opened = record {
 }
 
 abbrev nowhere : Origin
-nowhere = origin_at 0
+nowhere = origin_at 0 0
 
 opens : IsBlockUnit (no_section Refuse) section_block (Pcapng opened) nowhere []
 opens = record {
@@ -66,7 +66,7 @@ abbrev Reports : Packet → (before : ℕ) → List ℕ → Type 0
 Reports reported before block = IsBlockUnit (section_after before) block
     (Pcapng (section_after (before + 1))) reported.origin reported.frame
 
-holds_simple : Reports (packet_at 0) 0 simple_block
+holds_simple : Reports (packet_at 0 15) 0 simple_block
 holds_simple = record {
   order = Little;
   has_order = inl (λ e. let same : 0x03000000 ≡ 0x0a0d0d0a = e in absurd (omega arith), refl);
@@ -74,7 +74,7 @@ holds_simple = record {
   fits = inl (omega arith);
   next = section_after 1;
   reads = record {
-    content = Holds nowhere Sll2 cooked_packet;
+    content = Holds (origin_at 0 15) Sll2 cooked_packet;
     says = inr (inr (simple 0));
     becomes = (refl, refl, refl, omega arith, refl);
   };
@@ -89,14 +89,14 @@ holds_cut = record {
   fits = inl (omega arith);
   next = section_after 2;
   reads = record {
-    content = Holds nowhere Sll2 (take 22 (drop 12 cut_simple_block));
+    content = Holds (origin_at 0 1494) Sll2 (take 22 (drop 12 cut_simple_block));
     says = inr (inr (cut_simple 1));
     becomes = (refl, refl, refl, omega arith, refl);
   };
   becomes = refl;
 }
 
-holds_enhanced : Reports (packet_at 1700000000250000000) 2 enhanced_block
+holds_enhanced : Reports (packet_at 1700000000250000000 1494) 2 enhanced_block
 holds_enhanced = record {
   order = Little;
   has_order = inl (λ e. let same : 0x06000000 ≡ 0x0a0d0d0a = e in absurd (omega arith), refl);
@@ -104,7 +104,7 @@ holds_enhanced = record {
   fits = inl (omega arith);
   next = section_after 3;
   reads = record {
-    content = Holds (origin_at 1700000000250000000) Sll2 cooked_packet;
+    content = Holds (origin_at 1700000000250000000 1494) Sll2 cooked_packet;
     says = inl (refl, enhanced 2);
     becomes = (refl, refl, refl, omega arith, refl);
   };
@@ -113,8 +113,8 @@ holds_enhanced = record {
 
 pub returns : goal.returns
 returns c =
-    let first = packet_at 0 in
-    let last = packet_at 1700000000250000000 in
+    let first = packet_at 0 15 in
+    let last = packet_at 1700000000250000000 1494 in
     record {
       state = Pcapng (section_after 3);
       passes = record {

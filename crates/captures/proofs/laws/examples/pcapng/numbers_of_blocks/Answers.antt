@@ -2,6 +2,7 @@ use Rattle.std.proofs.Common.{◌≡◌, arith, inl, inr, refl, List, [], ◌∷
 use Rattle.std.specs.Prelude.{drop, length, replicate, slice_set, take, ◌≢◌}
 use Rattle.captures.specs.Examples.{cooked_packet, empty_block, enhanced_block, interface_block, origin_at, other_block}
 use Rattle.captures.specs.Examples.{other_interface, packet_at, section_block}
+use Rattle.captures.specs.Framed.{frame_wire_len}
 use Rattle.captures.specs.Pcapng.{HasOrder, IsBlock, IsTaken, IsTimedPacket, Reads, clock_at, link_at}
 use Rattle.captures.specs.Pcapng.Content.{Opens, Describes, Holds}
 use Rattle.captures.specs.Numbers.{word}
@@ -40,13 +41,13 @@ abbrev both_links : List Link
 both_links = slice_set first_link 1 (Other 105)
 
 abbrev nowhere : Origin
-nowhere = origin_at 0
+nowhere = origin_at 0 0
 
 abbrev moment : Origin
-moment = record { channel = 0; time = 1700000000250000000 }
+moment = record { channel = 0; time = 1700000000250000000; wire_len = 1494 }
 
 abbrev other_moment : Origin
-other_moment = record { channel = 1; time = 1700000000250000000 }
+other_moment = record { channel = 1; time = 1700000000250000000; wire_len = 18 }
 
 opens : IsBlockUnit (no_section Skip) section_block
     (Pcapng (section_of 0 0 (replicate 32 Ethernet) 0 0)) nowhere []
@@ -88,15 +89,17 @@ in_block : (interface : ℕ) (section : Section) (block : List ℕ) (origin : Or
     → section.first + interface ≡ origin.channel → origin.channel < 2 ^ 32
     → clock_time (clock_at section interface) (word Little block 12) (word Little block 16) ≡ origin.time
     → link_at section interface ≡ link
+    → frame_wire_len link (word Little block 24) ≡ origin.wire_len
     → (word Little block 20 ≡ length packet) × (packet ≡ take (length packet) (drop 28 block))
     → IsTimedPacket interface section Little block origin link packet
-in_block interface section block origin link packet size described number fits time over bytes = record {
+in_block interface section block origin link packet size described number fits time over wire bytes = record {
   size = size;
   described = described;
   number = number;
   fits = fits;
   time = time;
   over = over;
+  wire = wire;
   captured = bytes.0;
   bytes = bytes.1;
 }
@@ -133,7 +136,7 @@ passes_over = in_section (section_of 2 22 both_links 0 0) (section_of 2 22 both_
       says = inl (
         refl,
         in_block 1 (section_of 2 22 both_links 0 0) other_block other_moment (Other 105)
-            (8 ∷ 0 ∷ 0 ∷ 0 ∷ []) (omega arith) (omega arith) refl (omega arith) refl refl (refl, refl),
+            (8 ∷ 0 ∷ 0 ∷ 0 ∷ []) (omega arith) (omega arith) refl (omega arith) refl refl refl (refl, refl),
       );
       becomes = (refl, refl, refl, omega arith, refl);
     })
@@ -148,7 +151,7 @@ holds_nothing = in_section (section_of 2 22 both_links 1 1) (section_of 2 22 bot
       says = inl (
         refl,
         in_block 0 (section_of 2 22 both_links 1 1) empty_block moment Sll2 []
-            (omega arith) (omega arith) refl (omega arith) refl refl (refl, refl),
+            (omega arith) (omega arith) refl (omega arith) refl refl refl (refl, refl),
       );
       becomes = (refl, refl, refl, omega arith, refl);
     })
@@ -156,12 +159,12 @@ holds_nothing = in_section (section_of 2 22 both_links 1 1) (section_of 2 22 bot
 says_packet : IsTimedPacket 0 (section_of 2 22 both_links 1 2) Little enhanced_block moment Sll2
     cooked_packet
 says_packet = in_block 0 (section_of 2 22 both_links 1 2) enhanced_block moment Sll2 cooked_packet
-    (omega arith) (omega arith) refl (omega arith) refl refl (refl, refl)
+    (omega arith) (omega arith) refl (omega arith) refl refl refl (refl, refl)
 
 holds_packet : IsBlockUnit (section_of 2 22 both_links 1 2) enhanced_block
-    (Pcapng (section_of 2 22 both_links 1 3)) moment (packet_at 1700000000250000000).frame
+    (Pcapng (section_of 2 22 both_links 1 3)) moment (packet_at 1700000000250000000 1494).frame
 holds_packet = in_section (section_of 2 22 both_links 1 2) (section_of 2 22 both_links 1 3)
-    enhanced_block moment (packet_at 1700000000250000000).frame
+    enhanced_block moment (packet_at 1700000000250000000 1494).frame
     (inl (other_kind 0x06000000 (omega arith), refl))
     (record { size = omega arith; words = refl; prefix = refl; back = refl }) (inl (omega arith))
     (record {
@@ -230,7 +233,6 @@ returns c = (
           Little,
           inl (other_kind 0x06000000 (omega arith), refl),
           record {
-            origin = moment;
             packet = cooked_packet;
             says = inl (refl, says_packet);
             wire = refl;

@@ -13,9 +13,9 @@ returns-then-left-eq0-clause-finishes c read written writes fits =
     (writes_nothing_more c.args.self.now.time_unit c.args.self.now.count read written
     (subst (λ (l : List ℕ). Writes c.args.self.now.time_unit c.args.self.now.count l read written) none writes))
 
-pub returns-then-taken-clause-finishes : goal.returns-then-taken-clause-finishes
-returns-then-taken-clause-finishes c read written writes fits =
-    let takes = rw c.if-taken.true at c.take_lines-taken.ensures.takes in
+pub returns-in-Some-clause-finishes : goal.returns-in-Some-clause-finishes
+returns-in-Some-clause-finishes c read written writes fits =
+    let takes = rw c.in-Some.is at c.take_lines-taken.ensures.takes in
     let left = c.args.left in
     let input = c.args.input.now in
     let room = c.requires.room in
@@ -26,11 +26,11 @@ returns-then-taken-clause-finishes c read written writes fits =
     take_more_set input left 10 room in
     writes_last_bad c.args.self.now.time_unit c.args.self.now.count c.take_lines-taken.result.count _ (take left input)
     (take (left + 1) (slice_set input left 10)) _ read written _ writes some parts fits
-    c.saturating_add-self.ensures _ c.saturating_add.ensures takes
+    c.saturating_add-self.ensures c.in-Some.fault _ c.next_line.ensures takes
 
 pub returns-clause-finishes : goal.returns-clause-finishes
 returns-clause-finishes c read written writes fits =
-    let takes = rw c.if-taken.false at c.take_lines-taken.ensures.takes in
+    let takes = rw c.in_default.is at c.take_lines-taken.ensures.takes in
     let left = c.args.left in
     let input = c.args.input.now in
     let room = c.requires.room in
