@@ -1,1 +1,2 @@
+pub mod ByteLines
 pub mod Seconds

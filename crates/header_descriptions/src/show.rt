@@ -1,8 +1,9 @@
-//! Words of a line, for people. Only the texts of times (`seconds`) have contracts: tests compare the
-//! others.
+//! Words of a line, for people. Only the texts of times (`seconds`) and of bytes (`byte_lines`) have
+//! contracts: tests compare the others.
 
 pub mod addresses;
 pub mod arp;
+pub mod byte_lines;
 pub mod faults;
 pub mod groups;
 pub mod icmp;

@@ -20,6 +20,8 @@ pub enum TimeForm {
     Epoch,
     /// Date and time, in UTC.
     Utc,
+    /// Date and time at a place, with the offset from UTC there.
+    Local,
 }
 
 /// What a section of a line is, by which its colour is chosen.

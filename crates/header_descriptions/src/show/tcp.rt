@@ -6,25 +6,46 @@ use arrayvec::ArrayVec;
 use ep_tcpudp::{TcpOptionElement, TcpOptionReadError, TcpOptions, TcpOptionsIterator, TcpSlice};
 use std::alloc::AllocError;
 
-/// Flags, numbers, window and options of a segment whose payload has so many bytes. It has no
-/// contract: tests compare the texts.
+/// The numbers that those of a segment are counted from, modulo 2^32.
+#[derive(Clone, Copy, Debug, PartialEq, Eq)]
+pub struct Origins {
+    /// That of its sequence number.
+    pub sequence: u32,
+    /// That of its acknowledgment number, and of what it acknowledges selectively.
+    pub acknowledgment: u32,
+}
+
+impl Origins {
+    /// With these the numbers are those of the segment.
+    pub const NONE: Origins = Origins {
+        sequence: 0,
+        acknowledgment: 0,
+    };
+}
+
+/// Flags, numbers from these origins on, window and options of a segment whose payload has so many
+/// bytes. It has no contract: tests compare the texts.
 pub fn segment(
     line: &mut Line<'_>,
     segment: &TcpSlice<'_>,
     payload_len: usize,
+    origins: Origins,
 ) -> Result<(), AllocError> {
     line.text(" ")?;
     flags(line, segment)?;
-    line.counted(" seq ", segment.sequence_number().into())?;
+    let sequence = segment.sequence_number().wrapping_sub(origins.sequence);
+    line.counted(" seq ", sequence.into())?;
     if segment.ack() {
-        line.counted(" ack ", segment.acknowledgment_number().into())?;
+        let acknowledgment = segment.acknowledgment_number();
+        let acknowledgment = acknowledgment.wrapping_sub(origins.acknowledgment);
+        line.counted(" ack ", acknowledgment.into())?;
     }
     line.counted(" win ", segment.window_size().into())?;
     if segment.urg() {
         line.counted(" urg ", segment.urgent_pointer().into())?;
     }
     line.counted(" len ", payload_len as u64)?;
-    options(line, segment)
+    options(line, segment, origins.acknowledgment)
 }
 
 // A letter for each flag that is set, and a dot for ack.
@@ -52,13 +73,17 @@ fn flags(line: &mut Line<'_>, segment: &TcpSlice<'_>) -> Result<(), AllocError> 
 }
 
 // The options in their order. One that is unknown is passed over by its length; the first other one
-// that can't be read ends them.
-fn options(line: &mut Line<'_>, segment: &TcpSlice<'_>) -> Result<(), AllocError> {
+// that can't be read ends them. What is acknowledged is counted from this number on.
+fn options(
+    line: &mut Line<'_>,
+    segment: &TcpSlice<'_>,
+    acknowledged: u32,
+) -> Result<(), AllocError> {
     let mut left = segment.options();
     let mut before = " options [";
     // Each has a byte at least.
     'options: for _ in 0..TcpOptions::MAX_LEN {
-        let Some(rest) = option_at(line, before, left)? else {
+        let Some(rest) = option_at(line, before, left, acknowledged)? else {
             break 'options;
         };
         left = rest;
@@ -77,6 +102,7 @@ fn option_at<'a>(
     line: &mut Line<'_>,
     before: &str,
     bytes: &'a [u8],
+    acknowledged: u32,
 ) -> Result<Option<&'a [u8]>, AllocError> {
     let mut elements = TcpOptionsIterator::from_slice(bytes);
     let Some(element) = elements.next() else {
@@ -85,7 +111,7 @@ fn option_at<'a>(
     line.text(before)?;
     match &element {
         Ok(element) => {
-            option(line, element)?;
+            option(line, element, acknowledged)?;
             Ok(Some(elements.rest()))
         }
         Err(TcpOptionReadError::UnknownId(id)) => {
@@ -99,7 +125,11 @@ fn option_at<'a>(
     }
 }
 
-fn option(line: &mut Line<'_>, element: &TcpOptionElement) -> Result<(), AllocError> {
+fn option(
+    line: &mut Line<'_>,
+    element: &TcpOptionElement,
+    acknowledged: u32,
+) -> Result<(), AllocError> {
     match element {
         TcpOptionElement::Noop => line.text("nop"),
         TcpOptionElement::MaximumSegmentSize(size) => line.counted("mss ", u64::from(*size)),
@@ -107,10 +137,10 @@ fn option(line: &mut Line<'_>, element: &TcpOptionElement) -> Result<(), AllocEr
         TcpOptionElement::SelectiveAcknowledgementPermitted => line.text("sack ok"),
         TcpOptionElement::SelectiveAcknowledgement(first, rest) => {
             line.text("sack")?;
-            block(line, *first)?;
+            block(line, *first, acknowledged)?;
             for other in rest {
                 if let Some(other) = other {
-                    block(line, *other)?;
+                    block(line, *other, acknowledged)?;
                 }
             }
             Ok(())
@@ -122,9 +152,9 @@ fn option(line: &mut Line<'_>, element: &TcpOptionElement) -> Result<(), AllocEr
     }
 }
 
-fn block(line: &mut Line<'_>, block: (u32, u32)) -> Result<(), AllocError> {
-    line.counted(" ", block.0.into())?;
-    line.counted("-", block.1.into())
+fn block(line: &mut Line<'_>, block: (u32, u32), acknowledged: u32) -> Result<(), AllocError> {
+    line.counted(" ", block.0.wrapping_sub(acknowledged).into())?;
+    line.counted("-", block.1.wrapping_sub(acknowledged).into())
 }
 
 fn unread(line: &mut Line<'_>, error: &TcpOptionReadError) -> Result<(), AllocError> {
