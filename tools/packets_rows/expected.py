@@ -238,6 +238,78 @@ def offload(packets):
             )
 
 
+PROTOCOLS = {number: name for name, number in OVER_IP.items()}
+FLOW_TITLES = " packets>        bytes>  <packets        <bytes       first        last    duration  TCP   conversation"
+
+
+def carried(net):
+    """The protocol after the extension headers that are there."""
+    (header,) = net.values()
+    if "protocol" in header:
+        return header.get("auth", {}).get("next_header", header["protocol"])
+    following = [next(iter(it.values())) for it in header["extensions"]]
+    return (following[-1] if following else header)["next_header"]
+
+
+def ends_of(it):
+    """Where a packet goes from and to, with ports if its message or the one that it completes has some; none where it is refused and
+    wasn't cut, and without an IP header."""
+    net = it.members.get("net", {})
+    if it.refused and not it.cut or not ("Ipv4" in net or "Ipv6" in net):
+        return None
+    (header,) = net.values()
+    message = it.members
+    if isinstance(it.members.get("fragment"), dict) and "Completes" in it.members["fragment"]:
+        message = it.members["fragment"]["Completes"]
+    transport = message.get("transport", {})
+    ports = transport.get("Udp") or transport.get("Tcp") or message.get("sctp") or {}
+    ends = ((header[end], ports.get(f"{end}_port")) for end in ("source", "destination"))
+    return (*ends, carried(net), transport.get("Tcp"))
+
+
+def state(segments):
+    """How far a connection came, by the segments of each direction."""
+    both = [it for way in segments for it in way]
+    if any(it["rst"] for it in both):
+        return "R"
+    if all(any(it[flag] for it in way) for way in segments for flag in ("syn", "fin")):
+        return "SF"
+    return "S" if all(it["syn"] for it in both) else "open"
+
+
+def greatest(packets):
+    """The ten conversations with the most bytes, as `packets flows` lists them."""
+    rows = {}
+    for it in packets:
+        found = ends_of(it)
+        if found:
+            source, destination, number, segment = found
+            key = (frozenset((source, destination)), number)
+            row = rows.setdefault(key, {"ends": (source, destination), "number": number, "ways": ([], []), "segments": ([], []), "times": []})
+            way = 0 if row["ends"] == (source, destination) else 1
+            row["ways"][way].append(it.wire_len)
+            row["times"].append(it.time)
+            if segment:
+                row["segments"][way].append(segment)
+    if not rows:
+        return
+    begin = min(min(row["times"]) for row in rows.values())
+    listed = sorted(rows.values(), key=lambda row: -sum(map(sum, row["ways"])))
+    yield FLOW_TITLES
+    for row in listed[:10]:
+        counts = " ".join(f"{len(way):>9} {sum(way):>13}" for way in row["ways"])
+        first, last = min(row["times"]), max(row["times"])
+        times = " ".join(f"{seconds_between(*it):>11}" for it in ((begin, first), (begin, last), (first, last)))
+        tcp = state(row["segments"]) if any(row["segments"]) else ""
+        ends = " > ".join(address if port is None else f"{address}.{port}" for address, port in row["ends"])
+        yield f"{counts} {times}  {tcp:<4}  {ends} {PROTOCOLS[row['number']]}"
+    if len(listed) > 10:
+        yield f"and {len(listed) - 10} more"
+    yield ""
+    yield f"first and last are seconds since {utc(begin)}"
+    yield ""
+
+
 def summary(packets, still_open):
     order = LINKS + tuple(sorted(OVER_IP, key=OVER_IP.get))
     assert all(kind in order for it in packets for kind in it.kinds)
@@ -255,11 +327,7 @@ def summary(packets, still_open):
         rows = [(name, [it for it in fragments if it.outcome == outcome]) for name, outcome in named.items()]
         *lines, _ = table(packets, "fragments", [("all fragments", fragments), *rows])
         yield from [*lines, f"messages open at the end: {still_open}", ""]
-    talkers = sorted(
-        by(packets, lambda it: it.talk), key=lambda found: -sum(it.len for it in found[1])
-    )
-    assert len(talkers) <= 10
-    yield from table(packets, "from > to", talkers)
+    yield from greatest(packets)
     yield from sizes(packets)
     yield from period(packets)
     yield from rate(packets)

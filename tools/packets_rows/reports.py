@@ -13,18 +13,20 @@ TALKERS = """\
    packets   share           bytes   share     first  checksum
         13 100.0 %             442 100.0 %         1  none
 
-   packets   share           bytes   share     first  from > to
-         2  15.4 %              68  15.4 %        12  10.0.0.12 > 10.0.0.99
-         1   7.7 %              34   7.7 %         1  10.0.0.1 > 10.0.0.99
-         1   7.7 %              34   7.7 %         2  10.0.0.2 > 10.0.0.99
-         1   7.7 %              34   7.7 %         3  10.0.0.3 > 10.0.0.99
-         1   7.7 %              34   7.7 %         4  10.0.0.4 > 10.0.0.99
-         1   7.7 %              34   7.7 %         5  10.0.0.5 > 10.0.0.99
-         1   7.7 %              34   7.7 %         6  10.0.0.6 > 10.0.0.99
-         1   7.7 %              34   7.7 %         7  10.0.0.7 > 10.0.0.99
-         1   7.7 %              34   7.7 %         8  10.0.0.8 > 10.0.0.99
-         1   7.7 %              34   7.7 %         9  10.0.0.9 > 10.0.0.99
+ packets>        bytes>  <packets        <bytes       first        last    duration  TCP   conversation
+        2            40         0             0    0.016500    0.018000    0.001500        10.0.0.12 > 10.0.0.99 IP protocol 253
+        1            20         0             0    0.000000    0.000000    0.000000        10.0.0.1 > 10.0.0.99 IP protocol 253
+        1            20         0             0    0.001500    0.001500    0.000000        10.0.0.2 > 10.0.0.99 IP protocol 253
+        1            20         0             0    0.003000    0.003000    0.000000        10.0.0.3 > 10.0.0.99 IP protocol 253
+        1            20         0             0    0.004500    0.004500    0.000000        10.0.0.4 > 10.0.0.99 IP protocol 253
+        1            20         0             0    0.006000    0.006000    0.000000        10.0.0.5 > 10.0.0.99 IP protocol 253
+        1            20         0             0    0.007500    0.007500    0.000000        10.0.0.6 > 10.0.0.99 IP protocol 253
+        1            20         0             0    0.009000    0.009000    0.000000        10.0.0.7 > 10.0.0.99 IP protocol 253
+        1            20         0             0    0.010500    0.010500    0.000000        10.0.0.8 > 10.0.0.99 IP protocol 253
+        1            20         0             0    0.012000    0.012000    0.000000        10.0.0.9 > 10.0.0.99 IP protocol 253
 and 2 more
+
+first and last are seconds since 2023-11-14T22:13:20.000000Z
 
    packets   share  bytes of a frame
         13 100.0 %      32 to 63     ████████████████████████████████
@@ -65,7 +67,10 @@ CUT_OFF = "packet 2, byte 94: the capture ends within a packet"
 def cut_off():
     """Of the file header, the first record, and two bytes of the second."""
     kinds, talk = ("Ethernet", "IPv4", "TCP"), "10.0.0.1 > 10.0.0.2"
-    it = expected.Packet(bytes.fromhex(frames.MIXED[0]), "", {}, kinds, check="good", talk=talk)
+    ports = {"source_port": 443, "destination_port": 51234, "syn": True, "fin": False, "rst": False}
+    net = {"Ipv4": {"source": "10.0.0.1", "destination": "10.0.0.2", "protocol": 6}}
+    members = {"net": net, "transport": {"Tcp": ports}}
+    it = expected.Packet(bytes.fromhex(frames.MIXED[0]), "", members, kinds, check="good", talk=talk)
     it.number, it.time = 1, expected.BEGIN
     rows = [
         (["show", "--width", "12"], ["    1   0.00", CUT_OFF]),

@@ -11,7 +11,7 @@ status_of WriteZero = 4
 status_of Memory = 5
 status_of TooManyReads = 5
 status_of (Capture error position) = 3
-status_of (BadLine number) = 3
+status_of (BadLine line) = 3
 
 -- where the output's pipe was found closed, or not: whoever closed it has read enough
 abbrev pub run_status : Bool → Result Unit RunError → ℕ

@@ -1,7 +1,8 @@
 //! What `Clone` and `PartialEq` of the types here mean, and the definitions at literal values.
-ghost use Rattle.std.specs.Prelude.{◌≡◌, ◌≢◌, ℕ, Bool, true, false, [], ◌∷◌, ◌++◌, codes, Ok, Err};
+ghost use Rattle.std.specs.Prelude.{◌≡◌, ◌≢◌, Bool, true, false, [], ◌∷◌, ◌++◌, codes, Ok, Err};
 ghost use Rattle.captures.specs.declared.capture_error.CaptureError.{CaptureError};
 ghost use Rattle.captures.specs.declared.position.Position.{Position};
+ghost use Rattle.captures.specs.declared.text.bad_line.BadLine.{BadLine};
 ghost use Rattle.captures.specs.declared.translation.run_error.RunError.{RunError};
 ghost use Rattle.captures.specs.declared.translation.run_error.RunError.TheVariants as run_error;
 ghost use Rattle.capture_programs.specs.ErrorStatus.{run_status, status_of};
@@ -51,7 +52,7 @@ pub fn looks_by_first_bytes()
 pub fn statuses()
     ensures refused { (error : CaptureError) (position : Position)
         → status_of (run_error.Capture error position) ≡ 3 }
-    ensures bad_line { (number : ℕ) → status_of (run_error.BadLine number) ≡ 3 }
+    ensures bad_line { (line : BadLine) → status_of (run_error.BadLine line) ≡ 3 }
     ensures read { status_of run_error.Read ≡ 4 }
     ensures write { (status_of run_error.Write ≡ 4) × (status_of run_error.WriteZero ≡ 4) }
     ensures memory { status_of run_error.Memory ≡ 5 }

@@ -20,7 +20,7 @@ tighter than and, and and tighter than or; !, && and || mean the same:
   host=ADDRESS                      from or to this address, of IPv4 or IPv6
   net=NETWORK                       from or to this network, as 10.0.0.0/8 or 2001:db8::/32
   src=FROM, dst=TO                  from this address or network, or to it
-  port=N                            from or to this port of TCP or UDP
+  port=N                            from or to this port of TCP, UDP or SCTP
   syn, fin, rst                     whose TCP segment has this flag
   ndp, mld                          whose ICMPv6 message is of neighbor or listener discovery
   vlan=N                            with a VLAN tag of this identifier
@@ -59,6 +59,12 @@ Examples:
   packets flows --top 10 --by duration x.pcap       the ten longest conversations
   packets flows --json --only tcp x.pcap | jq .     those over TCP, for programs";
 
+const EXAMPLES_OF_REPORT: &str = "\
+Examples:
+  packets report x.pcap > x.html                    a page that shows what is in it
+  packets report --only 'not arp' x.pcap > x.html   the same without some packets
+  packets report a.pcap b.pcap > both.html          of both captures";
+
 /// The command line. Without a command it is that of `show`. It has no contract: tests compare what
 /// words request.
 pub fn command<'a>(alloc: Global) -> Result<Command<'a>, AllocError> {
@@ -74,7 +80,8 @@ pub fn command<'a>(alloc: Global) -> Result<Command<'a>, AllocError> {
     let program = with_command(program, show(alloc))?;
     let program = with_command(program, json(alloc))?;
     let program = with_command(program, summary(alloc))?;
-    with_command(program, flows(alloc))
+    let program = with_command(program, flows(alloc))?;
+    with_command(program, report(alloc))
 }
 
 fn show<'a>(alloc: Global) -> Result<Command<'a>, AllocError> {
@@ -95,6 +102,12 @@ fn with_show<'a>(alloc: Global, command: Command<'a>) -> Result<Command<'a>, All
             "Shows hardware addresses, also of IP packets",
         )
         .short('e'))?
+        .arg(bytes(alloc)?)?
+        .arg(flag(
+            alloc,
+            "relative",
+            "Counts sequence numbers of TCP from the first ones of their connection",
+        ))?
         .arg(color(alloc))?
         .arg(write(alloc)?)?;
     with_input(alloc, command)
@@ -105,9 +118,9 @@ fn time<'a>(alloc: Global) -> Arg<'a> {
         .long("time")
         .value_name("FORM")
         .help(
-            "Shows seconds since the first packet, since the one before, or since 1970, or the date and time in UTC",
+            "Shows seconds since the first packet, since the one before, or since 1970, or the date and time in UTC or of the local time zone",
         )
-        .value_parser(["relative", "delta", "epoch", "utc"].as_slice())
+        .value_parser(["relative", "delta", "epoch", "utc", "local"].as_slice())
         .default_value("relative")
 }
 
@@ -118,6 +131,19 @@ fn utc<'a>(alloc: Global) -> Result<Arg<'a>, AllocError> {
         "Shows the date and time in UTC, as `--time utc`",
     )
     .conflicts_with("time")
+}
+
+// The bytes of packets, as tcpdump shows them; given twice, with the header of the link.
+fn bytes<'a>(alloc: Global) -> Result<Arg<'a>, AllocError> {
+    Arg::new(alloc, "bytes")
+        .short('x')
+        .visible_short_alias('X')?
+        .long("bytes")
+        .help(
+            "Shows the bytes of each packet in hex, 16 a line; twice, from the Ethernet II header on, if it has one",
+        )
+        .action(ArgAction::Count)
+        .conflicts_with("write")
 }
 
 fn color<'a>(alloc: Global) -> Arg<'a> {
@@ -141,6 +167,7 @@ fn write<'a>(alloc: Global) -> Result<Arg<'a>, AllocError> {
         .conflicts_with("time")?
         .conflicts_with("utc")?
         .conflicts_with("width")?
+        .conflicts_with("relative")?
         .conflicts_with("color")
 }
 
@@ -154,7 +181,9 @@ fn json<'a>(alloc: Global) -> Result<Command<'a>, AllocError> {
 
 fn summary<'a>(alloc: Global) -> Result<Command<'a>, AllocError> {
     let command = Command::new(alloc, "summary")
-        .about("Counts packets by protocol, refusal, checksum, fragment, addresses, size and time")
+        .about(
+            "Counts packets by protocol, refusal, checksum, fragment, conversation, size and time",
+        )
         .after_help(EXAMPLES_OF_SUMMARY);
     with_input(alloc, command)
 }
@@ -166,6 +195,13 @@ fn flows<'a>(alloc: Global) -> Result<Command<'a>, AllocError> {
         .arg(by(alloc))?
         .arg(number(alloc, "top", "N", "Lists the first N conversations"))?
         .arg(flag(alloc, "json", "Writes a JSON object in place of a table"))?;
+    with_input(alloc, command)
+}
+
+fn report<'a>(alloc: Global) -> Result<Command<'a>, AllocError> {
+    let command = Command::new(alloc, "report")
+        .about("Writes what summary and flows count as a page for a browser")
+        .after_help(EXAMPLES_OF_REPORT);
     with_input(alloc, command)
 }
 

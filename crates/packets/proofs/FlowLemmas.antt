@@ -1,11 +1,16 @@
 -- What is counted of conversations, with one packet more.
-use Rattle.std.proofs.Common.{◌≡◌, ◌∙◌, ◌+◌, ℕ, Bool, true, false, List, [], ◌∷◌, ◌++◌, Some, unwrap_or, refl, ap, sym}
+use Rattle.std.proofs.Common.{◌≡◌, ◌∙◌, ◌+◌, ℕ, Bool, true, false, List, [], ◌∷◌, ◌++◌, Option, Some, None, unwrap_or, refl, ap, sym}
 use Rattle.std.proofs.Common.{arith, length}
 use Rattle.std.specs.Prelude.{◌||◌, not}
 use Rattle.std.specs.List.{filter, list_any}
 use Rattle.packets.specs.Flows.{direction_of, flow_in, flow_of, joined_flags, outlines}
 use Rattle.captures.specs.Numbers.{capped}
+use Rattle.packets.specs.Outlines.{outline_of}
 use Rattle.packets.specs.Period.{earliest_of, latest_of}
+use Rattle.packets.specs.Transfers.{transfer_by, transfer_of}
+use Rattle.packets.specs.declared.dissection.Dissection.{Dissection}
+use Rattle.packets.specs.declared.flows.conversation.Conversation.{Conversation}
+use Rattle.packets.specs.declared.outline.Outline.{Outline}
 use Rattle.packets.specs.declared.flows.flow.Direction.{Direction}
 use Rattle.packets.specs.declared.flows.flow.Flow.{Flow}
 use Rattle.packets.specs.declared.flows.transfer.Flags.{Flags}
@@ -93,3 +98,12 @@ flow_in-more packets packet old ascending descending period begins e up down ear
       period = record { earliest = earliest' i; latest = latest' i };
       begins_ascending = begin i;
     }
+
+with_outline : (outline : Outline) (conversation : Option Conversation) (flags : Flags)
+    → (transfer_by outline conversation flags).outline ≡ outline
+with_outline outline None flags = refl
+with_outline outline (Some conversation) flags = refl
+
+-- conversations have the outline of a packet
+pub outlined : (packet : Dissection) → (transfer_of packet).outline ≡ outline_of packet
+outlined packet = with_outline (outline_of packet) _ _

@@ -20,10 +20,11 @@ use Rattle.ep_tag.specs.Vlan.{vlan_id_of}
 use Rattle.ep_tag.specs.declared.link.link_ext_slice.LinkExtSlice.{LinkExtSlice}
 use Rattle.ep_tag.specs.declared.link.link_ext_slice.LinkExtSlice.TheVariants as tag
 use Rattle.packets.specs.Conditions.{has_vlan_id, ipv4_numbers, ipv6_numbers, is_within, lax_has_vlan_id, lax_ipv4_numbers}
-use Rattle.packets.specs.Conditions.{lax_ipv6_numbers, lax_net_ipv4_numbers, lax_net_ipv6_numbers, lax_transport_header}
-use Rattle.packets.specs.Conditions.{net_ipv4_numbers, net_ipv6_numbers, packet_header}
+use Rattle.packets.specs.Conditions.{lax_ipv6_numbers, lax_net_ipv4_numbers, lax_net_ipv6_numbers, net_ipv4_numbers}
+use Rattle.packets.specs.Conditions.{net_ipv6_numbers}
 use Rattle.packets.specs.LaxLayers.{if_read, lax_layers_of}
 use Rattle.packets.specs.Layers.{fault_after_header, layers_of}
+use Rattle.packets.specs.MessageHeaders.{header_in, lax_net_header, lax_packet_header, net_header, packet_header}
 use Rattle.packets.specs.Outlines.{headers_of, is_lax_macsec, is_lax_vlan, is_macsec, is_vlan, lax_headers_of}
 use Rattle.packets.specs.Outlines.{lax_net_of, net_of}
 
@@ -62,6 +63,12 @@ ipv6_whole (Some (net.Ipv4 packet)) = refl
 ipv6_whole (Some (net.Ipv6 packet)) = refl
 ipv6_whole (Some (net.Arp packet)) = refl
 
+message_whole : (packet : Option NetSlice) → lax_net_header (option_map whole_net packet) ≡ net_header packet
+message_whole None = refl
+message_whole (Some (net.Ipv4 packet)) = refl
+message_whole (Some (net.Ipv6 packet)) = refl
+message_whole (Some (net.Arp packet)) = refl
+
 vlan_ids_whole : (tags : List LinkExtSlice) → lax_vlan_ids_of (map whole_tag tags) ≡ vlan_ids_of tags
 vlan_ids_whole [] = refl
 vlan_ids_whole (tag.Vlan bytes ∷ tags) = ap (λ (ids : List ℕ). vlan_id_of bytes ∷ ids) (vlan_ids_whole tags)
@@ -90,9 +97,11 @@ by_ipv6 (Ok packet) lax_layers are_whole =
     sym (ipv6_whole packet.net) ∙ ap lax_ipv6_numbers (sym (are_whole packet refl))
 
 by_message : (layers : Result SlicedPacket SliceError) (lax_layers : Option LaxSlicedPacket)
-    → AreWhole layers lax_layers → packet_header layers lax_layers ≡ lax_transport_header lax_layers
+    → AreWhole layers lax_layers → packet_header layers lax_layers ≡ lax_packet_header lax_layers
 by_message (Err e) lax_layers are_whole = refl
-by_message (Ok packet) lax_layers are_whole = ap lax_transport_header (sym (are_whole packet refl))
+by_message (Ok packet) lax_layers are_whole =
+    ap (header_in packet.transport) (sym (message_whole packet.net))
+    ∙ ap lax_packet_header (sym (are_whole packet refl))
 
 by_vlans : (layers : Result SlicedPacket SliceError) (lax_layers : Option LaxSlicedPacket) (first last : ℕ)
     → AreWhole layers lax_layers → has_vlan_id layers lax_layers first last ≡ lax_has_vlan_id lax_layers first last
@@ -136,7 +145,7 @@ module _ (own : (bytes : List ℕ) (packet : SlicedPacket) → sliced_ethernet b
 
   pub message_is_lax : (header : Option Header) (bytes : List ℕ)
       → packet_header (layers_of header bytes) (lax_layers_of header bytes)
-      ≡ lax_transport_header (lax_layers_of header bytes)
+      ≡ lax_packet_header (lax_layers_of header bytes)
   message_is_lax header bytes = by_message _ _ (are_whole header bytes)
 
   pub vlans_are_lax : (header : Option Header) (bytes : List ℕ) (first last : ℕ)

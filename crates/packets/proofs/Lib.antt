@@ -3,6 +3,7 @@ mod BucketLemmas
 mod ConversationLemmas
 mod CourseLemmas
 mod EndLemmas
+mod EscapeLemmas
 mod FlowLemmas
 mod ForgetLemmas
 mod HeldLemmas

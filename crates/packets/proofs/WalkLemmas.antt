@@ -13,7 +13,6 @@ use Rattle.captures.specs.declared.reading.read_error.ReadError.TheVariants as r
 use Rattle.captures.specs.declared.translation.run_error.RunError.{RunError}
 use Rattle.captures.specs.declared.translation.run_error.RunError.TheVariants.{Read, TooManyReads, Capture}
 use Rattle.captures.specs.declared.unfit.Unfit.{Unfit}
-use Rattle.ep_packet.specs.declared.addresses.Addresses.{Addresses}
 use Rattle.packets.specs.declared.reason.Reason.{Reason}
 use Rattle.packets.specs.Expressions.{lets_through}
 use Rattle.packets.specs.Courses.{AreDissected, Course, IsDissected, course_after, forgotten, next_course, shown}
@@ -131,14 +130,6 @@ shown_more conditions reported last = filter-append (lets_through conditions) re
 none_more : {X : Type 0} (Holds : List X → Type 0) (counted : List X) → Holds counted
     → Holds (counted ++ [])
 none_more Holds counted = subst Holds (sym (append-nil counted))
-
-pub counted_none : {S H : Type 0} (same_reason : Reason → Reason → Bool)
-    (same_addresses : Addresses → Addresses → Bool)
-    (same_verified : Verified → Verified → Bool) (summary : Summary S H)
-    (counted : List Outline) → Counts same_reason same_addresses same_verified summary counted
-    → Counts same_reason same_addresses same_verified summary (counted ++ [])
-counted_none same_reason same_addresses same_verified summary =
-    none_more (Counts same_reason same_addresses same_verified summary)
 
 pub flows_none : {S H : Type 0} (same : Conversation → Conversation → Bool) (flows : Flows S H)
     (counted : List Transfer) → CountsFlows same flows counted

@@ -10,8 +10,6 @@ use Rattle.ep_ip.specs.Ipv4 as ipv4
 use Rattle.ep_ip.specs.Ipv6 as ipv6
 use Rattle.ep_link.specs.Arp.{proto_type_of, sender_proto_of, target_proto_of}
 use Rattle.ep_packet.specs.LaxView.{lax_vlan_ids_of}
-use Rattle.ep_packet.specs.Readable.{ReadMessage, message_at}
-use Rattle.ep_packet.specs.Readable.ReadMessage.{Icmpv4, Icmpv6, Raw, Tcp, Udp}
 use Rattle.ep_packet.specs.Tags.{vlan_ids_of}
 use Rattle.ep_packet.specs.declared.err.packet.slice_error.SliceError.{SliceError}
 use Rattle.ep_packet.specs.declared.lax_sliced_packet.LaxSlicedPacket.{LaxSlicedPacket}
@@ -20,15 +18,12 @@ use Rattle.ep_packet.specs.declared.net.lax_net_slice.LaxNetSlice.TheVariants as
 use Rattle.ep_packet.specs.declared.net.net_slice.NetSlice.{NetSlice}
 use Rattle.ep_packet.specs.declared.net.net_slice.NetSlice.TheVariants as net
 use Rattle.ep_packet.specs.declared.sliced_packet.SlicedPacket.{SlicedPacket}
-use Rattle.ep_packet.specs.declared.transport.transport_slice.TransportSlice.{TransportSlice}
-use Rattle.ep_packet.specs.declared.transport.transport_slice.TransportSlice.TheVariants as transport
-use Rattle.ep_tcpudp.specs.Tcp as tcp
-use Rattle.ep_tcpudp.specs.Udp as udp
 use Rattle.packets.specs.Counts.{is_bad}
 use Rattle.packets.specs.Headers.{has_header}
 use Rattle.packets.specs.Icmpv6Types.{icmpv6_type, is_mld, is_ndp}
 use Rattle.packets.specs.LaxLayers.{lax_layers_of}
 use Rattle.packets.specs.Lengths.{is_cut}
+use Rattle.packets.specs.MessageHeaders.{message_header, ports_of}
 use Rattle.packets.specs.Outlines.{headers_of, refusal_of}
 use Rattle.packets.specs.declared.condition.Condition.{Condition}
 use Rattle.packets.specs.declared.condition.Condition.TheVariants as condition
@@ -38,7 +33,6 @@ use Rattle.packets.specs.declared.condition.TcpFlag.{TcpFlag}
 use Rattle.packets.specs.declared.condition.TcpFlag.TheVariants as tcp_flag
 use Rattle.packets.specs.declared.dissection.Dissection.{Dissection}
 use Rattle.packets.specs.declared.dissection.Fragment.{Fragment}
-use Rattle.packets.specs.declared.dissection.Fragment.TheVariants as fragment
 use Rattle.packets.specs.declared.message_header.MessageHeader.{MessageHeader}
 
 -- from the first to the last, both included
@@ -138,63 +132,6 @@ ipv4_numbers (Err e) lax_layers = lax_ipv4_numbers lax_layers
 abbrev pub ipv6_numbers : Result SlicedPacket SliceError → Option LaxSlicedPacket → Option (ℕ × ℕ)
 ipv6_numbers (Ok packet) lax_layers = net_ipv6_numbers packet.net
 ipv6_numbers (Err e) lax_layers = lax_ipv6_numbers lax_layers
-
--- what conditions read of the header of a segment or a datagram
-abbrev pub segment_header : List ℕ → MessageHeader
-segment_header segment = record {
-  source_port = tcp.source_port_of segment;
-  destination_port = tcp.destination_port_of segment;
-  fin = tcp.fin_of segment;
-  syn = tcp.syn_of segment;
-  rst = tcp.rst_of segment;
-}
-
-abbrev pub datagram_header : List ℕ → MessageHeader
-datagram_header datagram = record {
-  source_port = udp.source_port_of datagram;
-  destination_port = udp.destination_port_of datagram;
-  fin = false;
-  syn = false;
-  rst = false;
-}
-
-abbrev pub transport_header : Option TransportSlice → Option MessageHeader
-transport_header None = None
-transport_header (Some (transport.Udp datagram)) = Some (datagram_header datagram)
-transport_header (Some (transport.Tcp segment)) = Some (segment_header segment)
-transport_header (Some (transport.Icmpv4 message)) = None
-transport_header (Some (transport.Icmpv6 message)) = None
-
--- the header of a reassembled message, if it can be read
-abbrev pub completed_header : Result ReadMessage SliceError → Option MessageHeader
-completed_header (Ok (Icmpv4 message)) = None
-completed_header (Ok (Tcp segment)) = Some (segment_header segment)
-completed_header (Ok (Udp datagram)) = Some (datagram_header datagram)
-completed_header (Ok (Icmpv6 message)) = None
-completed_header (Ok (Raw bytes)) = None
-completed_header (Err e) = None
-
-abbrev pub lax_transport_header : Option LaxSlicedPacket → Option MessageHeader
-lax_transport_header None = None
-lax_transport_header (Some packet) = transport_header packet.transport
-
-abbrev pub packet_header : Result SlicedPacket SliceError → Option LaxSlicedPacket → Option MessageHeader
-packet_header (Ok packet) lax_layers = transport_header packet.transport
-packet_header (Err e) lax_layers = lax_transport_header lax_layers
-
--- the header of the message of a packet, or of the one that it completes; of a packet that is refused
--- the header that is there
-abbrev pub message_header : Result SlicedPacket SliceError → Option LaxSlicedPacket → Option Fragment
-    → Option MessageHeader
-message_header layers lax_layers None = packet_header layers lax_layers
-message_header layers lax_layers (Some (fragment.Waits started)) = packet_header layers lax_layers
-message_header layers lax_layers (Some (fragment.Completes started message)) =
-    completed_header (message_at message.ip_number.0 message.payload.items)
-message_header layers lax_layers (Some (fragment.Refused started error)) = packet_header layers lax_layers
-
-abbrev pub ports_of : Option MessageHeader → Option (ℕ × ℕ)
-ports_of None = None
-ports_of (Some header) = Some (header.source_port, header.destination_port)
 
 abbrev pub has_flag : TcpFlag → Option MessageHeader → Bool
 has_flag flag None = false

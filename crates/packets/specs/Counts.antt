@@ -5,6 +5,7 @@ use Rattle.ep_packet.specs.declared.addresses.Addresses.TheVariants.{V4, V6}
 use Rattle.header_descriptions.specs.declared.protocol.Protocol.{Protocol}
 use Rattle.header_descriptions.specs.declared.protocol.Protocol.TheVariants.{Ethernet, Vlan, Macsec, Arp, Ipv4, Ipv6}
 use Rattle.packets.specs.declared.reason.Reason.{Reason}
+use Rattle.packets.specs.Flows.{CountsFlows, outlines}
 use Rattle.packets.specs.Headers.{has_header, net_addresses}
 use Rattle.packets.specs.Lengths.{CountsLengths}
 use Rattle.packets.specs.Numbers.{CountsNumbers}
@@ -13,6 +14,8 @@ use Rattle.packets.specs.Rate.{CountsSpans}
 use Rattle.packets.specs.Sizes.{CountsSizes}
 use Rattle.packets.specs.Table.{CountsKeys}
 use Rattle.packets.specs.Tally.{tally_of}
+use Rattle.packets.specs.declared.flows.conversation.Conversation.{Conversation}
+use Rattle.packets.specs.declared.flows.transfer.Transfer.{Transfer}
 use Rattle.packets.specs.declared.outline.Outline.{Outline}
 use Rattle.packets.specs.declared.outline.FragmentState.{FragmentState}
 use Rattle.packets.specs.declared.outline.FragmentState.TheVariants as state
@@ -96,20 +99,25 @@ pub record CountsFragments (tallies : FragmentTallies) (packets : List Outline) 
   pub completing : tallies.completing ≡ tally_of (λ packet. is_completing packet.fragment) packets
   pub refused : tallies.refused ≡ tally_of (λ packet. is_refused_fragment packet.fragment) packets
 
--- the summary is of these packets: each tally of those that are of its kind
+-- the summary is of these packets, but for their conversations: each tally of those that are of its kind
 pub record Counts {S H : Type 0} (same_reason : Reason → Reason → Bool)
-    (same_addresses : Addresses → Addresses → Bool) (same_verified : Verified → Verified → Bool)
-    (summary : Summary S H) (packets : List Outline) : Type 0 where
+    (same_verified : Verified → Verified → Bool) (summary : Summary S H) (packets : List Outline)
+    : Type 0 where
   pub all : summary.all ≡ tally_of (λ packet. true) packets
   pub refused : summary.refused ≡ tally_of (λ packet. is_some packet.refusal) packets
   pub protocols : CountsProtocols summary.protocols packets
   pub checksums : CountsChecksums summary.checksums packets
   pub parts : CountsFragments summary.parts packets
   pub sizes : CountsSizes summary.sizes packets
-  pub rate : CountsSpans summary.rate packets
+  pub rate : CountsSpans (λ packet. 1) summary.rate packets
   pub period : CountsPeriod summary.period packets
   pub lengths : CountsLengths summary.lengths packets
   pub reasons : CountsKeys same_reason (λ packet. packet.refusal) summary.reasons packets
-  pub talkers : CountsKeys same_addresses (λ packet. net_addresses packet.headers.net)
-      summary.talkers packets
   pub senders : CountsKeys same_verified verified_of summary.senders packets
+
+-- the same, with their conversations
+pub record CountsAll {S H : Type 0} (same_reason : Reason → Reason → Bool)
+    (same : Conversation → Conversation → Bool) (same_verified : Verified → Verified → Bool)
+    (summary : Summary S H) (packets : List Transfer) : Type 0 where
+  pub outlines : Counts same_reason same_verified summary (outlines packets)
+  pub flows : CountsFlows same summary.flows packets

@@ -6,6 +6,7 @@ pub mod Expressions
 pub mod Counts
 pub mod Courses
 pub mod Dissected
+pub mod Escaped
 pub mod Examples
 pub mod Flows
 pub mod Forgetting
@@ -17,15 +18,19 @@ pub mod LaxLayers
 pub mod Layers
 pub mod Lengths
 pub mod Limits
+pub mod MessageHeaders
 pub mod Numbers
 pub mod OriginalDatagrams
 pub mod Outlines
+pub mod Overviews
 pub mod PacketRuns
 pub mod Period
 pub mod Rate
 pub mod ReassemblyMemory
 pub mod Reported
 pub mod Reasons
+pub mod Segments
+pub mod ShownBytes
 pub mod Sizes
 pub mod Table
 pub mod Tally

@@ -1,8 +1,8 @@
 -- What conversations count of a packet.
 use Rattle.std.specs.Prelude.{not, true, false, Option, Some, None}
-use Rattle.packets.specs.Conditions.{message_header}
 use Rattle.packets.specs.Conversations.{ascends, conversation_between, from_lower}
 use Rattle.packets.specs.LaxLayers.{lax_layers_of}
+use Rattle.packets.specs.MessageHeaders.{message_header}
 use Rattle.packets.specs.Outlines.{outline_of}
 use Rattle.packets.specs.declared.dissection.Dissection.{Dissection}
 use Rattle.packets.specs.declared.flows.conversation.Conversation.{Conversation}

@@ -19,13 +19,15 @@ AreTexts IsTextOf [] text = text ≡ []
 AreTexts IsTextOf (packet ∷ packets) text = (first : List ℕ) × (later : List ℕ)
     × (text ≡ first ++ later) × IsTextOf packet first × AreTexts IsTextOf packets later
 
--- the text is a line whose content may describe the packet
-abbrev pub IsLineOf : (Dissection → List ℕ → Type 0) → Dissection → List ℕ → Type 0
-IsLineOf describes packet text = (content : List ℕ) × (text ≡ one_line content) × describes packet content
+-- the text is a line whose content may describe the packet, and the lines below it
+abbrev pub IsLineOf : (Dissection → List ℕ → Type 0) → (Dissection → List ℕ) → Dissection → List ℕ → Type 0
+IsLineOf describes details packet text = (content : List ℕ)
+    × (text ≡ one_line content ++ details packet) × describes packet content
 
 -- the lines of some packets, one by one, in their order, where such a text may describe each
-abbrev pub AreLines : (Dissection → List ℕ → Type 0) → List Dissection → List ℕ → Type 0
-AreLines describes packets text = AreTexts (IsLineOf describes) packets text
+abbrev pub AreLines : (Dissection → List ℕ → Type 0) → (Dissection → List ℕ) → List Dissection
+    → List ℕ → Type 0
+AreLines describes details packets text = AreTexts (IsLineOf describes details) packets text
 
 -- a run with this result read from the source, left this out, and wrote after the first bytes such a
 -- text of those packets that its rules let through
@@ -41,7 +43,7 @@ Writes IsTextOf rules omitted source first now result = (read : List ℕ)
     × Appends first now written × IsWritten result text written
 
 -- the same of the lines of those packets
-abbrev pub WritesLines : (Dissection → List ℕ → Type 0) → Rules → Omitted
+abbrev pub WritesLines : (Dissection → List ℕ → Type 0) → (Dissection → List ℕ) → Rules → Omitted
     → (source first now : Option (List ℕ)) → Result Unit RunError → Type 0
-WritesLines describes rules omitted source first now result =
-    Writes (AreLines describes) rules omitted source first now result
+WritesLines describes details rules omitted source first now result =
+    Writes (AreLines describes details) rules omitted source first now result

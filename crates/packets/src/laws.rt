@@ -1,6 +1,6 @@
 //! What `Clone`, `PartialEq` and `Hash` of the types here mean, and what runs drop and count.
 ghost use Rattle.std.specs.Prelude.{◌≡◌, ◌⊎◌, ◌≤◌, ◌<◌, ◌+◌, ◌-◌, ◌*◌, ◌^◌, ℕ, true, false, not, is_some, pos, List, [], ◌∷◌};
-ghost use Rattle.std.specs.Prelude.{◌++◌, Bool, Option, Some, None, Ok};
+ghost use Rattle.std.specs.Prelude.{◌++◌, Bool, Option, Some, None, Ok, length};
 ghost use Rattle.std.specs.Hash as fed;
 ghost use Rattle.captures.specs.declared.link.header.Header.{Header};
 ghost use Rattle.captures.specs.declared.link.kind.Link.{Link};
@@ -12,14 +12,16 @@ ghost use Rattle.ep_packet.specs.Class.{FragmentName};
 ghost use Rattle.ep_packet.specs.LaxWhole.{whole_packet};
 ghost use Rattle.ep_packet.specs.declared.sliced_packet.SlicedPacket.{SlicedPacket};
 ghost use Rattle.packets.specs.Conditions.{has_vlan_id, ipv4_numbers, ipv6_numbers, lax_has_vlan_id, lax_ipv4_numbers};
-ghost use Rattle.packets.specs.Conditions.{lax_ipv6_numbers, lax_transport_header, packet_header};
+ghost use Rattle.packets.specs.Conditions.{lax_ipv6_numbers};
 ghost use Rattle.packets.specs.Conversations.{from_lower, turned};
 ghost use Rattle.packets.specs.Courses.{Course, course_after, lists_at, next_course, no_course};
 ghost use Rattle.packets.specs.LaxLayers.{lax_layers_of};
 ghost use Rattle.packets.specs.ReassemblyMemory.{Tracks, taken};
+ghost use Rattle.packets.specs.Escaped.{escaped, read_within};
 ghost use Rattle.packets.specs.Forgetting.{ComeWithin, Fit, ForgetDrops};
 ghost use Rattle.packets.specs.Layers.{layers_of};
 ghost use Rattle.packets.specs.Limits.{AreFewer, AreInTime, is_late};
+ghost use Rattle.packets.specs.MessageHeaders.{lax_packet_header, packet_header};
 ghost use Rattle.packets.specs.Outlines.{headers_of, lax_headers_of};
 ghost use Rattle.packets.specs.Tally.{tally_of};
 ghost use Rattle.packets.specs.declared.flows.conversation.Conversation.{Conversation};
@@ -30,12 +32,12 @@ ghost use Rattle.packets.specs.declared.summary.verified.Verified.TheVariants as
 
 pub mod examples;
 
-use crate::program::{Coloring, SizeError};
+use crate::program::{Coloring, LineRequest, SizeError};
 use crate::{
     By, ChecksumTallies, Condition, Connection, Conversation, Direction, Ending, Flags, Flow,
     FragmentState, FragmentTallies, GrammarError, Headers, Lengths, Listing, Net, NoProgress,
-    Omitted, Outline, Period, Ports, Reason, Row, ShowOptions, Side, Sizes, Tally, TcpFlag,
-    Transfer, Verified, Word, WordError,
+    Omitted, Outline, Period, Ports, Reason, Row, Segment, ShowOptions, ShownBytes, Side, Sizes,
+    Starts, Tally, TcpFlag, Transfer, Verified, Word, WordError,
 };
 use ep_base::IpNumber;
 use ep_base::err::Layer;
@@ -57,12 +59,13 @@ pub fn types_are_plain_data()
     ensures fragment_state { IsPlainData ⟦<FragmentState as Value>⟧ }
     ensures reason { IsPlainData ⟦<Reason as Value>⟧ }
     ensures no_progress { IsPlainData ⟦<NoProgress as Value>⟧ }
-    ensures show_options { IsPlainData ⟦<ShowOptions as Value>⟧ }
     ensures sizes { IsPlainData ⟦<Sizes as Value>⟧ }
     ensures period { IsPlainData ⟦<Period as Value>⟧ }
     ensures tally { IsPlainData ⟦<Tally as Value>⟧ }
     ensures verified { IsPlainData ⟦<Verified as Value>⟧ }
     ensures ports { IsPlainData ⟦<Ports as Value>⟧ }
+    ensures starts { IsPlainData ⟦<Starts as Value>⟧ }
+    ensures shown_bytes { IsPlainData ⟦<ShownBytes as Value>⟧ }
     ensures flags { IsPlainData ⟦<Flags as Value>⟧ }
     ensures connection { IsPlainData ⟦<Connection as Value>⟧ }
     ensures by { IsPlainData ⟦<By as Value>⟧ }
@@ -70,6 +73,8 @@ pub fn types_are_plain_data()
 
 /// The same of values that hold some of these.
 pub fn holders_are_plain_data()
+    ensures show_options { IsPlainData ⟦<ShowOptions as Value>⟧ }
+    ensures line_request { IsPlainData ⟦<LineRequest as Value>⟧ }
     ensures headers { IsPlainData ⟦<Headers as Value>⟧ }
     ensures lengths { IsPlainData ⟦<Lengths as Value>⟧ }
     ensures checksums { IsPlainData ⟦<ChecksumTallies as Value>⟧ }
@@ -96,6 +101,7 @@ pub fn outlines_are_plain_data()
 /// The same of what is counted of conversations.
 pub fn flows_are_plain_data()
     ensures transfer { IsPlainData ⟦<Transfer as Value>⟧ }
+    ensures segment { IsPlainData ⟦<Segment as Value>⟧ }
     ensures flow { IsPlainData ⟦<Flow as Value>⟧ }
     ensures row { IsPlainData ⟦<Row as Value>⟧ }
 {
@@ -235,7 +241,7 @@ pub fn headers_are_lax_headers()
         ≡ lax_ipv6_numbers (lax_layers_of header bytes) }
     ensures message { (header : Option Header) (bytes : List ℕ)
         → packet_header (layers_of header bytes) (lax_layers_of header bytes)
-        ≡ lax_transport_header (lax_layers_of header bytes) }
+        ≡ lax_packet_header (lax_layers_of header bytes) }
     ensures vlans { (header : Option Header) (bytes : List ℕ) (first last : ℕ)
         → has_vlan_id (layers_of header bytes) (lax_layers_of header bytes) first last
         ≡ lax_has_vlan_id (lax_layers_of header bytes) first last }
@@ -266,4 +272,10 @@ pub fn conversations_have_two_directions()
         → from_lower (turned conversation) ≡ from_lower conversation }
     ensures alone { (one other : Conversation) → from_lower one ≡ from_lower other
         → (one ≡ other) ⊎ (one ≡ turned other) }
+{}
+
+/// In a page no text is taken for markup, and a browser reads each without a byte 0 as it was: it reads as
+/// many characters as the text has bytes, none of which means something.
+pub fn escaped_texts_are_read()
+    ensures { (text : List ℕ) → read_within (length text) (escaped text) ≡ text }
 {}

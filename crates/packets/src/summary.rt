@@ -9,6 +9,7 @@ pub(crate) mod period;
 pub(crate) mod rate;
 pub(crate) mod recent;
 pub(crate) mod report;
+pub(crate) mod share;
 pub(crate) mod sizes;
 pub(crate) mod summary;
 pub(crate) mod table;

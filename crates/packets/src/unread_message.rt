@@ -1,10 +1,14 @@
 //! What is shown of messages that the library doesn't read.
 
+ghost use Rattle.std.specs.Prelude.{◌≡◌};
+ghost use Rattle.packets.specs.MessageHeaders.{sctp_ports};
+
 use crate::show::endpoints::Ports;
 
-/// The ports of an SCTP packet, which begins with a header of 12 bytes (RFC 9260, section 3.1). It has
-/// no contract: tests compare the texts.
-pub(crate) fn sctp_ports(bytes: &[u8]) -> Option<Ports> {
+/// The ports of an SCTP packet, which begins with a header of 12 bytes (RFC 9260, section 3.1).
+pub(crate) fn sctp_ports(bytes: &[u8]) -> Option<Ports>
+    ensures { result ≡ sctp_ports bytes.now }
+{
     if bytes.len() < 12 {
         return None;
     }

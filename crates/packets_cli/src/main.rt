@@ -1,9 +1,13 @@
-//! Shows what is in a capture file: `packets [show|json|summary|flows] [FILE|-]..`.
+//! Shows what is in captures: `packets [show|json|summary|flows|report] [FILE|-]..`.
 #![tactic(auto)]
 
 mod capture_output;
+mod counting;
+mod local_zone;
 
 use crate::capture_output::CaptureOutput;
+use crate::counting::{FlowCounts, PageCounts, SummaryCounts, count_files};
+use crate::local_zone::LocalZone;
 use capture_programs::packets_arguments::PROGRAM;
 use capture_programs::{
     ClosableWriter, Input, Look, ProgressLine, ProgressReader, Subject, failure, len_of,
@@ -11,13 +15,12 @@ use capture_programs::{
 };
 use captures::RunError;
 use packets::program::{
-    Coloring, Output, RequestError, Requested, command, exit_code, goes_on, report_dropped,
-    requested_by, write_capture_flushed, write_flows, write_flushed, write_records_flushed,
-    write_report,
+    Coloring, LineRequest, Output, RequestError, Requested, command, exit_code, goes_on,
+    report_dropped, requested_by, write_capture_flushed, write_flushed, write_records_flushed,
 };
 use packets::{
-    Ending, Flows, JsonLines, LineWriter, Listing, NoProgress, Omitted, Report, Rules, ShowOptions,
-    Style, Summary, count_flows, summarize,
+    Connections, Flows, JsonLines, LineWriter, Omitted, Overview, ShowLines, ShowOptions, Style,
+    Summary, TimeForm,
 };
 use std::env::{self, VarError};
 use std::fs::{self, File, Metadata};
@@ -37,7 +40,7 @@ fn run(rt: &HostRuntime) -> anyhow::Result<ExitCode> {
         Err(error) => return Ok(parse_failure(rt, PROGRAM, &error)),
     };
     match requested_by(rt.alloc(), &matches) {
-        Ok(requested) => run_on_files(rt, &requested),
+        Ok(requested) => run_on_files(rt, &requested, words.get(1..).unwrap_or(&[])),
         Err(RequestError::Memory(error)) => Err(error.into()),
         Err(error) => {
             let _ = eprintln!(rt; "error: {error}\n\nFor more information, try '--help'.");
@@ -46,19 +49,15 @@ fn run(rt: &HostRuntime) -> anyhow::Result<ExitCode> {
     }
 }
 
-fn run_on_files(rt: &HostRuntime, requested: &Requested<'_>) -> anyhow::Result<ExitCode> {
+fn run_on_files(
+    rt: &HostRuntime,
+    requested: &Requested<'_>,
+    words: &[String],
+) -> anyhow::Result<ExitCode> {
     let mut output = ClosableWriter::new(rt.stdout());
     match &requested.output {
         Output::Capture(name) => capture_files(rt, requested, *name),
-        Output::Show(time, width, coloring, link) => {
-            let lines = ShowOptions {
-                style: style_of(rt, *coloring),
-                time: *time,
-                width: *width,
-                link: *link,
-            };
-            write_files(rt, requested, &lines, &mut output)
-        }
+        Output::Show(request) => show_files(rt, requested, request, &mut output),
         Output::Json(payload) => {
             let lines = JsonLines::new(rt.alloc(), *payload);
             write_files(rt, requested, &lines, &mut output)
@@ -74,6 +73,20 @@ fn run_on_files(rt: &HostRuntime, requested: &Requested<'_>) -> anyhow::Result<E
             };
             count_files(rt, requested, counts, &mut output)
         }
+        Output::Report => {
+            let summary = Summary::with_hashers(
+                rt.alloc(),
+                RandomState::new(rt)?,
+                RandomState::new(rt)?,
+                RandomState::new(rt)?,
+            );
+            let counts = PageCounts {
+                overview: Overview::new(summary),
+                names: requested.names,
+                words,
+            };
+            count_files(rt, requested, counts, &mut output)
+        }
         Output::Flows(listing) => {
             let counts = FlowCounts {
                 flows: Flows::with_hasher(rt.alloc(), RandomState::new(rt)?),
@@ -84,8 +97,53 @@ fn run_on_files(rt: &HostRuntime, requested: &Requested<'_>) -> anyhow::Result<E
     }
 }
 
-// What is done with each file.
-trait Task {
+fn show_files<W: Write>(
+    rt: &HostRuntime,
+    requested: &Requested<'_>,
+    request: &LineRequest,
+    output: &mut ClosableWriter<W>,
+) -> anyhow::Result<ExitCode> {
+    let options = ShowOptions {
+        style: style_of(rt, request.coloring),
+        time: request.time,
+        width: request.width,
+        link: request.link,
+        bytes: request.bytes,
+    };
+    let connections = if request.relative {
+        let state = RandomState::new(rt)?;
+        Some(Connections::with_hasher(rt.alloc(), state)?)
+    } else {
+        None
+    };
+    let local = match request.time {
+        TimeForm::Local => LocalZone::read(rt),
+        _ => Ok(LocalZone::utc(rt)),
+    };
+    match &local {
+        Ok(local) => match local.zone() {
+            Ok(zone) => {
+                let lines = ShowLines::new(options, zone, connections);
+                write_files(rt, requested, &lines, output)
+            }
+            Err(error) => Ok(zone_unread(rt, error)),
+        },
+        Err(error) => Ok(zone_unread(rt, *error)),
+    }
+}
+
+// Where the local time zone can't be read nothing is.
+fn zone_unread(rt: &HostRuntime, error: jiff::Error) -> ExitCode {
+    failure(
+        rt,
+        PROGRAM,
+        format_args!("the local time zone cannot be read: {error}"),
+    )
+}
+
+/// What is done with each file.
+pub trait Task {
+    /// Takes a file.
     fn take<R: Read + Drop>(
         &mut self,
         subject: Subject<'_>,
@@ -94,16 +152,19 @@ trait Task {
     ) -> anyhow::Result<FileEnd>;
 }
 
-// How a file ended: the status, if it isn't 0, and whether the next one is read.
+/// How a file ended.
 #[derive(Drop)]
-struct FileEnd {
-    failed: Option<ExitCode>,
-    goes_on: bool,
+pub struct FileEnd {
+    /// The status, if it isn't 0.
+    pub failed: Option<ExitCode>,
+    /// Whether the next one is read.
+    pub goes_on: bool,
 }
 
-// Takes the files one after the other, up to one after which none is read. The status is that of the
-// first one that failed, if any did.
-fn take_files<T: Task>(
+/// Takes the files one after the other, up to one after which none is read. The status is that of the
+/// first one that failed, if any did. It has no contract, nor has the next: it rests with the system
+/// what files hold.
+pub fn take_files<T: Task>(
     rt: &HostRuntime,
     names: &[&str],
     task: &mut T,
@@ -141,8 +202,8 @@ fn take_file<T: Task>(rt: &HostRuntime, name: &str, task: &mut T) -> anyhow::Res
     task.take(subject, len_of(&file), Input::new(rt.alloc(), file)?)
 }
 
-// Reports how a file ended.
-fn end_of<W: Write>(
+/// Reports how a file ended.
+pub fn end_of<W: Write>(
     rt: &HostRuntime,
     requested: &Requested<'_>,
     subject: Subject<'_>,
@@ -310,194 +371,6 @@ fn uncreated(rt: &HostRuntime, name: &str, error: io::Error) -> FileEnd {
     FileEnd {
         failed: Some(unopened(rt, subject, error)),
         goes_on: false,
-    }
-}
-
-// What is counted of all files.
-trait Counts {
-    // Counts the packets of a file.
-    fn count<R: Read + Drop>(
-        &mut self,
-        rt: &HostRuntime,
-        rules: &Rules,
-        input: R,
-    ) -> anyhow::Result<Ending>;
-
-    // How many packets were counted.
-    fn packets(&self) -> u64;
-
-    // Writes the report, with how many messages were open, and what was left out.
-    fn write<W: Write>(
-        &self,
-        rt: &HostRuntime,
-        open: usize,
-        omitted: Omitted,
-        output: &mut W,
-    ) -> Result<(), RunError>;
-}
-
-#[derive(Drop)]
-struct SummaryCounts {
-    summary: Summary<RandomState>,
-}
-
-impl Counts for SummaryCounts {
-    fn count<R: Read + Drop>(
-        &mut self,
-        rt: &HostRuntime,
-        rules: &Rules,
-        input: R,
-    ) -> anyhow::Result<Ending> {
-        let state = RandomState::new(rt)?;
-        let summary = &mut self.summary;
-        Ok(summarize(rt.alloc(), state, rules, summary, input, &mut NoProgress))
-    }
-
-    fn packets(&self) -> u64 {
-        self.summary.all.packets
-    }
-
-    fn write<W: Write>(
-        &self,
-        rt: &HostRuntime,
-        open: usize,
-        omitted: Omitted,
-        output: &mut W,
-    ) -> Result<(), RunError> {
-        let report = Report {
-            summary: &self.summary,
-            open,
-            dropped: omitted.dropped,
-            skipped: omitted.skipped,
-        };
-        write_report(rt.alloc(), &report, output)
-    }
-}
-
-#[derive(Drop)]
-struct FlowCounts {
-    flows: Flows<RandomState>,
-    listing: Listing,
-}
-
-impl Counts for FlowCounts {
-    fn count<R: Read + Drop>(
-        &mut self,
-        rt: &HostRuntime,
-        rules: &Rules,
-        input: R,
-    ) -> anyhow::Result<Ending> {
-        let state = RandomState::new(rt)?;
-        let flows = &mut self.flows;
-        Ok(count_flows(rt.alloc(), state, rules, flows, input, &mut NoProgress))
-    }
-
-    fn packets(&self) -> u64 {
-        self.flows.all.packets
-    }
-
-    fn write<W: Write>(
-        &self,
-        rt: &HostRuntime,
-        _open: usize,
-        omitted: Omitted,
-        output: &mut W,
-    ) -> Result<(), RunError> {
-        write_flows(
-            rt.alloc(),
-            &self.flows,
-            &self.listing,
-            omitted.skipped,
-            output,
-        )
-    }
-}
-
-fn count_files<C: Counts + Drop, W: Write>(
-    rt: &HostRuntime,
-    requested: &Requested<'_>,
-    counts: C,
-    output: &mut ClosableWriter<W>,
-) -> anyhow::Result<ExitCode> {
-    let mut counting = Counting {
-        rt,
-        requested,
-        output,
-        counts,
-        open: 0,
-        omitted: Omitted::NOTHING,
-        left: requested.names.len(),
-        is_reported: false,
-    };
-    let failed = take_files(rt, requested.names, &mut counting)?;
-    // The last file wasn't opened.
-    let written = counting.report(failed.is_some());
-    let subject = Subject {
-        program: PROGRAM,
-        input: "-",
-    };
-    let closed = counting.output.is_closed();
-    let command = requested.output.command();
-    let code = exit_code(rt, subject, command, written, closed, Look::Other);
-    Ok(failed.unwrap_or(code))
-}
-
-// Counts the packets of all files.
-#[derive(Drop)]
-struct Counting<'a, C, W> {
-    rt: &'a HostRuntime,
-    requested: &'a Requested<'a>,
-    output: &'a mut ClosableWriter<W>,
-    counts: C,
-    open: usize,
-    omitted: Omitted,
-    // How many files weren't taken yet.
-    left: usize,
-    is_reported: bool,
-}
-
-impl<C: Counts, W: Write> Counting<'_, C, W> {
-    // Writes the report, if it isn't written yet; where no packet was counted, only if nothing failed.
-    fn report(&mut self, failed: bool) -> Result<(), RunError> {
-        if self.is_reported {
-            return Ok(());
-        }
-        self.is_reported = true;
-        if failed && self.counts.packets() == 0 {
-            return Ok(());
-        }
-        self.counts
-            .write(self.rt, self.open, self.omitted, self.output)
-    }
-}
-
-impl<C: Counts, W: Write> Task for Counting<'_, C, W> {
-    // With the last file the report is written, before anything about that file is.
-    fn take<R: Read + Drop>(
-        &mut self,
-        subject: Subject<'_>,
-        len: Option<u64>,
-        mut input: Input<R>,
-    ) -> anyhow::Result<FileEnd> {
-        let look = input.look();
-        let mut progress = ProgressLine::new(self.rt, len);
-        let rules = &self.requested.rules;
-        let input = ProgressReader::new(input, &mut progress);
-        let ending = self.counts.count(self.rt, rules, input)?;
-        progress.end();
-        let omitted = Omitted {
-            skipped: ending.skipped,
-            dropped: ending.dropped,
-        };
-        self.open = self.open.saturating_add(ending.open);
-        self.omitted = self.omitted.with(omitted);
-        self.left = self.left.saturating_sub(1);
-        let mut result = ending.result;
-        if self.left == 0 || !goes_on(result, false) {
-            result = result.and(self.report(result.is_err()));
-        }
-        let ended = (result, omitted, look);
-        Ok(end_of(self.rt, self.requested, subject, ended, self.output))
     }
 }
 

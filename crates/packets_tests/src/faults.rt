@@ -1,5 +1,7 @@
 //! Runs that fail before the end, reports of how far they are, and when lines are written.
 
+ghost use Rattle.std.specs.Prelude.{[]};
+
 use crate::captured::{captured, captured_prefix};
 use crate::checks::{equal, fail, holds};
 use crate::classic_captures::capture_of;
@@ -104,11 +106,21 @@ impl LineWriter for LongLines {
     // Its texts are compared here.
     ghost describes = { λ lines packet text. Unit {0} };
 
+    ghost details = { λ lines packet. [] };
+
     fn write_line(&self, packet: &Dissection<'_>, out: &mut Vec<u8>) -> Result<(), AllocError> {
         if packet.number == self.out_of_memory_at {
             return Err(AllocError);
         }
         out.resize(self.len, b'x')
+    }
+
+    fn write_details(
+        &self,
+        _packet: &Dissection<'_>,
+        _out: &mut Vec<u8>,
+    ) -> Result<(), AllocError> {
+        Ok(())
     }
 }
 
@@ -164,8 +176,18 @@ impl LineWriter for ThreeLines {
     // Its text is compared here.
     ghost describes = { λ lines packet text. Unit {0} };
 
+    ghost details = { λ lines packet. [] };
+
     fn write_line(&self, _packet: &Dissection<'_>, out: &mut Vec<u8>) -> Result<(), AllocError> {
         out.extend_from_slice(b"\none\ntwo\r\n\n")
+    }
+
+    fn write_details(
+        &self,
+        _packet: &Dissection<'_>,
+        _out: &mut Vec<u8>,
+    ) -> Result<(), AllocError> {
+        Ok(())
     }
 }
 

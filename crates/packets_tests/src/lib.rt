@@ -31,7 +31,11 @@ mod outcomes;
 #[cfg(test)]
 mod outputs;
 #[cfg(test)]
+mod pages;
+#[cfg(test)]
 mod refusals;
+#[cfg(test)]
+mod relative;
 #[cfg(test)]
 mod summaries;
 #[cfg(test)]

@@ -68,7 +68,7 @@ fn are_counted(rt: impl Abort + Copy, alloc: Global) -> bool {
     let state = BuildHasherDefault::new();
     let ending = summarize(alloc, state, &rules, &mut summary, reader, &mut NoProgress);
     if ending.result.is_ok() {
-        holds(rt, summary.all.packets == 3 && summary.talkers.len() == 1);
+        holds(rt, summary.all.packets == 3 && summary.flows.len() == 2);
         return true;
     }
     holds(
@@ -126,5 +126,5 @@ fn packets_run_out_of_memory(rt: HostRuntime) {
     }
     let counted = (number, dissector.open(), summary.parts.completing.packets);
     equal(rt, counted, (3, 0, 1));
-    equal(rt, (summary.reasons.len(), summary.talkers.len()), (1, 1));
+    equal(rt, (summary.reasons.len(), summary.flows.len()), (1, 2));
 }

@@ -4,8 +4,8 @@
 use crate::checks::{equal, fail, holds};
 use captures::{RunError, Skipped, Unfit};
 use packets::{
-    Condition, Ending, Filter, LineWriter, NoProgress, Omitted, Rules, ShowOptions, Style, Summary,
-    TimeForm, summarize, write_lines,
+    Condition, Ending, Filter, LineWriter, NoProgress, Omitted, Rules, ShowOptions, ShownBytes,
+    Style, Summary, TimeForm, summarize, write_lines,
 };
 use std::alloc::Global;
 use std::hash::{BuildHasherDefault, FoldHasher};
@@ -18,6 +18,7 @@ pub(super) const LINES: ShowOptions = ShowOptions {
     time: TimeForm::SinceFirst,
     width: Some(12),
     link: false,
+    bytes: ShownBytes::Nothing,
 };
 
 /// All packets of a capture of nothing unfit.

@@ -12,7 +12,8 @@ use etherparse::defrag::IpDefragError;
 use etherparse::err::packet::SliceError;
 use etherparse::err::{ip, linux_sll};
 use packets::{
-    Dissection, Dissector, Fragment, FrameBytes, JsonLines, Reason, ShowOptions, Style, TimeForm,
+    Dissection, Dissector, Fragment, FrameBytes, JsonLines, Reason, ShowOptions, ShownBytes, Style,
+    TimeForm,
 };
 use std::alloc::Global;
 use std::process::Abort;
@@ -22,6 +23,7 @@ const PLAIN: ShowOptions = ShowOptions {
     time: TimeForm::SinceFirst,
     width: None,
     link: false,
+    bytes: ShownBytes::Nothing,
 };
 
 // An error, its line, its object and the reason.

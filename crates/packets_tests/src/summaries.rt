@@ -162,7 +162,7 @@ fn are_counts<S: BuildHasher>(rt: impl Abort + Copy, summary: &Summary<S>) {
     is_tally(rt, datagrams, (5, 240, 2));
     is_tally(rt, summary.checksums.bad, (1, 46, 2));
     is_tally(rt, summary.parts.completing, (1, 50, 6));
-    equal(rt, (summary.reasons.len(), summary.talkers.len()), (2, 3));
+    equal(rt, (summary.reasons.len(), summary.flows.len()), (2, 5));
     equal(rt, summary.senders.len(), 3);
     is_reason(rt, summary, 1, Reason::TcpDataOffset, tally_of(1, 54, 8));
 }
@@ -188,7 +188,7 @@ fn summary(rt: HostRuntime) {
         fail(rt, "no random numbers");
     };
     let mut summary = Summary::with_hashers(rt.alloc(), addresses, senders, reasons);
-    holds(rt, summary.talkers.is_empty());
+    holds(rt, summary.flows.is_empty());
     let (rules, reader) = (every_packet(rt.alloc()), capture.as_slice());
     let ending = summarize(
         rt.alloc(),
@@ -294,7 +294,7 @@ fn periods(rt: HostRuntime) {
 fn rates(rt: HostRuntime) {
     let mut rate = Rate::new();
     for time in [1_000_000_000, 1_123_046_875, 1_125_000_000] {
-        rate.add(&outline(1, time, 60));
+        rate.add(&outline(1, time, 60), 1);
     }
     equal(
         rt,

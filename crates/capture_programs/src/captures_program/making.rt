@@ -7,7 +7,7 @@ ghost use Rattle.captures.specs.Endings.{ending_of};
 ghost use Rattle.captures.specs.Lines.{Packet, lines_of};
 ghost use Rattle.captures.specs.CaptureRuns.{ArePassedOver, IsCapture, capture_to_lines};
 ghost use Rattle.captures.specs.Encoding.{capture_of};
-ghost use Rattle.line_grammar.specs.TimedLines.{TimedFrame};
+ghost use Rattle.captures.specs.CapturedFrames.{CapturedFrame};
 ghost use Rattle.captures.specs.Texts.{IsText, lines_to_capture};
 ghost use Rattle.captures.specs.declared.extra.Extra.{Extra};
 ghost use Rattle.captures.specs.declared.time.time_unit.TimeUnit.{TimeUnit};
@@ -35,7 +35,7 @@ pub fn make<R: Read, W: Write>(
         × IsCapture unfit input packets skipped.new
         × Appends (W.contents writer.old) (W.contents writer.new) (lines_of extra packets))) }
     ensures capture { (time_unit : TimeUnit) → mode ≡ Mode.Capture time_unit
-        → OnOk result (IfSome (R.remaining reader.old) (λ input. (frames : List TimedFrame)
+        → OnOk result (IfSome (R.remaining reader.old) (λ input. (frames : List CapturedFrame)
         × IsText input frames
         × Appends (W.contents writer.old) (W.contents writer.new) (capture_of time_unit frames))) }
     // However it ends, what is written is that for the bytes read.
@@ -91,7 +91,7 @@ fn make_capture<R: Read, W: Write>(
     reader: &mut R,
     writer: &mut W,
 ) -> Result<(), RunError>
-    ensures ok { OnOk result (IfSome (R.remaining reader.old) (λ input. (frames : List TimedFrame)
+    ensures ok { OnOk result (IfSome (R.remaining reader.old) (λ input. (frames : List CapturedFrame)
         × IsText input frames
         × Appends (W.contents writer.old) (W.contents writer.new) (capture_of time_unit frames))) }
     ensures bytes { (done : Result Unit RunError) × EndsFlushed RunError.Write done result

@@ -10,7 +10,7 @@ pub fn note(error: RunError, look: Look) -> &'static str {
         RunError::Capture(CaptureError::NotCapture, _) if look == Look::Text => {
             ": the input is text, `captures capture` reads lines of frames"
         }
-        RunError::BadLine(1) => text_note(look),
+        RunError::BadLine(line) if line.number == 1 => text_note(look),
         _ => notes::note(error, look),
     }
 }

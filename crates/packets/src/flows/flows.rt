@@ -23,7 +23,7 @@ pub struct Flows<S: BuildHasher = BuildHasherDefault<FoldHasher>> {
     pub refused: Tally,
     /// The others without an IP header. They are in none, too.
     pub without_ip: Tally,
-    conversations: Table<Conversation, S, Flow>,
+    pub(crate) conversations: Table<Conversation, S, Flow>,
     // By buckets of conversations, the index of that which was counted last.
     recent: [usize; BUCKET_COUNT],
 }
@@ -72,8 +72,8 @@ impl<S: BuildHasher> Flows<S> {
         Ok(())
     }
 
-    // Reserves the capacity for one conversation more.
-    fn reserve(&mut self) -> Result<(), AllocError>
+    /// Reserves the capacity for one conversation more.
+    pub(crate) fn reserve(&mut self) -> Result<(), AllocError>
         ensures capacity { OnOk result (0 < self.new.conversations.spare) }
         ensures same { (packets : List Transfer)
             → CountsFlows ⟦<Conversation as PartialEq>⟧.eq self.old packets
@@ -82,7 +82,8 @@ impl<S: BuildHasher> Flows<S> {
         self.conversations.reserve()
     }
 
-    fn count(&mut self, packet: &Transfer)
+    /// Counts a packet for whose conversation there is capacity.
+    pub(crate) fn count(&mut self, packet: &Transfer)
         requires capacity { 0 < self.old.conversations.spare }
         ensures { (packets : List Transfer)
             → CountsFlows ⟦<Conversation as PartialEq>⟧.eq self.old packets

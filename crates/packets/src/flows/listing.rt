@@ -18,6 +18,9 @@ pub enum By {
     Duration,
 }
 
+// So many conversations are the greatest ones.
+const GREATEST_COUNT: usize = 10;
+
 /// Which conversations are listed, and in which order.
 #[derive(Clone, Copy, Debug, PartialEq, Eq)]
 pub struct Listing {
@@ -65,4 +68,63 @@ impl By {
             By::Duration => u64::MAX - row.duration(),
         }
     }
+}
+
+/// The conversations with the most bytes, ten at most.
+#[derive(Clone, Copy)]
+pub(crate) struct Greatest {
+    indices: [usize; GREATEST_COUNT],
+    count: usize,
+}
+
+impl Greatest {
+    /// Those of these, in the order of [`By::Bytes`]. It takes no memory. It has no contract, nor has
+    /// the next: tests compare the texts.
+    pub(crate) fn of<S: BuildHasher>(flows: &Flows<S>) -> Greatest {
+        let mut greatest = Greatest {
+            indices: [0; GREATEST_COUNT],
+            count: 0,
+        };
+        let mut last = None;
+        'slots: for slot in 0..GREATEST_COUNT {
+            let Some(next) = next_rank(flows, last) else {
+                break 'slots;
+            };
+            let (_, index) = next;
+            greatest.indices[slot] = index;
+            greatest.count = slot + 1;
+            last = Some(next);
+        }
+        greatest
+    }
+
+    /// Their indices.
+    pub(crate) fn indices(&self) -> &[usize] {
+        match self.indices.get(..self.count) {
+            Some(indices) => indices,
+            None => &[],
+        }
+    }
+}
+
+// The least of the ranks after this one, or of all.
+fn next_rank<S: BuildHasher>(flows: &Flows<S>, last: Option<(u64, usize)>) -> Option<(u64, usize)> {
+    let mut next: Option<(u64, usize)> = None;
+    for index in 0..flows.len() {
+        if let Some(row) = flows.row(index) {
+            let rank = (By::Bytes.rank(&row), index);
+            let is_after = match last {
+                Some(last) => last < rank,
+                None => true,
+            };
+            let is_first = match next {
+                Some(next) => rank < next,
+                None => true,
+            };
+            if is_after && is_first {
+                next = Some(rank);
+            }
+        }
+    }
+    next
 }

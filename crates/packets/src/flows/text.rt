@@ -41,7 +41,8 @@ impl<S: BuildHasher> fmt::Display for FlowTable<'_, S> {
 }
 
 impl<S: BuildHasher> FlowTable<'_, S> {
-    fn write_rows<W: fmt::Write>(&self, f: &mut fmt::Formatter<W>) -> fmt::Result {
+    /// The rows, and from when on their times count. It has no contract: tests compare the texts.
+    pub(crate) fn write_rows<W: fmt::Write>(&self, f: &mut fmt::Formatter<W>) -> fmt::Result {
         let Some(begin) = earliest(self.flows) else {
             return writeln!(f, "no conversations");
         };
@@ -105,15 +106,30 @@ fn write_row<W: fmt::Write>(f: &mut fmt::Formatter<W>, row: &Row, begin: u64) ->
         None => "",
     };
     write!(f, " {state:<4}  ")?;
-    write_ends(f, &row.conversation)?;
-    let protocol = Protocol::OverIp(row.conversation.protocol);
-    writeln!(f, " {protocol}")
+    let ends = Ends {
+        conversation: row.conversation,
+    };
+    writeln!(f, "{ends}")
 }
 
 fn write_seconds<W: fmt::Write>(f: &mut fmt::Formatter<W>, from: u64, to: u64) -> fmt::Result {
     let seconds = between(from, to);
     let seconds = str::from_utf8(&seconds).unwrap_or("");
     write!(f, "{seconds:>11} ")
+}
+
+/// The ends of a conversation and its protocol. It has no contract: tests compare the texts.
+#[derive(Clone, Copy)]
+pub(crate) struct Ends {
+    pub conversation: Conversation,
+}
+
+impl fmt::Display for Ends {
+    fn fmt<W: fmt::Write>(&self, f: &mut fmt::Formatter<W>) -> fmt::Result {
+        write_ends(f, &self.conversation)?;
+        let protocol = Protocol::OverIp(self.conversation.protocol);
+        write!(f, " {protocol}")
+    }
 }
 
 fn write_ends<W: fmt::Write>(

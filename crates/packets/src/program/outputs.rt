@@ -6,8 +6,8 @@ ghost use Rattle.packets.specs.Written.{WritesLines};
 ghost use Rattle.packets.specs.WrittenCaptures.{WritesCapture, WritesRecords};
 
 use crate::{
-    FlowObject, FlowTable, Flows, LineWriter, Listing, Omitted, Report, Rules, write_capture,
-    write_lines, write_records,
+    FlowObject, FlowTable, Flows, LineWriter, Listing, Omitted, Report, Rules, WebPage,
+    write_capture, write_lines, write_records,
 };
 use captures::{RunError, Skipped};
 use device_runs::flush_after;
@@ -27,7 +27,7 @@ pub fn write_flushed<R: Read + Drop, W: Write, L: LineWriter, S: BuildHasher + D
     omitted: &mut Omitted,
 ) -> Result<(), RunError>
     ensures { (done : Result Unit RunError) × EndsFlushed RunError.Write done result
-        × WritesLines (L.describes lines.now) rules.now omitted.new (R.remaining reader)
+        × WritesLines (L.describes lines.now) (L.details lines.now) rules.now omitted.new (R.remaining reader)
         (W.contents writer.old) (W.contents writer.new) done }
 {
     let written = write_lines(alloc, state, rules, lines, reader, writer, omitted);
@@ -118,6 +118,18 @@ fn write_object<S: BuildHasher, W: Write>(
     };
     match bytes.push(b'\n') {
         Ok(()) => write_whole_flushed(bytes.as_slice(), writer),
+        Err(_) => Err(RunError::Memory),
+    }
+}
+
+/// Writes a report as a page. It has no contract: tests compare the texts.
+pub fn write_page<S: BuildHasher, W: Write>(
+    alloc: Global,
+    page: &WebPage<'_, S>,
+    writer: &mut W,
+) -> Result<(), RunError> {
+    match page.write(alloc) {
+        Ok(page) => write_whole_flushed(page.bytes(), writer),
         Err(_) => Err(RunError::Memory),
     }
 }

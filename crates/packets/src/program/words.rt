@@ -1,5 +1,7 @@
 //! What the words of the command line request.
-use crate::{By, Condition, Expression, ExpressionError, Filter, Listing, Rules, TimeForm, Words};
+use crate::{
+    By, Condition, Expression, ExpressionError, Filter, Listing, Rules, ShownBytes, TimeForm, Words,
+};
 use captures::Unfit;
 use clap::ArgMatches;
 use std::alloc::{AllocError, Global};
@@ -49,9 +51,8 @@ pub enum SizeError {
 /// What is written of a capture.
 #[derive(Debug, Drop)]
 pub enum Output<'m> {
-    /// A line for each packet, with such times, cut to so many columns, in colours, and with hardware
-    /// addresses or without.
-    Show(TimeForm, Option<usize>, Coloring, bool),
+    /// A line for each packet that looks so.
+    Show(LineRequest),
     /// A capture of the packets, into the file with this name, `-` for standard output.
     Capture(&'m str),
     /// A JSON object for each packet, with the bytes of its payload or without.
@@ -60,18 +61,38 @@ pub enum Output<'m> {
     Summary,
     /// Its conversations, counted.
     Flows(Listing),
+    /// Both, as a page.
+    Report,
 }
 
 impl Output<'_> {
     /// The command that requests it. It has no contract: tests compare the texts.
     pub fn command(&self) -> &'static str {
         match self {
-            Output::Show(_, _, _, _) | Output::Capture(_) => "show",
+            Output::Show(_) | Output::Capture(_) => "show",
             Output::Json(_) => "json",
             Output::Summary => "summary",
             Output::Flows(_) => "flows",
+            Output::Report => "report",
         }
     }
+}
+
+/// How lines look.
+#[derive(Clone, Copy, Debug, PartialEq, Eq)]
+pub struct LineRequest {
+    /// Which time they have.
+    pub time: TimeForm,
+    /// How many columns they have at most, if they are cut.
+    pub width: Option<usize>,
+    /// When they have colours.
+    pub coloring: Coloring,
+    /// Whether they have hardware addresses.
+    pub link: bool,
+    /// Which bytes are below them.
+    pub bytes: ShownBytes,
+    /// Whether numbers of TCP are relative.
+    pub relative: bool,
 }
 
 /// When lines have colours.
@@ -95,6 +116,7 @@ pub fn requested_by<'m>(
         Some(("json", words)) => (Output::Json(words.get_flag("payload")), words),
         Some(("summary", words)) => (Output::Summary, words),
         Some(("flows", words)) => (Output::Flows(listing(words)), words),
+        Some(("report", words)) => (Output::Report, words),
         Some((_, words)) => (show(words), words),
         None => (show(matches), matches),
     };
@@ -131,12 +153,14 @@ fn names<'m>(words: &'m ArgMatches) -> &'m [&'m str] {
 fn show<'m>(words: &'m ArgMatches) -> Output<'m> {
     match words.get_str("write") {
         Some(name) => Output::Capture(name),
-        None => Output::Show(
-            time_form(words),
-            width(words),
-            when_colored(words),
-            words.get_flag("link"),
-        ),
+        None => Output::Show(LineRequest {
+            time: time_form(words),
+            width: width(words),
+            coloring: when_colored(words),
+            link: words.get_flag("link"),
+            bytes: shown_bytes(words),
+            relative: words.get_flag("relative"),
+        }),
     }
 }
 
@@ -233,7 +257,16 @@ fn time_form(words: &ArgMatches) -> TimeForm {
         Some("delta") => TimeForm::SincePrevious,
         Some("epoch") => TimeForm::Epoch,
         Some("utc") => TimeForm::Utc,
+        Some("local") => TimeForm::Local,
         _ => TimeForm::SinceFirst,
+    }
+}
+
+fn shown_bytes(words: &ArgMatches) -> ShownBytes {
+    match words.get_count("bytes") {
+        0 => ShownBytes::Nothing,
+        1 => ShownBytes::AfterLink,
+        _ => ShownBytes::Frame,
     }
 }
 

@@ -3,20 +3,19 @@ ghost use Rattle.std.specs.Prelude.{◌≡◌, ◌++◌, false, List, ℕ, Optio
 ghost use Rattle.std.specs.Io.KnownBytes.{Consumes};
 ghost use Rattle.captures.specs.declared.packet.Packet.{Packet};
 ghost use Rattle.etherparse.specs.OpenReassemblies.{IsOpenCount};
-ghost use Rattle.packets.specs.Counts.{Counts};
+ghost use Rattle.packets.specs.Counts.{CountsAll};
 ghost use Rattle.packets.specs.Courses.{AreDissected, course_after, no_course, shown};
-ghost use Rattle.packets.specs.Outlines.{outline_of};
+ghost use Rattle.packets.specs.Transfers.{transfer_of};
 ghost use Rattle.packets.specs.PacketRuns.{EndsWithin, UnlessOutOfMemory};
 ghost use Rattle.packets.specs.declared.dissection.Dissection.{Dissection};
-ghost use Rattle.packets.specs.declared.outline.Outline.{Outline};
+ghost use Rattle.packets.specs.declared.flows.transfer.Transfer.{Transfer};
 
 use crate::run::progress::Progress;
 use crate::run::rules::Rules;
 use crate::run::visit_all::{Ending, visit_all};
 use crate::run::walk::Visitor;
-use crate::{Dissection, Reason, Summary, Verified};
+use crate::{Conversation, Dissection, Reason, Summary, Verified};
 use captures::RunError;
-use ep_packet::Addresses;
 use std::alloc::{AllocError, Global};
 use std::hash::BuildHasher;
 use std::io::Read;
@@ -36,12 +35,12 @@ pub fn summarize<R: Read + Drop, S: BuildHasher + Drop, P: Progress>(
         × (reported : List Dissection) × Consumes (R.remaining reader) left read
         × EndsWithin false rules.now result.skipped left read given result.result
         × AreDissected rules.now.checksums rules.now.forget (no_course rules.now.reassembly_memory) given reported
-        × ((counted : List Outline)
-        → Counts ⟦<Reason as PartialEq>⟧.eq ⟦<Addresses as PartialEq>⟧.eq
+        × ((counted : List Transfer)
+        → CountsAll ⟦<Reason as PartialEq>⟧.eq ⟦<Conversation as PartialEq>⟧.eq
         ⟦<Verified as PartialEq>⟧.eq summary.old counted
-        → Counts ⟦<Reason as PartialEq>⟧.eq ⟦<Addresses as PartialEq>⟧.eq
+        → CountsAll ⟦<Reason as PartialEq>⟧.eq ⟦<Conversation as PartialEq>⟧.eq
         ⟦<Verified as PartialEq>⟧.eq summary.new
-        (counted ++ map outline_of (shown rules.now.filter reported)))
+        (counted ++ map transfer_of (shown rules.now.filter reported)))
         × UnlessOutOfMemory result.result
         (IsOpenCount (course_after rules.now.forget (no_course rules.now.reassembly_memory) given).lists result.open)
         × (result.dropped
@@ -51,18 +50,18 @@ pub fn summarize<R: Read + Drop, S: BuildHasher + Drop, P: Progress>(
 }
 
 impl<S: BuildHasher> Visitor for Summary<S> {
-    ghost use Rattle.packets.specs.Counts.{Counts};
-    ghost use Rattle.packets.specs.Outlines.{outline_of};
+    ghost use Rattle.packets.specs.Counts.{CountsAll};
+    ghost use Rattle.packets.specs.Transfers.{transfer_of};
 
     ghost writes = { false };
 
     // All packets that are seen are counted beside those that were.
-    ghost goes = { λ start now seen. (counted : List Outline)
-        → Counts ⟦<Reason as PartialEq>⟧.eq ⟦<Addresses as PartialEq>⟧.eq
+    ghost goes = { λ start now seen. (counted : List Transfer)
+        → CountsAll ⟦<Reason as PartialEq>⟧.eq ⟦<Conversation as PartialEq>⟧.eq
         ⟦<Verified as PartialEq>⟧.eq start counted
-        → Counts ⟦<Reason as PartialEq>⟧.eq ⟦<Addresses as PartialEq>⟧.eq
+        → CountsAll ⟦<Reason as PartialEq>⟧.eq ⟦<Conversation as PartialEq>⟧.eq
         ⟦<Verified as PartialEq>⟧.eq now
-        (counted ++ map outline_of seen) };
+        (counted ++ map transfer_of seen) };
 
     ghost breaks = { λ start now seen. ⊥ };
 

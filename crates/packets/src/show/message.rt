@@ -8,6 +8,7 @@ use checksum_verdicts::{Verdict, judge};
 use ep_base::IpNumber;
 use ep_packet::{Addresses, LaxNetSlice, Message, NetSlice, WholeMessage, read_message};
 use ep_tcpudp::{UdpHeader, UdpSlice};
+use header_descriptions::show::tcp::Origins;
 use header_descriptions::show::{Line, Tone, groups, names, tcp};
 use std::alloc::AllocError;
 
@@ -19,6 +20,7 @@ pub(crate) fn whole(
     net: &Option<NetSlice<'_>>,
     whole: &WholeMessage<'_>,
     checked: Option<Verdict>,
+    origins: Origins,
 ) -> Result<(), AllocError> {
     endpoints(
         line,
@@ -27,7 +29,13 @@ pub(crate) fn whole(
     )?;
     net_headers(line, net)?;
     line.text(" ")?;
-    message(line, whole.ip_number, &whole.message, whole.bytes.len())?;
+    message(
+        line,
+        whole.ip_number,
+        &whole.message,
+        whole.bytes.len(),
+        origins,
+    )?;
     verdict(line, checked, &whole.addresses, &whole.message)
 }
 
@@ -40,6 +48,7 @@ pub(crate) fn lax_message(
     ip_number: IpNumber,
     read: Option<&Message<'_>>,
     len: usize,
+    origins: Origins,
 ) -> Result<(), AllocError> {
     let ports = match read {
         Some(read) => ports_of(ip_number, read),
@@ -49,7 +58,7 @@ pub(crate) fn lax_message(
     lax_net_headers(line, net)?;
     line.text(" ")?;
     match read {
-        Some(read) => message(line, ip_number, read, len),
+        Some(read) => message(line, ip_number, read, len, origins),
         None => names::protocol(line, ip_number),
     }
 }
@@ -62,6 +71,7 @@ pub(crate) fn completed(
     ip_number: IpNumber,
     bytes: &[u8],
     checked: Option<Verdict>,
+    origins: Origins,
 ) -> Result<(), AllocError> {
     match read_message(ip_number, bytes) {
         Ok(read) => {
@@ -70,7 +80,7 @@ pub(crate) fn completed(
                 line.counted(" > ", ports.destination.into())?;
                 line.text(" ")?;
             }
-            message(line, ip_number, &read, bytes.len())?;
+            message(line, ip_number, &read, bytes.len(), origins)?;
             verdict(line, checked, addresses, &read)
         }
         Err(error) => refusal::message(line, &error),
@@ -100,11 +110,13 @@ fn message(
     number: IpNumber,
     message: &Message<'_>,
     len: usize,
+    origins: Origins,
 ) -> Result<(), AllocError> {
     names::protocol(line, number)?;
     match message {
         Message::Tcp(segment) => {
-            tcp::segment(line, segment, len.saturating_sub(segment.header_len()))
+            let payload_len = len.saturating_sub(segment.header_len());
+            tcp::segment(line, segment, payload_len, origins)
         }
         Message::Udp(datagram) => match payload_len(datagram, len) {
             Some(len) => line.counted(" len ", len as u64),

@@ -1,5 +1,6 @@
 //! How the line of a packet looks.
 
+use crate::show::shown_bytes::ShownBytes;
 use header_descriptions::show::{Style, TimeForm};
 
 /// How the line of a packet looks.
@@ -13,4 +14,6 @@ pub struct ShowOptions {
     pub width: Option<usize>,
     /// Whether it has the hardware addresses of the link also where it has others.
     pub link: bool,
+    /// Which bytes of the packet are below it.
+    pub bytes: ShownBytes,
 }

@@ -2,12 +2,14 @@
 
 use crate::show::fragment_headers::two_fragment_headers;
 use crate::show::options::ShowOptions;
+use crate::show::shown_lines::Circumstances;
 use crate::show::{fragment, link, message, refused};
 use crate::{Dissection, Headers};
 use checksum_verdicts::Verdict;
 use ep_packet::{Class, NetSlice, SlicedPacket};
 use header_descriptions::show::arp::arp;
 use header_descriptions::show::tags::tags;
+use header_descriptions::show::tcp::Origins;
 use header_descriptions::show::time::{Times, number_and_time};
 use header_descriptions::show::{Line, Tone};
 use std::alloc::AllocError;
@@ -17,22 +19,35 @@ impl ShowOptions {
     /// of the packet, its VLANs, addresses and ports, its protocol with what its header says, and
     /// the verdict on the checksum. Of a fragment it gives the offset and what became of it, of a
     /// packet that is refused, the headers that are there and why, and of one that was cut, how many
-    /// of its bytes were captured. It has no contract: tests compare the texts.
+    /// of its bytes were captured. Numbers of TCP are those of the segment, and local times those of UTC.
+    /// It has no contract, nor has the next: tests compare the texts.
     pub fn write_line(&self, packet: &Dissection<'_>, out: &mut Vec<u8>) -> Result<(), AllocError> {
+        self.write_in(&Circumstances::NONE, packet, out)
+    }
+
+    /// The same with these numbers and local times.
+    pub(crate) fn write_in(
+        &self,
+        circumstances: &Circumstances,
+        packet: &Dissection<'_>,
+        out: &mut Vec<u8>,
+    ) -> Result<(), AllocError> {
+        let origins = circumstances.origins;
         let mut line = Line::begin(self.style, self.width, out);
         let times = Times {
             own: packet.time,
             first: packet.first_time,
             previous: packet.previous_time,
+            ahead: circumstances.ahead,
         };
         number_and_time(&mut line, self.time, packet.number, &times)?;
         let separator = match &packet.layers {
             Ok(layers) => {
-                self.body(&mut line, packet, layers)?;
+                self.body(&mut line, packet, layers, origins)?;
                 header_checksum(&mut line, packet)?;
                 ", "
             }
-            Err(error) => refused::refused(&mut line, packet, *error, self.link)?,
+            Err(error) => refused::refused(&mut line, packet, *error, self.link, origins)?,
         };
         if packet.is_cut() {
             line.text(separator)?;
@@ -47,19 +62,27 @@ impl ShowOptions {
         line: &mut Line<'_>,
         packet: &Dissection<'_>,
         layers: &SlicedPacket<'_>,
+        origins: Origins,
     ) -> Result<(), AllocError> {
         tags(line, layers.link_exts.as_slice())?;
         if self.link && layers.net.is_some() {
             link::link_addresses(line, layers.link.as_ref(), packet.header.as_ref())?;
         }
         match layers.class() {
-            Class::Whole(whole) => message::whole(line, &layers.net, &whole, packet.verdict),
+            Class::Whole(whole) => message::whole(
+                line,
+                &layers.net,
+                &whole,
+                packet.verdict,
+                origins,
+            ),
             Class::Cut(cut) => fragment::fragment(
                 line,
                 packet.number,
                 &cut,
                 packet.fragment.as_ref(),
                 packet.verdict,
+                origins,
             ),
             Class::Other => other(line, packet, layers),
             Class::Refused => Ok(()),

@@ -1,4 +1,4 @@
-//! How many packets there are in each span of time.
+//! How many packets there are in each span of time, or how much of something they have.
 ghost use Rattle.std.specs.Prelude.{◌≡◌, ◌<◌, ◌≤◌, ◌+◌, ◌*◌, ◌^◌, ◌++◌, ◌∷◌, ℕ, [], List, length, slice_index};
 ghost use Rattle.captures.specs.Numbers.{capped};
 
@@ -10,7 +10,8 @@ pub const SPAN_COUNT: usize = 64;
 // 1/512 second, which is a whole number of nanoseconds. Nine times doubled it is a second.
 const SHORTEST: u64 = 1_953_125;
 
-/// How many packets came in each of 64 spans of equal length, from the first packet on. What came
+/// How many packets came in each of 64 spans of equal length, from the first packet on, or how much of
+/// something they had. What came
 /// with a time before it counts to the first span. A span has 1/512 second, or that doubled as
 /// often as it takes to reach the last packet: where one comes after the last span, each two spans
 /// become one. So the memory is the same however long a capture is. Counts stop at the greatest
@@ -21,7 +22,7 @@ pub struct Rate {
     pub begin: Option<u64>,
     /// The length of a span in nanoseconds.
     pub span: u64,
-    /// The packets of each span.
+    /// What is counted of each span.
     pub counts: [u64; SPAN_COUNT],
     ghost positive: { 0 < span },
 }
@@ -32,7 +33,7 @@ impl Rate {
 
     /// No packet.
     pub fn new() -> Rate
-        ensures { CountsSpans result [] }
+        ensures { (count_of : Outline → ℕ) → CountsSpans count_of result [] }
     {
         Rate {
             begin: None,
@@ -41,10 +42,11 @@ impl Rate {
         }
     }
 
-    /// Counts one packet more.
-    pub fn add(&mut self, packet: &Outline)
-        ensures { (packets : List Outline) → CountsSpans self.old packets
-            → CountsSpans self.new (packets ++ packet.now ∷ []) }
+    /// Counts one packet more, which counts so much.
+    pub fn add(&mut self, packet: &Outline, count: u64)
+        ensures { (count_of : Outline → ℕ) (packets : List Outline) → count_of packet.now ≡ count
+            → CountsSpans count_of self.old packets
+            → CountsSpans count_of self.new (packets ++ packet.now ∷ []) }
     {
         let begin = self.begin.unwrap_or(packet.time);
         let since = packet.time.saturating_sub(begin);
@@ -53,14 +55,14 @@ impl Rate {
         }
         let position = (since / self.span) as usize;
         self.begin = Some(begin);
-        self.counts[position] = self.counts[position].saturating_add(1);
+        self.counts[position] = self.counts[position].saturating_add(count);
     }
 
     // Makes one span of each two.
     fn double(&mut self)
         requires { self.old.span < 2 ^ 63 }
-        ensures counted { (packets : List Outline) → CountsBySpan self.old packets
-            → CountsBySpan self.new packets }
+        ensures counted { (count_of : Outline → ℕ) (packets : List Outline)
+            → CountsBySpan count_of self.old packets → CountsBySpan count_of self.new packets }
         ensures span { self.new.span ≡ 2 * self.old.span }
         ensures begin { self.new.begin ≡ self.old.begin }
         ensures size { length self.new.counts ≡ SPAN_COUNT }

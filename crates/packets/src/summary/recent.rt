@@ -12,12 +12,10 @@ const FIRST_FACTOR: u32 = 0x9e37_79b1;
 
 const SECOND_FACTOR: u32 = 0x27d4_eb2f;
 
-/// The index of the key that was counted last: one for reasons, and one a bucket for pairs and for
-/// senders. Most packets have a key that is found there without a hash.
+/// The index of the key that was counted last: one for reasons, and one a bucket for senders. Most packets have a key that is found there without a hash.
 #[derive(Drop)]
 pub(crate) struct Recent {
     pub reason: usize,
-    pub talkers: [usize; BUCKET_COUNT],
     pub senders: [usize; BUCKET_COUNT],
 }
 
@@ -26,23 +24,12 @@ impl Recent {
     pub(crate) fn new() -> Recent {
         Recent {
             reason: 0,
-            talkers: [0; BUCKET_COUNT],
             senders: [0; BUCKET_COUNT],
         }
     }
 }
 
-/// The bucket of a pair of addresses. No count depends on which one it is.
-pub(crate) fn talker_bucket(addresses: Option<Addresses>) -> usize
-    ensures { result < BUCKET_COUNT }
-{
-    match addresses {
-        Some(addresses) => bucket_of(mixed_addresses(addresses)),
-        None => 0,
-    }
-}
-
-/// That of a conversation.
+/// The bucket of a conversation. No count depends on which one it is.
 pub(crate) fn conversation_bucket(conversation: Option<Conversation>) -> usize
     ensures { result < BUCKET_COUNT }
 {

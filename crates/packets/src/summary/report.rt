@@ -1,10 +1,14 @@
 //! A summary as text.
 
+use crate::flows::flows::Flows;
+use crate::flows::listing::Greatest;
+use crate::flows::text::FlowTable;
 use crate::summary::bars::{Bar, column, steps_of};
 use crate::summary::lengths::Lengths;
-use crate::summary::offload::write_offload;
+use crate::summary::offload::Offload;
 use crate::summary::period::Period;
 use crate::summary::rate::Rate;
+use crate::summary::share::Share;
 use crate::summary::sizes::Sizes;
 use crate::summary::summary::{ChecksumTallies, ProtocolTallies, Summary};
 use crate::summary::table::Table;
@@ -12,18 +16,13 @@ use crate::summary::tally::Tally;
 use crate::{Protocol, Reason};
 use captures::Skipped;
 use ep_base::IpNumber;
-use ep_packet::Addresses;
 use header_descriptions::show::seconds::between;
 use header_descriptions::show::time::utc_text;
 use std::hash::BuildHasher;
-use std::net::{Ipv4Addr, Ipv6Addr};
 use std::{fmt, str};
 
 // The titles of the columns before the last.
 const TITLES: &str = "   packets   share           bytes   share     first  ";
-
-// At most so many talkers are listed.
-const TALKER_COUNT: usize = 10;
 
 // The longest bar has so many columns.
 const BAR_COLUMNS: u32 = 32;
@@ -57,7 +56,7 @@ impl<S: BuildHasher> Report<'_, S> {
         }
         write_kinds(f, summary)?;
         self.write_fragments(f)?;
-        write_talkers(f, &summary.talkers, &summary.all)?;
+        write_conversations(f, &summary.flows)?;
         write_sizes(f, &summary.sizes, summary.all.packets)?;
         write_period(
             f,
@@ -117,7 +116,10 @@ fn write_kinds<W: fmt::Write, S: BuildHasher>(
         write_reasons(f, &summary.reasons, &all)?;
     }
     write_checksums(f, &summary.checksums, &all)?;
-    write_offload(f, &summary.senders)
+    match Offload::of(&summary.senders) {
+        Some(offload) => writeln!(f, "{offload}"),
+        None => Ok(()),
+    }
 }
 
 // The packets that were cut, and how many bytes of all were captured, where not all were.
@@ -194,24 +196,6 @@ fn write_row<W: fmt::Write>(
     )
 }
 
-// A part of a whole. It is written in tenths of a percent, rounded. No part is more than its whole,
-// and one that is less has less than 100 percent.
-#[derive(Clone, Copy)]
-struct Share {
-    part: u64,
-    whole: u64,
-}
-
-impl fmt::Display for Share {
-    fn fmt<W: fmt::Write>(&self, f: &mut fmt::Formatter<W>) -> fmt::Result {
-        let greatest = if self.part < self.whole { 999 } else { 1000 };
-        let whole = u128::from(self.whole.max(1));
-        let tenths = ((u128::from(self.part) * 1000 + whole / 2) / whole).min(greatest) as u64;
-        let (percent, rest) = (tenths / 10, tenths % 10);
-        write!(f, "{percent:>3}.{rest} %")
-    }
-}
-
 fn write_protocols<W: fmt::Write>(
     f: &mut fmt::Formatter<W>,
     tallies: &ProtocolTallies,
@@ -251,92 +235,22 @@ fn write_reasons<W: fmt::Write, S: BuildHasher>(
     Ok(())
 }
 
-fn write_talkers<W: fmt::Write, S: BuildHasher>(
+// The greatest conversations, as `packets flows` lists them.
+fn write_conversations<W: fmt::Write, S: BuildHasher>(
     f: &mut fmt::Formatter<W>,
-    talkers: &Table<Addresses, S>,
-    all: &Tally,
+    flows: &Flows<S>,
 ) -> fmt::Result {
-    if talkers.is_empty() {
+    if flows.is_empty() {
         return Ok(());
     }
-    write_title(f, "from > to")?;
-    let mut last = None;
-    for _ in 0..TALKER_COUNT {
-        let Some(rank) = next_rank(talkers, last) else {
-            break;
-        };
-        if let Some((addresses, tally)) = talkers.get(rank.index) {
-            write_talker(f, addresses, tally, all)?;
-        }
-        last = Some(rank);
-    }
-    let more = talkers.len().saturating_sub(TALKER_COUNT);
-    if more > 0 {
-        writeln!(f, "and {more} more")?;
-    }
-    Ok(())
-}
-
-fn write_talker<W: fmt::Write>(
-    f: &mut fmt::Formatter<W>,
-    addresses: &Addresses,
-    tally: &Tally,
-    all: &Tally,
-) -> fmt::Result {
-    match addresses {
-        Addresses::V4 {
-            source,
-            destination,
-        } => {
-            let (from, to) = (Ipv4Addr::from(*source), Ipv4Addr::from(*destination));
-            write_row(f, tally, all, format_args!("{from} > {to}"))
-        }
-        Addresses::V6 {
-            source,
-            destination,
-        } => {
-            let (from, to) = (Ipv6Addr::from(*source), Ipv6Addr::from(*destination));
-            write_row(f, tally, all, format_args!("{from} > {to}"))
-        }
-    }
-}
-
-// The rank of a talker among all: by its bytes, and then by when it came first.
-#[derive(Clone, Copy)]
-struct Rank {
-    bytes: u64,
-    index: usize,
-}
-
-impl Rank {
-    fn is_before(self, other: Rank) -> bool {
-        self.bytes > other.bytes || (self.bytes == other.bytes && self.index < other.index)
-    }
-}
-
-// The first of the talkers that come after this one, or of all.
-fn next_rank<S: BuildHasher>(talkers: &Table<Addresses, S>, last: Option<Rank>) -> Option<Rank> {
-    let mut next: Option<Rank> = None;
-    for index in 0..talkers.len() {
-        if let Some((_, tally)) = talkers.get(index) {
-            let rank = Rank {
-                bytes: tally.bytes,
-                index,
-            };
-            let is_after = match last {
-                Some(last) => last.is_before(rank),
-                None => true,
-            };
-            let is_first = match next {
-                Some(next) => rank.is_before(next),
-                None => true,
-            };
-            if is_after && is_first {
-                next = Some(rank);
-            }
-        }
-    }
-    next
+    let greatest = Greatest::of(flows);
+    writeln!(f)?;
+    let table = FlowTable {
+        flows,
+        indices: greatest.indices(),
+        skipped: Skipped::NONE,
+    };
+    table.write_rows(f)
 }
 
 fn write_sizes<W: fmt::Write>(
@@ -362,8 +276,9 @@ fn write_sizes<W: fmt::Write>(
     Ok(())
 }
 
-// The least and the greatest number of so many binary digits.
-fn ends_of(digits: u32) -> (u64, u64) {
+/// The least and the greatest number of so many binary digits. It has no contract: tests compare the
+/// texts.
+pub(crate) fn ends_of(digits: u32) -> (u64, u64) {
     if digits == 0 || digits > 64 {
         return (0, 0);
     }
@@ -400,8 +315,9 @@ fn write_period<W: fmt::Write>(
     )
 }
 
-// How many there are in a second, rounded, if there are so many in this time.
-fn a_second(count: u128, nanoseconds: u64) -> u128 {
+/// How many there are in a second, rounded, if there are so many in this time. It has no contract: tests
+/// compare the texts.
+pub(crate) fn a_second(count: u128, nanoseconds: u64) -> u128 {
     let nanoseconds = u128::from(nanoseconds.max(1));
     let billions = count.saturating_mul(1_000_000_000);
     billions.saturating_add(nanoseconds / 2) / nanoseconds

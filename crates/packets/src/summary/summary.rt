@@ -1,25 +1,27 @@
 //! What is in a capture, counted packet by packet.
 ghost use Rattle.std.specs.Prelude.{◌≡◌, ◌<◌, ◌++◌, ◌∷◌, [], List, OnOk, OnErr};
+ghost use Rattle.packets.specs.declared.flows.transfer.Transfer.{Transfer};
 ghost use Rattle.packets.specs.declared.outline.Outline.{Outline};
 
+use crate::flows::flows::Flows;
+use crate::flows::transfer::Transfer;
 use crate::outline::FragmentState;
 use crate::summary::lengths::Lengths;
 use crate::summary::numbers::NumberTallies;
 use crate::summary::period::Period;
 use crate::summary::rate::Rate;
-use crate::summary::recent::{Recent, sender_bucket, talker_bucket};
+use crate::summary::recent::{Recent, sender_bucket};
 use crate::summary::sizes::Sizes;
 use crate::summary::table::Table;
 use crate::summary::tally::Tally;
 use crate::summary::verified::Verified;
-use crate::{Dissection, Outline, Protocol, Reason};
+use crate::{Conversation, Dissection, Outline, Protocol, Reason};
 use checksum_verdicts::Verdict;
-use ep_packet::Addresses;
 use std::alloc::{AllocError, Global};
 use std::hash::{BuildHasher, BuildHasherDefault, FoldHasher};
 
-/// What is in a capture. Its memory grows with the number of pairs of addresses that packets go
-/// between, with that of senders, and with nothing else.
+/// What is in a capture. Its memory grows with the number of conversations, with that of senders, and
+/// with nothing else.
 #[derive(Drop)]
 pub struct Summary<S: BuildHasher = BuildHasherDefault<FoldHasher>> {
     /// All packets.
@@ -42,8 +44,8 @@ pub struct Summary<S: BuildHasher = BuildHasherDefault<FoldHasher>> {
     pub lengths: Lengths,
     /// Those that are refused, by the reason.
     pub reasons: Table<Reason, S>,
-    /// IP packets by their addresses, source and destination.
-    pub talkers: Table<Addresses, S>,
+    /// By their conversations.
+    pub flows: Flows<S>,
     /// Those with a good or a bad checksum, by the sender and which it is.
     pub senders: Table<Verified, S>,
     recent: Recent,
@@ -91,27 +93,27 @@ pub struct FragmentTallies {
 }
 
 impl Summary<BuildHasherDefault<FoldHasher>> {
-    ghost use Rattle.packets.specs.Counts.{Counts};
+    ghost use Rattle.packets.specs.Counts.{CountsAll};
 
     /// [`Summary::with_hashers`] with std's state of a fixed seed.
     pub fn new(alloc: Global) -> Summary
-        ensures { Counts ⟦<Reason as PartialEq>⟧.eq ⟦<Addresses as PartialEq>⟧.eq
+        ensures { CountsAll ⟦<Reason as PartialEq>⟧.eq ⟦<Conversation as PartialEq>⟧.eq
             ⟦<Verified as PartialEq>⟧.eq result [] }
     {
-        let addresses = BuildHasherDefault::new();
+        let conversations = BuildHasherDefault::new();
         let senders = BuildHasherDefault::new();
-        Summary::with_hashers(alloc, addresses, senders, BuildHasherDefault::new())
+        Summary::with_hashers(alloc, conversations, senders, BuildHasherDefault::new())
     }
 }
 
 impl<S: BuildHasher> Summary<S> {
-    ghost use Rattle.packets.specs.Counts.{Counts};
-    ghost use Rattle.packets.specs.Outlines.{outline_of};
+    ghost use Rattle.packets.specs.Counts.{Counts, CountsAll};
+    ghost use Rattle.packets.specs.Transfers.{transfer_of};
 
-    /// No packet. Pairs of addresses, senders and reasons are hashed by a state each. It takes no
+    /// No packet. Conversations, senders and reasons are hashed by a state each. It takes no
     /// memory.
-    pub fn with_hashers(alloc: Global, addresses: S, senders: S, reasons: S) -> Summary<S>
-        ensures { Counts ⟦<Reason as PartialEq>⟧.eq ⟦<Addresses as PartialEq>⟧.eq
+    pub fn with_hashers(alloc: Global, conversations: S, senders: S, reasons: S) -> Summary<S>
+        ensures { CountsAll ⟦<Reason as PartialEq>⟧.eq ⟦<Conversation as PartialEq>⟧.eq
             ⟦<Verified as PartialEq>⟧.eq result [] }
     {
         Summary {
@@ -125,7 +127,7 @@ impl<S: BuildHasher> Summary<S> {
             period: Period::NONE,
             lengths: Lengths::NONE,
             reasons: Table::with_hasher(alloc, reasons),
-            talkers: Table::with_hasher(alloc, addresses),
+            flows: Flows::with_hasher(alloc, conversations),
             senders: Table::with_hasher(alloc, senders),
             recent: Recent::new(),
         }
@@ -133,19 +135,19 @@ impl<S: BuildHasher> Summary<S> {
 
     /// Counts one packet more. Where there is no memory for what is new about it, all counts stay.
     pub fn add(&mut self, dissection: &Dissection<'_>) -> Result<(), AllocError>
-        ensures ok { OnOk result ((packets : List Outline)
-            → Counts ⟦<Reason as PartialEq>⟧.eq ⟦<Addresses as PartialEq>⟧.eq
+        ensures ok { OnOk result ((packets : List Transfer)
+            → CountsAll ⟦<Reason as PartialEq>⟧.eq ⟦<Conversation as PartialEq>⟧.eq
             ⟦<Verified as PartialEq>⟧.eq self.old packets
-            → Counts ⟦<Reason as PartialEq>⟧.eq ⟦<Addresses as PartialEq>⟧.eq
+            → CountsAll ⟦<Reason as PartialEq>⟧.eq ⟦<Conversation as PartialEq>⟧.eq
             ⟦<Verified as PartialEq>⟧.eq self.new
-            (packets ++ outline_of dissection.now ∷ [])) }
-        ensures err { OnErr result ((packets : List Outline)
-            → Counts ⟦<Reason as PartialEq>⟧.eq ⟦<Addresses as PartialEq>⟧.eq
+            (packets ++ transfer_of dissection.now ∷ [])) }
+        ensures err { OnErr result ((packets : List Transfer)
+            → CountsAll ⟦<Reason as PartialEq>⟧.eq ⟦<Conversation as PartialEq>⟧.eq
             ⟦<Verified as PartialEq>⟧.eq self.old packets
-            → Counts ⟦<Reason as PartialEq>⟧.eq ⟦<Addresses as PartialEq>⟧.eq
+            → CountsAll ⟦<Reason as PartialEq>⟧.eq ⟦<Conversation as PartialEq>⟧.eq
             ⟦<Verified as PartialEq>⟧.eq self.new packets) }
     {
-        let packet = Outline::of(dissection);
+        let packet = Transfer::of(dissection);
         self.reserve()?;
         self.count(&packet);
         Ok(())
@@ -154,29 +156,42 @@ impl<S: BuildHasher> Summary<S> {
     // Reserves the capacity for what is new about one packet more.
     fn reserve(&mut self) -> Result<(), AllocError>
         ensures reasons { OnOk result (0 < self.new.reasons.spare) }
-        ensures talkers { OnOk result (0 < self.new.talkers.spare) }
+        ensures conversations { OnOk result (0 < self.new.flows.conversations.spare) }
         ensures senders { OnOk result (0 < self.new.senders.spare) }
-        ensures same { (packets : List Outline)
-            → Counts ⟦<Reason as PartialEq>⟧.eq ⟦<Addresses as PartialEq>⟧.eq
+        ensures same { (packets : List Transfer)
+            → CountsAll ⟦<Reason as PartialEq>⟧.eq ⟦<Conversation as PartialEq>⟧.eq
             ⟦<Verified as PartialEq>⟧.eq self.old packets
-            → Counts ⟦<Reason as PartialEq>⟧.eq ⟦<Addresses as PartialEq>⟧.eq
+            → CountsAll ⟦<Reason as PartialEq>⟧.eq ⟦<Conversation as PartialEq>⟧.eq
             ⟦<Verified as PartialEq>⟧.eq self.new packets }
     {
         self.reasons.reserve()?;
-        self.talkers.reserve()?;
+        self.flows.reserve()?;
         self.senders.reserve()
     }
 
-    fn count(&mut self, packet: &Outline)
+    fn count(&mut self, packet: &Transfer)
         requires reasons { 0 < self.old.reasons.spare }
-        requires talkers { 0 < self.old.talkers.spare }
+        requires conversations { 0 < self.old.flows.conversations.spare }
         requires senders { 0 < self.old.senders.spare }
-        ensures { (packets : List Outline)
-            → Counts ⟦<Reason as PartialEq>⟧.eq ⟦<Addresses as PartialEq>⟧.eq
+        ensures { (packets : List Transfer)
+            → CountsAll ⟦<Reason as PartialEq>⟧.eq ⟦<Conversation as PartialEq>⟧.eq
             ⟦<Verified as PartialEq>⟧.eq self.old packets
-            → Counts ⟦<Reason as PartialEq>⟧.eq ⟦<Addresses as PartialEq>⟧.eq
-            ⟦<Verified as PartialEq>⟧.eq self.new
+            → CountsAll ⟦<Reason as PartialEq>⟧.eq ⟦<Conversation as PartialEq>⟧.eq
+            ⟦<Verified as PartialEq>⟧.eq self.new (packets ++ packet.now ∷ []) }
+    {
+        self.count_outline(&packet.outline);
+        self.flows.count(packet);
+    }
+
+    // Without its conversation.
+    fn count_outline(&mut self, packet: &Outline)
+        requires reasons { 0 < self.old.reasons.spare }
+        requires senders { 0 < self.old.senders.spare }
+        ensures counts { (packets : List Outline)
+            → Counts ⟦<Reason as PartialEq>⟧.eq ⟦<Verified as PartialEq>⟧.eq self.old packets
+            → Counts ⟦<Reason as PartialEq>⟧.eq ⟦<Verified as PartialEq>⟧.eq self.new
             (packets ++ packet.now ∷ []) }
+        ensures flows { self.new.flows ≡ self.old.flows }
     {
         self.all.add(packet);
         self.refused.add_if(packet.refusal.is_some(), packet);
@@ -184,15 +199,11 @@ impl<S: BuildHasher> Summary<S> {
         self.checksums.add(packet);
         self.parts.add(packet);
         self.sizes.add(packet);
-        self.rate.add(packet);
+        self.rate.add(packet, 1);
         self.period.add(packet);
         self.lengths.add(packet);
         let reason = self.recent.reason;
         self.recent.reason = self.reasons.add_keyed(packet.refusal, reason, packet);
-        let addresses = packet.headers.addresses();
-        let bucket = talker_bucket(addresses);
-        let talker = self.recent.talkers[bucket];
-        self.recent.talkers[bucket] = self.talkers.add_keyed(addresses, talker, packet);
         let sender = Verified::of(packet);
         let bucket = sender_bucket(sender);
         let known = self.recent.senders[bucket];

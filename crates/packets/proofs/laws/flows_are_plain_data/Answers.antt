@@ -1,6 +1,7 @@
 use Rattle.std.proofs.Common.{arith}
 use Rattle.std.proofs.lemmas.Grind.{common_steps, elements}
 use Rattle.std.specs.Cmp.{booleans_Decides}
+use Rattle.std.proofs.lemmas.Bool.Decides.{Decides-eqb}
 use Rattle.ep_base.proofs.Same.{field, last_field, options_same, record_same}
 use Rattle.packets.proofs.laws.flows_are_plain_data.Goals as goal
 
@@ -57,3 +58,24 @@ returns-clause-row c =
             period = period i;
           });
     }
+
+pub returns-clause-segment : goal.returns-clause-segment
+returns-clause-segment c = record {
+  copies = grind (arith, common_steps, elements);
+  never_fails = grind (arith, common_steps);
+  equals = λ a b. record_same
+      (field c.holders_are_plain_data.ensures.conversation.equals (λ segment. segment.conversation)
+      (field booleans_Decides (λ segment. segment.ascends)
+      (field booleans_Decides (λ segment. segment.syn)
+      (field booleans_Decides (λ segment. segment.ack)
+      (field Decides-eqb (λ segment. segment.sequence_number)
+      (last_field Decides-eqb (λ segment. segment.acknowledgment_number)))))))
+      (λ conversation ascends syn ack sequence_number acknowledgment_number i. record {
+        conversation = conversation i;
+        ascends = ascends i;
+        syn = syn i;
+        ack = ack i;
+        sequence_number = sequence_number i;
+        acknowledgment_number = acknowledgment_number i;
+      });
+}

@@ -17,12 +17,11 @@ ghost use Rattle.ep_tag.specs.declared.link.lax_link_ext_slice.LaxLinkExtSlice.T
 ghost use Rattle.ep_tag.specs.declared.link.link_ext_slice.LinkExtSlice.TheVariants as tag;
 ghost use Rattle.ep_tcpudp.specs.declared.err.tcp.header_error.HeaderError.TheVariants as tcp;
 ghost use Rattle.header_descriptions.specs.declared.protocol.Protocol.TheVariants as protocol;
-ghost use Rattle.packets.specs.Conditions.{are_within, arp_numbers, completed_header, has_flag, has_host, has_port};
+ghost use Rattle.packets.specs.Conditions.{are_within, arp_numbers, has_flag, has_host, has_port};
 ghost use Rattle.packets.specs.Conditions.{has_vlan_id, holds};
 ghost use Rattle.packets.specs.Conditions.{ipv4_network, ipv4_number, ipv4_numbers, ipv6_network, ipv6_numbers};
-ghost use Rattle.packets.specs.Conditions.{is_within, lax_net_ipv4_numbers, lax_net_ipv6_numbers, message_header};
-ghost use Rattle.packets.specs.Conditions.{net_ipv4_numbers, net_ipv6_numbers, packet_header, ports_of};
-ghost use Rattle.packets.specs.Conditions.{segment_header, transport_header};
+ghost use Rattle.packets.specs.Conditions.{is_within, lax_net_ipv4_numbers, lax_net_ipv6_numbers};
+ghost use Rattle.packets.specs.Conditions.{net_ipv4_numbers, net_ipv6_numbers};
 ghost use Rattle.packets.specs.Dissected.{verdict_on};
 ghost use Rattle.packets.specs.Expressions.{IsWritten, expressions_of, formula_of, lets_through, meets};
 ghost use Rattle.packets.specs.Expressions.Formula.{And, Not, Or, Test};
@@ -31,6 +30,8 @@ ghost use Rattle.packets.specs.Examples.{arp_for_another_protocol, arp_of_arcnet
 ghost use Rattle.packets.specs.Examples.{datagram_with, eighth, in_part, ipv4_ends, ipv4_header, ipv4_in_part};
 ghost use Rattle.packets.specs.Examples.{ipv6_header, segment_with};
 ghost use Rattle.packets.specs.LaxLayers.{lax_layers_of};
+ghost use Rattle.packets.specs.MessageHeaders.{completed_header, message_header, packet_header, ports_header, ports_of};
+ghost use Rattle.packets.specs.MessageHeaders.{segment_header, transport_header, whole_header};
 ghost use Rattle.etherparse.specs.PoolCalls.CallResult.{Delivered, Nothing};
 ghost use Rattle.ep_base.specs.declared.len_source.LenSource.TheVariants as source;
 ghost use Rattle.ep_packet.specs.Class.Class.{Cut};
@@ -184,25 +185,27 @@ pub fn networks()
 {}
 
 /// The ports and flags of a message that is whole in a packet: of TCP from 443 to 51234, with `syn`,
-/// and of UDP from 53 to 5353. ICMP has none.
+/// and of UDP from 53 to 5353. ICMP has none. SCTP has them in a header of 12 bytes, if its packet is
+/// no fragment.
 pub fn headers_of_messages()
-    ensures tcp { transport_header (Some (transport.Tcp (segment_with 5))) ≡ Some (record {
+    ensures tcp { transport_header (transport.Tcp (segment_with 5)) ≡ Some (record {
       source_port = 443;
       destination_port = 51234;
       fin = false;
       syn = true;
       rst = false;
+      ack = false;
+      sequence_number = 17;
+      acknowledgment_number = 0;
     }) }
-    ensures udp { transport_header (Some (transport.Udp (datagram_with 0x11 0xef))) ≡ Some (record {
-      source_port = 53;
-      destination_port = 5353;
-      fin = false;
-      syn = false;
-      rst = false;
-    }) }
-    ensures icmp { (transport_header (Some (transport.Icmpv4 (0 ∷ 53 ∷ 0x14 ∷ 0xe9 ∷ []))) ≡ None)
-        × (transport_header (Some (transport.Icmpv6 (0 ∷ 53 ∷ 0x14 ∷ 0xe9 ∷ []))) ≡ None) }
-    ensures none { transport_header None ≡ None }
+    ensures udp { transport_header (transport.Udp (datagram_with 0x11 0xef))
+        ≡ Some (ports_header 53 5353) }
+    ensures icmp { (transport_header (transport.Icmpv4 (0 ∷ 53 ∷ 0x14 ∷ 0xe9 ∷ [])) ≡ None)
+        × (transport_header (transport.Icmpv6 (0 ∷ 53 ∷ 0x14 ∷ 0xe9 ∷ [])) ≡ None) }
+    ensures sctp { (whole_header false 132 (datagram_with 0x11 0xef) ≡ Some (ports_header 53 5353))
+        × (whole_header false 132 (take 11 (datagram_with 0x11 0xef)) ≡ None)
+        × (whole_header true 132 (datagram_with 0x11 0xef) ≡ None)
+        × (whole_header false 133 (datagram_with 0x11 0xef) ≡ None) }
     ensures refused { (packet_header (Err (fault.Tcp (tcp.DataOffsetTooSmall 4)))
         (Some (in_part (Some (ipv4_in_part 6 (segment_with 4))) None)) ≡ None)
         × (packet_header (Err (fault.Tcp (tcp.DataOffsetTooSmall 4))) None ≡ None)
@@ -213,12 +216,13 @@ pub fn headers_of_messages()
 
 /// Also of the message that a fragment completes, where that can be read, and of no other fragment.
 pub fn headers_of_completed_messages()
-    ensures read { (ports_of (completed_header (message_at 6 (segment_with 5))) ≡ Some (443, 51234))
-        × (ports_of (completed_header (message_at 17 (datagram_with 0x11 0xef))) ≡ Some (53, 5353))
-        × (completed_header (message_at 1 (0 ∷ 53 ∷ 0 ∷ 53 ∷ 0 ∷ 53 ∷ 0 ∷ 53 ∷ [])) ≡ None)
-        × (completed_header (message_at 58 (0 ∷ 53 ∷ 0 ∷ 53 ∷ 0 ∷ 53 ∷ 0 ∷ 53 ∷ [])) ≡ None)
-        × (completed_header (message_at 132 (0 ∷ 53 ∷ 0 ∷ 53 ∷ [])) ≡ None) }
-    ensures refused { completed_header (message_at 6 (segment_with 4)) ≡ None }
+    ensures read { (ports_of (completed_header 6 (message_at 6 (segment_with 5))) ≡ Some (443, 51234))
+        × (ports_of (completed_header 17 (message_at 17 (datagram_with 0x11 0xef))) ≡ Some (53, 5353))
+        × (completed_header 1 (message_at 1 (0 ∷ 53 ∷ 0 ∷ 53 ∷ 0 ∷ 53 ∷ 0 ∷ 53 ∷ [])) ≡ None)
+        × (completed_header 58 (message_at 58 (0 ∷ 53 ∷ 0 ∷ 53 ∷ 0 ∷ 53 ∷ 0 ∷ 53 ∷ [])) ≡ None)
+        × (ports_of (completed_header 132 (message_at 132 (datagram_with 0x11 0xef))) ≡ Some (53, 5353))
+        × (completed_header 132 (message_at 132 (0 ∷ 53 ∷ 0 ∷ 53 ∷ [])) ≡ None) }
+    ensures refused { completed_header 6 (message_at 6 (segment_with 4)) ≡ None }
     ensures completing { (message : IpDefragPayloadVec) → message.ip_number ≡ record { 0 = 17 }
         → message.payload.items ≡ datagram_with 0x11 0xef → ports_of (message_header (Ok (record {
           link = None;
@@ -226,7 +230,7 @@ pub fn headers_of_completed_messages()
           net = None;
           transport = None;
         })) None (Some (fragment.Completes 5 message))) ≡ Some (53, 5353) }
-    ensures others { (packet : SlicedPacket) → packet.transport ≡ None
+    ensures others { (packet : SlicedPacket) → packet.transport ≡ None → packet.net ≡ None
         → (message_header (Ok packet) None (Some (fragment.Waits 5)) ≡ None)
         × (message_header (Ok packet) None
         (Some (fragment.Refused None (fragment_error.ConflictingEnd 24 32))) ≡ None) }
@@ -234,9 +238,9 @@ pub fn headers_of_completed_messages()
 
 /// `syn`, `fin` and `rst` are bits 1, 0 and 2 of the flags (RFC 9293, section 3.1).
 pub fn flags_of_segments()
-    ensures synchronizing { (has_flag tcp_flag.Syn (transport_header (Some (transport.Tcp (segment_with 5)))) ≡ true)
-        × (has_flag tcp_flag.Fin (transport_header (Some (transport.Tcp (segment_with 5)))) ≡ false)
-        × (has_flag tcp_flag.Rst (transport_header (Some (transport.Tcp (segment_with 5)))) ≡ false) }
+    ensures synchronizing { (has_flag tcp_flag.Syn (transport_header (transport.Tcp (segment_with 5))) ≡ true)
+        × (has_flag tcp_flag.Fin (transport_header (transport.Tcp (segment_with 5))) ≡ false)
+        × (has_flag tcp_flag.Rst (transport_header (transport.Tcp (segment_with 5))) ≡ false) }
     ensures others { (has_flag tcp_flag.Fin (Some (segment_header (replicate 13 0 ++ 1 ∷ []))) ≡ true)
         × (has_flag tcp_flag.Rst (Some (segment_header (replicate 13 0 ++ 4 ∷ []))) ≡ true)
         × (has_flag tcp_flag.Syn (Some (segment_header (replicate 13 0 ++ 5 ∷ []))) ≡ false) }

@@ -4,7 +4,7 @@ ghost use Rattle.std.specs.Prelude.{◌≡◌, ℕ, [], ◌∷◌, true, false, 
 ghost use Rattle.std.specs.Map.{keys_of};
 ghost use Rattle.ep_base.specs.declared.err.layer.Layer.TheVariants as layer;
 ghost use Rattle.packets.specs.Counts.{Counts, is_bad, is_completing, is_good, is_refused_fragment, is_unchecked};
-ghost use Rattle.packets.specs.Examples.{back_ends, ipv4_ends, ipv6_address, ipv6_ends, page, outline_of_fragment};
+ghost use Rattle.packets.specs.Examples.{ipv6_address, page, outline_of_fragment};
 ghost use Rattle.packets.specs.Examples.{sized, tally};
 ghost use Rattle.packets.specs.Lengths.{CountsLengths};
 ghost use Rattle.packets.specs.Numbers.{number_tally};
@@ -19,78 +19,57 @@ ghost use Rattle.packets.specs.declared.summary.verified.Verified.TheVariants as
 ghost use Rattle.checksum_verdicts.specs.declared.verdict.Verdict.TheVariants as verdict;
 
 use crate::{Reason, Verified};
-use ep_packet::Addresses;
 
-/// The rows of each table but those of reasons, addresses and senders.
+/// The rows of each table but those of reasons, conversations and senders.
 pub fn rows_of_the_page<S, H>()
     ensures all { (summary : Summary S H)
-        → Counts ⟦<Reason as PartialEq>⟧.eq ⟦<Addresses as PartialEq>⟧.eq
-        ⟦<Verified as PartialEq>⟧.eq summary page
+        → Counts ⟦<Reason as PartialEq>⟧.eq ⟦<Verified as PartialEq>⟧.eq summary page
         → (summary.all ≡ tally 10 485 1) × (summary.refused ≡ tally 2 75 7) }
     ensures links { (summary : Summary S H)
-        → Counts ⟦<Reason as PartialEq>⟧.eq ⟦<Addresses as PartialEq>⟧.eq
-        ⟦<Verified as PartialEq>⟧.eq summary page
+        → Counts ⟦<Reason as PartialEq>⟧.eq ⟦<Verified as PartialEq>⟧.eq summary page
         → (summary.protocols.ethernet ≡ tally 10 485 1) × (summary.protocols.vlan ≡ tally 1 74 4)
         × (summary.protocols.macsec ≡ no_tally) × (summary.protocols.arp ≡ tally 1 42 3)
         × (summary.protocols.ipv4 ≡ tally 7 348 1) × (summary.protocols.ipv6 ≡ tally 1 74 4) }
     ensures over_ip { (summary : Summary S H)
-        → Counts ⟦<Reason as PartialEq>⟧.eq ⟦<Addresses as PartialEq>⟧.eq
-        ⟦<Verified as PartialEq>⟧.eq summary page
+        → Counts ⟦<Reason as PartialEq>⟧.eq ⟦<Verified as PartialEq>⟧.eq summary page
         → (number_tally summary.protocols.over_ip 6 ≡ tally 2 108 1)
         × (number_tally summary.protocols.over_ip 17 ≡ tally 5 240 2)
         × (number_tally summary.protocols.over_ip 58 ≡ tally 1 74 4)
         × (number_tally summary.protocols.over_ip 0 ≡ no_tally) }
     ensures checksums { (summary : Summary S H)
-        → Counts ⟦<Reason as PartialEq>⟧.eq ⟦<Addresses as PartialEq>⟧.eq
-        ⟦<Verified as PartialEq>⟧.eq summary page
+        → Counts ⟦<Reason as PartialEq>⟧.eq ⟦<Verified as PartialEq>⟧.eq summary page
         → (summary.checksums.good ≡ tally 3 178 1) × (summary.checksums.bad ≡ tally 1 46 2)
         × (summary.checksums.none ≡ tally 1 44 9) }
     ensures fragments { (summary : Summary S H)
-        → Counts ⟦<Reason as PartialEq>⟧.eq ⟦<Addresses as PartialEq>⟧.eq
-        ⟦<Verified as PartialEq>⟧.eq summary page
+        → Counts ⟦<Reason as PartialEq>⟧.eq ⟦<Verified as PartialEq>⟧.eq summary page
         → (summary.parts.all ≡ tally 3 150 5) × (summary.parts.completing ≡ tally 1 50 6)
         × (summary.parts.refused ≡ no_tally) }
     ensures sizes { (summary : Summary S H)
-        → Counts ⟦<Reason as PartialEq>⟧.eq ⟦<Addresses as PartialEq>⟧.eq
-        ⟦<Verified as PartialEq>⟧.eq summary page
+        → Counts ⟦<Reason as PartialEq>⟧.eq ⟦<Verified as PartialEq>⟧.eq summary page
         → (slice_index summary.sizes.counts 4 ≡ 0) × (slice_index summary.sizes.counts 5 ≡ 1)
         × (slice_index summary.sizes.counts 6 ≡ 8) × (slice_index summary.sizes.counts 7 ≡ 1) }
 {}
 
-/// The reasons in the order of their first packets, the pairs of addresses, and the senders.
+/// The reasons in the order of their first packets, and the senders.
 pub fn keys_of_the_page<S, H>()
     ensures reasons { (summary : Summary S H)
-        → Counts ⟦<Reason as PartialEq>⟧.eq ⟦<Addresses as PartialEq>⟧.eq
-        ⟦<Verified as PartialEq>⟧.eq summary page
+        → Counts ⟦<Reason as PartialEq>⟧.eq ⟦<Verified as PartialEq>⟧.eq summary page
         → keys_of summary.reasons.entries
         ≡ reason.CutOff layer.Ipv4Header ∷ reason.TcpDataOffset ∷ [] }
     ensures of_reasons { (summary : Summary S H)
-        → Counts ⟦<Reason as PartialEq>⟧.eq ⟦<Addresses as PartialEq>⟧.eq
-        ⟦<Verified as PartialEq>⟧.eq summary page
+        → Counts ⟦<Reason as PartialEq>⟧.eq ⟦<Verified as PartialEq>⟧.eq summary page
         → (tally_at ⟦<Reason as PartialEq>⟧.eq summary.reasons (reason.CutOff layer.Ipv4Header)
         ≡ tally 1 21 7)
         × (tally_at ⟦<Reason as PartialEq>⟧.eq summary.reasons reason.TcpDataOffset ≡ tally 1 54 8)
         × (tally_at ⟦<Reason as PartialEq>⟧.eq summary.reasons (reason.CutOff layer.TcpHeader)
         ≡ no_tally) }
-    ensures talkers { (summary : Summary S H)
-        → Counts ⟦<Reason as PartialEq>⟧.eq ⟦<Addresses as PartialEq>⟧.eq
-        ⟦<Verified as PartialEq>⟧.eq summary page
-        → keys_of summary.talkers.entries ≡ ipv4_ends ∷ ipv6_ends ∷ back_ends ∷ [] }
-    ensures of_talkers { (summary : Summary S H)
-        → Counts ⟦<Reason as PartialEq>⟧.eq ⟦<Addresses as PartialEq>⟧.eq
-        ⟦<Verified as PartialEq>⟧.eq summary page
-        → (tally_at ⟦<Addresses as PartialEq>⟧.eq summary.talkers ipv4_ends ≡ tally 6 304 1)
-        × (tally_at ⟦<Addresses as PartialEq>⟧.eq summary.talkers ipv6_ends ≡ tally 1 74 4)
-        × (tally_at ⟦<Addresses as PartialEq>⟧.eq summary.talkers back_ends ≡ tally 1 44 9) }
     ensures senders { (summary : Summary S H)
-        → Counts ⟦<Reason as PartialEq>⟧.eq ⟦<Addresses as PartialEq>⟧.eq
-        ⟦<Verified as PartialEq>⟧.eq summary page
+        → Counts ⟦<Reason as PartialEq>⟧.eq ⟦<Verified as PartialEq>⟧.eq summary page
         → keys_of summary.senders.entries
         ≡ verified.V4 (10 ∷ 0 ∷ 0 ∷ 1 ∷ []) false ∷ verified.V4 (10 ∷ 0 ∷ 0 ∷ 1 ∷ []) true
         ∷ verified.V6 (ipv6_address 1) false ∷ [] }
     ensures of_senders { (summary : Summary S H)
-        → Counts ⟦<Reason as PartialEq>⟧.eq ⟦<Addresses as PartialEq>⟧.eq
-        ⟦<Verified as PartialEq>⟧.eq summary page
+        → Counts ⟦<Reason as PartialEq>⟧.eq ⟦<Verified as PartialEq>⟧.eq summary page
         → (tally_at ⟦<Verified as PartialEq>⟧.eq summary.senders
         (verified.V4 (10 ∷ 0 ∷ 0 ∷ 1 ∷ []) false) ≡ tally 2 104 1)
         × (tally_at ⟦<Verified as PartialEq>⟧.eq summary.senders

@@ -1,6 +1,6 @@
 use Rattle.ep_base.specs.declared.err.layer.Layer.TheVariants as layer
 use Rattle.std.proofs.Common.{◌∷◌, [], true, false}
-use Rattle.packets.specs.Examples.{back_ends, ipv4_ends, ipv6_address, ipv6_ends}
+use Rattle.packets.specs.Examples.{ipv6_address}
 use Rattle.packets.specs.declared.reason.Reason.TheVariants as reason
 use Rattle.packets.specs.declared.summary.verified.Verified.TheVariants as verified
 use Rattle.packets.proofs.laws.examples.counts.keys_of_the_page.Goals as goal
@@ -12,13 +12,6 @@ pub returns-clause-of_reasons : goal.returns-clause-of_reasons
 returns-clause-of_reasons g c summary counted =
     let each = counted.reasons.tallied in
     (each (reason.CutOff layer.Ipv4Header), each reason.TcpDataOffset, each (reason.CutOff layer.TcpHeader))
-
-pub returns-clause-talkers : goal.returns-clause-talkers
-returns-clause-talkers g c summary counted = counted.talkers.keys
-
-pub returns-clause-of_talkers : goal.returns-clause-of_talkers
-returns-clause-of_talkers g c summary counted =
-    let each = counted.talkers.tallied in (each ipv4_ends, each ipv6_ends, each back_ends)
 
 pub returns-clause-senders : goal.returns-clause-senders
 returns-clause-senders g c summary counted = counted.senders.keys

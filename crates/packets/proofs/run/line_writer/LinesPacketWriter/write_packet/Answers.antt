@@ -1,5 +1,6 @@
 use Rattle.std.proofs.Common.{rules, ◌≡◌, ◌∙◌, ap, ℕ, ◌==◌, not, List, [], ◌∷◌, ◌++◌}
 use Rattle.std.proofs.lemmas.Fn.{filter_same}
+use Rattle.std.proofs.lemmas.Result.{IfOk-weaker}
 use Rattle.std.specs.List.{filter}
 use Rattle.packets.proofs.run.line_writer.LinesPacketWriter.write_packet.Goals as goal
 
@@ -10,4 +11,8 @@ returns g c =
     filter_same _ _ _ (λ x b f' k. search rules) _ _ c.retain.ensures.filtered in
     let pushed : c.push.new.self.items ≡ c.retain.new.self.items ++ 10 ∷ [] =
     rw c.if-is_err.ensures.negation at c.push.ensures.items in
-    (text, pushed ∙ ap (λ (l : List ℕ). l ++ 10 ∷ []) kept, c.in_default.ensures)
+    let line = pushed ∙ ap (λ (l : List ℕ). l ++ 10 ∷ []) kept in
+    let details = g.L.LineWriter.details c.args.self.now.lines.now c.args.packet.now in
+    IfOk-weaker c.write_details.result _ _
+    (λ _ appended. (text, appended ∙ ap (λ (l : List ℕ). l ++ details) line, c.in_default.ensures))
+    c.write_details.ensures

@@ -1,4 +1,4 @@
-use Rattle.std.proofs.Common.{◌≡◌, ◌⊎◌, ◌≤◌, ◌/◌, List, length}
+use Rattle.std.proofs.Common.{◌≡◌, ◌⊎◌, ◌≤◌, ◌/◌, ℕ, List, length}
 use Rattle.packets.specs.Rate.{CountsBySpan}
 use Rattle.packets.specs.declared.outline.Outline.{Outline}
 use Rattle.packets.proofs.summary.rate.Rate.add.Given as goal
@@ -7,8 +7,8 @@ abbrev pub invariant-spans : goal.invariant-spans
 invariant-spans l = record {
   begin : l.self.begin ≡ l.initial.self.begin;
   size : length l.self.counts ≡ 64;
-  counted : (packets : List Outline) → CountsBySpan l.initial.self packets
-      → CountsBySpan l.self packets;
+  counted : (count_of : Outline → ℕ) (packets : List Outline)
+      → CountsBySpan count_of l.initial.self packets → CountsBySpan count_of l.self packets;
   least : (l.self.span ≡ l.initial.self.span) ⊎ (64 ≤ l.since / (l.self.span / 2));
 }
 

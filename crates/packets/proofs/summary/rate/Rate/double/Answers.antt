@@ -3,6 +3,6 @@ use Rattle.packets.proofs.RateLemmas.{spans-doubled}
 use Rattle.packets.proofs.summary.rate.Rate.double.Goals as goal
 
 pub returns-clause-counted : goal.returns-clause-counted
-returns-clause-counted c = λ packets old.
-    spans-doubled c.args.self.now _ packets old refl refl c.joined-self.ensures.pairs
+returns-clause-counted c = λ count_of packets old.
+    spans-doubled count_of c.args.self.now _ packets old refl refl c.joined-self.ensures.pairs
     c.joined-self.ensures.rest

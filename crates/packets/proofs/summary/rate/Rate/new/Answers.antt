@@ -2,7 +2,7 @@ use Rattle.std.proofs.Common.{inl, refl, arith}
 use Rattle.packets.proofs.summary.rate.Rate.new.Goals as goal
 
 pub returns : goal.returns
-returns c = record {
+returns c = λ count_of. record {
   by_span = record {
     begin = refl;
     doubled = (0, refl);

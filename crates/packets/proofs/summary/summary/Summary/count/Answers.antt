@@ -1,33 +1,26 @@
-use Rattle.std.proofs.Common.{refl, sym, true, is_some}
-use Rattle.packets.specs.Counts.{verified_of}
-use Rattle.packets.specs.Headers.{net_addresses}
-use Rattle.packets.specs.declared.outline.Outline.{Outline}
-use Rattle.packets.proofs.TallyLemmas.{tally_of-other}
+use Rattle.packets.specs.Counts.{Counts}
+use Rattle.packets.specs.Flows.{CountsFlows, outlines}
+use Rattle.packets.proofs.FlowLemmas.{outlines-end}
 use Rattle.packets.proofs.summary.summary.Summary.count.Goals as goal
 
-pub add_keyed-self-requires-clause-others : goal.add_keyed-self-requires-clause-others
-add_keyed-self-requires-clause-others g c = tally_of-other
-
-pub add_keyed-requires-clause-others : goal.add_keyed-requires-clause-others
-add_keyed-requires-clause-others g c = tally_of-other
-
-pub add_keyed-requires-2-clause-others : goal.add_keyed-requires-2-clause-others
-add_keyed-requires-2-clause-others g c = tally_of-other
+pub count-requires : goal.count-requires
+count-requires g c = record { capacity = rw c.count_outline.ensures.flows c.requires.conversations }
 
 pub returns : goal.returns
-returns g c = λ packets old. record {
-  all = c.add.ensures (λ (p : Outline). true) packets old.all refl;
-  refused = c.add_if.ensures (λ (p : Outline). is_some p.refusal) packets old.refused (sym
-      c.is_some.ensures);
-  protocols = c.add-2.ensures packets old.protocols;
-  checksums = c.add-3.ensures packets old.checksums;
-  parts = c.add-4.ensures packets old.parts;
-  sizes = c.add-5.ensures packets old.sizes;
-  rate = c.add-6.ensures packets old.rate;
-  period = c.add-7.ensures packets old.period;
-  lengths = c.add-8.ensures packets old.lengths;
-  reasons = c.add_keyed-self.ensures (λ (p : Outline). p.refusal) packets refl old.reasons;
-  talkers = c.add_keyed.ensures (λ (p : Outline). net_addresses p.headers.net) packets (sym
-      c.addresses-addresses.ensures) old.talkers;
-  senders = c.add_keyed-2.ensures verified_of packets (sym c.of-sender.ensures) old.senders;
-}
+returns g c = λ packets old.
+    let counts = c.count_outline.ensures.counts (outlines packets) old.outlines in record {
+      outlines = rw (outlines-end packets c.args.packet.now) (record {
+        all = counts.all;
+        refused = counts.refused;
+        protocols = counts.protocols;
+        checksums = counts.checksums;
+        parts = counts.parts;
+        sizes = counts.sizes;
+        rate = counts.rate;
+        period = counts.period;
+        lengths = counts.lengths;
+        reasons = counts.reasons;
+        senders = counts.senders;
+      });
+      flows = c.count.ensures packets (rw c.count_outline.ensures.flows old.flows);
+    }
