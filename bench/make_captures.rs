@@ -1,7 +1,8 @@
 //! Writes a capture of so many packets of so many bytes on standard output: random bytes from a fixed seed.
 //! Usage: make_captures PACKETS BYTES KIND, KIND being pcap (Ethernet), pcapng (Ethernet), sll (pcap, Linux
-//! cooked captures, of whose header only the ether type isn't random) or udp (pcap, Ethernet frames of UDP
-//! datagrams over IPv4 between 256 hosts, with right checksums)
+//! cooked captures, of whose header only the ether type isn't random), udp (pcap, Ethernet frames of UDP
+//! datagrams over IPv4 in 256 conversations, with right checksums) or conversations (the same between 256
+//! hosts, each datagram with other ports)
 
 use std::env;
 use std::io::{self, BufWriter, Write};
@@ -31,8 +32,8 @@ fn sum(bytes: &[u8], start: u32) -> u32 {
     folded as u32
 }
 
-/// An Ethernet frame of a UDP datagram over IPv4, of so many bytes, from 42.
-fn udp_frame(random: &mut Random, len: usize) -> Vec<u8> {
+/// An Ethernet frame of a UDP datagram over IPv4 with these ports, of so many bytes, from 42.
+fn udp_frame(random: &mut Random, len: usize, ports: [u8; 4]) -> Vec<u8> {
     let mut frame: Vec<u8> = (0..len).map(|_| random.next() as u8).collect();
     let (ip_len, udp_len) = ((len - 14) as u16, (len - 34) as u16);
     let (from, to) = (frame[29] % 16, frame[33] % 16);
@@ -43,6 +44,7 @@ fn udp_frame(random: &mut Random, len: usize) -> Vec<u8> {
     frame[26..34].copy_from_slice(&[10, 0, 0, from, 10, 0, 1, to]);
     let header_sum = !sum(&frame[14..34], 0) as u16;
     frame[24..26].copy_from_slice(&header_sum.to_be_bytes());
+    frame[34..38].copy_from_slice(&ports);
     frame[38..40].copy_from_slice(&udp_len.to_be_bytes());
     frame[40..42].fill(0);
     let pseudo = sum(&frame[26..34], 17 + u32::from(udp_len));
@@ -76,7 +78,7 @@ fn main() -> io::Result<()> {
     let padding = len.next_multiple_of(4) - len;
     let block_len = len + padding + 32;
     match kind.as_str() {
-        "pcap" | "udp" => put_words(&mut output, &[0xa1b2_c3d4, 0x0004_0002, 0, 0, 262_144, 1])?,
+        "pcap" | "udp" | "conversations" => put_words(&mut output, &[0xa1b2_c3d4, 0x0004_0002, 0, 0, 262_144, 1])?,
         "sll" => put_words(&mut output, &[0xa1b2_c3d4, 0x0004_0002, 0, 0, 262_144, 113])?,
         "pcapng" => {
             put_words(&mut output, &[0x0a0d_0d0a, 28, 0x1a2b_3c4d, 1, !0, !0, 28])?;
@@ -91,8 +93,13 @@ fn main() -> io::Result<()> {
         } else {
             put_words(&mut output, &[seconds, microseconds, len, len])?;
         }
-        if kind == "udp" {
-            output.write_all(&udp_frame(&mut random, len as usize))?;
+        let ports = match kind.as_str() {
+            "udp" => Some([0x27, 0x10, 0, 53]),
+            "conversations" => Some(packet.to_be_bytes()),
+            _ => None,
+        };
+        if let Some(ports) = ports {
+            output.write_all(&udp_frame(&mut random, len as usize, ports))?;
             continue;
         }
         for at in 0..len {
