@@ -114,15 +114,54 @@ extern "C" {
 #define EP_REFUSAL_HOP_BY_HOP_NOT_AT_START 11
 /* A TCP data offset below 5. */
 #define EP_REFUSAL_TCP_DATA_OFFSET 12
+/* No such link header, or none before an ARP packet. */
 #define EP_FIELD_LINK 1
+/* A packet type of a cooked capture above 4. */
 #define EP_FIELD_PACKET_TYPE 2
+/* More than two tags, or tags without an Ethernet II header. */
 #define EP_FIELD_TAG_COUNT 3
+/* An identifier of the first tag above 4095. */
 #define EP_FIELD_OUTER_VLAN_ID 4
-#define EP_FIELD_INNER_VLAN_ID 5
-#define EP_FIELD_IP_VERSION 6
-#define EP_FIELD_TRANSPORT 7
-#define EP_FIELD_OPTIONS_LEN 8
-#define EP_FIELD_PAYLOAD 9
+/* A priority of the first tag above 7. */
+#define EP_FIELD_OUTER_PRIORITY 5
+/* An identifier of the second tag above 4095. */
+#define EP_FIELD_INNER_VLAN_ID 6
+/* A priority of the second tag above 7. */
+#define EP_FIELD_INNER_PRIORITY 7
+/* No such IP version. */
+#define EP_FIELD_IP_VERSION 8
+/* A differentiated services code point above 63. */
+#define EP_FIELD_DSCP 9
+/* An explicit congestion notification above 3. */
+#define EP_FIELD_ECN 10
+/* An offset of a fragment over IPv4 above 8191. */
+#define EP_FIELD_FRAGMENT_OFFSET 11
+/* More than 40 bytes of IPv4's options, or no whole words of 4. */
+#define EP_FIELD_IPV4_OPTIONS_LEN 12
+/* A flow label above 1048575. */
+#define EP_FIELD_FLOW_LABEL 13
+/* Hop-by-hop options of a length that no header states, not within the bytes, or over IPv4. */
+#define EP_FIELD_HOP_BY_HOP_OPTIONS 14
+/* The same of destination options before a routing header. */
+#define EP_FIELD_DESTINATION_OPTIONS 15
+/* The same of a routing header. */
+#define EP_FIELD_ROUTING 16
+/* A fragment header whose offset is above 8191, or over IPv4. */
+#define EP_FIELD_FRAGMENT_HEADER 17
+/* An integrity check value of a length that no header states, or not within the bytes. */
+#define EP_FIELD_AUTHENTICATION 18
+/* The same as of destination options, of those after a routing header, or no routing header. */
+#define EP_FIELD_FINAL_DESTINATION_OPTIONS 19
+/* No such transport header, or ICMPv6 over IPv4. */
+#define EP_FIELD_TRANSPORT 20
+/* More than 40 bytes of TCP's options. */
+#define EP_FIELD_OPTIONS_LEN 21
+/* Hardware addresses that differ in length, have more than 255 bytes, or aren't within the bytes. */
+#define EP_FIELD_HARDWARE_ADDRESSES 22
+/* The same of protocol addresses. */
+#define EP_FIELD_PROTOCOL_ADDRESSES 23
+/* A payload that is longer than the length field of the IP header can state. */
+#define EP_FIELD_PAYLOAD 24
 #define EP_LAYER_LINUX_SLL_HEADER 1
 #define EP_LAYER_ETHERNET2_HEADER 2
 #define EP_LAYER_ETHER_PAYLOAD 3
@@ -225,9 +264,10 @@ typedef struct {
 /* The result of building a packet. */
 typedef struct {
     /* 0 where it is built, 1 where the output is shorter than the packet, 2 where there is no
-       memory, 3 where a field of the plan, or the payload, is refused. */
+       memory, 3 where it is refused: EP_DONE, EP_NO_ROOM, EP_NO_MEMORY or EP_REFUSED. */
     uint32_t status;
-    /* The first field of the plan at fault, where it is refused, else 0. */
+    /* What is at fault, where it is refused, else 0: the first of EP_FIELD_LINK and so on in the
+       order of their numbers; but that the payload is too long comes before ICMPv6 over IPv4. */
     uint32_t field;
     /* The length of the packet, where it is built or the output is too short, else 0. */
     size_t len;
@@ -728,6 +768,14 @@ typedef struct {
     uint16_t outer_vlan_id;
     /* The identifier of the second one, 0 to 4095. */
     uint16_t inner_vlan_id;
+    /* The priority of the first of them, 0 to 7 (IEEE 802.1Q, section 6.9.3). */
+    uint8_t outer_priority;
+    /* The priority of the second one, 0 to 7. */
+    uint8_t inner_priority;
+    /* Whether the first of them says that the frame may be dropped first. */
+    bool outer_drop_eligible;
+    /* Whether the second one says so. */
+    bool inner_drop_eligible;
     /* The IP version: 4 or 6. */
     uint32_t ip_version;
     /* Of IPv4: the source address. */
@@ -738,7 +786,28 @@ typedef struct {
     uint8_t ipv6_source[16];
     /* Of IPv6: the destination address. */
     uint8_t ipv6_destination[16];
-    /* How many hops it may take. */
+    /* Of IPv4: how many bytes of options there are, at most 40, a multiple of 4. */
+    size_t ipv4_options_len;
+    /* Of IPv4: the options. */
+    uint8_t ipv4_options[40];
+    /* Of IPv4: the identification, which the fragments of one datagram share. */
+    uint16_t identification;
+    /* Of IPv4: the offset of the payload in the datagram, in units of 8 bytes, 0 to 8191. */
+    uint16_t fragment_offset;
+    /* Of IPv4: differentiated services code point, 0 to 63 (RFC 2474). */
+    uint8_t dscp;
+    /* Of IPv4: explicit congestion notification, 0 to 3 (RFC 3168). */
+    uint8_t ecn;
+    /* Of IPv4: whether the packet may be fragmented. Where it may not, don't-fragment is set. */
+    bool may_fragment;
+    /* Of IPv4: whether other fragments follow. */
+    bool more_fragments;
+    /* Of IPv6: the flow label, 0 to 1048575. */
+    uint32_t flow_label;
+    /* Of IPv6: the traffic class. Differentiated services code point are its upper 6 bits, explicit
+       congestion notification the lower 2. */
+    uint8_t traffic_class;
+    /* How many hops it may take: time to live of IPv4, hop limit of IPv6. */
     uint8_t hops;
     /* Without a transport header: the number of the payload. */
     uint8_t payload_number;
@@ -754,6 +823,15 @@ typedef struct {
     uint16_t echo_id;
     /* Of ICMP: the number of the echo. */
     uint16_t echo_sequence;
+    /* Of ICMP: whether it isn't an echo, but has the type, the code and the 4 bytes that follow
+       here. */
+    bool icmp_is_raw;
+    /* Of ICMP that is no echo: its type. */
+    uint8_t icmp_type;
+    /* Of ICMP that is no echo: its code. */
+    uint8_t icmp_code;
+    /* Of ICMP that is no echo: the 4 bytes after the checksum. */
+    uint8_t icmp_bytes[4];
     /* Of TCP: the sequence number. */
     uint32_t sequence_number;
     /* Of TCP: the acknowledgment number. */
@@ -785,6 +863,40 @@ typedef struct {
     /* Of TCP: the options. They are padded with 0 to whole words of 4 bytes. */
     uint8_t options[40];
 } ep_plan;
+
+/* The extension headers of a packet to build (RFC 8200, section 4; RFC 4302). They are written
+   in the order of RFC 8200, section 4.1: hop-by-hop options, destination options, routing,
+   fragment, authentication, destination options. Over IPv4 there is authentication alone. A part
+   of options or routing is what follows the first two bytes of the header: 6 bytes and a
+   multiple of 8, at most 2046; no bytes stand for no header. Numbers and lengths of headers
+   follow from it. */
+typedef struct {
+    /* Hop-by-hop options. */
+    ep_part hop_by_hop_options;
+    /* Destination options before a routing header, or where there is none. */
+    ep_part destination_options;
+    /* The routing header. */
+    ep_part routing;
+    /* Destination options after the routing header, without which they are refused. */
+    ep_part final_destination_options;
+    /* Of authentication: the integrity check value, a multiple of 4 bytes, at most 1016. */
+    ep_part integrity_check_value;
+    /* Of a fragment header: the identification, which the fragments of one datagram share. */
+    uint32_t identification;
+    /* Of authentication: the security parameters index. */
+    uint32_t spi;
+    /* Of authentication: the sequence number. */
+    uint32_t sequence_number;
+    /* Of a fragment header: the offset of the payload in the datagram, in units of 8 bytes, 0 to
+       8191. */
+    uint16_t fragment_offset;
+    /* Of a fragment header: whether other fragments follow. */
+    bool more_fragments;
+    /* Whether there is a fragment header. */
+    bool has_fragment_header;
+    /* Whether there is an authentication header. */
+    bool has_authentication;
+} ep_planned_extensions;
 
 /* A pool that reassembles datagrams. It starts as zeros, and only these calls change it. */
 typedef struct {
@@ -836,6 +948,16 @@ typedef struct {
    and 3 where a field of the plan, or the payload, is refused. Where it isn't 0 the output is as
    it was. */
 ep_built ep_build(const ep_plan *plan, const uint8_t *payload, size_t payload_len, uint8_t *output, size_t output_len);
+
+/* The same with these extension headers, whose parts are in these bytes. A part that isn't whole
+   within the bytes is refused, as one of a length that no header states. */
+ep_built ep_build_with_extensions(const ep_plan *plan, const ep_planned_extensions *extensions, const uint8_t *bytes, size_t bytes_len, const uint8_t *payload, size_t payload_len, uint8_t *output, size_t output_len);
+
+/* Builds the packet of a plan that holds an ARP packet in place of one of IP, at the start of
+   the output; of the plan it reads the link header and its tags. The types, the operation and
+   the addresses are those of `arp`, the addresses parts of these bytes: of one length for both
+   ends, at most 255. The status is that of `ep_build`. Where it isn't 0 the output is as it was. */
+ep_built ep_build_arp(const ep_plan *plan, const ep_arp *arp, const uint8_t *bytes, size_t bytes_len, uint8_t *output, size_t output_len);
 
 /* The checksum of the bytes, as a header has it, high byte first. */
 uint16_t ep_checksum(const uint8_t *bytes, size_t bytes_len);

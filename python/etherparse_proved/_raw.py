@@ -98,15 +98,54 @@ REFUSAL_AUTH_HEADER_LEN = 10
 REFUSAL_HOP_BY_HOP_NOT_AT_START = 11
 # A TCP data offset below 5.
 REFUSAL_TCP_DATA_OFFSET = 12
+# No such link header, or none before an ARP packet.
 FIELD_LINK = 1
+# A packet type of a cooked capture above 4.
 FIELD_PACKET_TYPE = 2
+# More than two tags, or tags without an Ethernet II header.
 FIELD_TAG_COUNT = 3
+# An identifier of the first tag above 4095.
 FIELD_OUTER_VLAN_ID = 4
-FIELD_INNER_VLAN_ID = 5
-FIELD_IP_VERSION = 6
-FIELD_TRANSPORT = 7
-FIELD_OPTIONS_LEN = 8
-FIELD_PAYLOAD = 9
+# A priority of the first tag above 7.
+FIELD_OUTER_PRIORITY = 5
+# An identifier of the second tag above 4095.
+FIELD_INNER_VLAN_ID = 6
+# A priority of the second tag above 7.
+FIELD_INNER_PRIORITY = 7
+# No such IP version.
+FIELD_IP_VERSION = 8
+# A differentiated services code point above 63.
+FIELD_DSCP = 9
+# An explicit congestion notification above 3.
+FIELD_ECN = 10
+# An offset of a fragment over IPv4 above 8191.
+FIELD_FRAGMENT_OFFSET = 11
+# More than 40 bytes of IPv4's options, or no whole words of 4.
+FIELD_IPV4_OPTIONS_LEN = 12
+# A flow label above 1048575.
+FIELD_FLOW_LABEL = 13
+# Hop-by-hop options of a length that no header states, not within the bytes, or over IPv4.
+FIELD_HOP_BY_HOP_OPTIONS = 14
+# The same of destination options before a routing header.
+FIELD_DESTINATION_OPTIONS = 15
+# The same of a routing header.
+FIELD_ROUTING = 16
+# A fragment header whose offset is above 8191, or over IPv4.
+FIELD_FRAGMENT_HEADER = 17
+# An integrity check value of a length that no header states, or not within the bytes.
+FIELD_AUTHENTICATION = 18
+# The same as of destination options, of those after a routing header, or no routing header.
+FIELD_FINAL_DESTINATION_OPTIONS = 19
+# No such transport header, or ICMPv6 over IPv4.
+FIELD_TRANSPORT = 20
+# More than 40 bytes of TCP's options.
+FIELD_OPTIONS_LEN = 21
+# Hardware addresses that differ in length, have more than 255 bytes, or aren't within the bytes.
+FIELD_HARDWARE_ADDRESSES = 22
+# The same of protocol addresses.
+FIELD_PROTOCOL_ADDRESSES = 23
+# A payload that is longer than the length field of the IP header can state.
+FIELD_PAYLOAD = 24
 LAYER_LINUX_SLL_HEADER = 1
 LAYER_ETHERNET2_HEADER = 2
 LAYER_ETHER_PAYLOAD = 3
@@ -537,11 +576,25 @@ class EpPlan(c.Structure):
         ("tag_count", c.c_uint32),
         ("outer_vlan_id", c.c_uint16),
         ("inner_vlan_id", c.c_uint16),
+        ("outer_priority", c.c_uint8),
+        ("inner_priority", c.c_uint8),
+        ("outer_drop_eligible", c.c_bool),
+        ("inner_drop_eligible", c.c_bool),
         ("ip_version", c.c_uint32),
         ("ipv4_source", c.c_uint8 * 4),
         ("ipv4_destination", c.c_uint8 * 4),
         ("ipv6_source", c.c_uint8 * 16),
         ("ipv6_destination", c.c_uint8 * 16),
+        ("ipv4_options_len", c.c_size_t),
+        ("ipv4_options", c.c_uint8 * 40),
+        ("identification", c.c_uint16),
+        ("fragment_offset", c.c_uint16),
+        ("dscp", c.c_uint8),
+        ("ecn", c.c_uint8),
+        ("may_fragment", c.c_bool),
+        ("more_fragments", c.c_bool),
+        ("flow_label", c.c_uint32),
+        ("traffic_class", c.c_uint8),
         ("hops", c.c_uint8),
         ("payload_number", c.c_uint8),
         ("transport", c.c_uint32),
@@ -550,6 +603,10 @@ class EpPlan(c.Structure):
         ("is_reply", c.c_bool),
         ("echo_id", c.c_uint16),
         ("echo_sequence", c.c_uint16),
+        ("icmp_is_raw", c.c_bool),
+        ("icmp_type", c.c_uint8),
+        ("icmp_code", c.c_uint8),
+        ("icmp_bytes", c.c_uint8 * 4),
         ("sequence_number", c.c_uint32),
         ("acknowledgment_number", c.c_uint32),
         ("window_size", c.c_uint16),
@@ -565,6 +622,25 @@ class EpPlan(c.Structure):
         ("cwr", c.c_bool),
         ("options_len", c.c_size_t),
         ("options", c.c_uint8 * 40),
+    ]
+
+
+class EpPlannedExtensions(c.Structure):
+    """The extension headers of a packet to build (RFC 8200, section 4; RFC 4302). They are written in the order of RFC 8200, section 4.1: hop-by-hop options, destination options, routing, fragment, authentication, destination options. Over IPv4 there is authentication alone. A part of options or routing is what follows the first two bytes of the header: 6 bytes and a multiple of 8, at most 2046; no bytes stand for no header. Numbers and lengths of headers follow from it."""
+
+    _fields_ = [
+        ("hop_by_hop_options", EpPart),
+        ("destination_options", EpPart),
+        ("routing", EpPart),
+        ("final_destination_options", EpPart),
+        ("integrity_check_value", EpPart),
+        ("identification", c.c_uint32),
+        ("spi", c.c_uint32),
+        ("sequence_number", c.c_uint32),
+        ("fragment_offset", c.c_uint16),
+        ("more_fragments", c.c_bool),
+        ("has_fragment_header", c.c_bool),
+        ("has_authentication", c.c_bool),
     ]
 
 
@@ -636,7 +712,8 @@ assert c.sizeof(EpIcmp) == 40
 assert c.sizeof(EpPacket) == 656
 assert c.sizeof(EpLaxPacket) == 704
 assert c.sizeof(EpNdpOption) == 96
-assert c.sizeof(EpPlan) == 176
+assert c.sizeof(EpPlan) == 248
+assert c.sizeof(EpPlannedExtensions) == 104
 assert c.sizeof(EpPool) == 16
 assert c.sizeof(EpTcpBlock) == 8
 assert c.sizeof(EpTcpOption) == 64
@@ -648,6 +725,10 @@ def declare_etherparse(library: c.CDLL) -> None:
     """Gives the calls of libetherparse their types."""
     library.ep_build.argtypes = [c.POINTER(EpPlan), c.c_char_p, c.c_size_t, c.POINTER(c.c_uint8), c.c_size_t]
     library.ep_build.restype = EpBuilt
+    library.ep_build_with_extensions.argtypes = [c.POINTER(EpPlan), c.POINTER(EpPlannedExtensions), c.c_char_p, c.c_size_t, c.c_char_p, c.c_size_t, c.POINTER(c.c_uint8), c.c_size_t]
+    library.ep_build_with_extensions.restype = EpBuilt
+    library.ep_build_arp.argtypes = [c.POINTER(EpPlan), c.POINTER(EpArp), c.c_char_p, c.c_size_t, c.POINTER(c.c_uint8), c.c_size_t]
+    library.ep_build_arp.restype = EpBuilt
     library.ep_checksum.argtypes = [c.c_char_p, c.c_size_t]
     library.ep_checksum.restype = c.c_uint16
     library.ep_checksum_is_right.argtypes = [c.c_char_p, c.c_size_t]

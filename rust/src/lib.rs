@@ -13,6 +13,7 @@ mod fields;
 mod groups;
 mod ndp_option;
 mod packet;
+mod packet_builder;
 mod plan;
 mod planned_tcp;
 mod pool;
@@ -27,6 +28,11 @@ pub use fields::{
 pub use groups::{GroupRecord, GroupRecordError, GroupRecords, IgmpMessage, MldMessage, MulticastError};
 pub use ndp_option::{NdpOption, NdpOptionError, NdpOptionsIterator, PrefixInformation};
 pub use packet::{LaxPacket, Link, Net, Packet, Stop, Transport};
+pub use packet_builder::{
+    ArpPacket, ArpStep, BeforeNet, BeforePayload, DoubleVlanHeader, EthernetStep, IpAuthHeader, IpHeaders, IpStep,
+    Ipv4Extensions, Ipv4Header, Ipv6Extensions, Ipv6FragmentHeader, Ipv6Header, Ipv6RoutingExtensions, LinkStep,
+    MessageStep, PacketBuilder, PacketBuilderStep, SingleVlanHeader, TcpStep, VlanHeader,
+};
 pub use plan::{
     build, BuildError, Plan, PlanField, PlannedAddresses, PlannedEcho, PlannedLink, PlannedTransport,
 };

@@ -97,24 +97,54 @@ pub const REFUSAL_AUTH_HEADER_LEN: u32 = 10;
 pub const REFUSAL_HOP_BY_HOP_NOT_AT_START: u32 = 11;
 /// A TCP data offset below 5.
 pub const REFUSAL_TCP_DATA_OFFSET: u32 = 12;
-/// The field `link` of a plan.
+/// No such link header, or none before an ARP packet.
 pub const FIELD_LINK: u32 = 1;
-/// The field `packet_type` of a plan.
+/// A packet type of a cooked capture above 4.
 pub const FIELD_PACKET_TYPE: u32 = 2;
-/// The field `tag_count` of a plan.
+/// More than two tags, or tags without an Ethernet II header.
 pub const FIELD_TAG_COUNT: u32 = 3;
-/// The field `outer_vlan_id` of a plan.
+/// An identifier of the first tag above 4095.
 pub const FIELD_OUTER_VLAN_ID: u32 = 4;
-/// The field `inner_vlan_id` of a plan.
-pub const FIELD_INNER_VLAN_ID: u32 = 5;
-/// The field `ip_version` of a plan.
-pub const FIELD_IP_VERSION: u32 = 6;
-/// The field `transport` of a plan.
-pub const FIELD_TRANSPORT: u32 = 7;
-/// The field `options_len` of a plan.
-pub const FIELD_OPTIONS_LEN: u32 = 8;
-/// The field `payload` of a plan.
-pub const FIELD_PAYLOAD: u32 = 9;
+/// A priority of the first tag above 7.
+pub const FIELD_OUTER_PRIORITY: u32 = 5;
+/// An identifier of the second tag above 4095.
+pub const FIELD_INNER_VLAN_ID: u32 = 6;
+/// A priority of the second tag above 7.
+pub const FIELD_INNER_PRIORITY: u32 = 7;
+/// No such IP version.
+pub const FIELD_IP_VERSION: u32 = 8;
+/// A differentiated services code point above 63.
+pub const FIELD_DSCP: u32 = 9;
+/// An explicit congestion notification above 3.
+pub const FIELD_ECN: u32 = 10;
+/// An offset of a fragment over IPv4 above 8191.
+pub const FIELD_FRAGMENT_OFFSET: u32 = 11;
+/// More than 40 bytes of IPv4's options, or no whole words of 4.
+pub const FIELD_IPV4_OPTIONS_LEN: u32 = 12;
+/// A flow label above 1048575.
+pub const FIELD_FLOW_LABEL: u32 = 13;
+/// Hop-by-hop options of a length that no header states, not within the bytes, or over IPv4.
+pub const FIELD_HOP_BY_HOP_OPTIONS: u32 = 14;
+/// The same of destination options before a routing header.
+pub const FIELD_DESTINATION_OPTIONS: u32 = 15;
+/// The same of a routing header.
+pub const FIELD_ROUTING: u32 = 16;
+/// A fragment header whose offset is above 8191, or over IPv4.
+pub const FIELD_FRAGMENT_HEADER: u32 = 17;
+/// An integrity check value of a length that no header states, or not within the bytes.
+pub const FIELD_AUTHENTICATION: u32 = 18;
+/// The same as of destination options, of those after a routing header, or no routing header.
+pub const FIELD_FINAL_DESTINATION_OPTIONS: u32 = 19;
+/// No such transport header, or ICMPv6 over IPv4.
+pub const FIELD_TRANSPORT: u32 = 20;
+/// More than 40 bytes of TCP's options.
+pub const FIELD_OPTIONS_LEN: u32 = 21;
+/// Hardware addresses that differ in length, have more than 255 bytes, or aren't within the bytes.
+pub const FIELD_HARDWARE_ADDRESSES: u32 = 22;
+/// The same of protocol addresses.
+pub const FIELD_PROTOCOL_ADDRESSES: u32 = 23;
+/// A payload that is longer than the length field of the IP header can state.
+pub const FIELD_PAYLOAD: u32 = 24;
 /// The layer `linux sll header`.
 pub const LAYER_LINUX_SLL_HEADER: u32 = 1;
 /// The layer `ethernet2 header`.
@@ -296,9 +326,10 @@ pub struct EpAdded {
 #[derive(Clone, Copy, Debug, PartialEq, Eq)]
 pub struct EpBuilt {
     /// 0 where it is built, 1 where the output is shorter than the packet, 2 where there is no
-    /// memory, 3 where a field of the plan, or the payload, is refused.
+    /// memory, 3 where it is refused: EP_DONE, EP_NO_ROOM, EP_NO_MEMORY or EP_REFUSED.
     pub status: u32,
-    /// The first field of the plan at fault, where it is refused, else 0.
+    /// What is at fault, where it is refused, else 0: the first of EP_FIELD_LINK and so on in the
+    /// order of their numbers; but that the payload is too long comes before ICMPv6 over IPv4.
     pub field: u32,
     /// The length of the packet, where it is built or the output is too short, else 0.
     pub len: usize,
@@ -837,6 +868,14 @@ pub struct EpPlan {
     pub outer_vlan_id: u16,
     /// The identifier of the second one, 0 to 4095.
     pub inner_vlan_id: u16,
+    /// The priority of the first of them, 0 to 7 (IEEE 802.1Q, section 6.9.3).
+    pub outer_priority: u8,
+    /// The priority of the second one, 0 to 7.
+    pub inner_priority: u8,
+    /// Whether the first of them says that the frame may be dropped first.
+    pub outer_drop_eligible: bool,
+    /// Whether the second one says so.
+    pub inner_drop_eligible: bool,
     /// The IP version: 4 or 6.
     pub ip_version: u32,
     /// Of IPv4: the source address.
@@ -847,7 +886,28 @@ pub struct EpPlan {
     pub ipv6_source: [u8; 16],
     /// Of IPv6: the destination address.
     pub ipv6_destination: [u8; 16],
-    /// How many hops it may take.
+    /// Of IPv4: how many bytes of options there are, at most 40, a multiple of 4.
+    pub ipv4_options_len: usize,
+    /// Of IPv4: the options.
+    pub ipv4_options: [u8; 40],
+    /// Of IPv4: the identification, which the fragments of one datagram share.
+    pub identification: u16,
+    /// Of IPv4: the offset of the payload in the datagram, in units of 8 bytes, 0 to 8191.
+    pub fragment_offset: u16,
+    /// Of IPv4: differentiated services code point, 0 to 63 (RFC 2474).
+    pub dscp: u8,
+    /// Of IPv4: explicit congestion notification, 0 to 3 (RFC 3168).
+    pub ecn: u8,
+    /// Of IPv4: whether the packet may be fragmented. Where it may not, don't-fragment is set.
+    pub may_fragment: bool,
+    /// Of IPv4: whether other fragments follow.
+    pub more_fragments: bool,
+    /// Of IPv6: the flow label, 0 to 1048575.
+    pub flow_label: u32,
+    /// Of IPv6: the traffic class. Differentiated services code point are its upper 6 bits, explicit
+    /// congestion notification the lower 2.
+    pub traffic_class: u8,
+    /// How many hops it may take: time to live of IPv4, hop limit of IPv6.
     pub hops: u8,
     /// Without a transport header: the number of the payload.
     pub payload_number: u8,
@@ -863,6 +923,14 @@ pub struct EpPlan {
     pub echo_id: u16,
     /// Of ICMP: the number of the echo.
     pub echo_sequence: u16,
+    /// Of ICMP: whether it isn't an echo, but has the type, the code and the 4 bytes that follow here.
+    pub icmp_is_raw: bool,
+    /// Of ICMP that is no echo: its type.
+    pub icmp_type: u8,
+    /// Of ICMP that is no echo: its code.
+    pub icmp_code: u8,
+    /// Of ICMP that is no echo: the 4 bytes after the checksum.
+    pub icmp_bytes: [u8; 4],
     /// Of TCP: the sequence number.
     pub sequence_number: u32,
     /// Of TCP: the acknowledgment number.
@@ -893,6 +961,41 @@ pub struct EpPlan {
     pub options_len: usize,
     /// Of TCP: the options. They are padded with 0 to whole words of 4 bytes.
     pub options: [u8; 40],
+}
+
+/// The extension headers of a packet to build (RFC 8200, section 4; RFC 4302). They are written in the
+/// order of RFC 8200, section 4.1: hop-by-hop options, destination options, routing, fragment,
+/// authentication, destination options. Over IPv4 there is authentication alone. A part of options or
+/// routing is what follows the first two bytes of the header: 6 bytes and a multiple of 8, at most
+/// 2046; no bytes stand for no header. Numbers and lengths of headers follow from it.
+#[repr(C)]
+#[derive(Clone, Copy, Debug, PartialEq, Eq)]
+pub struct EpPlannedExtensions {
+    /// Hop-by-hop options.
+    pub hop_by_hop_options: EpPart,
+    /// Destination options before a routing header, or where there is none.
+    pub destination_options: EpPart,
+    /// The routing header.
+    pub routing: EpPart,
+    /// Destination options after the routing header, without which they are refused.
+    pub final_destination_options: EpPart,
+    /// Of authentication: the integrity check value, a multiple of 4 bytes, at most 1016.
+    pub integrity_check_value: EpPart,
+    /// Of a fragment header: the identification, which the fragments of one datagram share.
+    pub identification: u32,
+    /// Of authentication: the security parameters index.
+    pub spi: u32,
+    /// Of authentication: the sequence number.
+    pub sequence_number: u32,
+    /// Of a fragment header: the offset of the payload in the datagram, in units of 8 bytes, 0 to
+    /// 8191.
+    pub fragment_offset: u16,
+    /// Of a fragment header: whether other fragments follow.
+    pub more_fragments: bool,
+    /// Whether there is a fragment header.
+    pub has_fragment_header: bool,
+    /// Whether there is an authentication header.
+    pub has_authentication: bool,
 }
 
 /// A pool that reassembles datagrams. It starts as zeros, and only these calls change it.
@@ -956,8 +1059,111 @@ pub struct NetlinesSession {
     pub held: *mut std::ffi::c_void,
 }
 
+impl EpPart {
+    /// Zero in each field.
+    pub const ZERO: EpPart = EpPart {
+        offset: 0,
+        len: 0,
+    };
+}
+
+impl EpArp {
+    /// Zero in each field.
+    pub const ZERO: EpArp = EpArp {
+        packet: EpPart::ZERO,
+        sender_hardware: EpPart::ZERO,
+        sender_protocol: EpPart::ZERO,
+        target_hardware: EpPart::ZERO,
+        target_protocol: EpPart::ZERO,
+        hardware_type: 0,
+        protocol_type: 0,
+        operation: 0,
+    };
+}
+
+impl EpPlan {
+    /// Zero in each field.
+    pub const ZERO: EpPlan = EpPlan {
+        link: 0,
+        destination: [0; 6],
+        source: [0; 6],
+        packet_type: 0,
+        address_len: 0,
+        address: [0; 8],
+        tag_count: 0,
+        outer_vlan_id: 0,
+        inner_vlan_id: 0,
+        outer_priority: 0,
+        inner_priority: 0,
+        outer_drop_eligible: false,
+        inner_drop_eligible: false,
+        ip_version: 0,
+        ipv4_source: [0; 4],
+        ipv4_destination: [0; 4],
+        ipv6_source: [0; 16],
+        ipv6_destination: [0; 16],
+        ipv4_options_len: 0,
+        ipv4_options: [0; 40],
+        identification: 0,
+        fragment_offset: 0,
+        dscp: 0,
+        ecn: 0,
+        may_fragment: false,
+        more_fragments: false,
+        flow_label: 0,
+        traffic_class: 0,
+        hops: 0,
+        payload_number: 0,
+        transport: 0,
+        source_port: 0,
+        destination_port: 0,
+        is_reply: false,
+        echo_id: 0,
+        echo_sequence: 0,
+        icmp_is_raw: false,
+        icmp_type: 0,
+        icmp_code: 0,
+        icmp_bytes: [0; 4],
+        sequence_number: 0,
+        acknowledgment_number: 0,
+        window_size: 0,
+        urgent_pointer: 0,
+        ns: false,
+        fin: false,
+        syn: false,
+        rst: false,
+        psh: false,
+        ack: false,
+        urg: false,
+        ece: false,
+        cwr: false,
+        options_len: 0,
+        options: [0; 40],
+    };
+}
+
+impl EpPlannedExtensions {
+    /// Zero in each field.
+    pub const ZERO: EpPlannedExtensions = EpPlannedExtensions {
+        hop_by_hop_options: EpPart::ZERO,
+        destination_options: EpPart::ZERO,
+        routing: EpPart::ZERO,
+        final_destination_options: EpPart::ZERO,
+        integrity_check_value: EpPart::ZERO,
+        identification: 0,
+        spi: 0,
+        sequence_number: 0,
+        fragment_offset: 0,
+        more_fragments: false,
+        has_fragment_header: false,
+        has_authentication: false,
+    };
+}
+
 extern "C" {
     pub(crate) fn ep_build(plan: *const EpPlan, payload: *const u8, payload_len: usize, output: *mut u8, output_len: usize) -> EpBuilt;
+    pub(crate) fn ep_build_with_extensions(plan: *const EpPlan, extensions: *const EpPlannedExtensions, bytes: *const u8, bytes_len: usize, payload: *const u8, payload_len: usize, output: *mut u8, output_len: usize) -> EpBuilt;
+    pub(crate) fn ep_build_arp(plan: *const EpPlan, arp: *const EpArp, bytes: *const u8, bytes_len: usize, output: *mut u8, output_len: usize) -> EpBuilt;
     pub(crate) fn ep_checksum(bytes: *const u8, bytes_len: usize) -> u16;
     pub(crate) fn ep_checksum_is_right(bytes: *const u8, bytes_len: usize) -> bool;
     pub(crate) fn ep_tcp_options(packet: *const EpPacket) -> EpPart;
@@ -1022,7 +1228,8 @@ const _: () = assert!(std::mem::size_of::<EpIcmp>() == 40);
 const _: () = assert!(std::mem::size_of::<EpPacket>() == 656);
 const _: () = assert!(std::mem::size_of::<EpLaxPacket>() == 704);
 const _: () = assert!(std::mem::size_of::<EpNdpOption>() == 96);
-const _: () = assert!(std::mem::size_of::<EpPlan>() == 176);
+const _: () = assert!(std::mem::size_of::<EpPlan>() == 248);
+const _: () = assert!(std::mem::size_of::<EpPlannedExtensions>() == 104);
 const _: () = assert!(std::mem::size_of::<EpPool>() == 16);
 const _: () = assert!(std::mem::size_of::<EpTcpBlock>() == 8);
 const _: () = assert!(std::mem::size_of::<EpTcpOption>() == 64);

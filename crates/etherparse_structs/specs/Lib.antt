@@ -14,8 +14,12 @@ pub mod Packet
 pub mod Part
 pub mod PartRefusal
 pub mod Plan
+pub mod PlannedArp
+pub mod PlannedExtensions
+pub mod PlannedIp
 pub mod Pool
 pub mod Refusal
 pub mod TcpOption
 pub mod Transport
 pub mod Verdict
+pub mod Wrong
