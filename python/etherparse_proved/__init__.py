@@ -93,7 +93,22 @@ from ._packets import (
     verdict_ip,
     verdict_linux_sll,
 )
-from ._plans import BuildRefused, PlannedCapture, PlannedEcho, PlannedEthernet, PlannedTcp, PlannedUdp, build
+from ._plans import (
+    BuildRefused,
+    PlannedArp,
+    PlannedAuthentication,
+    PlannedCapture,
+    PlannedEcho,
+    PlannedEthernet,
+    PlannedExtensions,
+    PlannedFragment,
+    PlannedIcmp,
+    PlannedTag,
+    PlannedTcp,
+    PlannedUdp,
+    build,
+    build_arp,
+)
 
 __version__ = "1.0.0"
 
@@ -103,14 +118,15 @@ __all__ = [
     "IgmpLeave", "IgmpMessage", "IgmpQuery", "IgmpQueryV3", "IgmpReportV1", "IgmpReportV2", "IgmpReportV3", "InUse", "Ipv4",
     "Ipv6", "LaxPacket", "Link", "LinkMtu", "MaximumSegmentSize", "Message", "MldDone", "MldMessage", "MldQuery", "MldQueryV2",
     "MldReport", "MldReportV2", "NdpMessage", "NdpOption", "NeighborAdvertisement", "NeighborRedirect", "NeighborSolicitation",
-    "NoOperation", "Packet", "PacketTooBig", "ParameterProblem", "PartRefused", "PlannedCapture", "PlannedEcho",
-    "PlannedEthernet", "PlannedTcp", "PlannedUdp", "Pool", "PrefixInformation", "RecursiveDnsServer", "RedirectedHeader",
-    "Refused", "RouterAdvertisement", "RouterSolicitation", "Routing", "Sack", "SackPermitted", "Session", "ShortGroupMessage",
+    "NoOperation", "Packet", "PacketTooBig", "ParameterProblem", "PartRefused", "PlannedArp", "PlannedAuthentication",
+    "PlannedCapture", "PlannedEcho", "PlannedEthernet", "PlannedExtensions", "PlannedFragment", "PlannedIcmp", "PlannedTag",
+    "PlannedTcp", "PlannedUdp", "Pool", "PrefixInformation", "RecursiveDnsServer", "RedirectedHeader", "Refused",
+    "RouterAdvertisement", "RouterSolicitation", "Routing", "Sack", "SackPermitted", "Session", "ShortGroupMessage",
     "SourceLinkLayerAddress", "Tag", "TargetLinkLayerAddress", "Tcp", "TcpOption", "TimeExceeded", "TimestampReply",
     "TimestampRequest", "Timestamps", "Udp", "UnknownIcmp", "UnknownNdpOption", "UnreadableNdpOption", "UnreadableOption",
-    "UnreadableRecord", "Verdict", "WindowScale", "answers", "build", "checksum", "checksum_is_right", "slice_ethernet",
-    "slice_ethernet_lax", "slice_ip", "slice_ip_lax", "slice_linux_sll", "slice_linux_sll_lax", "verdict_ethernet",
-    "verdict_ip", "verdict_linux_sll",
+    "UnreadableRecord", "Verdict", "WindowScale", "answers", "build", "build_arp", "checksum", "checksum_is_right",
+    "slice_ethernet", "slice_ethernet_lax", "slice_ip", "slice_ip_lax", "slice_linux_sll", "slice_linux_sll_lax",
+    "verdict_ethernet", "verdict_ip", "verdict_linux_sll",
 ]  # fmt: skip
 
 # In errors and pickles each is named by the package, whatever module of it has it.

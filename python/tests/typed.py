@@ -38,6 +38,15 @@ def built() -> bytes:
     return ep.build(b"", source="::1", destination=IPv6Address("::2"), transport=ep.PlannedTcp(1, 2, syn=True), link=link)
 
 
+def built_of_all() -> Tuple[bytes, bytes]:
+    link = ep.PlannedEthernet(bytes(6), bytes(6), vlan_ids=[ep.PlannedTag(5, priority=3), 6])
+    headers = ep.PlannedExtensions(fragment=ep.PlannedFragment(1, offset=2), authentication=ep.PlannedAuthentication(1, 2))
+    icmp = ep.PlannedIcmp(58, ep.PacketTooBig(1280))
+    arp = ep.PlannedArp(1, bytes(6), IPv4Address("10.0.0.1"), bytes(6), bytes(4))
+    packet = ep.build(b"", source="::1", destination="::2", transport=icmp, flow_label=1, extensions=headers)
+    return packet, ep.build_arp(arp, link=link)
+
+
 def stopped(frame: bytes) -> Optional[Tuple[str, int, bool]]:
     packet = ep.slice_ethernet_lax(frame)
     return (packet.stop.reason, packet.stop_layer, packet.incomplete) if packet.stop else None
