@@ -174,9 +174,9 @@ class Plans(unittest.TestCase):
         if kind > 2 or kind != 1 and tags:
             return False
         if kind == 1:
-            places = ("outer", "inner", "third")[:tags]
+            tags_of = ("outer", "inner", "third")[:tags]
             names = "vlan_id", "priority", "drop_eligible"
-            chosen = [ep.PlannedTag(*(number(f"{place}_{name}") for name in names)) for place in places]
+            chosen = [ep.PlannedTag(*(number(f"{which}_{name}") for name in names)) for which in tags_of]
             chosen = [it if it.priority or it.drop_eligible else it.vlan_id for it in chosen]
             return ep.PlannedEthernet(bytes.fromhex(fields["source"]), bytes.fromhex(fields["destination"]), chosen)
         if kind == 2:

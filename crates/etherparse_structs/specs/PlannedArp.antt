@@ -29,8 +29,8 @@ arp_in a bytes = record {
 abbrev pub wrong_pair : (bytes : List ℕ) → PlanField → (sender target : EpPart) → Option PlanField
 wrong_pair bytes f sender target = if not (length (part_bytes bytes sender) == sender.len)
     || not (length (part_bytes bytes target) == target.len)
-    || not (sender.len == target.len)
-    || nat_lt 255 sender.len
+    || not (length (part_bytes bytes sender) == length (part_bytes bytes target))
+    || nat_lt 255 (length (part_bytes bytes sender))
     then Some f else None
 
 abbrev pub wrong_arp : EpArp → (bytes : List ℕ) → Option PlanField

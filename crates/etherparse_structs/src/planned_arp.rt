@@ -103,10 +103,11 @@ fn arp_packet(arp: &EpArp, bytes: &[u8]) -> Result<ArpPacket, PlanField>
 fn pair(sender: &EpPart, target: &EpPart, bytes: &[u8], field: PlanField) -> Result<(), PlanField>
     ensures { result ≡ unless (wrong_pair bytes.now field sender.now target.now) tt }
 {
-    if sender.bytes_in(bytes).len() != sender.len
-        || target.bytes_in(bytes).len() != target.len
-        || sender.len != target.len
-        || sender.len > 255
+    let (sender_len, target_len) = (sender.bytes_in(bytes).len(), target.bytes_in(bytes).len());
+    if sender_len != sender.len
+        || target_len != target.len
+        || sender_len != target_len
+        || sender_len > 255
     {
         return Err(field);
     }
