@@ -27,8 +27,3 @@ refused f = not_built 3 (field_number f)
 -- the reported error by an error of the builder
 abbrev pub error_of : BuildWriteError → BuildError
 error_of e = if is_memory e then Memory else Field (field_of e)
-
--- the result where it isn't built
-abbrev pub report_of : BuildError → EpBuilt
-report_of Memory = not_built 2 0
-report_of (Field f) = refused f

@@ -76,7 +76,7 @@ wrong_there f part = if part.len == 0 then None else Some f
 
 -- a payload that isn't whole within the bytes, or of a length that no header states (RFC 6564,
 -- section 4)
-abbrev pub wrong_raw : (bytes : List ℕ) → PlanField → EpPart → Option PlanField
+unfoldable pub wrong_raw : (bytes : List ℕ) → PlanField → EpPart → Option PlanField
 wrong_raw bytes f part = if part.len == 0 then None
     else (if not (length (part_bytes bytes part) == part.len)
     || nat_lt 2046 (length (part_bytes bytes part))
@@ -89,7 +89,7 @@ wrong_fragment e = if e.has_fragment_header
 
 -- an integrity check value that isn't whole within the bytes, or of a length that no header states
 -- (RFC 4302, section 2.2)
-abbrev pub wrong_auth : EpPlannedExtensions → (bytes : List ℕ) → Option PlanField
+unfoldable pub wrong_auth : EpPlannedExtensions → (bytes : List ℕ) → Option PlanField
 wrong_auth e bytes = if e.has_authentication
     then (if not (length (part_bytes bytes e.integrity_check_value) == e.integrity_check_value.len)
     || nat_lt 1016 (length (part_bytes bytes e.integrity_check_value))

@@ -3,7 +3,7 @@ ghost use Rattle.std.specs.Prelude.{◌≡◌, ◌≤◌, ◌<◌, ◌++◌, [],
 ghost use Rattle.std.specs.Prelude.{MatchResult, Ok, OnOk};
 ghost use Rattle.std.specs.Option.{option_map, option_or};
 ghost use Rattle.etherparse.specs.Built.{number_in, packet_with_number, refusal_of};
-ghost use Rattle.etherparse_structs.specs.Build.{built, error_of, has_no_room, not_built, refused, report_of};
+ghost use Rattle.etherparse_structs.specs.Build.{built, error_of, has_no_room, not_built, refused};
 ghost use Rattle.etherparse_structs.specs.Plan.{bytes_in, extended_bytes_in, field_of, headers_in, lower_headers_in};
 ghost use Rattle.etherparse_structs.specs.Plan.{wrong_in, wrong_in_extended, wrong_transport};
 ghost use Rattle.etherparse_structs.specs.PlannedArp.{arp_bytes_in, wrong_in_arp};
@@ -86,8 +86,11 @@ pub fn build_extended_packet(
     ensures unchanged { 0 < result.status → output.new ≡ output.old }
 {
     let mut packet = Vec::new(alloc);
-    let appended = append(plan, extensions, bytes, payload, &mut packet);
-    delivered(appended, packet.as_slice(), output)
+    match append(plan, extensions, bytes, payload, &mut packet) {
+        Ok(()) => copy_out(packet.as_slice(), output),
+        Err(BuildError::Memory) => not_built(NO_MEMORY, 0),
+        Err(BuildError::Field(field)) => not_built(REFUSED, field_number(field)),
+    }
 }
 
 /// Builds the packet of a plan that holds this ARP packet, whose addresses are parts of these bytes.
@@ -111,23 +114,8 @@ pub fn build_arp_packet(
     ensures unchanged { 0 < result.status → output.new ≡ output.old }
 {
     let mut packet = Vec::new(alloc);
-    let appended = append_arp(plan, arp, bytes, &mut packet);
-    delivered(appended, packet.as_slice(), output)
-}
-
-// The packet at the start of the output, or why it isn't there.
-fn delivered(appended: Result<(), BuildError>, packet: &[u8], output: &mut [u8]) -> EpBuilt
-    ensures reported { MatchResult appended (λ _. result.status ≤ 1)
-        (λ e. result ≡ report_of e) }
-    ensures built { result.status ≡ 0 → (result ≡ built (length packet.now))
-        × (output.new ≡ packet.now ++ drop result.len output.old) }
-    ensures no_room { result.status ≡ 1 → (result ≡ has_no_room (length packet.now))
-        × (length output.old < result.len) }
-    ensures no_memory { result.status ≡ 2 → result ≡ not_built 2 0 }
-    ensures unchanged { 0 < result.status → output.new ≡ output.old }
-{
-    match appended {
-        Ok(()) => copy_out(packet, output),
+    match append_arp(plan, arp, bytes, &mut packet) {
+        Ok(()) => copy_out(packet.as_slice(), output),
         Err(BuildError::Memory) => not_built(NO_MEMORY, 0),
         Err(BuildError::Field(field)) => not_built(REFUSED, field_number(field)),
     }

@@ -174,6 +174,7 @@ fn not_there(part: &EpPart, field: PlanField) -> Result<(), PlanField>
     if part.len == 0 { Ok(()) } else { Err(field) }
 }
 
+#[tactic(auto, unfolding(crate::specs::PlannedExtensions::wrong_raw))]
 fn raw_header(
     part: &EpPart,
     bytes: &[u8],
@@ -208,6 +209,7 @@ fn fragment_header(
     }))
 }
 
+#[tactic(auto, unfolding(crate::specs::PlannedExtensions::wrong_auth))]
 fn auth_header(
     extensions: &EpPlannedExtensions,
     bytes: &[u8],
