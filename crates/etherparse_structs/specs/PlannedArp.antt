@@ -13,7 +13,7 @@ use Rattle.etherparse_structs.specs.declared.plan.PlanField.{PlanField}
 use Rattle.etherparse_structs.specs.declared.plan.PlanField.TheVariants as field
 
 -- the packet whose addresses are these parts of the bytes
-abbrev pub arp_in : EpArp → (bytes : List ℕ) → ArpFields
+unfoldable pub arp_in : EpArp → (bytes : List ℕ) → ArpFields
 arp_in a bytes = record {
   hw_addr_type = record { 0 = a.hardware_type };
   proto_addr_type = record { 0 = a.protocol_type };
@@ -33,7 +33,7 @@ wrong_pair bytes f sender target = if not (length (part_bytes bytes sender) == s
     || nat_lt 255 (length (part_bytes bytes sender))
     then Some f else None
 
-abbrev pub wrong_arp : EpArp → (bytes : List ℕ) → Option PlanField
+unfoldable pub wrong_arp : EpArp → (bytes : List ℕ) → Option PlanField
 wrong_arp a bytes =
     option_or (wrong_pair bytes field.HardwareAddresses a.sender_hardware a.target_hardware)
     (wrong_pair bytes field.ProtocolAddresses a.sender_protocol a.target_protocol)

@@ -55,10 +55,10 @@ abbrev pub final_options_in : EpPlannedExtensions → (bytes : List ℕ) → Opt
 final_options_in e bytes = if e.routing.len == 0 then None
     else raw_in bytes e.final_destination_options
 
-abbrev pub ipv4_exts_in : EpPlannedExtensions → (bytes : List ℕ) → Ipv4Extensions
+unfoldable pub ipv4_exts_in : EpPlannedExtensions → (bytes : List ℕ) → Ipv4Extensions
 ipv4_exts_in e bytes = record { auth = auth_in e bytes }
 
-abbrev pub ipv6_exts_in : EpPlannedExtensions → (bytes : List ℕ) → Ipv6Extensions
+unfoldable pub ipv6_exts_in : EpPlannedExtensions → (bytes : List ℕ) → Ipv6Extensions
 ipv6_exts_in e bytes = record {
   hop_by_hop_options = raw_in bytes e.hop_by_hop_options;
   destination_options = raw_in bytes e.destination_options;
@@ -102,7 +102,7 @@ wrong_final_options e bytes = if e.routing.len == 0
     else wrong_raw bytes field.FinalDestinationOptions e.final_destination_options
 
 -- over IPv4 there is an authentication header alone
-abbrev pub wrong_ipv4_exts : EpPlannedExtensions → (bytes : List ℕ) → Option PlanField
+unfoldable pub wrong_ipv4_exts : EpPlannedExtensions → (bytes : List ℕ) → Option PlanField
 wrong_ipv4_exts e bytes =
     option_or (wrong_there field.HopByHopOptions e.hop_by_hop_options)
     (option_or (wrong_there field.DestinationOptions e.destination_options)
@@ -111,7 +111,7 @@ wrong_ipv4_exts e bytes =
     (option_or (wrong_auth e bytes)
     (wrong_there field.FinalDestinationOptions e.final_destination_options)))))
 
-abbrev pub wrong_ipv6_exts : EpPlannedExtensions → (bytes : List ℕ) → Option PlanField
+unfoldable pub wrong_ipv6_exts : EpPlannedExtensions → (bytes : List ℕ) → Option PlanField
 wrong_ipv6_exts e bytes =
     option_or (wrong_raw bytes field.HopByHopOptions e.hop_by_hop_options)
     (option_or (wrong_raw bytes field.DestinationOptions e.destination_options)

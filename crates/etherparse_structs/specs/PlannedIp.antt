@@ -44,7 +44,7 @@ ipv6_in p = record {
 }
 
 -- the headers with these extension headers, whose parts are in these bytes
-abbrev pub ip_in : EpPlan → EpPlannedExtensions → List ℕ → IpHeaders
+unfoldable pub ip_in : EpPlan → EpPlannedExtensions → List ℕ → IpHeaders
 ip_in p e bytes = if p.ip_version == 4 then Ipv4 (ipv4_in p) (ipv4_exts_in e bytes)
     else Ipv6 (ipv6_in p) (ipv6_exts_in e bytes)
 
@@ -60,7 +60,7 @@ wrong_ipv4 p = option_or (wrong_above 63 p.dscp field.Dscp) (option_or (wrong_ab
 abbrev pub wrong_ipv6 : EpPlan → Option PlanField
 wrong_ipv6 p = wrong_above 1048575 p.flow_label field.FlowLabel
 
-abbrev pub wrong_ip : EpPlan → EpPlannedExtensions → List ℕ → Option PlanField
+unfoldable pub wrong_ip : EpPlan → EpPlannedExtensions → List ℕ → Option PlanField
 wrong_ip p e bytes = if p.ip_version == 4 then option_or (wrong_ipv4 p) (wrong_ipv4_exts e bytes)
     else (if p.ip_version == 6 then option_or (wrong_ipv6 p) (wrong_ipv6_exts e bytes)
     else Some field.IpVersion)

@@ -72,6 +72,7 @@ fn with_arp<L: LinkStep>(
     }
 }
 
+#[tactic(auto, unfolding(crate::specs::PlannedArp::arp_in, crate::specs::PlannedArp::wrong_arp))]
 fn arp_packet(arp: &EpArp, bytes: &[u8]) -> Result<ArpPacket, PlanField>
     ensures { result ≡ unless (wrong_arp arp.now bytes.now) (arp_in arp.now bytes.now) }
 {

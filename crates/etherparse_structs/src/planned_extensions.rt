@@ -73,6 +73,7 @@ impl EpPlannedExtensions {
 }
 
 /// Those of IPv4, or the first field that describes none.
+#[tactic(auto, unfolding(crate::specs::PlannedExtensions::ipv4_exts_in, crate::specs::PlannedExtensions::wrong_ipv4_exts))]
 pub(crate) fn ipv4_extensions(
     extensions: &EpPlannedExtensions,
     bytes: &[u8],
@@ -98,6 +99,7 @@ pub(crate) fn ipv4_extensions(
 }
 
 /// Those of IPv6, or the first field that describes none.
+#[tactic(auto, unfolding(crate::specs::PlannedExtensions::ipv6_exts_in, crate::specs::PlannedExtensions::wrong_ipv6_exts))]
 pub(crate) fn ipv6_extensions(
     extensions: &EpPlannedExtensions,
     bytes: &[u8],

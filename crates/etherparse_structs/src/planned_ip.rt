@@ -14,6 +14,7 @@ use etherparse::{
 
 /// The headers of the network layer, with these extension headers, whose parts are in these bytes;
 /// or the first field that describes none.
+#[tactic(auto, unfolding(crate::specs::PlannedIp::ip_in, crate::specs::PlannedIp::wrong_ip))]
 pub(crate) fn ip_headers(
     plan: &EpPlan,
     extensions: &EpPlannedExtensions,

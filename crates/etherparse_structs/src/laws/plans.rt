@@ -8,6 +8,7 @@ ghost use Rattle.etherparse_structs.specs.declared.plan.EpPlan.{EpPlan};
 
 /// Where the other fields of IP headers and tags are 0, they are those that the builder has by the
 /// steps that take addresses, hops and identifiers alone.
+#[tactic(auto, unfolding(crate::specs::PlannedIp::ip_in, crate::specs::PlannedExtensions::ipv4_exts_in, crate::specs::PlannedExtensions::ipv6_exts_in))]
 pub fn default_headers()
     ensures ipv4 { (p : EpPlan) → ip_in (record p {
       ip_version = 4;
