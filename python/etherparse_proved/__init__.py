@@ -44,6 +44,19 @@ from ._fields import (
     UnreadableOption,
     WindowScale,
 )
+from ._flows import (
+    ConnectionState,
+    Direction,
+    Endpoint,
+    Flow,
+    FlowKey,
+    Flows,
+    State,
+    Traffic,
+    flow_key_ethernet,
+    flow_key_ip,
+    flow_key_linux_sll,
+)
 from ._groups import (
     GroupRecord,
     IgmpLeave,
@@ -94,6 +107,7 @@ from ._packets import (
     verdict_linux_sll,
 )
 from ._plans import BuildRefused, PlannedCapture, PlannedEcho, PlannedEthernet, PlannedTcp, PlannedUdp, build
+from ._streams import AddedSegment, Conflicts, Flags, Gap, SegmentFlags, SegmentRefused, Stream, StreamProgress
 
 __version__ = "1.0.0"
 
@@ -111,6 +125,11 @@ __all__ = [
     "UnreadableRecord", "Verdict", "WindowScale", "answers", "build", "checksum", "checksum_is_right", "slice_ethernet",
     "slice_ethernet_lax", "slice_ip", "slice_ip_lax", "slice_linux_sll", "slice_linux_sll_lax", "verdict_ethernet",
     "verdict_ip", "verdict_linux_sll",
+]  # fmt: skip
+__all__ += [
+    "AddedSegment", "Conflicts", "ConnectionState", "Direction", "Endpoint", "Flags", "Flow", "FlowKey", "Flows", "Gap",
+    "SegmentFlags", "SegmentRefused", "State", "Stream", "StreamProgress", "Traffic", "flow_key_ethernet", "flow_key_ip",
+    "flow_key_linux_sll",
 ]  # fmt: skip
 
 # In errors and pickles each is named by the package, whatever module of it has it.

@@ -7,3 +7,4 @@ pub mod numbers;
 pub mod packets;
 pub mod pools;
 pub mod refusals;
+pub mod streams;
