@@ -10,7 +10,7 @@ ghost use Rattle.etherparse_structs.specs.StreamAdded.{no_progress, segment_stat
 use etherparse::SlicedPacket;
 use etherparse_structs::{
     EpConnectionState, EpPacketKey, EpSegmentFlags, EpStream, EpStreamAdded, EpStreamProgress,
-    packet_key,
+    key_of_packet,
 };
 use std::alloc::Global;
 
@@ -99,7 +99,7 @@ pub extern "C" fn ep_stream_free(alloc: Global, stream: &mut EpStream)
 pub extern "C" fn ep_flow_key_ethernet(frame: &[u8], channel: u32) -> EpPacketKey
     ensures { result ≡ packet_key_in (sliced_ethernet frame.now) channel }
 {
-    packet_key(SlicedPacket::from_ethernet(frame), channel)
+    key_of_packet(SlicedPacket::from_ethernet(frame), channel)
 }
 
 /// That of a packet of a Linux cooked capture.
@@ -107,7 +107,7 @@ pub extern "C" fn ep_flow_key_ethernet(frame: &[u8], channel: u32) -> EpPacketKe
 pub extern "C" fn ep_flow_key_linux_sll(packet: &[u8], channel: u32) -> EpPacketKey
     ensures { result ≡ packet_key_in (sliced_linux_sll packet.now) channel }
 {
-    packet_key(SlicedPacket::from_linux_sll(packet), channel)
+    key_of_packet(SlicedPacket::from_linux_sll(packet), channel)
 }
 
 /// That of an IP packet of either version.
@@ -115,7 +115,7 @@ pub extern "C" fn ep_flow_key_linux_sll(packet: &[u8], channel: u32) -> EpPacket
 pub extern "C" fn ep_flow_key_ip(packet: &[u8], channel: u32) -> EpPacketKey
     ensures { result ≡ packet_key_in (sliced_ip packet.now) channel }
 {
-    packet_key(SlicedPacket::from_ip(packet), channel)
+    key_of_packet(SlicedPacket::from_ip(packet), channel)
 }
 
 /// How far a connection came after one more segment, which has these flags and goes in this

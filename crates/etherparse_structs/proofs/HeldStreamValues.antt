@@ -1,7 +1,7 @@
 -- A stream's handle.
 use Rattle.std.proofs.Common.{refl}
 use Rattle.c_handles.proofs.HandleValues.{Handle}
-use Rattle.etherparse_structs.specs.contracts.held_stream.StreamBox.{the_row}
+use Rattle.etherparse_structs.specs.contracts.stream_box.StreamBox.{the_row}
 use Rattle.etherparse_structs.specs.contracts.held_stream.HeldStream.{the_type}
 
 abbrev pub handle : Handle

@@ -1,5 +1,5 @@
 -- One direction of a TCP connection as C holds it.
-use Rattle.std.specs.Prelude.{◌≡◌, ⊥, ◌⊎◌, ◌↔◌, ℕ, ◌+◌, ◌<◌, ◌≤◌, Bool, true, false, not, if◌then◌else◌, min}
+use Rattle.std.specs.Prelude.{◌≡◌, ◌⊎◌, ◌↔◌, ℕ, ◌+◌, ◌<◌, ◌≤◌, Bool, true, false, not, if◌then◌else◌, min}
 use Rattle.std.specs.Prelude.{Option, Some, None, IfSome, IfNone, IsTrue, is_some, unwrap_or}
 use Rattle.std.specs.Prelude.{List, [], ◌∷◌, ◌++◌, length, take, drop}
 use Rattle.tcp_streams.specs.Placing.{Segment, placed, segment, start_number}
@@ -12,7 +12,7 @@ use Rattle.tcp_streams.specs.declared.refusal.Refused.{Refused}
 use Rattle.tcp_streams.specs.declared.segment_flags.SegmentFlags.{SegmentFlags}
 use Rattle.etherparse_structs.specs.StreamAdded.{conflicts_struct, segment_accepted, segment_refused, segment_status}
 use Rattle.etherparse_structs.specs.declared.connection.EpSegmentFlags.{EpSegmentFlags}
-use Rattle.etherparse_structs.specs.declared.held_stream.StreamBox.{StreamBox}
+use Rattle.etherparse_structs.specs.declared.stream_box.StreamBox.{StreamBox}
 use Rattle.etherparse_structs.specs.declared.stream.EpStream.{EpStream}
 use Rattle.etherparse_structs.specs.declared.stream_added.EpStreamAdded.{EpStreamAdded}
 use Rattle.etherparse_structs.specs.declared.stream_progress.EpGap.{EpGap}
@@ -71,7 +71,7 @@ IsSegmentAnswered ends s segment result = AnsweredBy (refusal_in s segment) ends
 -- so many bytes were written to the start of the output, and taken away: all that are left, or as many
 -- as the output has; `ends` holds of the stream then
 pub record IsRead (ends : Stream → Type 0) (s : Stream) (old new : List ℕ) (count : ℕ) : Type 0 where
-  pub count : count ≡ min (length old) (length (bytes_left s))
+  pub size : count ≡ min (length old) (length (bytes_left s))
   pub output : new ≡ take count (bytes_left s) ++ drop count old
   pub rest : ends (record s { taken = s.taken + count })
 
@@ -103,7 +103,7 @@ stream_of buf segments = record {
   segments = segments;
 }
 
-pub record Holds (buf : Contents) (s : Stream) : Type 0 where
+pub record ShowsStream (buf : Contents) (s : Stream) : Type 0 where
   pub shows : Shows buf s.segments
   pub is : stream_of buf s.segments ≡ s
 
@@ -116,4 +116,4 @@ pub record HasSegments (p : EpStream) (s : Stream) : Type 0 where
   pub box : StreamBox
   pub is_open : p.is_open ≡ true
   pub held : p.held.value ≡ Some box
-  pub holds : Holds box.buf s
+  pub shown : ShowsStream box.buf s

@@ -80,7 +80,11 @@ pub(crate) fn direction_number(direction: Direction) -> u32
 fn direction_in(number: u32) -> Direction
     ensures { result ≡ direction_in number }
 {
-    if number == FROM_HIGHER { Direction::FromHigher } else { Direction::FromLower }
+    if number == FROM_HIGHER {
+        Direction::FromHigher
+    } else {
+        Direction::FromLower
+    }
 }
 
 fn state_in(numbers: &EpConnectionState) -> ConnectionState
@@ -101,14 +105,21 @@ fn state_in(numbers: &EpConnectionState) -> ConnectionState
 fn state_struct(state: ConnectionState) -> EpConnectionState
     ensures { result ≡ state_struct state }
 {
-    let (state, direction) = match state {
-        ConnectionState::Unseen => (STATE_UNSEEN, 0),
-        ConnectionState::SynSent { opener } => (STATE_SYN_SENT, direction_number(opener)),
-        ConnectionState::SynReceived { opener } => (STATE_SYN_RECEIVED, direction_number(opener)),
-        ConnectionState::Established => (STATE_ESTABLISHED, 0),
-        ConnectionState::Closing { closer } => (STATE_CLOSING, direction_number(closer)),
-        ConnectionState::Closed => (STATE_CLOSED, 0),
-        ConnectionState::Reset => (STATE_RESET, 0),
-    };
+    match state {
+        ConnectionState::Unseen => numbered(STATE_UNSEEN, 0),
+        ConnectionState::SynSent { opener } => numbered(STATE_SYN_SENT, direction_number(opener)),
+        ConnectionState::SynReceived { opener } => {
+            numbered(STATE_SYN_RECEIVED, direction_number(opener))
+        }
+        ConnectionState::Established => numbered(STATE_ESTABLISHED, 0),
+        ConnectionState::Closing { closer } => numbered(STATE_CLOSING, direction_number(closer)),
+        ConnectionState::Closed => numbered(STATE_CLOSED, 0),
+        ConnectionState::Reset => numbered(STATE_RESET, 0),
+    }
+}
+
+fn numbered(state: u32, direction: u32) -> EpConnectionState
+    ensures { result ≡ record { state = state; direction = direction } }
+{
     EpConnectionState { state, direction }
 }

@@ -2,21 +2,14 @@
 ghost use Rattle.std.specs.Prelude.{◌≡◌, Option, Some, None, IsSome};
 ghost use Rattle.std.specs.Coded.{coded_option};
 ghost use Rattle.c_handles.specs.Holds.{holds};
-ghost use Rattle.etherparse_structs.specs.declared.held_stream.StreamBox.{StreamBox as Value};
-ghost use Rattle.etherparse_structs.specs.contracts.held_stream.StreamBox.{the_row as row};
+ghost use Rattle.etherparse_structs.specs.declared.stream_box.StreamBox.{StreamBox as Value};
+ghost use Rattle.etherparse_structs.specs.contracts.stream_box.StreamBox.{the_row as row};
 
+use crate::stream_box::StreamBox;
 use c_handles::Loose;
 use std::alloc::Global;
 use std::marker::Model;
 use std::ptr::null_mut;
-use tcp_streams::StreamBuf;
-
-/// What a stream that is open holds.
-#[derive(Drop)]
-pub struct StreamBox {
-    /// The bytes, as far as they came.
-    pub buf: StreamBuf,
-}
 
 /// A pointer to a stream, or to nothing.
 #[repr(C)]

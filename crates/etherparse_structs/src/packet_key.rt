@@ -57,7 +57,7 @@ pub struct EpPacketKey {
 }
 
 /// The key of a packet that bytes were sliced into, which came on this channel.
-pub fn packet_key(sliced: Result<SlicedPacket<'_>, SliceError>, channel: u32) -> EpPacketKey
+pub fn key_of_packet(sliced: Result<SlicedPacket<'_>, SliceError>, channel: u32) -> EpPacketKey
     ensures { result ≡ packet_key_in sliced.entry channel }
 {
     match sliced {

@@ -1,15 +1,16 @@
 //! One direction of a TCP connection, put together from its segments.
-ghost use Rattle.std.specs.Prelude.{◌≡◌, ◌<◌, ◌⊎◌, ◌++◌, true, false, Some, IfOk, IsSome, drop, length, min, take};
-ghost use Rattle.etherparse_structs.specs.Stream.{HasSegments, Holds, IsProgress, IsRead, IsSegmentAnswered, IsStream};
-ghost use Rattle.etherparse_structs.specs.Stream.{Stream, new_stream, segment_with};
+ghost use Rattle.std.specs.Prelude.{◌≡◌, ◌<◌, ◌⊎◌, true, false, Some, IfOk, IsSome};
+ghost use Rattle.etherparse_structs.specs.Stream.{HasSegments, IsProgress, IsRead, IsSegmentAnswered, IsStream};
+ghost use Rattle.etherparse_structs.specs.Stream.{ShowsStream, Stream, new_stream, segment_with};
 ghost use Rattle.etherparse_structs.specs.StreamAdded.{no_progress, segment_status};
 
-use crate::held_stream::{HeldStream, StreamBox};
+use crate::held_stream::HeldStream;
+use crate::stream_box::StreamBox;
 use crate::{DONE, EpSegmentFlags, EpStreamAdded, EpStreamProgress, NO_MEMORY, WRONG_STATE};
 use c_handles::Loose;
 use std::alloc::{AllocError, Global};
 use std::mem::replace;
-use tcp_streams::{SegmentFlags, StreamBuf};
+use tcp_streams::StreamBuf;
 
 /// The bytes that one end of a TCP connection sent, put together as its segments come. It starts as
 /// zeros, and only these calls change it.
@@ -116,46 +117,8 @@ impl EpStream {
     }
 }
 
-impl StreamBox {
-    fn add(
-        &mut self,
-        sequence_number: u32,
-        flags: &EpSegmentFlags,
-        payload: &[u8],
-    ) -> EpStreamAdded
-        ensures { (s : Stream) → Holds self.old.buf s → IsSegmentAnswered (Holds self.new.buf) s
-            (segment_with sequence_number flags.now payload.now) result }
-    {
-        let flags = SegmentFlags {
-            syn: flags.syn,
-            fin: flags.fin,
-            rst: flags.rst,
-        };
-        EpStreamAdded::of(self.buf.add(sequence_number, flags, payload))
-    }
-
-    fn read(&mut self, output: &mut [u8]) -> usize
-        ensures { (s : Stream) → Holds self.old.buf s
-            → IsRead (Holds self.new.buf) s output.old output.new result }
-    {
-        let count = copy_prefix(self.buf.available(), output);
-        self.buf.consume(count);
-        count
-    }
-}
-
-// Copies as many bytes as there are and fit to the start of the output.
-fn copy_prefix(bytes: &[u8], output: &mut [u8]) -> usize
-    ensures count { result ≡ min (length output.old) (length bytes.now) }
-    ensures output { output.new ≡ take result bytes.now ++ drop result output.old }
-{
-    let count = output.len().min(bytes.len());
-    output[..count].copy_from_slice(&bytes[..count]);
-    count
-}
-
 fn new_box(alloc: Global, window: usize) -> Result<Box<StreamBox>, AllocError>
-    ensures { IfOk result (λ opened. Holds opened.value.buf (new_stream window)) }
+    ensures { IfOk result (λ opened. ShowsStream opened.value.buf (new_stream window)) }
 {
     let opened = StreamBox {
         buf: StreamBuf::new(alloc, window),

@@ -1,6 +1,6 @@
 //! How far a stream came, as numbers.
 ghost use Rattle.std.specs.Prelude.{◌≡◌};
-ghost use Rattle.etherparse_structs.specs.Stream.{Holds, IsProgress, Stream, gap_struct};
+ghost use Rattle.etherparse_structs.specs.Stream.{IsProgress, ShowsStream, Stream, gap_struct};
 ghost use Rattle.etherparse_structs.specs.StreamAdded.{no_progress};
 
 use crate::EpConflicts;
@@ -53,7 +53,7 @@ impl EpStreamProgress {
     }
 
     pub(crate) fn of(buf: &StreamBuf) -> EpStreamProgress
-        ensures { (s : Stream) → Holds buf.now s → IsProgress s result }
+        ensures { (s : Stream) → ShowsStream buf.now s → IsProgress s result }
     {
         EpStreamProgress {
             available: buf.available().len(),

@@ -60,12 +60,12 @@ pub fn segments()
 pub fn keys()
     ensures key { key_struct (flow_key (5 ∷ 6 ∷ []) (endpoint.V4 (10 ∷ 0 ∷ 0 ∷ 1 ∷ []) 80) (endpoint.V6 (replicate 16 2) 9) 7)
         ≡ record {
-      lower = record { version = 4; port = 80; address = 10 ∷ 0 ∷ 0 ∷ 1 ∷ replicate 12 0 };
-      higher = record { version = 6; port = 9; address = replicate 16 2 };
-      channel = 7;
-      vlan_ids = 5 ∷ 6 ∷ 0 ∷ [];
-      vlan_count = 2;
-    } }
+          lower = record { version = 4; port = 80; address = 10 ∷ 0 ∷ 0 ∷ 1 ∷ replicate 12 0 };
+          higher = record { version = 6; port = 9; address = replicate 16 2 };
+          channel = 7;
+          vlan_ids = 5 ∷ 6 ∷ 0 ∷ [];
+          vlan_count = 2;
+        } }
     ensures none { keyed_struct None ≡ no_key 6 }
     ensures refused { no_key 3 ≡ record {
       status = 3;

@@ -5,5 +5,5 @@ returns-clause-opened c zero = record {
   box = c.in-Ok.opened.value;
   is_open = c.put.ensures.opened;
   held = c.put.ensures.held;
-  holds = c.in-Ok.ensures;
+  shown = c.in-Ok.ensures;
 }

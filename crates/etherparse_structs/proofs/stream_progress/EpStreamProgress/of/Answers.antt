@@ -6,7 +6,7 @@ use Rattle.etherparse_structs.proofs.stream_progress.EpStreamProgress.of.Goals a
 
 pub returns : goal.returns
 returns c s h = reports _ s _ h (record {
-  available = c.len.ensures ∙ ap (λ (xs : List ℕ). length xs) (c.available.ensures.text s.segments h.shows);
+  available = ap (λ (xs : List ℕ). length xs) (c.available.ensures.text s.segments h.shows);
   consumed = c.consumed.ensures;
   gap = c.gap.result;
   gap_numbers = c.gap_struct.ensures;

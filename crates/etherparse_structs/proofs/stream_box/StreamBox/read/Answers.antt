@@ -1,5 +1,5 @@
 use Rattle.etherparse_structs.proofs.StreamLemmas.{reads}
-use Rattle.etherparse_structs.proofs.stream.StreamBox.read.Goals as goal
+use Rattle.etherparse_structs.proofs.stream_box.StreamBox.read.Goals as goal
 
 pub returns : goal.returns
 returns c s h =

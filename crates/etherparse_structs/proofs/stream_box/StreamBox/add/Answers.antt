@@ -1,5 +1,5 @@
 use Rattle.etherparse_structs.proofs.StreamLemmas.{answers}
-use Rattle.etherparse_structs.proofs.stream.StreamBox.add.Goals as goal
+use Rattle.etherparse_structs.proofs.stream_box.StreamBox.add.Goals as goal
 
 pub returns : goal.returns
 returns c s h =
