@@ -4,7 +4,7 @@ import enum
 from collections import OrderedDict
 from dataclasses import dataclass, replace
 from ipaddress import IPv4Address, IPv6Address
-from typing import Any, Callable, Dict, Generic, Iterator, Optional, Tuple, TypeVar, Union
+from typing import Any, Callable, Generic, Optional, Tuple, TypeVar, Union
 
 from . import _raw
 from ._arguments import Buffer, bytes_of, integer, number_up_to
