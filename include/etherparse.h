@@ -877,8 +877,9 @@ typedef struct {
     void *held;
 } ep_pool;
 
-/* The bytes that one end of a TCP connection sent, put together as its segments come. It starts
-   as zeros, and only these calls change it. */
+/* The bytes that one end of a TCP connection sent, put together as its segments come. Positions
+   count from 0, the number after that of SYN or, where SYN wasn't seen, that of the first
+   segment. It starts as zeros, and only these calls change it. */
 typedef struct {
     /* Whether it was opened and not freed. */
     bool is_open;

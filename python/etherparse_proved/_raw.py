@@ -656,7 +656,7 @@ class EpPool(c.Structure):
 
 
 class EpStream(c.Structure):
-    """The bytes that one end of a TCP connection sent, put together as its segments come. It starts as zeros, and only these calls change it."""
+    """The bytes that one end of a TCP connection sent, put together as its segments come. Positions count from 0, the number after that of SYN or, where SYN wasn't seen, that of the first segment. It starts as zeros, and only these calls change it."""
 
     _fields_ = [
         ("is_open", c.c_bool),

@@ -998,8 +998,9 @@ pub struct EpPool {
     pub held: *mut std::ffi::c_void,
 }
 
-/// The bytes that one end of a TCP connection sent, put together as its segments come. It starts as
-/// zeros, and only these calls change it.
+/// The bytes that one end of a TCP connection sent, put together as its segments come. Positions count
+/// from 0, the number after that of SYN or, where SYN wasn't seen, that of the first segment. It starts
+/// as zeros, and only these calls change it.
 #[repr(C)]
 #[derive(Clone, Copy, Debug, PartialEq, Eq)]
 pub struct EpStream {

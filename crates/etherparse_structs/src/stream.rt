@@ -12,8 +12,9 @@ use std::alloc::{AllocError, Global};
 use std::mem::replace;
 use tcp_streams::StreamBuf;
 
-/// The bytes that one end of a TCP connection sent, put together as its segments come. It starts as
-/// zeros, and only these calls change it.
+/// The bytes that one end of a TCP connection sent, put together as its segments come. Positions count
+/// from 0, the number after that of SYN or, where SYN wasn't seen, that of the first segment. It starts
+/// as zeros, and only these calls change it.
 #[repr(C)]
 #[derive(Drop)]
 pub struct EpStream {
