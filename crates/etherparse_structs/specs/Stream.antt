@@ -1,6 +1,6 @@
 -- One direction of a TCP connection as C holds it.
 use Rattle.std.specs.Prelude.{◌≡◌, ◌⊎◌, ◌↔◌, ℕ, ◌+◌, ◌<◌, ◌≤◌, Bool, true, false, not, if◌then◌else◌, min}
-use Rattle.std.specs.Prelude.{Option, Some, None, IfSome, IfNone, IsTrue, is_some, unwrap_or}
+use Rattle.std.specs.Prelude.{Option, Some, None, IfSome, IfNone, IsTrue, is_some}
 use Rattle.std.specs.Prelude.{List, [], ◌∷◌, ◌++◌, length, take, drop}
 use Rattle.tcp_streams.specs.Placing.{Segment, placed, segment, start_number}
 use Rattle.tcp_streams.specs.Refusals.{refusal_of}
@@ -9,7 +9,6 @@ use Rattle.tcp_streams.specs.SparseBytes.{counted}
 use Rattle.tcp_streams.specs.StreamBuf.{Contents, IsFirstGap, Shows}
 use Rattle.tcp_streams.specs.declared.gaps.Gap.{Gap}
 use Rattle.tcp_streams.specs.declared.refusal.Refused.{Refused}
-use Rattle.tcp_streams.specs.declared.segment_flags.SegmentFlags.{SegmentFlags}
 use Rattle.etherparse_structs.specs.StreamAdded.{conflicts_struct, segment_accepted, segment_refused, segment_status}
 use Rattle.etherparse_structs.specs.declared.connection.EpSegmentFlags.{EpSegmentFlags}
 use Rattle.etherparse_structs.specs.declared.stream_box.StreamBox.{StreamBox}

@@ -1,5 +1,5 @@
 -- What becomes of a segment of a stream, as numbers.
-use Rattle.std.specs.Prelude.{ℕ, false, Option, Some, None, unwrap_or, Result, Ok, Err}
+use Rattle.std.specs.Prelude.{ℕ, false, unwrap_or, Result, Ok, Err}
 use Rattle.tcp_streams.specs.declared.conflicts.Conflicts.{Conflicts}
 use Rattle.tcp_streams.specs.declared.refusal.Refused.{Refused}
 use Rattle.tcp_streams.specs.declared.refusal.Refused.TheVariants.{OutsideWindow, AfterFin, AfterReset, OutOfMemory}
