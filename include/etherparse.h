@@ -7,7 +7,7 @@
    No call keeps a pointer, blocks or ends the process.
    Calls may call malloc, realloc and free, which come from one allocator and align blocks as
    usual. None is made in a signal handler, nor in the forked child of a process with threads.
-   A pool begins as zeros, which is not open, and only these calls change it. It isn't copied. Any
+   A pool or stream begins as zeros, which is not open, and only these calls change it. It isn't copied. Any
    thread may use it, if each call to it begins after the one before has returned. */
 #ifndef ETHERPARSE_H
 #define ETHERPARSE_H
@@ -18,6 +18,24 @@
 extern "C" {
 #endif
 
+/* From the lower endpoint to the higher one. */
+#define EP_FROM_LOWER 1
+/* From the higher endpoint to the lower one. */
+#define EP_FROM_HIGHER 2
+/* No segment of the connection came. */
+#define EP_STATE_UNSEEN 0
+/* The endpoint that opens it sent SYN. */
+#define EP_STATE_SYN_SENT 1
+/* The other endpoint answered with SYN, and the first one didn't acknowledge that. */
+#define EP_STATE_SYN_RECEIVED 2
+/* Both endpoints may send. */
+#define EP_STATE_ESTABLISHED 3
+/* One endpoint sent FIN. */
+#define EP_STATE_CLOSING 4
+/* Both endpoints sent FIN. */
+#define EP_STATE_CLOSED 5
+/* An endpoint sent RST before both sent FIN. */
+#define EP_STATE_RESET 6
 /* No message of a multicast group. */
 #define EP_GROUP_NONE 0
 /* A query without sources: version 1 of MLD, 1 or 2 of IGMP. */
@@ -62,9 +80,9 @@ extern "C" {
 #define EP_NO_ROOM 1
 /* Out of memory. */
 #define EP_NO_MEMORY 2
-/* A packet, a fragment, a field of a plan or a payload is refused. */
+/* A packet, a fragment, a segment, a field of a plan or a payload is refused. */
 #define EP_REFUSED 3
-/* The pool isn't open, or is open already, or keeps a message. */
+/* The pool or stream isn't open, or is open already, or the pool keeps a message. */
 #define EP_WRONG_STATE 4
 /* A message is complete. */
 #define EP_COMPLETED 5
@@ -88,6 +106,8 @@ extern "C" {
 #define EP_NDP_OPTION_DNS_SEARCH_LIST 8
 /* No option: `fault` says why, and nothing is read after it. */
 #define EP_NDP_OPTION_FAULT 9
+/* A packet that has no TCP segment whose header is whole, or is a fragment. */
+#define EP_NO_SEGMENT 6
 /* Nothing is refused. */
 #define EP_REFUSAL_NONE 0
 /* A layer has too few bytes. */
@@ -114,6 +134,12 @@ extern "C" {
 #define EP_REFUSAL_HOP_BY_HOP_NOT_AT_START 11
 /* A TCP data offset below 5. */
 #define EP_REFUSAL_TCP_DATA_OFFSET 12
+/* A segment that ends after the window. */
+#define EP_SEGMENT_OUTSIDE_WINDOW 1
+/* A segment with a byte or FIN after FIN, or whose FIN stands before a byte or FIN. */
+#define EP_SEGMENT_AFTER_FIN 2
+/* A segment after the connection was reset. */
+#define EP_SEGMENT_AFTER_RESET 3
 /* No such link header, or none before an ARP packet. */
 #define EP_FIELD_LINK 1
 /* A packet type of a cooked capture above 4. */
@@ -272,6 +298,26 @@ typedef struct {
     /* The length of the packet, where it is built or the output is too short, else 0. */
     size_t len;
 } ep_built;
+
+/* Control flags of a TCP segment (RFC 9293, section 3.1). */
+typedef struct {
+    /* SYN: the sequence number is its own, and the payload begins at the next one. */
+    bool syn;
+    /* ACK. */
+    bool ack;
+    /* FIN: no byte comes after the payload. */
+    bool fin;
+    /* RST: the connection is reset, and the payload is no part of the stream. */
+    bool rst;
+} ep_segment_flags;
+
+/* How far a connection came. Zeros are a connection of which no segment came. */
+typedef struct {
+    /* 0 unseen, 1 SYN sent, 2 SYN received, 3 established, 4 closing, 5 closed, 6 reset. */
+    uint32_t state;
+    /* Of 1 and 2: the direction of the endpoint that opens it, of 4 that of the FIN. Else 0. */
+    uint32_t direction;
+} ep_connection_state;
 
 /* Where bytes are in those that were passed. */
 typedef struct {
@@ -747,6 +793,43 @@ typedef struct {
     uint8_t prefix[16];
 } ep_ndp_option;
 
+/* One end of a TCP connection. */
+typedef struct {
+    /* The IP version: 4 or 6. */
+    uint16_t version;
+    /* The port. */
+    uint16_t port;
+    /* The address. One of IPv4 is filled up with 0 to 16 bytes. */
+    uint8_t address[16];
+} ep_endpoint;
+
+/* What the segments of a TCP connection have in common, whichever way they go. There is no
+   padding: keys are the same where their bytes are. */
+typedef struct {
+    /* The endpoint of the lower version, else of the lower address by its bytes, else of the lower
+       port. */
+    ep_endpoint lower;
+    /* The other endpoint. */
+    ep_endpoint higher;
+    /* The caller's channel. */
+    uint32_t channel;
+    /* The identifiers of the VLAN tags, the outer one first. 0 where there are fewer. */
+    uint16_t vlan_ids[3];
+    /* How many VLAN tags there are, 0 to 3. */
+    uint16_t vlan_count;
+} ep_flow_key;
+
+/* The key of a packet. */
+typedef struct {
+    /* 0 where there is one, 3 where the packet is refused, 6 where it has no TCP segment whose
+       header is whole, or is a fragment. Where it isn't 0, all other fields are. */
+    uint32_t status;
+    /* In which direction the packet goes: 1 from the lower endpoint, 2 from the higher one. */
+    uint32_t direction;
+    /* The key. */
+    ep_flow_key key;
+} ep_packet_key;
+
 /* The headers of a packet to build. The fields of headers that it doesn't have are ignored.
    Lengths, checksums, ether types and the numbers of headers follow from it. */
 typedef struct {
@@ -905,6 +988,69 @@ typedef struct {
     /* For these calls alone. */
     void *held;
 } ep_pool;
+
+/* The bytes that one end of a TCP connection sent, put together as its segments come. Positions
+   count from 0, the number after that of SYN or, where SYN wasn't seen, that of the first
+   segment. It starts as zeros, and only these calls change it. */
+typedef struct {
+    /* Whether it was opened and not freed. */
+    bool is_open;
+    /* For these calls alone. */
+    void *held;
+} ep_stream;
+
+/* Positions at which a segment has another byte than one before it. The first byte stays. */
+typedef struct {
+    /* How many there are, UINT64_MAX at most. */
+    uint64_t count;
+    /* The one that was found first, 0 where there is none. */
+    uint64_t first;
+} ep_conflicts;
+
+/* What became of a segment that a stream was given. */
+typedef struct {
+    /* 0 where it is accepted, 2 out of memory, 3 where it is refused, 4 where the stream isn't open.
+       Where it isn't 0, nothing changed. */
+    uint32_t status;
+    /* Why it is refused: 1 it ends after the window, 2 it has a byte or FIN after FIN, or its FIN
+       stands before a byte or FIN, 3 the connection was reset. Else 0. */
+    uint32_t refusal;
+    /* Of refusal 1: the position after the window. Of 2: that of the FIN that stands before the
+       other. Else 0. */
+    uint64_t refused_at;
+    /* The position of its first byte, those before the ones that are held left out. 0 where it isn't
+       accepted. */
+    uint64_t position;
+    /* The positions of its bytes that differ from those that are held. */
+    ep_conflicts conflicts;
+} ep_stream_added;
+
+/* Positions whose bytes are missing. Both are 0 where there is no gap. */
+typedef struct {
+    /* The first of them. */
+    uint64_t start;
+    /* The position after the last one. */
+    uint64_t end;
+} ep_gap;
+
+/* How far a stream came. All fields are 0 where it isn't open. */
+typedef struct {
+    /* How many bytes can be read: those that follow the ones that were read, up to the first that is
+       missing. */
+    size_t available;
+    /* How many bytes were read. */
+    uint64_t consumed;
+    /* The first positions whose bytes are missing, if bytes after them are held. */
+    ep_gap gap;
+    /* The conflicts of all segments. */
+    ep_conflicts conflicts;
+    /* Whether all bytes before FIN came. */
+    bool is_finished;
+    /* Whether the connection was reset. */
+    bool is_reset;
+    /* Whether the first segment that came had no SYN: bytes before it may be missing. */
+    bool joined_late;
+} ep_stream_progress;
 
 /* A block of bytes that arrived after a gap (RFC 2018, section 3). */
 typedef struct {
@@ -1080,6 +1226,43 @@ ep_lax_packet ep_slice_linux_sll_lax(const uint8_t *bytes, size_t bytes_len);
    the reading. Only a packet without a whole IP header of a right version and header length is
    refused. */
 ep_lax_packet ep_slice_ip_lax(const uint8_t *bytes, size_t bytes_len);
+
+/* Opens a stream without segments, one direction of a TCP connection, with a window of so many
+   bytes: it holds no more than these. The result is 0 where it is open, 2 where there is no
+   memory, and 4 where it was open before. Where it isn't 0 nothing is changed. */
+uint32_t ep_stream_new(ep_stream *stream, size_t window);
+
+/* Takes a segment, in any order: the bytes of its payload for which none is held yet, and its
+   flags. The first byte that came for a position stays; where another one comes, the position
+   counts as a conflict. The status is 0 where it is accepted, 2 where there is no memory for it,
+   3 where it is refused, and 4 where the stream isn't open. Where it isn't 0 nothing is changed.
+   The refusals are tested in the order of their numbers. */
+ep_stream_added ep_stream_add(ep_stream *stream, uint32_t sequence_number, const ep_segment_flags *flags, const uint8_t *payload, size_t payload_len);
+
+/* Writes the next bytes of a stream to the start of the output, and takes them away: all that
+   are available, or as many as the output has. The result is how many, 0 where the stream isn't
+   open. */
+size_t ep_stream_read(ep_stream *stream, uint8_t *output, size_t output_len);
+
+/* How far a stream came. All fields are 0 where it isn't open. */
+ep_stream_progress ep_stream_progress_of(ep_stream *stream);
+
+/* Frees a stream and all that it holds. One that isn't open stays as it is. */
+void ep_stream_free(ep_stream *stream);
+
+/* The key of the TCP connection to which an Ethernet II frame belongs, which came on this
+   channel, and the frame's direction. The destination is that in the IP header. */
+ep_packet_key ep_flow_key_ethernet(const uint8_t *frame, size_t frame_len, uint32_t channel);
+
+/* That of a packet of a Linux cooked capture. */
+ep_packet_key ep_flow_key_linux_sll(const uint8_t *packet, size_t packet_len, uint32_t channel);
+
+/* That of an IP packet of either version. */
+ep_packet_key ep_flow_key_ip(const uint8_t *packet, size_t packet_len, uint32_t channel);
+
+/* How far a connection came after one more segment, which has these flags and goes in this
+   direction: 2 from the higher endpoint, any other number from the lower one. */
+ep_connection_state ep_connection_state_after(const ep_connection_state *state, uint32_t direction, const ep_segment_flags *flags);
 
 /* The verdict on the message in an Ethernet II frame: 0 no checksum, 1 a right one, 2 a wrong
    one, 3 no whole message that can be read. */

@@ -81,6 +81,16 @@ def sources(packet: ep.Packet) -> List[Union[IPv4Address, IPv6Address]]:
     return found
 
 
+def text_of(frames: List[bytes]) -> bytes:
+    flows: ep.Flows[ep.Stream] = ep.Flows(100, lambda: ep.Stream(65536))
+    for time, frame in enumerate(frames):
+        keyed, segment = ep.flow_key_ethernet(frame), ep.slice_ethernet(frame).tcp
+        if keyed and segment:
+            flows.add(*keyed, segment, time)
+    ended = flows.pop_oldest()
+    return ended[1].value.read() if ended and ended[1].state.state is ep.State.CLOSED else b""
+
+
 version: str = ep.__version__
 verdict: Optional[ep.Verdict] = ep.verdict_ip(b"")
 cut: ep.Packet = ep.slice_ip_lax(b"")
@@ -105,4 +115,8 @@ ep.PlannedTcp(1, 2, syns=True)  # type: ignore[call-arg]
 ep.build(b"", source="::1", destination="::2", transport="udp")  # type: ignore[arg-type]
 ep.slice_ethernet(b"").tcp_options()[0].size  # type: ignore[union-attr]
 ep.slice_ethernet(b"").igmp_message().group  # type: ignore[union-attr]
+ep.Stream("1")  # type: ignore[arg-type]
+ep.Stream(1).add(1, 2, b"")  # type: ignore[arg-type]
+ep.Stream(1).gap.start  # type: ignore[union-attr]
+ep.SegmentFlags().syn = True  # type: ignore[misc]
 ep.no_such_call  # type: ignore[attr-defined]

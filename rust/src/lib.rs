@@ -10,6 +10,7 @@
 
 mod addresses;
 mod fields;
+mod flows;
 mod groups;
 mod ndp_option;
 mod packet;
@@ -19,12 +20,14 @@ mod planned_tcp;
 mod pool;
 pub mod raw;
 mod refusal;
+mod streams;
 
 pub use addresses::Addresses;
 pub use fields::{
     AuthenticationExtension, Extension, Extensions, FragmentExtension, IcmpEchoHeader, IcmpType, NdpMessage, RawExtension,
     TcpOptionElement, TcpOptionReadError, TcpOptionsIterator, TimestampMessage,
 };
+pub use flows::{ConnectionState, Direction, Flow, FlowKey, FlowPacket, Flows, Traffic};
 pub use groups::{GroupRecord, GroupRecordError, GroupRecords, IgmpMessage, MldMessage, MulticastError};
 pub use ndp_option::{NdpOption, NdpOptionError, NdpOptionsIterator, PrefixInformation};
 pub use packet::{LaxPacket, Link, Net, Packet, Stop, Transport};
@@ -39,6 +42,7 @@ pub use plan::{
 pub use planned_tcp::PlannedTcp;
 pub use pool::{AddError, Message, PartRefusal, Pool};
 pub use refusal::{Fault, Layer, LenSource, Refusal};
+pub use streams::{AddedSegment, Conflicts, Gap, SegmentError, SegmentFlags, Stream, StreamProgress};
 
 use std::error::Error;
 use std::fmt;

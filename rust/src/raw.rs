@@ -1,6 +1,24 @@
 //! The exports and their structs. Written by `tools/bindings`.
 #![allow(dead_code)]
 
+/// From the lower endpoint to the higher one.
+pub const FROM_LOWER: u32 = 1;
+/// From the higher endpoint to the lower one.
+pub const FROM_HIGHER: u32 = 2;
+/// No segment of the connection came.
+pub const STATE_UNSEEN: u32 = 0;
+/// The endpoint that opens it sent SYN.
+pub const STATE_SYN_SENT: u32 = 1;
+/// The other endpoint answered with SYN, and the first one didn't acknowledge that.
+pub const STATE_SYN_RECEIVED: u32 = 2;
+/// Both endpoints may send.
+pub const STATE_ESTABLISHED: u32 = 3;
+/// One endpoint sent FIN.
+pub const STATE_CLOSING: u32 = 4;
+/// Both endpoints sent FIN.
+pub const STATE_CLOSED: u32 = 5;
+/// An endpoint sent RST before both sent FIN.
+pub const STATE_RESET: u32 = 6;
 /// No message of a multicast group.
 pub const GROUP_NONE: u32 = 0;
 /// A query without sources: version 1 of MLD, 1 or 2 of IGMP.
@@ -45,9 +63,9 @@ pub const DONE: u32 = 0;
 pub const NO_ROOM: u32 = 1;
 /// Out of memory.
 pub const NO_MEMORY: u32 = 2;
-/// A packet, a fragment, a field of a plan or a payload is refused.
+/// A packet, a fragment, a segment, a field of a plan or a payload is refused.
 pub const REFUSED: u32 = 3;
-/// The pool isn't open, or is open already, or keeps a message.
+/// The pool or stream isn't open, or is open already, or the pool keeps a message.
 pub const WRONG_STATE: u32 = 4;
 /// A message is complete.
 pub const COMPLETED: u32 = 5;
@@ -71,6 +89,8 @@ pub const NDP_OPTION_RECURSIVE_DNS_SERVER: u32 = 7;
 pub const NDP_OPTION_DNS_SEARCH_LIST: u32 = 8;
 /// No option: `fault` says why, and nothing is read after it.
 pub const NDP_OPTION_FAULT: u32 = 9;
+/// A packet that has no TCP segment whose header is whole, or is a fragment.
+pub const NO_SEGMENT: u32 = 6;
 /// Nothing is refused.
 pub const REFUSAL_NONE: u32 = 0;
 /// A layer has too few bytes.
@@ -97,6 +117,12 @@ pub const REFUSAL_AUTH_HEADER_LEN: u32 = 10;
 pub const REFUSAL_HOP_BY_HOP_NOT_AT_START: u32 = 11;
 /// A TCP data offset below 5.
 pub const REFUSAL_TCP_DATA_OFFSET: u32 = 12;
+/// A segment that ends after the window.
+pub const SEGMENT_OUTSIDE_WINDOW: u32 = 1;
+/// A segment with a byte or FIN after FIN, or whose FIN stands before a byte or FIN.
+pub const SEGMENT_AFTER_FIN: u32 = 2;
+/// A segment after the connection was reset.
+pub const SEGMENT_AFTER_RESET: u32 = 3;
 /// No such link header, or none before an ARP packet.
 pub const FIELD_LINK: u32 = 1;
 /// A packet type of a cooked capture above 4.
@@ -333,6 +359,30 @@ pub struct EpBuilt {
     pub field: u32,
     /// The length of the packet, where it is built or the output is too short, else 0.
     pub len: usize,
+}
+
+/// Control flags of a TCP segment (RFC 9293, section 3.1).
+#[repr(C)]
+#[derive(Clone, Copy, Debug, PartialEq, Eq)]
+pub struct EpSegmentFlags {
+    /// SYN: the sequence number is its own, and the payload begins at the next one.
+    pub syn: bool,
+    /// ACK.
+    pub ack: bool,
+    /// FIN: no byte comes after the payload.
+    pub fin: bool,
+    /// RST: the connection is reset, and the payload is no part of the stream.
+    pub rst: bool,
+}
+
+/// How far a connection came. Zeros are a connection of which no segment came.
+#[repr(C)]
+#[derive(Clone, Copy, Debug, PartialEq, Eq)]
+pub struct EpConnectionState {
+    /// 0 unseen, 1 SYN sent, 2 SYN received, 3 established, 4 closing, 5 closed, 6 reset.
+    pub state: u32,
+    /// Of 1 and 2: the direction of the endpoint that opens it, of 4 that of the FIN. Else 0.
+    pub direction: u32,
 }
 
 /// Where bytes are in those that were passed.
@@ -845,6 +895,49 @@ pub struct EpNdpOption {
     pub prefix: [u8; 16],
 }
 
+/// One end of a TCP connection.
+#[repr(C)]
+#[derive(Clone, Copy, Debug, PartialEq, Eq)]
+pub struct EpEndpoint {
+    /// The IP version: 4 or 6.
+    pub version: u16,
+    /// The port.
+    pub port: u16,
+    /// The address. One of IPv4 is filled up with 0 to 16 bytes.
+    pub address: [u8; 16],
+}
+
+/// What the segments of a TCP connection have in common, whichever way they go. There is no padding:
+/// keys are the same where their bytes are.
+#[repr(C)]
+#[derive(Clone, Copy, Debug, PartialEq, Eq)]
+pub struct EpFlowKey {
+    /// The endpoint of the lower version, else of the lower address by its bytes, else of the lower
+    /// port.
+    pub lower: EpEndpoint,
+    /// The other endpoint.
+    pub higher: EpEndpoint,
+    /// The caller's channel.
+    pub channel: u32,
+    /// The identifiers of the VLAN tags, the outer one first. 0 where there are fewer.
+    pub vlan_ids: [u16; 3],
+    /// How many VLAN tags there are, 0 to 3.
+    pub vlan_count: u16,
+}
+
+/// The key of a packet.
+#[repr(C)]
+#[derive(Clone, Copy, Debug, PartialEq, Eq)]
+pub struct EpPacketKey {
+    /// 0 where there is one, 3 where the packet is refused, 6 where it has no TCP segment whose
+    /// header is whole, or is a fragment. Where it isn't 0, all other fields are.
+    pub status: u32,
+    /// In which direction the packet goes: 1 from the lower endpoint, 2 from the higher one.
+    pub direction: u32,
+    /// The key.
+    pub key: EpFlowKey,
+}
+
 /// The headers of a packet to build. The fields of headers that it doesn't have are ignored.
 /// Lengths, checksums, ether types and the numbers of headers follow from it.
 #[repr(C)]
@@ -1006,6 +1099,79 @@ pub struct EpPool {
     pub is_open: bool,
     /// For these calls alone.
     pub held: *mut std::ffi::c_void,
+}
+
+/// The bytes that one end of a TCP connection sent, put together as its segments come. Positions count
+/// from 0, the number after that of SYN or, where SYN wasn't seen, that of the first segment. It starts
+/// as zeros, and only these calls change it.
+#[repr(C)]
+#[derive(Clone, Copy, Debug, PartialEq, Eq)]
+pub struct EpStream {
+    /// Whether it was opened and not freed.
+    pub is_open: bool,
+    /// For these calls alone.
+    pub held: *mut std::ffi::c_void,
+}
+
+/// Positions at which a segment has another byte than one before it. The first byte stays.
+#[repr(C)]
+#[derive(Clone, Copy, Debug, PartialEq, Eq)]
+pub struct EpConflicts {
+    /// How many there are, UINT64_MAX at most.
+    pub count: u64,
+    /// The one that was found first, 0 where there is none.
+    pub first: u64,
+}
+
+/// What became of a segment that a stream was given.
+#[repr(C)]
+#[derive(Clone, Copy, Debug, PartialEq, Eq)]
+pub struct EpStreamAdded {
+    /// 0 where it is accepted, 2 out of memory, 3 where it is refused, 4 where the stream isn't open.
+    /// Where it isn't 0, nothing changed.
+    pub status: u32,
+    /// Why it is refused: 1 it ends after the window, 2 it has a byte or FIN after FIN, or its FIN
+    /// stands before a byte or FIN, 3 the connection was reset. Else 0.
+    pub refusal: u32,
+    /// Of refusal 1: the position after the window. Of 2: that of the FIN that stands before the
+    /// other. Else 0.
+    pub refused_at: u64,
+    /// The position of its first byte, those before the ones that are held left out. 0 where it isn't
+    /// accepted.
+    pub position: u64,
+    /// The positions of its bytes that differ from those that are held.
+    pub conflicts: EpConflicts,
+}
+
+/// Positions whose bytes are missing. Both are 0 where there is no gap.
+#[repr(C)]
+#[derive(Clone, Copy, Debug, PartialEq, Eq)]
+pub struct EpGap {
+    /// The first of them.
+    pub start: u64,
+    /// The position after the last one.
+    pub end: u64,
+}
+
+/// How far a stream came. All fields are 0 where it isn't open.
+#[repr(C)]
+#[derive(Clone, Copy, Debug, PartialEq, Eq)]
+pub struct EpStreamProgress {
+    /// How many bytes can be read: those that follow the ones that were read, up to the first that
+    /// is missing.
+    pub available: usize,
+    /// How many bytes were read.
+    pub consumed: u64,
+    /// The first positions whose bytes are missing, if bytes after them are held.
+    pub gap: EpGap,
+    /// The conflicts of all segments.
+    pub conflicts: EpConflicts,
+    /// Whether all bytes before FIN came.
+    pub is_finished: bool,
+    /// Whether the connection was reset.
+    pub is_reset: bool,
+    /// Whether the first segment that came had no SYN: bytes before it may be missing.
+    pub joined_late: bool,
 }
 
 /// A block of bytes that arrived after a gap (RFC 2018, section 3).
@@ -1193,6 +1359,15 @@ extern "C" {
     pub(crate) fn ep_slice_ethernet_lax(bytes: *const u8, bytes_len: usize) -> EpLaxPacket;
     pub(crate) fn ep_slice_linux_sll_lax(bytes: *const u8, bytes_len: usize) -> EpLaxPacket;
     pub(crate) fn ep_slice_ip_lax(bytes: *const u8, bytes_len: usize) -> EpLaxPacket;
+    pub(crate) fn ep_stream_new(stream: *mut EpStream, window: usize) -> u32;
+    pub(crate) fn ep_stream_add(stream: *mut EpStream, sequence_number: u32, flags: *const EpSegmentFlags, payload: *const u8, payload_len: usize) -> EpStreamAdded;
+    pub(crate) fn ep_stream_read(stream: *mut EpStream, output: *mut u8, output_len: usize) -> usize;
+    pub(crate) fn ep_stream_progress_of(stream: *mut EpStream) -> EpStreamProgress;
+    pub(crate) fn ep_stream_free(stream: *mut EpStream);
+    pub(crate) fn ep_flow_key_ethernet(frame: *const u8, frame_len: usize, channel: u32) -> EpPacketKey;
+    pub(crate) fn ep_flow_key_linux_sll(packet: *const u8, packet_len: usize, channel: u32) -> EpPacketKey;
+    pub(crate) fn ep_flow_key_ip(packet: *const u8, packet_len: usize, channel: u32) -> EpPacketKey;
+    pub(crate) fn ep_connection_state_after(state: *const EpConnectionState, direction: u32, flags: *const EpSegmentFlags) -> EpConnectionState;
     pub(crate) fn ep_verdict_ethernet(bytes: *const u8, bytes_len: usize) -> u32;
     pub(crate) fn ep_verdict_linux_sll(bytes: *const u8, bytes_len: usize) -> u32;
     pub(crate) fn ep_verdict_ip(bytes: *const u8, bytes_len: usize) -> u32;
@@ -1209,6 +1384,8 @@ const _: () = assert!(std::mem::size_of::<EpPartRefusal>() == 24);
 const _: () = assert!(std::mem::size_of::<EpMessage>() == 56);
 const _: () = assert!(std::mem::size_of::<EpAdded>() == 128);
 const _: () = assert!(std::mem::size_of::<EpBuilt>() == 16);
+const _: () = assert!(std::mem::size_of::<EpSegmentFlags>() == 4);
+const _: () = assert!(std::mem::size_of::<EpConnectionState>() == 8);
 const _: () = assert!(std::mem::size_of::<EpPart>() == 16);
 const _: () = assert!(std::mem::size_of::<EpExtensions>() == 24);
 const _: () = assert!(std::mem::size_of::<EpExtension>() == 56);
@@ -1228,9 +1405,17 @@ const _: () = assert!(std::mem::size_of::<EpIcmp>() == 40);
 const _: () = assert!(std::mem::size_of::<EpPacket>() == 656);
 const _: () = assert!(std::mem::size_of::<EpLaxPacket>() == 704);
 const _: () = assert!(std::mem::size_of::<EpNdpOption>() == 96);
+const _: () = assert!(std::mem::size_of::<EpEndpoint>() == 20);
+const _: () = assert!(std::mem::size_of::<EpFlowKey>() == 52);
+const _: () = assert!(std::mem::size_of::<EpPacketKey>() == 60);
 const _: () = assert!(std::mem::size_of::<EpPlan>() == 248);
 const _: () = assert!(std::mem::size_of::<EpPlannedExtensions>() == 104);
 const _: () = assert!(std::mem::size_of::<EpPool>() == 16);
+const _: () = assert!(std::mem::size_of::<EpStream>() == 16);
+const _: () = assert!(std::mem::size_of::<EpConflicts>() == 16);
+const _: () = assert!(std::mem::size_of::<EpStreamAdded>() == 40);
+const _: () = assert!(std::mem::size_of::<EpGap>() == 16);
+const _: () = assert!(std::mem::size_of::<EpStreamProgress>() == 56);
 const _: () = assert!(std::mem::size_of::<EpTcpBlock>() == 8);
 const _: () = assert!(std::mem::size_of::<EpTcpOption>() == 64);
 const _: () = assert!(std::mem::size_of::<NetlinesSession>() == 16);

@@ -1,4 +1,5 @@
 pub mod Build
+pub mod Connection
 pub mod Extension
 pub mod FramePool
 pub mod GroupMessage
@@ -11,6 +12,7 @@ pub mod Message
 pub mod NdpOption
 pub mod Net
 pub mod Packet
+pub mod PacketKey
 pub mod Part
 pub mod PartRefusal
 pub mod Plan
@@ -19,6 +21,8 @@ pub mod PlannedExtensions
 pub mod PlannedIp
 pub mod Pool
 pub mod Refusal
+pub mod Stream
+pub mod StreamAdded
 pub mod TcpOption
 pub mod Transport
 pub mod Verdict

@@ -8,3 +8,4 @@ pub mod packets;
 pub mod plans;
 pub mod pools;
 pub mod refusals;
+pub mod streams;
