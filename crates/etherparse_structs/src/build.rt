@@ -2,7 +2,7 @@
 ghost use Rattle.std.specs.Prelude.{◌≡◌, ◌≤◌, ◌<◌, ◌++◌, [], length, drop, IfSome, None, Err, IsOkUnless, MatchOption};
 ghost use Rattle.std.specs.Prelude.{MatchResult, Ok, OnOk};
 ghost use Rattle.std.specs.Option.{option_map, option_or};
-ghost use Rattle.etherparse.specs.Built.{number_in, packet_with_number, refusal_of};
+ghost use Rattle.etherparse.specs.Built.{built_arp, number_in, packet_with_number, refusal_of};
 ghost use Rattle.etherparse_structs.specs.Build.{built, error_of, has_no_room, not_built, refused};
 ghost use Rattle.etherparse_structs.specs.Plan.{bytes_in, extended_bytes_in, field_of, headers_in, lower_headers_in};
 ghost use Rattle.etherparse_structs.specs.Plan.{wrong_in, wrong_in_extended, wrong_transport};
@@ -15,7 +15,7 @@ use crate::planned_arp::arp_headers;
 use crate::planned_extensions::EpPlannedExtensions;
 use crate::{DONE, EpArp, NO_MEMORY, NO_ROOM, REFUSED};
 use etherparse::err::packet::BuildWriteError;
-use etherparse::{IpHeaders, IpNumber, PacketBuilderStep, TransportStep};
+use etherparse::{ArpPacket, IpHeaders, IpNumber, PacketBuilderStep, TransportStep};
 use std::alloc::Global;
 
 /// The result of building a packet.
@@ -217,9 +217,19 @@ fn append_arp(
         ++ arp_bytes_in plan.now arp.now bytes.now) }
 {
     match arp_headers(plan, arp, bytes) {
-        Ok(step) => written(step.write(packet)),
+        Ok(step) => append_arp_packet(step, packet),
         Err(field) => Err(BuildError::Field(field)),
     }
+}
+
+fn append_arp_packet(
+    step: PacketBuilderStep<ArpPacket>,
+    packet: &mut Vec<u8>,
+) -> Result<(), BuildError>
+    ensures outcome { IsOkUnless result Memory }
+    ensures bytes { OnOk result (packet.new.items ≡ packet.old.items ++ built_arp step) }
+{
+    written(step.write(packet))
 }
 
 fn append_message<L: TransportStep>(
