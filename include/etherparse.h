@@ -7,7 +7,7 @@
    No call keeps a pointer, blocks or ends the process.
    Calls may call malloc, realloc and free, which come from one allocator and align blocks as
    usual. None is made in a signal handler, nor in the forked child of a process with threads.
-   A pool begins as zeros, which is not open, and only these calls change it. It isn't copied. Any
+   A pool or stream begins as zeros, which is not open, and only these calls change it. It isn't copied. Any
    thread may use it, if each call to it begins after the one before has returned. */
 #ifndef ETHERPARSE_H
 #define ETHERPARSE_H
@@ -18,6 +18,24 @@
 extern "C" {
 #endif
 
+/* From the lower endpoint to the higher one. */
+#define EP_FROM_LOWER 1
+/* From the higher endpoint to the lower one. */
+#define EP_FROM_HIGHER 2
+/* No segment of the connection came. */
+#define EP_STATE_UNSEEN 0
+/* The endpoint that opens it sent SYN. */
+#define EP_STATE_SYN_SENT 1
+/* The other endpoint answered with SYN, and the first one didn't acknowledge that. */
+#define EP_STATE_SYN_RECEIVED 2
+/* Both endpoints may send. */
+#define EP_STATE_ESTABLISHED 3
+/* One endpoint sent FIN. */
+#define EP_STATE_CLOSING 4
+/* Both endpoints sent FIN. */
+#define EP_STATE_CLOSED 5
+/* An endpoint sent RST before both sent FIN. */
+#define EP_STATE_RESET 6
 /* No message of a multicast group. */
 #define EP_GROUP_NONE 0
 /* A query without sources: version 1 of MLD, 1 or 2 of IGMP. */
@@ -62,9 +80,9 @@ extern "C" {
 #define EP_NO_ROOM 1
 /* Out of memory. */
 #define EP_NO_MEMORY 2
-/* A packet, a fragment, a field of a plan or a payload is refused. */
+/* A packet, a fragment, a segment, a field of a plan or a payload is refused. */
 #define EP_REFUSED 3
-/* The pool isn't open, or is open already, or keeps a message. */
+/* The pool or stream isn't open, or is open already, or the pool keeps a message. */
 #define EP_WRONG_STATE 4
 /* A message is complete. */
 #define EP_COMPLETED 5
@@ -88,6 +106,8 @@ extern "C" {
 #define EP_NDP_OPTION_DNS_SEARCH_LIST 8
 /* No option: `fault` says why, and nothing is read after it. */
 #define EP_NDP_OPTION_FAULT 9
+/* A packet that has no TCP segment whose header is whole, or is a fragment. */
+#define EP_NO_SEGMENT 6
 /* Nothing is refused. */
 #define EP_REFUSAL_NONE 0
 /* A layer has too few bytes. */
@@ -114,15 +134,60 @@ extern "C" {
 #define EP_REFUSAL_HOP_BY_HOP_NOT_AT_START 11
 /* A TCP data offset below 5. */
 #define EP_REFUSAL_TCP_DATA_OFFSET 12
+/* A segment that ends after the window. */
+#define EP_SEGMENT_OUTSIDE_WINDOW 1
+/* A segment with a byte or FIN after FIN, or whose FIN stands before a byte or FIN. */
+#define EP_SEGMENT_AFTER_FIN 2
+/* A segment after the connection was reset. */
+#define EP_SEGMENT_AFTER_RESET 3
+/* No such link header, or none before an ARP packet. */
 #define EP_FIELD_LINK 1
+/* A packet type of a cooked capture above 4. */
 #define EP_FIELD_PACKET_TYPE 2
+/* More than two tags, or tags without an Ethernet II header. */
 #define EP_FIELD_TAG_COUNT 3
+/* An identifier of the first tag above 4095. */
 #define EP_FIELD_OUTER_VLAN_ID 4
-#define EP_FIELD_INNER_VLAN_ID 5
-#define EP_FIELD_IP_VERSION 6
-#define EP_FIELD_TRANSPORT 7
-#define EP_FIELD_OPTIONS_LEN 8
-#define EP_FIELD_PAYLOAD 9
+/* A priority of the first tag above 7. */
+#define EP_FIELD_OUTER_PRIORITY 5
+/* An identifier of the second tag above 4095. */
+#define EP_FIELD_INNER_VLAN_ID 6
+/* A priority of the second tag above 7. */
+#define EP_FIELD_INNER_PRIORITY 7
+/* No such IP version. */
+#define EP_FIELD_IP_VERSION 8
+/* A differentiated services code point above 63. */
+#define EP_FIELD_DSCP 9
+/* An explicit congestion notification above 3. */
+#define EP_FIELD_ECN 10
+/* An offset of a fragment over IPv4 above 8191. */
+#define EP_FIELD_FRAGMENT_OFFSET 11
+/* More than 40 bytes of IPv4's options, or no whole words of 4. */
+#define EP_FIELD_IPV4_OPTIONS_LEN 12
+/* A flow label above 1048575. */
+#define EP_FIELD_FLOW_LABEL 13
+/* Hop-by-hop options of a length that no header states, not within the bytes, or over IPv4. */
+#define EP_FIELD_HOP_BY_HOP_OPTIONS 14
+/* The same of destination options before a routing header. */
+#define EP_FIELD_DESTINATION_OPTIONS 15
+/* The same of a routing header. */
+#define EP_FIELD_ROUTING 16
+/* A fragment header whose offset is above 8191, or over IPv4. */
+#define EP_FIELD_FRAGMENT_HEADER 17
+/* An integrity check value of a length that no header states, or not within the bytes. */
+#define EP_FIELD_AUTHENTICATION 18
+/* The same as of destination options, of those after a routing header, or no routing header. */
+#define EP_FIELD_FINAL_DESTINATION_OPTIONS 19
+/* No such transport header, or ICMPv6 over IPv4. */
+#define EP_FIELD_TRANSPORT 20
+/* More than 40 bytes of TCP's options. */
+#define EP_FIELD_OPTIONS_LEN 21
+/* Hardware addresses that differ in length, have more than 255 bytes, or aren't within the bytes. */
+#define EP_FIELD_HARDWARE_ADDRESSES 22
+/* The same of protocol addresses. */
+#define EP_FIELD_PROTOCOL_ADDRESSES 23
+/* A payload that is longer than the length field of the IP header can state. */
+#define EP_FIELD_PAYLOAD 24
 #define EP_LAYER_LINUX_SLL_HEADER 1
 #define EP_LAYER_ETHERNET2_HEADER 2
 #define EP_LAYER_ETHER_PAYLOAD 3
@@ -225,13 +290,34 @@ typedef struct {
 /* The result of building a packet. */
 typedef struct {
     /* 0 where it is built, 1 where the output is shorter than the packet, 2 where there is no
-       memory, 3 where a field of the plan, or the payload, is refused. */
+       memory, 3 where it is refused: EP_DONE, EP_NO_ROOM, EP_NO_MEMORY or EP_REFUSED. */
     uint32_t status;
-    /* The first field of the plan at fault, where it is refused, else 0. */
+    /* What is at fault, where it is refused, else 0: the first of EP_FIELD_LINK and so on in the
+       order of their numbers; but that the payload is too long comes before ICMPv6 over IPv4. */
     uint32_t field;
     /* The length of the packet, where it is built or the output is too short, else 0. */
     size_t len;
 } ep_built;
+
+/* Control flags of a TCP segment (RFC 9293, section 3.1). */
+typedef struct {
+    /* SYN: the sequence number is its own, and the payload begins at the next one. */
+    bool syn;
+    /* ACK. */
+    bool ack;
+    /* FIN: no byte comes after the payload. */
+    bool fin;
+    /* RST: the connection is reset, and the payload is no part of the stream. */
+    bool rst;
+} ep_segment_flags;
+
+/* How far a connection came. Zeros are a connection of which no segment came. */
+typedef struct {
+    /* 0 unseen, 1 SYN sent, 2 SYN received, 3 established, 4 closing, 5 closed, 6 reset. */
+    uint32_t state;
+    /* Of 1 and 2: the direction of the endpoint that opens it, of 4 that of the FIN. Else 0. */
+    uint32_t direction;
+} ep_connection_state;
 
 /* Where bytes are in those that were passed. */
 typedef struct {
@@ -707,6 +793,43 @@ typedef struct {
     uint8_t prefix[16];
 } ep_ndp_option;
 
+/* One end of a TCP connection. */
+typedef struct {
+    /* The IP version: 4 or 6. */
+    uint16_t version;
+    /* The port. */
+    uint16_t port;
+    /* The address. One of IPv4 is filled up with 0 to 16 bytes. */
+    uint8_t address[16];
+} ep_endpoint;
+
+/* What the segments of a TCP connection have in common, whichever way they go. There is no
+   padding: keys are the same where their bytes are. */
+typedef struct {
+    /* The endpoint of the lower version, else of the lower address by its bytes, else of the lower
+       port. */
+    ep_endpoint lower;
+    /* The other endpoint. */
+    ep_endpoint higher;
+    /* The caller's channel. */
+    uint32_t channel;
+    /* The identifiers of the VLAN tags, the outer one first. 0 where there are fewer. */
+    uint16_t vlan_ids[3];
+    /* How many VLAN tags there are, 0 to 3. */
+    uint16_t vlan_count;
+} ep_flow_key;
+
+/* The key of a packet. */
+typedef struct {
+    /* 0 where there is one, 3 where the packet is refused, 6 where it has no TCP segment whose
+       header is whole, or is a fragment. Where it isn't 0, all other fields are. */
+    uint32_t status;
+    /* In which direction the packet goes: 1 from the lower endpoint, 2 from the higher one. */
+    uint32_t direction;
+    /* The key. */
+    ep_flow_key key;
+} ep_packet_key;
+
 /* The headers of a packet to build. The fields of headers that it doesn't have are ignored.
    Lengths, checksums, ether types and the numbers of headers follow from it. */
 typedef struct {
@@ -728,6 +851,14 @@ typedef struct {
     uint16_t outer_vlan_id;
     /* The identifier of the second one, 0 to 4095. */
     uint16_t inner_vlan_id;
+    /* The priority of the first of them, 0 to 7 (IEEE 802.1Q, section 6.9.3). */
+    uint8_t outer_priority;
+    /* The priority of the second one, 0 to 7. */
+    uint8_t inner_priority;
+    /* Whether the first of them says that the frame may be dropped first. */
+    bool outer_drop_eligible;
+    /* Whether the second one says so. */
+    bool inner_drop_eligible;
     /* The IP version: 4 or 6. */
     uint32_t ip_version;
     /* Of IPv4: the source address. */
@@ -738,7 +869,28 @@ typedef struct {
     uint8_t ipv6_source[16];
     /* Of IPv6: the destination address. */
     uint8_t ipv6_destination[16];
-    /* How many hops it may take. */
+    /* Of IPv4: how many bytes of options there are, at most 40, a multiple of 4. */
+    size_t ipv4_options_len;
+    /* Of IPv4: the options. */
+    uint8_t ipv4_options[40];
+    /* Of IPv4: the identification, which the fragments of one datagram share. */
+    uint16_t identification;
+    /* Of IPv4: the offset of the payload in the datagram, in units of 8 bytes, 0 to 8191. */
+    uint16_t fragment_offset;
+    /* Of IPv4: differentiated services code point, 0 to 63 (RFC 2474). */
+    uint8_t dscp;
+    /* Of IPv4: explicit congestion notification, 0 to 3 (RFC 3168). */
+    uint8_t ecn;
+    /* Of IPv4: whether the packet may be fragmented. Where it may not, don't-fragment is set. */
+    bool may_fragment;
+    /* Of IPv4: whether other fragments follow. */
+    bool more_fragments;
+    /* Of IPv6: the flow label, 0 to 1048575. */
+    uint32_t flow_label;
+    /* Of IPv6: the traffic class. Differentiated services code point are its upper 6 bits, explicit
+       congestion notification the lower 2. */
+    uint8_t traffic_class;
+    /* How many hops it may take: time to live of IPv4, hop limit of IPv6. */
     uint8_t hops;
     /* Without a transport header: the number of the payload. */
     uint8_t payload_number;
@@ -754,6 +906,15 @@ typedef struct {
     uint16_t echo_id;
     /* Of ICMP: the number of the echo. */
     uint16_t echo_sequence;
+    /* Of ICMP: whether it isn't an echo, but has the type, the code and the 4 bytes that follow
+       here. */
+    bool icmp_is_raw;
+    /* Of ICMP that is no echo: its type. */
+    uint8_t icmp_type;
+    /* Of ICMP that is no echo: its code. */
+    uint8_t icmp_code;
+    /* Of ICMP that is no echo: the 4 bytes after the checksum. */
+    uint8_t icmp_bytes[4];
     /* Of TCP: the sequence number. */
     uint32_t sequence_number;
     /* Of TCP: the acknowledgment number. */
@@ -786,6 +947,40 @@ typedef struct {
     uint8_t options[40];
 } ep_plan;
 
+/* The extension headers of a packet to build (RFC 8200, section 4; RFC 4302). They are written
+   in the order of RFC 8200, section 4.1: hop-by-hop options, destination options, routing,
+   fragment, authentication, destination options. Over IPv4 there is authentication alone. A part
+   of options or routing is what follows the first two bytes of the header: 6 bytes and a
+   multiple of 8, at most 2046; no bytes stand for no header. Numbers and lengths of headers
+   follow from it. */
+typedef struct {
+    /* Hop-by-hop options. */
+    ep_part hop_by_hop_options;
+    /* Destination options before a routing header, or where there is none. */
+    ep_part destination_options;
+    /* The routing header. */
+    ep_part routing;
+    /* Destination options after the routing header, without which they are refused. */
+    ep_part final_destination_options;
+    /* Of authentication: the integrity check value, a multiple of 4 bytes, at most 1016. */
+    ep_part integrity_check_value;
+    /* Of a fragment header: the identification, which the fragments of one datagram share. */
+    uint32_t identification;
+    /* Of authentication: the security parameters index. */
+    uint32_t spi;
+    /* Of authentication: the sequence number. */
+    uint32_t sequence_number;
+    /* Of a fragment header: the offset of the payload in the datagram, in units of 8 bytes, 0 to
+       8191. */
+    uint16_t fragment_offset;
+    /* Of a fragment header: whether other fragments follow. */
+    bool more_fragments;
+    /* Whether there is a fragment header. */
+    bool has_fragment_header;
+    /* Whether there is an authentication header. */
+    bool has_authentication;
+} ep_planned_extensions;
+
 /* A pool that reassembles datagrams. It starts as zeros, and only these calls change it. */
 typedef struct {
     /* Whether it was opened and not freed. */
@@ -793,6 +988,69 @@ typedef struct {
     /* For these calls alone. */
     void *held;
 } ep_pool;
+
+/* The bytes that one end of a TCP connection sent, put together as its segments come. Positions
+   count from 0, the number after that of SYN or, where SYN wasn't seen, that of the first
+   segment. It starts as zeros, and only these calls change it. */
+typedef struct {
+    /* Whether it was opened and not freed. */
+    bool is_open;
+    /* For these calls alone. */
+    void *held;
+} ep_stream;
+
+/* Positions at which a segment has another byte than one before it. The first byte stays. */
+typedef struct {
+    /* How many there are, UINT64_MAX at most. */
+    uint64_t count;
+    /* The one that was found first, 0 where there is none. */
+    uint64_t first;
+} ep_conflicts;
+
+/* What became of a segment that a stream was given. */
+typedef struct {
+    /* 0 where it is accepted, 2 out of memory, 3 where it is refused, 4 where the stream isn't open.
+       Where it isn't 0, nothing changed. */
+    uint32_t status;
+    /* Why it is refused: 1 it ends after the window, 2 it has a byte or FIN after FIN, or its FIN
+       stands before a byte or FIN, 3 the connection was reset. Else 0. */
+    uint32_t refusal;
+    /* Of refusal 1: the position after the window. Of 2: that of the FIN that stands before the
+       other. Else 0. */
+    uint64_t refused_at;
+    /* The position of its first byte, those before the ones that are held left out. 0 where it isn't
+       accepted. */
+    uint64_t position;
+    /* The positions of its bytes that differ from those that are held. */
+    ep_conflicts conflicts;
+} ep_stream_added;
+
+/* Positions whose bytes are missing. Both are 0 where there is no gap. */
+typedef struct {
+    /* The first of them. */
+    uint64_t start;
+    /* The position after the last one. */
+    uint64_t end;
+} ep_gap;
+
+/* How far a stream came. All fields are 0 where it isn't open. */
+typedef struct {
+    /* How many bytes can be read: those that follow the ones that were read, up to the first that is
+       missing. */
+    size_t available;
+    /* How many bytes were read. */
+    uint64_t consumed;
+    /* The first positions whose bytes are missing, if bytes after them are held. */
+    ep_gap gap;
+    /* The conflicts of all segments. */
+    ep_conflicts conflicts;
+    /* Whether all bytes before FIN came. */
+    bool is_finished;
+    /* Whether the connection was reset. */
+    bool is_reset;
+    /* Whether the first segment that came had no SYN: bytes before it may be missing. */
+    bool joined_late;
+} ep_stream_progress;
 
 /* A block of bytes that arrived after a gap (RFC 2018, section 3). */
 typedef struct {
@@ -836,6 +1094,16 @@ typedef struct {
    and 3 where a field of the plan, or the payload, is refused. Where it isn't 0 the output is as
    it was. */
 ep_built ep_build(const ep_plan *plan, const uint8_t *payload, size_t payload_len, uint8_t *output, size_t output_len);
+
+/* The same with these extension headers, whose parts are in these bytes. A part that isn't whole
+   within the bytes is refused, as one of a length that no header states. */
+ep_built ep_build_with_extensions(const ep_plan *plan, const ep_planned_extensions *extensions, const uint8_t *bytes, size_t bytes_len, const uint8_t *payload, size_t payload_len, uint8_t *output, size_t output_len);
+
+/* Builds the packet of a plan that holds an ARP packet in place of one of IP, at the start of
+   the output; of the plan it reads the link header and its tags. The types, the operation and
+   the addresses are those of `arp`, the addresses parts of these bytes: of one length for both
+   ends, at most 255. The status is that of `ep_build`. Where it isn't 0 the output is as it was. */
+ep_built ep_build_arp(const ep_plan *plan, const ep_arp *arp, const uint8_t *bytes, size_t bytes_len, uint8_t *output, size_t output_len);
 
 /* The checksum of the bytes, as a header has it, high byte first. */
 uint16_t ep_checksum(const uint8_t *bytes, size_t bytes_len);
@@ -958,6 +1226,43 @@ ep_lax_packet ep_slice_linux_sll_lax(const uint8_t *bytes, size_t bytes_len);
    the reading. Only a packet without a whole IP header of a right version and header length is
    refused. */
 ep_lax_packet ep_slice_ip_lax(const uint8_t *bytes, size_t bytes_len);
+
+/* Opens a stream without segments, one direction of a TCP connection, with a window of so many
+   bytes: it holds no more than these. The result is 0 where it is open, 2 where there is no
+   memory, and 4 where it was open before. Where it isn't 0 nothing is changed. */
+uint32_t ep_stream_new(ep_stream *stream, size_t window);
+
+/* Takes a segment, in any order: the bytes of its payload for which none is held yet, and its
+   flags. The first byte that came for a position stays; where another one comes, the position
+   counts as a conflict. The status is 0 where it is accepted, 2 where there is no memory for it,
+   3 where it is refused, and 4 where the stream isn't open. Where it isn't 0 nothing is changed.
+   The refusals are tested in the order of their numbers. */
+ep_stream_added ep_stream_add(ep_stream *stream, uint32_t sequence_number, const ep_segment_flags *flags, const uint8_t *payload, size_t payload_len);
+
+/* Writes the next bytes of a stream to the start of the output, and takes them away: all that
+   are available, or as many as the output has. The result is how many, 0 where the stream isn't
+   open. */
+size_t ep_stream_read(ep_stream *stream, uint8_t *output, size_t output_len);
+
+/* How far a stream came. All fields are 0 where it isn't open. */
+ep_stream_progress ep_stream_progress_of(ep_stream *stream);
+
+/* Frees a stream and all that it holds. One that isn't open stays as it is. */
+void ep_stream_free(ep_stream *stream);
+
+/* The key of the TCP connection to which an Ethernet II frame belongs, which came on this
+   channel, and the frame's direction. The destination is that in the IP header. */
+ep_packet_key ep_flow_key_ethernet(const uint8_t *frame, size_t frame_len, uint32_t channel);
+
+/* That of a packet of a Linux cooked capture. */
+ep_packet_key ep_flow_key_linux_sll(const uint8_t *packet, size_t packet_len, uint32_t channel);
+
+/* That of an IP packet of either version. */
+ep_packet_key ep_flow_key_ip(const uint8_t *packet, size_t packet_len, uint32_t channel);
+
+/* How far a connection came after one more segment, which has these flags and goes in this
+   direction: 2 from the higher endpoint, any other number from the lower one. */
+ep_connection_state ep_connection_state_after(const ep_connection_state *state, uint32_t direction, const ep_segment_flags *flags);
 
 /* The verdict on the message in an Ethernet II frame: 0 no checksum, 1 a right one, 2 a wrong
    one, 3 no whole message that can be read. */

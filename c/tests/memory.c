@@ -1,4 +1,4 @@
-/* What pools and sessions hold of memory, that they give all of it back when they are closed and where a call has no more, and
+/* What pools, streams and sessions hold of memory, that they give all of it back when they are closed and where a call has no more, and
    that messages after the first ones take none. The linker puts these calls in the place of those of the C library
    (-Wl,--wrap). */
 #include "common.h"
@@ -121,6 +121,52 @@ static void pools_without_memory(void) {
     check(refusals > 1, "memory was refused");
 }
 
+static uint32_t add_segment(ep_stream *stream, uint32_t sequence_number, uint8_t byte) {
+    const ep_segment_flags flags = {.ack = true};
+    return ep_stream_add(stream, sequence_number, &flags, &byte, 1).status;
+}
+
+static void freed_streams(void) {
+    const size_t before = held;
+    const ep_segment_flags fin = {.fin = true};
+    ep_stream stream = {0};
+    check(ep_stream_new(&stream, 64) == EP_DONE && held > before, "a stream takes memory");
+    check(add_segment(&stream, 1, 1) == EP_DONE && add_segment(&stream, 3, 3) == EP_DONE, "segments with a gap");
+    left = 0;
+    check(ep_stream_read(&stream, room, sizeof room) == 1, "to read takes none");
+    check(ep_stream_add(&stream, 1, &fin, room, 0).status == EP_DONE, "a segment without a byte takes none");
+    check(ep_stream_progress_of(&stream).gap.end == 2, "nor does a look at it");
+    left = SIZE_MAX;
+    ep_stream_free(&stream);
+    check(held == before, "a stream with a gap gives it back");
+}
+
+/* Each call of a stream that takes memory is refused in turn. Nothing is changed then. */
+static void streams_without_memory(void) {
+    const size_t before = held;
+    size_t refusals = 0;
+    for (size_t more = 0; more < 100; more++) {
+        ep_stream stream = {0};
+        left = more;
+        if (ep_stream_new(&stream, 64) == EP_DONE) {
+            const uint32_t first_status = add_segment(&stream, 1, 1);
+            const size_t came = ep_stream_progress_of(&stream).available;
+            check(came == (first_status == EP_DONE), "a segment for which there is memory");
+            const uint32_t status = add_segment(&stream, 3, 3);
+            check((ep_stream_progress_of(&stream).gap.end != 0) == (first_status == EP_DONE && status == EP_DONE), "a gap");
+            refusals += first_status == EP_NO_MEMORY || status == EP_NO_MEMORY;
+            if (first_status == EP_DONE && status == EP_DONE) more = 100;
+        } else {
+            refusals++;
+            check(!stream.is_open, "a stream that isn't open");
+        }
+        left = SIZE_MAX;
+        ep_stream_free(&stream);
+        check(held == before, "a stream without memory gives back what it has");
+    }
+    check(refusals > 1, "memory was refused");
+}
+
 static const char lines[] = "frame 0 02000000000202000000000108004500001c00072000401146c80a0000010a000002000100020010dbb4\n"
                             "frame 1 02000000000202000000000108004500001c00072000401146c80a0000010a000002000100020010dbb4\n"
                             "frame 0 02000000000202000000000108004500001c00070001401166c70a0000010a0000020102030405060708\n?";
@@ -193,6 +239,8 @@ int main(void) {
     pool_rounds();
     freed_pools();
     pools_without_memory();
+    freed_streams();
+    streams_without_memory();
     sessions();
     sessions_without_memory();
     others();

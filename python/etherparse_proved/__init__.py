@@ -44,6 +44,19 @@ from ._fields import (
     UnreadableOption,
     WindowScale,
 )
+from ._flows import (
+    ConnectionState,
+    Direction,
+    Endpoint,
+    Flow,
+    FlowKey,
+    Flows,
+    State,
+    Traffic,
+    flow_key_ethernet,
+    flow_key_ip,
+    flow_key_linux_sll,
+)
 from ._groups import (
     GroupRecord,
     IgmpLeave,
@@ -93,24 +106,43 @@ from ._packets import (
     verdict_ip,
     verdict_linux_sll,
 )
-from ._plans import BuildRefused, PlannedCapture, PlannedEcho, PlannedEthernet, PlannedTcp, PlannedUdp, build
+from ._plans import (
+    BuildRefused,
+    PlannedArp,
+    PlannedAuthentication,
+    PlannedCapture,
+    PlannedEcho,
+    PlannedEthernet,
+    PlannedExtensions,
+    PlannedFragment,
+    PlannedIcmp,
+    PlannedTag,
+    PlannedTcp,
+    PlannedUdp,
+    build,
+    build_arp,
+)
+from ._streams import AddedSegment, Conflicts, Flags, Gap, SegmentFlags, SegmentRefused, Stream, StreamProgress
 
 __version__ = "1.0.0"
 
 __all__ = [
-    "Arp", "Authentication", "BuildRefused", "DestinationOptions", "DestinationUnreachable", "DnsSearchList", "EchoReply",
-    "EchoRequest", "Extension", "Fragment", "GatewayRedirect", "GroupRecord", "HopByHopOptions", "Icmp", "IcmpMessage",
+    "AddedSegment", "Arp", "Authentication", "BuildRefused", "Conflicts", "ConnectionState", "DestinationOptions",
+    "DestinationUnreachable", "Direction", "DnsSearchList", "EchoReply", "EchoRequest", "Endpoint", "Extension", "Flags",
+    "Flow", "FlowKey", "Flows", "Fragment", "Gap", "GatewayRedirect", "GroupRecord", "HopByHopOptions", "Icmp", "IcmpMessage",
     "IgmpLeave", "IgmpMessage", "IgmpQuery", "IgmpQueryV3", "IgmpReportV1", "IgmpReportV2", "IgmpReportV3", "InUse", "Ipv4",
     "Ipv6", "LaxPacket", "Link", "LinkMtu", "MaximumSegmentSize", "Message", "MldDone", "MldMessage", "MldQuery", "MldQueryV2",
     "MldReport", "MldReportV2", "NdpMessage", "NdpOption", "NeighborAdvertisement", "NeighborRedirect", "NeighborSolicitation",
-    "NoOperation", "Packet", "PacketTooBig", "ParameterProblem", "PartRefused", "PlannedCapture", "PlannedEcho",
-    "PlannedEthernet", "PlannedTcp", "PlannedUdp", "Pool", "PrefixInformation", "RecursiveDnsServer", "RedirectedHeader",
-    "Refused", "RouterAdvertisement", "RouterSolicitation", "Routing", "Sack", "SackPermitted", "Session", "ShortGroupMessage",
-    "SourceLinkLayerAddress", "Tag", "TargetLinkLayerAddress", "Tcp", "TcpOption", "TimeExceeded", "TimestampReply",
-    "TimestampRequest", "Timestamps", "Udp", "UnknownIcmp", "UnknownNdpOption", "UnreadableNdpOption", "UnreadableOption",
-    "UnreadableRecord", "Verdict", "WindowScale", "answers", "build", "checksum", "checksum_is_right", "slice_ethernet",
-    "slice_ethernet_lax", "slice_ip", "slice_ip_lax", "slice_linux_sll", "slice_linux_sll_lax", "verdict_ethernet",
-    "verdict_ip", "verdict_linux_sll",
+    "NoOperation", "Packet", "PacketTooBig", "ParameterProblem", "PartRefused", "PlannedArp", "PlannedAuthentication",
+    "PlannedCapture", "PlannedEcho", "PlannedEthernet", "PlannedExtensions", "PlannedFragment", "PlannedIcmp", "PlannedTag",
+    "PlannedTcp", "PlannedUdp", "Pool", "PrefixInformation", "RecursiveDnsServer", "RedirectedHeader", "Refused",
+    "RouterAdvertisement", "RouterSolicitation", "Routing", "Sack", "SackPermitted", "SegmentFlags", "SegmentRefused",
+    "Session", "ShortGroupMessage", "SourceLinkLayerAddress", "State", "Stream", "StreamProgress", "Tag",
+    "TargetLinkLayerAddress", "Tcp", "TcpOption", "TimeExceeded", "TimestampReply", "TimestampRequest", "Timestamps", "Traffic",
+    "Udp", "UnknownIcmp", "UnknownNdpOption", "UnreadableNdpOption", "UnreadableOption", "UnreadableRecord", "Verdict",
+    "WindowScale", "answers", "build", "build_arp", "checksum", "checksum_is_right", "flow_key_ethernet", "flow_key_ip",
+    "flow_key_linux_sll", "slice_ethernet", "slice_ethernet_lax", "slice_ip", "slice_ip_lax", "slice_linux_sll",
+    "slice_linux_sll_lax", "verdict_ethernet", "verdict_ip", "verdict_linux_sll",
 ]  # fmt: skip
 
 # In errors and pickles each is named by the package, whatever module of it has it.

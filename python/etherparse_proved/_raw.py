@@ -2,6 +2,24 @@
 
 import ctypes as c
 
+# From the lower endpoint to the higher one.
+FROM_LOWER = 1
+# From the higher endpoint to the lower one.
+FROM_HIGHER = 2
+# No segment of the connection came.
+STATE_UNSEEN = 0
+# The endpoint that opens it sent SYN.
+STATE_SYN_SENT = 1
+# The other endpoint answered with SYN, and the first one didn't acknowledge that.
+STATE_SYN_RECEIVED = 2
+# Both endpoints may send.
+STATE_ESTABLISHED = 3
+# One endpoint sent FIN.
+STATE_CLOSING = 4
+# Both endpoints sent FIN.
+STATE_CLOSED = 5
+# An endpoint sent RST before both sent FIN.
+STATE_RESET = 6
 # No message of a multicast group.
 GROUP_NONE = 0
 # A query without sources: version 1 of MLD, 1 or 2 of IGMP.
@@ -46,9 +64,9 @@ DONE = 0
 NO_ROOM = 1
 # Out of memory.
 NO_MEMORY = 2
-# A packet, a fragment, a field of a plan or a payload is refused.
+# A packet, a fragment, a segment, a field of a plan or a payload is refused.
 REFUSED = 3
-# The pool isn't open, or is open already, or keeps a message.
+# The pool or stream isn't open, or is open already, or the pool keeps a message.
 WRONG_STATE = 4
 # A message is complete.
 COMPLETED = 5
@@ -72,6 +90,8 @@ NDP_OPTION_RECURSIVE_DNS_SERVER = 7
 NDP_OPTION_DNS_SEARCH_LIST = 8
 # No option: `fault` says why, and nothing is read after it.
 NDP_OPTION_FAULT = 9
+# A packet that has no TCP segment whose header is whole, or is a fragment.
+NO_SEGMENT = 6
 # Nothing is refused.
 REFUSAL_NONE = 0
 # A layer has too few bytes.
@@ -98,15 +118,60 @@ REFUSAL_AUTH_HEADER_LEN = 10
 REFUSAL_HOP_BY_HOP_NOT_AT_START = 11
 # A TCP data offset below 5.
 REFUSAL_TCP_DATA_OFFSET = 12
+# A segment that ends after the window.
+SEGMENT_OUTSIDE_WINDOW = 1
+# A segment with a byte or FIN after FIN, or whose FIN stands before a byte or FIN.
+SEGMENT_AFTER_FIN = 2
+# A segment after the connection was reset.
+SEGMENT_AFTER_RESET = 3
+# No such link header, or none before an ARP packet.
 FIELD_LINK = 1
+# A packet type of a cooked capture above 4.
 FIELD_PACKET_TYPE = 2
+# More than two tags, or tags without an Ethernet II header.
 FIELD_TAG_COUNT = 3
+# An identifier of the first tag above 4095.
 FIELD_OUTER_VLAN_ID = 4
-FIELD_INNER_VLAN_ID = 5
-FIELD_IP_VERSION = 6
-FIELD_TRANSPORT = 7
-FIELD_OPTIONS_LEN = 8
-FIELD_PAYLOAD = 9
+# A priority of the first tag above 7.
+FIELD_OUTER_PRIORITY = 5
+# An identifier of the second tag above 4095.
+FIELD_INNER_VLAN_ID = 6
+# A priority of the second tag above 7.
+FIELD_INNER_PRIORITY = 7
+# No such IP version.
+FIELD_IP_VERSION = 8
+# A differentiated services code point above 63.
+FIELD_DSCP = 9
+# An explicit congestion notification above 3.
+FIELD_ECN = 10
+# An offset of a fragment over IPv4 above 8191.
+FIELD_FRAGMENT_OFFSET = 11
+# More than 40 bytes of IPv4's options, or no whole words of 4.
+FIELD_IPV4_OPTIONS_LEN = 12
+# A flow label above 1048575.
+FIELD_FLOW_LABEL = 13
+# Hop-by-hop options of a length that no header states, not within the bytes, or over IPv4.
+FIELD_HOP_BY_HOP_OPTIONS = 14
+# The same of destination options before a routing header.
+FIELD_DESTINATION_OPTIONS = 15
+# The same of a routing header.
+FIELD_ROUTING = 16
+# A fragment header whose offset is above 8191, or over IPv4.
+FIELD_FRAGMENT_HEADER = 17
+# An integrity check value of a length that no header states, or not within the bytes.
+FIELD_AUTHENTICATION = 18
+# The same as of destination options, of those after a routing header, or no routing header.
+FIELD_FINAL_DESTINATION_OPTIONS = 19
+# No such transport header, or ICMPv6 over IPv4.
+FIELD_TRANSPORT = 20
+# More than 40 bytes of TCP's options.
+FIELD_OPTIONS_LEN = 21
+# Hardware addresses that differ in length, have more than 255 bytes, or aren't within the bytes.
+FIELD_HARDWARE_ADDRESSES = 22
+# The same of protocol addresses.
+FIELD_PROTOCOL_ADDRESSES = 23
+# A payload that is longer than the length field of the IP header can state.
+FIELD_PAYLOAD = 24
 LAYER_LINUX_SLL_HEADER = 1
 LAYER_ETHERNET2_HEADER = 2
 LAYER_ETHER_PAYLOAD = 3
@@ -208,6 +273,26 @@ class EpBuilt(c.Structure):
         ("status", c.c_uint32),
         ("field", c.c_uint32),
         ("len", c.c_size_t),
+    ]
+
+
+class EpSegmentFlags(c.Structure):
+    """Control flags of a TCP segment (RFC 9293, section 3.1)."""
+
+    _fields_ = [
+        ("syn", c.c_bool),
+        ("ack", c.c_bool),
+        ("fin", c.c_bool),
+        ("rst", c.c_bool),
+    ]
+
+
+class EpConnectionState(c.Structure):
+    """How far a connection came. Zeros are a connection of which no segment came."""
+
+    _fields_ = [
+        ("state", c.c_uint32),
+        ("direction", c.c_uint32),
     ]
 
 
@@ -524,6 +609,38 @@ class EpNdpOption(c.Structure):
     ]
 
 
+class EpEndpoint(c.Structure):
+    """One end of a TCP connection."""
+
+    _fields_ = [
+        ("version", c.c_uint16),
+        ("port", c.c_uint16),
+        ("address", c.c_uint8 * 16),
+    ]
+
+
+class EpFlowKey(c.Structure):
+    """What the segments of a TCP connection have in common, whichever way they go. There is no padding: keys are the same where their bytes are."""
+
+    _fields_ = [
+        ("lower", EpEndpoint),
+        ("higher", EpEndpoint),
+        ("channel", c.c_uint32),
+        ("vlan_ids", c.c_uint16 * 3),
+        ("vlan_count", c.c_uint16),
+    ]
+
+
+class EpPacketKey(c.Structure):
+    """The key of a packet."""
+
+    _fields_ = [
+        ("status", c.c_uint32),
+        ("direction", c.c_uint32),
+        ("key", EpFlowKey),
+    ]
+
+
 class EpPlan(c.Structure):
     """The headers of a packet to build. The fields of headers that it doesn't have are ignored. Lengths, checksums, ether types and the numbers of headers follow from it."""
 
@@ -537,11 +654,25 @@ class EpPlan(c.Structure):
         ("tag_count", c.c_uint32),
         ("outer_vlan_id", c.c_uint16),
         ("inner_vlan_id", c.c_uint16),
+        ("outer_priority", c.c_uint8),
+        ("inner_priority", c.c_uint8),
+        ("outer_drop_eligible", c.c_bool),
+        ("inner_drop_eligible", c.c_bool),
         ("ip_version", c.c_uint32),
         ("ipv4_source", c.c_uint8 * 4),
         ("ipv4_destination", c.c_uint8 * 4),
         ("ipv6_source", c.c_uint8 * 16),
         ("ipv6_destination", c.c_uint8 * 16),
+        ("ipv4_options_len", c.c_size_t),
+        ("ipv4_options", c.c_uint8 * 40),
+        ("identification", c.c_uint16),
+        ("fragment_offset", c.c_uint16),
+        ("dscp", c.c_uint8),
+        ("ecn", c.c_uint8),
+        ("may_fragment", c.c_bool),
+        ("more_fragments", c.c_bool),
+        ("flow_label", c.c_uint32),
+        ("traffic_class", c.c_uint8),
         ("hops", c.c_uint8),
         ("payload_number", c.c_uint8),
         ("transport", c.c_uint32),
@@ -550,6 +681,10 @@ class EpPlan(c.Structure):
         ("is_reply", c.c_bool),
         ("echo_id", c.c_uint16),
         ("echo_sequence", c.c_uint16),
+        ("icmp_is_raw", c.c_bool),
+        ("icmp_type", c.c_uint8),
+        ("icmp_code", c.c_uint8),
+        ("icmp_bytes", c.c_uint8 * 4),
         ("sequence_number", c.c_uint32),
         ("acknowledgment_number", c.c_uint32),
         ("window_size", c.c_uint16),
@@ -568,12 +703,84 @@ class EpPlan(c.Structure):
     ]
 
 
+class EpPlannedExtensions(c.Structure):
+    """The extension headers of a packet to build (RFC 8200, section 4; RFC 4302). They are written in the order of RFC 8200, section 4.1: hop-by-hop options, destination options, routing, fragment, authentication, destination options. Over IPv4 there is authentication alone. A part of options or routing is what follows the first two bytes of the header: 6 bytes and a multiple of 8, at most 2046; no bytes stand for no header. Numbers and lengths of headers follow from it."""
+
+    _fields_ = [
+        ("hop_by_hop_options", EpPart),
+        ("destination_options", EpPart),
+        ("routing", EpPart),
+        ("final_destination_options", EpPart),
+        ("integrity_check_value", EpPart),
+        ("identification", c.c_uint32),
+        ("spi", c.c_uint32),
+        ("sequence_number", c.c_uint32),
+        ("fragment_offset", c.c_uint16),
+        ("more_fragments", c.c_bool),
+        ("has_fragment_header", c.c_bool),
+        ("has_authentication", c.c_bool),
+    ]
+
+
 class EpPool(c.Structure):
     """A pool that reassembles datagrams. It starts as zeros, and only these calls change it."""
 
     _fields_ = [
         ("is_open", c.c_bool),
         ("held", c.c_void_p),
+    ]
+
+
+class EpStream(c.Structure):
+    """The bytes that one end of a TCP connection sent, put together as its segments come. Positions count from 0, the number after that of SYN or, where SYN wasn't seen, that of the first segment. It starts as zeros, and only these calls change it."""
+
+    _fields_ = [
+        ("is_open", c.c_bool),
+        ("held", c.c_void_p),
+    ]
+
+
+class EpConflicts(c.Structure):
+    """Positions at which a segment has another byte than one before it. The first byte stays."""
+
+    _fields_ = [
+        ("count", c.c_uint64),
+        ("first", c.c_uint64),
+    ]
+
+
+class EpStreamAdded(c.Structure):
+    """What became of a segment that a stream was given."""
+
+    _fields_ = [
+        ("status", c.c_uint32),
+        ("refusal", c.c_uint32),
+        ("refused_at", c.c_uint64),
+        ("position", c.c_uint64),
+        ("conflicts", EpConflicts),
+    ]
+
+
+class EpGap(c.Structure):
+    """Positions whose bytes are missing. Both are 0 where there is no gap."""
+
+    _fields_ = [
+        ("start", c.c_uint64),
+        ("end", c.c_uint64),
+    ]
+
+
+class EpStreamProgress(c.Structure):
+    """How far a stream came. All fields are 0 where it isn't open."""
+
+    _fields_ = [
+        ("available", c.c_size_t),
+        ("consumed", c.c_uint64),
+        ("gap", EpGap),
+        ("conflicts", EpConflicts),
+        ("is_finished", c.c_bool),
+        ("is_reset", c.c_bool),
+        ("joined_late", c.c_bool),
     ]
 
 
@@ -617,6 +824,8 @@ assert c.sizeof(EpPartRefusal) == 24
 assert c.sizeof(EpMessage) == 56
 assert c.sizeof(EpAdded) == 128
 assert c.sizeof(EpBuilt) == 16
+assert c.sizeof(EpSegmentFlags) == 4
+assert c.sizeof(EpConnectionState) == 8
 assert c.sizeof(EpPart) == 16
 assert c.sizeof(EpExtensions) == 24
 assert c.sizeof(EpExtension) == 56
@@ -636,8 +845,17 @@ assert c.sizeof(EpIcmp) == 40
 assert c.sizeof(EpPacket) == 656
 assert c.sizeof(EpLaxPacket) == 704
 assert c.sizeof(EpNdpOption) == 96
-assert c.sizeof(EpPlan) == 176
+assert c.sizeof(EpEndpoint) == 20
+assert c.sizeof(EpFlowKey) == 52
+assert c.sizeof(EpPacketKey) == 60
+assert c.sizeof(EpPlan) == 248
+assert c.sizeof(EpPlannedExtensions) == 104
 assert c.sizeof(EpPool) == 16
+assert c.sizeof(EpStream) == 16
+assert c.sizeof(EpConflicts) == 16
+assert c.sizeof(EpStreamAdded) == 40
+assert c.sizeof(EpGap) == 16
+assert c.sizeof(EpStreamProgress) == 56
 assert c.sizeof(EpTcpBlock) == 8
 assert c.sizeof(EpTcpOption) == 64
 
@@ -648,6 +866,10 @@ def declare_etherparse(library: c.CDLL) -> None:
     """Gives the calls of libetherparse their types."""
     library.ep_build.argtypes = [c.POINTER(EpPlan), c.c_char_p, c.c_size_t, c.POINTER(c.c_uint8), c.c_size_t]
     library.ep_build.restype = EpBuilt
+    library.ep_build_with_extensions.argtypes = [c.POINTER(EpPlan), c.POINTER(EpPlannedExtensions), c.c_char_p, c.c_size_t, c.c_char_p, c.c_size_t, c.POINTER(c.c_uint8), c.c_size_t]
+    library.ep_build_with_extensions.restype = EpBuilt
+    library.ep_build_arp.argtypes = [c.POINTER(EpPlan), c.POINTER(EpArp), c.c_char_p, c.c_size_t, c.POINTER(c.c_uint8), c.c_size_t]
+    library.ep_build_arp.restype = EpBuilt
     library.ep_checksum.argtypes = [c.c_char_p, c.c_size_t]
     library.ep_checksum.restype = c.c_uint16
     library.ep_checksum_is_right.argtypes = [c.c_char_p, c.c_size_t]
@@ -706,6 +928,24 @@ def declare_etherparse(library: c.CDLL) -> None:
     library.ep_slice_linux_sll_lax.restype = EpLaxPacket
     library.ep_slice_ip_lax.argtypes = [c.c_char_p, c.c_size_t]
     library.ep_slice_ip_lax.restype = EpLaxPacket
+    library.ep_stream_new.argtypes = [c.POINTER(EpStream), c.c_size_t]
+    library.ep_stream_new.restype = c.c_uint32
+    library.ep_stream_add.argtypes = [c.POINTER(EpStream), c.c_uint32, c.POINTER(EpSegmentFlags), c.c_char_p, c.c_size_t]
+    library.ep_stream_add.restype = EpStreamAdded
+    library.ep_stream_read.argtypes = [c.POINTER(EpStream), c.POINTER(c.c_uint8), c.c_size_t]
+    library.ep_stream_read.restype = c.c_size_t
+    library.ep_stream_progress_of.argtypes = [c.POINTER(EpStream)]
+    library.ep_stream_progress_of.restype = EpStreamProgress
+    library.ep_stream_free.argtypes = [c.POINTER(EpStream)]
+    library.ep_stream_free.restype = None
+    library.ep_flow_key_ethernet.argtypes = [c.c_char_p, c.c_size_t, c.c_uint32]
+    library.ep_flow_key_ethernet.restype = EpPacketKey
+    library.ep_flow_key_linux_sll.argtypes = [c.c_char_p, c.c_size_t, c.c_uint32]
+    library.ep_flow_key_linux_sll.restype = EpPacketKey
+    library.ep_flow_key_ip.argtypes = [c.c_char_p, c.c_size_t, c.c_uint32]
+    library.ep_flow_key_ip.restype = EpPacketKey
+    library.ep_connection_state_after.argtypes = [c.POINTER(EpConnectionState), c.c_uint32, c.POINTER(EpSegmentFlags)]
+    library.ep_connection_state_after.restype = EpConnectionState
     library.ep_verdict_ethernet.argtypes = [c.c_char_p, c.c_size_t]
     library.ep_verdict_ethernet.restype = c.c_uint32
     library.ep_verdict_linux_sll.argtypes = [c.c_char_p, c.c_size_t]

@@ -168,56 +168,190 @@ def plans():
 
 
 class Plans(unittest.TestCase):
+    def link(self, fields, number):
+        """The link header, or False where no argument can say it."""
+        kind, tags = number("link"), number("tag_count")
+        if kind > 2 or kind != 1 and tags:
+            return False
+        if kind == 1:
+            tags_of = ("outer", "inner", "third")[:tags]
+            names = "vlan_id", "priority", "drop_eligible"
+            chosen = [ep.PlannedTag(*(number(f"{which}_{name}") for name in names)) for which in tags_of]
+            chosen = [it if it.priority or it.drop_eligible else it.vlan_id for it in chosen]
+            return ep.PlannedEthernet(bytes.fromhex(fields["source"]), bytes.fromhex(fields["destination"]), chosen)
+        if kind == 2:
+            address = bytes.fromhex(fields.get("address", "00" * 8))
+            return ep.PlannedCapture(number("packet_type"), number("address_len"), address)
+        return None
+
+    def transport(self, fields, number):
+        kind = number("transport")
+        if kind == 6:
+            names = ("source_port", "destination_port", "sequence_number", "acknowledgment_number", "window_size")
+            flags = ("ns", "fin", "syn", "rst", "psh", "ack", "urg", "ece", "cwr")
+            options = bytes.fromhex(fields.get("options", "")).ljust(41, b"\0")[: number("options_len")]
+            return ep.PlannedTcp(options=options, **{name: number(name) for name in (*names, "urgent_pointer", *flags)})
+        if kind == 17:
+            return ep.PlannedUdp(number("source_port"), number("destination_port"))
+        if kind and number("icmp_is_raw"):
+            rest = bytes.fromhex(fields.get("icmp_bytes", "00" * 4))
+            return ep.PlannedIcmp(kind, ep.UnknownIcmp(number("icmp_type"), number("icmp_code"), rest))
+        if kind:
+            return ep.PlannedEcho(kind, number("echo_id"), number("echo_sequence"), bool(number("is_reply")))
+        return number("payload_number")
+
+    def extensions(self, fields, number):
+        names = "hop_by_hop_options", "destination_options", "routing", "final_destination_options"
+        headers = {it: bytes.fromhex(fields[f"extensions.{it}"]) for it in names if f"extensions.{it}" in fields}
+        if number("extensions.has_fragment_header"):
+            numbers = (number(f"extensions.{name}") for name in ("identification", "fragment_offset", "more_fragments"))
+            headers["fragment"] = ep.PlannedFragment(*numbers)
+        if number("extensions.has_authentication"):
+            value = bytes.fromhex(fields.get("extensions.integrity_check_value", ""))
+            numbers = number("extensions.spi"), number("extensions.sequence_number")
+            headers["authentication"] = ep.PlannedAuthentication(*numbers, value)
+        return ep.PlannedExtensions(**headers) if headers else None
+
     def arguments(self, fields):
         """Those of `build`, or None where it can't say these fields."""
 
         def number(name):
             return int(fields.get(name, 0))
 
-        version, tags = number("ip_version"), number("tag_count")
-        kinds = number("link"), number("transport")
-        if version not in (4, 6) or kinds[0] > 2 or kinds[1] not in (0, 1, 6, 17, 58) or kinds[0] != 1 and tags:
+        version, link = number("ip_version"), self.link(fields, number)
+        parts = any(value.startswith("@") for value in fields.values())
+        if version not in (4, 6) or link is False or parts or number("transport") not in (0, 1, 6, 17, 58):
             return None
-        link = None
-        if kinds[0] == 1:
-            ids = (number("outer_vlan_id"), number("inner_vlan_id"), 0)[:tags]
-            link = ep.PlannedEthernet(bytes.fromhex(fields["source"]), bytes.fromhex(fields["destination"]), ids)
-        elif kinds[0] == 2:
-            address = bytes.fromhex(fields.get("address", "00" * 8))
-            link = ep.PlannedCapture(number("packet_type"), number("address_len"), address)
-        if kinds[1] == 6:
-            names = ("source_port", "destination_port", "sequence_number", "acknowledgment_number", "window_size")
-            flags = ("ns", "fin", "syn", "rst", "psh", "ack", "urg", "ece", "cwr")
-            options = bytes.fromhex(fields.get("options", "")).ljust(41, b"\0")[: number("options_len")]
-            numbers = {name: number(name) for name in (*names, "urgent_pointer", *flags)}
-            transport = ep.PlannedTcp(options=options, **numbers)
-        elif kinds[1] == 17:
-            transport = ep.PlannedUdp(number("source_port"), number("destination_port"))
-        elif kinds[1]:
-            transport = ep.PlannedEcho(kinds[1], number("echo_id"), number("echo_sequence"), bool(number("is_reply")))
-        else:
-            transport = number("payload_number")
+        names = ("dscp", "ecn", "identification", "more_fragments", "fragment_offset", "traffic_class", "flow_label", "hops")
+        numbers = {name: number(name) for name in names}
+        numbers["dont_fragment"] = not number("may_fragment")
+        options = bytes.fromhex(fields.get("ipv4_options", "")).ljust(48, b"\0")[: number("ipv4_options_len")]
         ends = (ipaddress.ip_address(bytes.fromhex(fields[f"ipv{version}_{end}"])) for end in ("source", "destination"))
         source, destination = ends
-        return dict(source=source, destination=destination, transport=transport, link=link, hops=number("hops"))
+        others = dict(transport=self.transport(fields, number), link=link, extensions=self.extensions(fields, number))
+        return dict(source=source, destination=destination, ipv4_options=options, **numbers, **others)
+
+    def arp(self, fields):
+        """Those of `build_arp`, or None."""
+
+        def number(name):
+            return int(fields.get(name, 0))
+
+        link = self.link(fields, number)
+        if link is False or any(value.startswith("@") for value in fields.values()):
+            return None
+        names = "sender_hardware", "sender_protocol", "target_hardware", "target_protocol"
+        addresses = (bytes.fromhex(fields.get(f"arp.{name}", "")) for name in names)
+        types = number("arp.hardware_type"), number("arp.protocol_type")
+        return ep.PlannedArp(number("arp.operation"), *addresses, *types), link
 
     def test_table(self):
-        names = {1: "link", 2: "packet_type", 3: "tag_count", 4: "outer_vlan_id", 5: "inner_vlan_id", 6: "ip_version"}
-        names.update({7: "transport", 8: "options_len", 9: "payload"})
+        names = "link packet_type tag_count outer_vlan_id outer_priority inner_vlan_id inner_priority ip_version dscp ecn"
+        names += " fragment_offset ipv4_options_len flow_label hop_by_hop_options destination_options routing fragment_header"
+        names += " authentication final_destination_options transport options_len hardware_addresses protocol_addresses payload"
         seen = 0
         for payload, wanted, fields in plans():
-            arguments = self.arguments(fields)
-            if arguments is None:
+            if any(name.startswith("arp.") for name in fields):
+                given = self.arp(fields)
+                call = given and (lambda: ep.build_arp(given[0], link=given[1]))
+            else:
+                given = self.arguments(fields)
+                call = given and (lambda: ep.build(payload, **given))
+            if not call:
                 continue
             seen += 1
             with self.subTest(fields=fields):
                 if wanted.startswith("refused="):
                     with self.assertRaises(ep.BuildRefused) as refused:
-                        ep.build(payload, **arguments)
-                    self.assertEqual(refused.exception.field, names[int(wanted[8:])])
+                        call()
+                    self.assertEqual(refused.exception.field, names.split()[int(wanted[8:]) - 1])
                 else:
-                    self.assertEqual(ep.build(payload, **arguments).hex(), wanted)
-        self.assertGreater(seen, 30)
+                    self.assertEqual(call().hex(), wanted)
+        self.assertGreater(seen, 85)
+
+    def test_messages(self):
+        """Kinds of ICMP messages, by RFC 792 and RFC 4443."""
+        ends = {1: dict(source="10.0.0.1", destination="10.0.0.2"), 58: dict(source="2001:db8::1", destination="2001:db8::2")}
+        for number, message, header in (
+            (1, ep.EchoRequest(258, 772), "080001020304"),
+            (1, ep.EchoReply(258, 772), "000001020304"),
+            (1, ep.DestinationUnreachable(4, 1500), "0304000005dc"),
+            (1, ep.GatewayRedirect(1, ipaddress.IPv4Address("10.9.8.7")), "05010a090807"),
+            (1, ep.TimeExceeded(1), "0b0100000000"),
+            (1, ep.ParameterProblem(0, 255), "0c00ff000000"),
+            (1, ep.TimestampRequest(1, 2, 3, 4, 5), "0d0000010002000000030000000400000005"),
+            (1, ep.TimestampReply(1, 2, 3, 4, 5), "0e0000010002000000030000000400000005"),
+            (1, ep.UnknownIcmp(200, 7, b"abcd"), "c80761626364"),
+            (58, ep.EchoRequest(258, 772), "800001020304"),
+            (58, ep.EchoReply(258, 772), "810001020304"),
+            (58, ep.DestinationUnreachable(4, 0), "010400000000"),
+            (58, ep.PacketTooBig(1280), "020000000500"),
+            (58, ep.TimeExceeded(1), "030100000000"),
+            (58, ep.ParameterProblem(2, 0x01020304), "040201020304"),
+            (58, ep.UnknownIcmp(135, 0, bytes(4)), "870000000000"),
+        ):
+            with self.subTest(message, number=number):
+                packet = ep.build(b"!", transport=ep.PlannedIcmp(number, message), **ends[number])
+                written = packet[20 if number == 1 else 40 :]
+                self.assertEqual((written[:2] + written[4:]).hex(), header + b"!".hex())
+                self.assertEqual(ep.verdict_ip(packet), ep.Verdict.GOOD)
+        for number, message in (
+            (1, ep.PacketTooBig(1)),
+            (58, ep.TimestampRequest(1, 2, 3, 4, 5)),
+            (58, ep.GatewayRedirect(0, ipaddress.IPv4Address(0))),
+            (1, "echo"),
+        ):
+            with self.subTest(message, number=number), self.assertRaises(TypeError):
+                ep.PlannedIcmp(number, message)
+        for number, message in (
+            (1, ep.ParameterProblem(0, 256)),
+            (58, ep.DestinationUnreachable(4, 1)),
+            (1, ep.EchoReply(65536, 0)),
+            (1, ep.UnknownIcmp(1, 2, bytes(5))),
+            (17, ep.EchoReply(1, 1)),
+        ):
+            with self.subTest(message, number=number), self.assertRaises(ValueError):
+                ep.PlannedIcmp(number, message)
+
+    def test_tcp_options(self):
+        """Options by RFC 9293, section 3.2, RFC 7323 and RFC 2018."""
+        options = (ep.MaximumSegmentSize(1460), ep.SackPermitted(), ep.Timestamps(0x01020304, 0x05060708), ep.NoOperation())
+        tcp = ep.PlannedTcp(1, 2, options=[*options, ep.WindowScale(7)])
+        self.assertEqual(tcp.options.hex(), "020405b40402080a010203040506070801030307")
+        self.assertEqual(ep.PlannedTcp(1, 2, options=(ep.Sack(((1, 2), (3, 4))),)).options.hex(), "0512" + "00000001000000020000000300000004")
+        packet = ep.slice_ip(ep.build(b"", source="::1", destination="::2", transport=tcp))
+        self.assertEqual(packet.tcp_options(), [*options, ep.WindowScale(7)])
+        for wrong in "text", 5, None, [1, 2], [ep.UnreadableOption(1, "unknown kind")]:
+            with self.assertRaises(TypeError):
+                ep.PlannedTcp(1, 2, options=wrong)
+        for wrong in ep.Sack(()), ep.Sack(((1, 2),) * 5), ep.Sack(((1, 1 << 32),)), ep.MaximumSegmentSize(65536), ep.WindowScale(-1):
+            with self.assertRaises(ValueError):
+                ep.PlannedTcp(1, 2, options=[wrong])
+
+    def test_fields_of_the_other_version(self):
+        over_ipv4 = dict(source="10.0.0.1", destination="10.0.0.2", transport=ep.PlannedUdp(1, 2))
+        over_ipv6 = dict(source="::1", destination="::2", transport=ep.PlannedUdp(1, 2))
+        for name, value in (
+            ("dscp", 1), ("ecn", 1), ("identification", 1), ("dont_fragment", False), ("more_fragments", True),
+            ("fragment_offset", 1), ("ipv4_options", bytes(4)),
+        ):  # fmt: skip
+            with self.assertRaisesRegex(ValueError, f"^{name} isn't of IPv6, as the addresses are$"):
+                ep.build(b"", **over_ipv6, **{name: value})
+        for name in "traffic_class", "flow_label":
+            with self.assertRaisesRegex(ValueError, f"^{name} isn't of IPv4, as the addresses are$"):
+                ep.build(b"", **over_ipv4, **{name: 1})
+
+    def test_arp(self):
+        """A request (RFC 826), of addresses that are of `ipaddress`."""
+        ends = ipaddress.IPv4Address("10.0.0.1"), ipaddress.IPv4Address("10.0.0.2")
+        arp = ep.PlannedArp(1, bytes([1, 2, 3, 4, 5, 6]), ends[0], bytes(6), ends[1])
+        packet = ep.build_arp(arp, link=ep.PlannedEthernet(arp.sender_hardware, b"\xff" * 6))
+        wanted = "ffffffffffff010203040506080600010800060400010102030405060a0000010000000000000a000002"
+        self.assertEqual(packet.hex(), wanted)
+        self.assertEqual(ep.slice_ethernet(packet).arp.target_protocol, ends[1].packed)
+        for wrong in dict(operation=65536), dict(hardware_type=-1), dict(protocol_type=1 << 16):
+            with self.assertRaises(ValueError):
+                ep.build_arp(dataclasses.replace(arp, **wrong), link=ep.PlannedEthernet(bytes(6), bytes(6)))
 
     def test_arguments(self):
         ends = dict(source="10.0.0.1", destination="10.0.0.2", transport=ep.PlannedUdp(1, 2))

@@ -125,7 +125,14 @@ class Values(unittest.TestCase):
         for handle in ep.Pool(), ep.Session():
             with self.assertRaises(AttributeError):
                 handle.no_such_field = 1
-        for planned in ep.PlannedUdp(1, 2), ep.PlannedTcp(1, 2), ep.PlannedEthernet(bytes(6), bytes(6), [1]):
+        for planned in (
+            ep.PlannedUdp(1, 2),
+            ep.PlannedTcp(1, 2, options=[ep.WindowScale(1)]),
+            ep.PlannedEthernet(bytes(6), bytes(6), [1, ep.PlannedTag(2, 3)]),
+            ep.PlannedIcmp(1, ep.EchoReply(1, 2)),
+            ep.PlannedExtensions(routing=bytearray(6), fragment=ep.PlannedFragment(1), authentication=ep.PlannedAuthentication(1, 2)),
+            ep.PlannedArp(1, bytearray(6), bytes(4), bytes(6), bytes(4)),
+        ):
             self.assertEqual(hash(planned), hash(copy.copy(planned)))
             with self.assertRaises(AttributeError):
                 planned.source_prt = 1
@@ -199,7 +206,9 @@ class Arguments(unittest.TestCase):
             "text": (ep.answers,),
             "piece": (lambda it: ep.Session().feed(it),),
             "payload": (lambda it: ep.build(it, transport=1, **ends),),
-            "options": (lambda it: ep.PlannedTcp(1, 2, options=it),),
+            "ipv4_options": (lambda it: ep.build(b"", transport=1, ipv4_options=it, **ends),),
+            "check_value": (lambda it: ep.PlannedAuthentication(1, 2, it),),
+            "sender_protocol": (lambda it: ep.PlannedArp(1, bytes(6), it, bytes(6), bytes(4)),),
             "source": (lambda it: ep.PlannedEthernet(it, bytes(6)),),
             "address": (lambda it: ep.PlannedCapture(0, 6, it),),
         }
@@ -227,6 +236,12 @@ class Arguments(unittest.TestCase):
             ("transport", 255, lambda it: dict(transport=it)),
             ("packet_type", 65535, lambda it: dict(link=ep.PlannedCapture(it, 6, bytes(8)))),
             ("outer_vlan_id", 65535, lambda it: dict(link=ep.PlannedEthernet(bytes(6), bytes(6), [it]))),
+            ("inner_priority", 255, lambda it: dict(link=ep.PlannedEthernet(bytes(6), bytes(6), [1, ep.PlannedTag(1, it)]))),
+            ("dscp", 255, lambda it: dict(dscp=it)),
+            ("identification", 65535, lambda it: dict(identification=it)),
+            ("fragment_offset", 65535, lambda it: dict(fragment_offset=it)),
+            ("icmp_code", 255, lambda it: dict(transport=ep.PlannedIcmp(1, ep.TimeExceeded(it)))),
+            ("spi", 0xFFFFFFFF, lambda it: dict(extensions=ep.PlannedExtensions(authentication=ep.PlannedAuthentication(it, 1)))),
         ):
             for wrong in -1, greatest + 1, 1 << 70:
                 text = f"^{name} is {wrong}, and has to be from 0 to {greatest}$"

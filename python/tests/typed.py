@@ -38,6 +38,15 @@ def built() -> bytes:
     return ep.build(b"", source="::1", destination=IPv6Address("::2"), transport=ep.PlannedTcp(1, 2, syn=True), link=link)
 
 
+def built_of_all() -> Tuple[bytes, bytes]:
+    link = ep.PlannedEthernet(bytes(6), bytes(6), vlan_ids=[ep.PlannedTag(5, priority=3), 6])
+    headers = ep.PlannedExtensions(fragment=ep.PlannedFragment(1, offset=2), authentication=ep.PlannedAuthentication(1, 2))
+    icmp = ep.PlannedIcmp(58, ep.PacketTooBig(1280))
+    arp = ep.PlannedArp(1, bytes(6), IPv4Address("10.0.0.1"), bytes(6), bytes(4))
+    packet = ep.build(b"", source="::1", destination="::2", transport=icmp, flow_label=1, extensions=headers)
+    return packet, ep.build_arp(arp, link=link)
+
+
 def stopped(frame: bytes) -> Optional[Tuple[str, int, bool]]:
     packet = ep.slice_ethernet_lax(frame)
     return (packet.stop.reason, packet.stop_layer, packet.incomplete) if packet.stop else None
@@ -72,6 +81,16 @@ def sources(packet: ep.Packet) -> List[Union[IPv4Address, IPv6Address]]:
     return found
 
 
+def text_of(frames: List[bytes]) -> bytes:
+    flows: ep.Flows[ep.Stream] = ep.Flows(100, lambda: ep.Stream(65536))
+    for time, frame in enumerate(frames):
+        keyed, segment = ep.flow_key_ethernet(frame), ep.slice_ethernet(frame).tcp
+        if keyed and segment:
+            flows.add(*keyed, segment, time)
+    ended = flows.pop_oldest()
+    return ended[1].value.read() if ended and ended[1].state.state is ep.State.CLOSED else b""
+
+
 version: str = ep.__version__
 verdict: Optional[ep.Verdict] = ep.verdict_ip(b"")
 cut: ep.Packet = ep.slice_ip_lax(b"")
@@ -96,4 +115,8 @@ ep.PlannedTcp(1, 2, syns=True)  # type: ignore[call-arg]
 ep.build(b"", source="::1", destination="::2", transport="udp")  # type: ignore[arg-type]
 ep.slice_ethernet(b"").tcp_options()[0].size  # type: ignore[union-attr]
 ep.slice_ethernet(b"").igmp_message().group  # type: ignore[union-attr]
+ep.Stream("1")  # type: ignore[arg-type]
+ep.Stream(1).add(1, 2, b"")  # type: ignore[arg-type]
+ep.Stream(1).gap.start  # type: ignore[union-attr]
+ep.SegmentFlags().syn = True  # type: ignore[misc]
 ep.no_such_call  # type: ignore[attr-defined]

@@ -10,29 +10,39 @@
 
 mod addresses;
 mod fields;
+mod flows;
 mod groups;
 mod ndp_option;
 mod packet;
+mod packet_builder;
 mod plan;
 mod planned_tcp;
 mod pool;
 pub mod raw;
 mod refusal;
+mod streams;
 
 pub use addresses::Addresses;
 pub use fields::{
     AuthenticationExtension, Extension, Extensions, FragmentExtension, IcmpEchoHeader, IcmpType, NdpMessage, RawExtension,
     TcpOptionElement, TcpOptionReadError, TcpOptionsIterator, TimestampMessage,
 };
+pub use flows::{ConnectionState, Direction, Flow, FlowKey, FlowPacket, Flows, Traffic};
 pub use groups::{GroupRecord, GroupRecordError, GroupRecords, IgmpMessage, MldMessage, MulticastError};
 pub use ndp_option::{NdpOption, NdpOptionError, NdpOptionsIterator, PrefixInformation};
 pub use packet::{LaxPacket, Link, Net, Packet, Stop, Transport};
+pub use packet_builder::{
+    ArpPacket, ArpStep, BeforeNet, BeforePayload, DoubleVlanHeader, EthernetStep, IpAuthHeader, IpHeaders, IpStep,
+    Ipv4Extensions, Ipv4Header, Ipv6Extensions, Ipv6FragmentHeader, Ipv6Header, Ipv6RoutingExtensions, LinkStep,
+    MessageStep, PacketBuilder, PacketBuilderStep, SingleVlanHeader, TcpStep, VlanHeader,
+};
 pub use plan::{
     build, BuildError, Plan, PlanField, PlannedAddresses, PlannedEcho, PlannedLink, PlannedTransport,
 };
 pub use planned_tcp::PlannedTcp;
 pub use pool::{AddError, Message, PartRefusal, Pool};
 pub use refusal::{Fault, Layer, LenSource, Refusal};
+pub use streams::{AddedSegment, Conflicts, Gap, SegmentError, SegmentFlags, Stream, StreamProgress};
 
 use std::error::Error;
 use std::fmt;

@@ -1,7 +1,7 @@
 //! Packets that are built.
 
 use crate::planned_tcp::PlannedTcp;
-use crate::raw::{self, EpPlan};
+use crate::raw::{self, EpBuilt, EpPlan};
 use std::error::Error;
 use std::fmt;
 use std::net::{Ipv4Addr, Ipv6Addr};
@@ -97,21 +97,54 @@ pub struct PlannedEcho {
     pub sequence: u16,
 }
 
-/// The field of a plan that is refused.
+/// What is refused of a packet to build: the first of these, but that [`PlanField::Payload`] comes before ICMPv6 over IPv4.
 #[derive(Clone, Copy, Debug, PartialEq, Eq)]
+#[non_exhaustive]
 pub enum PlanField {
+    /// No link header before an ARP packet.
+    Link,
     /// A packet type of a Linux cooked capture above 4.
     PacketType,
     /// More than two VLAN tags.
     TagCount,
     /// An identifier of the outer tag above 4095.
     OuterVlanId,
-    /// One of the inner tag.
+    /// A priority of the outer tag above 7.
+    OuterPriority,
+    /// An identifier of the inner tag above 4095.
     InnerVlanId,
-    /// ICMPv6 over IPv4.
+    /// A priority of the inner tag above 7.
+    InnerPriority,
+    /// A differentiated services code point above 63.
+    Dscp,
+    /// An explicit congestion notification above 3.
+    Ecn,
+    /// An offset of a fragment over IPv4 above 8191.
+    FragmentOffset,
+    /// More than 40 bytes of IPv4's options, or no whole words of 4.
+    Ipv4OptionsLen,
+    /// A flow label above 1048575.
+    FlowLabel,
+    /// Hop-by-hop options of a length that no header states, or over IPv4.
+    HopByHopOptions,
+    /// Destination options before a routing header of such a length, or over IPv4.
+    DestinationOptions,
+    /// A routing header of such a length, or over IPv4.
+    Routing,
+    /// A fragment header whose offset is above 8191, or over IPv4.
+    FragmentHeader,
+    /// An integrity check value of a length that no header states.
+    Authentication,
+    /// Destination options after a routing header of a length that no header states, or over IPv4.
+    FinalDestinationOptions,
+    /// ICMPv6 over IPv4, or a kind of ICMP message that this version doesn't have.
     Transport,
     /// More than 40 bytes of TCP's options.
     OptionsLen,
+    /// Hardware addresses of ARP that differ in length, or have more than 255 bytes.
+    HardwareAddresses,
+    /// Protocol addresses of ARP that differ in length, or have more than 255 bytes.
+    ProtocolAddresses,
     /// A payload that is longer than the length field of the IP header can say.
     Payload,
 }
@@ -139,75 +172,67 @@ impl Error for BuildError {}
 impl fmt::Display for PlanField {
     fn fmt(&self, f: &mut fmt::Formatter<'_>) -> fmt::Result {
         f.write_str(match self {
+            PlanField::Link => "link header",
             PlanField::PacketType => "packet type",
             PlanField::TagCount => "number of tags",
             PlanField::OuterVlanId => "identifier of the outer tag",
+            PlanField::OuterPriority => "priority of the outer tag",
             PlanField::InnerVlanId => "identifier of the inner tag",
+            PlanField::InnerPriority => "priority of the inner tag",
+            PlanField::Dscp => "differentiated services code point",
+            PlanField::Ecn => "explicit congestion notification",
+            PlanField::FragmentOffset => "fragment offset",
+            PlanField::Ipv4OptionsLen => "length of IPv4's options",
+            PlanField::FlowLabel => "flow label",
+            PlanField::HopByHopOptions => "hop-by-hop options",
+            PlanField::DestinationOptions => "destination options",
+            PlanField::Routing => "routing header",
+            PlanField::FragmentHeader => "fragment header",
+            PlanField::Authentication => "authentication",
+            PlanField::FinalDestinationOptions => "final destination options",
             PlanField::Transport => "transport",
             PlanField::OptionsLen => "length of the options",
+            PlanField::HardwareAddresses => "hardware addresses",
+            PlanField::ProtocolAddresses => "protocol addresses",
             PlanField::Payload => "payload",
         })
     }
 }
 
 impl PlanField {
-    // The other fields hold what a `Plan` can't say wrongly.
+    // The other fields hold what a caller can't say wrongly.
     fn from_raw(number: u32) -> PlanField {
         match number {
+            raw::FIELD_LINK => PlanField::Link,
             raw::FIELD_PACKET_TYPE => PlanField::PacketType,
             raw::FIELD_TAG_COUNT => PlanField::TagCount,
             raw::FIELD_OUTER_VLAN_ID => PlanField::OuterVlanId,
+            raw::FIELD_OUTER_PRIORITY => PlanField::OuterPriority,
             raw::FIELD_INNER_VLAN_ID => PlanField::InnerVlanId,
+            raw::FIELD_INNER_PRIORITY => PlanField::InnerPriority,
+            raw::FIELD_DSCP => PlanField::Dscp,
+            raw::FIELD_ECN => PlanField::Ecn,
+            raw::FIELD_FRAGMENT_OFFSET => PlanField::FragmentOffset,
+            raw::FIELD_IPV4_OPTIONS_LEN => PlanField::Ipv4OptionsLen,
+            raw::FIELD_FLOW_LABEL => PlanField::FlowLabel,
+            raw::FIELD_HOP_BY_HOP_OPTIONS => PlanField::HopByHopOptions,
+            raw::FIELD_DESTINATION_OPTIONS => PlanField::DestinationOptions,
+            raw::FIELD_ROUTING => PlanField::Routing,
+            raw::FIELD_FRAGMENT_HEADER => PlanField::FragmentHeader,
+            raw::FIELD_AUTHENTICATION => PlanField::Authentication,
+            raw::FIELD_FINAL_DESTINATION_OPTIONS => PlanField::FinalDestinationOptions,
             raw::FIELD_TRANSPORT => PlanField::Transport,
             raw::FIELD_OPTIONS_LEN => PlanField::OptionsLen,
+            raw::FIELD_HARDWARE_ADDRESSES => PlanField::HardwareAddresses,
+            raw::FIELD_PROTOCOL_ADDRESSES => PlanField::ProtocolAddresses,
             _ => PlanField::Payload,
         }
     }
 }
 
-const NOTHING: EpPlan = EpPlan {
-    link: 0,
-    destination: [0; 6],
-    source: [0; 6],
-    packet_type: 0,
-    address_len: 0,
-    address: [0; 8],
-    tag_count: 0,
-    outer_vlan_id: 0,
-    inner_vlan_id: 0,
-    ip_version: 0,
-    ipv4_source: [0; 4],
-    ipv4_destination: [0; 4],
-    ipv6_source: [0; 16],
-    ipv6_destination: [0; 16],
-    hops: 0,
-    payload_number: 0,
-    transport: 0,
-    source_port: 0,
-    destination_port: 0,
-    is_reply: false,
-    echo_id: 0,
-    echo_sequence: 0,
-    sequence_number: 0,
-    acknowledgment_number: 0,
-    window_size: 0,
-    urgent_pointer: 0,
-    ns: false,
-    fin: false,
-    syn: false,
-    rst: false,
-    psh: false,
-    ack: false,
-    urg: false,
-    ece: false,
-    cwr: false,
-    options_len: 0,
-    options: [0; 40],
-};
-
 impl Plan {
     fn raw(&self) -> EpPlan {
-        let mut raw = EpPlan { hops: self.hops, ..NOTHING };
+        let mut raw = EpPlan { hops: self.hops, ..EpPlan::ZERO };
         match &self.link {
             PlannedLink::None => {}
             PlannedLink::Ethernet2 { source, destination, vlan_ids } => {
@@ -254,11 +279,19 @@ impl PlannedEcho {
 /// Builds the packet of a plan with this payload.
 pub fn build(plan: &Plan, payload: &[u8]) -> Result<Vec<u8>, BuildError> {
     let plan = plan.raw();
-    // The longest headers: link header, two tags, IPv6 or IPv4, and TCP with options.
-    let mut output = vec![0; payload.len() + 128];
     // SAFETY: pointers and lengths are those of values that were written, and nothing overlaps.
-    let built =
-        unsafe { raw::ep_build(&plan, payload.as_ptr(), payload.len(), output.as_mut_ptr(), output.len()) };
+    built_in(payload.len() + LONGEST_HEADERS, |output| unsafe {
+        raw::ep_build(&plan, payload.as_ptr(), payload.len(), output.as_mut_ptr(), output.len())
+    })
+}
+
+/// The longest headers without extension headers: link header, two tags, IPv4 with options, and TCP with options.
+pub(crate) const LONGEST_HEADERS: usize = 160;
+
+/// What a call builds in this room.
+pub(crate) fn built_in(room: usize, call: impl FnOnce(&mut [u8]) -> EpBuilt) -> Result<Vec<u8>, BuildError> {
+    let mut output = vec![0; room];
+    let built = call(&mut output);
     match built.status {
         raw::DONE => {
             output.truncate(built.len);

@@ -1,6 +1,24 @@
 //! The exports and their structs. Written by `tools/bindings`.
 #![allow(dead_code)]
 
+/// From the lower endpoint to the higher one.
+pub const FROM_LOWER: u32 = 1;
+/// From the higher endpoint to the lower one.
+pub const FROM_HIGHER: u32 = 2;
+/// No segment of the connection came.
+pub const STATE_UNSEEN: u32 = 0;
+/// The endpoint that opens it sent SYN.
+pub const STATE_SYN_SENT: u32 = 1;
+/// The other endpoint answered with SYN, and the first one didn't acknowledge that.
+pub const STATE_SYN_RECEIVED: u32 = 2;
+/// Both endpoints may send.
+pub const STATE_ESTABLISHED: u32 = 3;
+/// One endpoint sent FIN.
+pub const STATE_CLOSING: u32 = 4;
+/// Both endpoints sent FIN.
+pub const STATE_CLOSED: u32 = 5;
+/// An endpoint sent RST before both sent FIN.
+pub const STATE_RESET: u32 = 6;
 /// No message of a multicast group.
 pub const GROUP_NONE: u32 = 0;
 /// A query without sources: version 1 of MLD, 1 or 2 of IGMP.
@@ -45,9 +63,9 @@ pub const DONE: u32 = 0;
 pub const NO_ROOM: u32 = 1;
 /// Out of memory.
 pub const NO_MEMORY: u32 = 2;
-/// A packet, a fragment, a field of a plan or a payload is refused.
+/// A packet, a fragment, a segment, a field of a plan or a payload is refused.
 pub const REFUSED: u32 = 3;
-/// The pool isn't open, or is open already, or keeps a message.
+/// The pool or stream isn't open, or is open already, or the pool keeps a message.
 pub const WRONG_STATE: u32 = 4;
 /// A message is complete.
 pub const COMPLETED: u32 = 5;
@@ -71,6 +89,8 @@ pub const NDP_OPTION_RECURSIVE_DNS_SERVER: u32 = 7;
 pub const NDP_OPTION_DNS_SEARCH_LIST: u32 = 8;
 /// No option: `fault` says why, and nothing is read after it.
 pub const NDP_OPTION_FAULT: u32 = 9;
+/// A packet that has no TCP segment whose header is whole, or is a fragment.
+pub const NO_SEGMENT: u32 = 6;
 /// Nothing is refused.
 pub const REFUSAL_NONE: u32 = 0;
 /// A layer has too few bytes.
@@ -97,24 +117,60 @@ pub const REFUSAL_AUTH_HEADER_LEN: u32 = 10;
 pub const REFUSAL_HOP_BY_HOP_NOT_AT_START: u32 = 11;
 /// A TCP data offset below 5.
 pub const REFUSAL_TCP_DATA_OFFSET: u32 = 12;
-/// The field `link` of a plan.
+/// A segment that ends after the window.
+pub const SEGMENT_OUTSIDE_WINDOW: u32 = 1;
+/// A segment with a byte or FIN after FIN, or whose FIN stands before a byte or FIN.
+pub const SEGMENT_AFTER_FIN: u32 = 2;
+/// A segment after the connection was reset.
+pub const SEGMENT_AFTER_RESET: u32 = 3;
+/// No such link header, or none before an ARP packet.
 pub const FIELD_LINK: u32 = 1;
-/// The field `packet_type` of a plan.
+/// A packet type of a cooked capture above 4.
 pub const FIELD_PACKET_TYPE: u32 = 2;
-/// The field `tag_count` of a plan.
+/// More than two tags, or tags without an Ethernet II header.
 pub const FIELD_TAG_COUNT: u32 = 3;
-/// The field `outer_vlan_id` of a plan.
+/// An identifier of the first tag above 4095.
 pub const FIELD_OUTER_VLAN_ID: u32 = 4;
-/// The field `inner_vlan_id` of a plan.
-pub const FIELD_INNER_VLAN_ID: u32 = 5;
-/// The field `ip_version` of a plan.
-pub const FIELD_IP_VERSION: u32 = 6;
-/// The field `transport` of a plan.
-pub const FIELD_TRANSPORT: u32 = 7;
-/// The field `options_len` of a plan.
-pub const FIELD_OPTIONS_LEN: u32 = 8;
-/// The field `payload` of a plan.
-pub const FIELD_PAYLOAD: u32 = 9;
+/// A priority of the first tag above 7.
+pub const FIELD_OUTER_PRIORITY: u32 = 5;
+/// An identifier of the second tag above 4095.
+pub const FIELD_INNER_VLAN_ID: u32 = 6;
+/// A priority of the second tag above 7.
+pub const FIELD_INNER_PRIORITY: u32 = 7;
+/// No such IP version.
+pub const FIELD_IP_VERSION: u32 = 8;
+/// A differentiated services code point above 63.
+pub const FIELD_DSCP: u32 = 9;
+/// An explicit congestion notification above 3.
+pub const FIELD_ECN: u32 = 10;
+/// An offset of a fragment over IPv4 above 8191.
+pub const FIELD_FRAGMENT_OFFSET: u32 = 11;
+/// More than 40 bytes of IPv4's options, or no whole words of 4.
+pub const FIELD_IPV4_OPTIONS_LEN: u32 = 12;
+/// A flow label above 1048575.
+pub const FIELD_FLOW_LABEL: u32 = 13;
+/// Hop-by-hop options of a length that no header states, not within the bytes, or over IPv4.
+pub const FIELD_HOP_BY_HOP_OPTIONS: u32 = 14;
+/// The same of destination options before a routing header.
+pub const FIELD_DESTINATION_OPTIONS: u32 = 15;
+/// The same of a routing header.
+pub const FIELD_ROUTING: u32 = 16;
+/// A fragment header whose offset is above 8191, or over IPv4.
+pub const FIELD_FRAGMENT_HEADER: u32 = 17;
+/// An integrity check value of a length that no header states, or not within the bytes.
+pub const FIELD_AUTHENTICATION: u32 = 18;
+/// The same as of destination options, of those after a routing header, or no routing header.
+pub const FIELD_FINAL_DESTINATION_OPTIONS: u32 = 19;
+/// No such transport header, or ICMPv6 over IPv4.
+pub const FIELD_TRANSPORT: u32 = 20;
+/// More than 40 bytes of TCP's options.
+pub const FIELD_OPTIONS_LEN: u32 = 21;
+/// Hardware addresses that differ in length, have more than 255 bytes, or aren't within the bytes.
+pub const FIELD_HARDWARE_ADDRESSES: u32 = 22;
+/// The same of protocol addresses.
+pub const FIELD_PROTOCOL_ADDRESSES: u32 = 23;
+/// A payload that is longer than the length field of the IP header can state.
+pub const FIELD_PAYLOAD: u32 = 24;
 /// The layer `linux sll header`.
 pub const LAYER_LINUX_SLL_HEADER: u32 = 1;
 /// The layer `ethernet2 header`.
@@ -296,12 +352,37 @@ pub struct EpAdded {
 #[derive(Clone, Copy, Debug, PartialEq, Eq)]
 pub struct EpBuilt {
     /// 0 where it is built, 1 where the output is shorter than the packet, 2 where there is no
-    /// memory, 3 where a field of the plan, or the payload, is refused.
+    /// memory, 3 where it is refused: EP_DONE, EP_NO_ROOM, EP_NO_MEMORY or EP_REFUSED.
     pub status: u32,
-    /// The first field of the plan at fault, where it is refused, else 0.
+    /// What is at fault, where it is refused, else 0: the first of EP_FIELD_LINK and so on in the
+    /// order of their numbers; but that the payload is too long comes before ICMPv6 over IPv4.
     pub field: u32,
     /// The length of the packet, where it is built or the output is too short, else 0.
     pub len: usize,
+}
+
+/// Control flags of a TCP segment (RFC 9293, section 3.1).
+#[repr(C)]
+#[derive(Clone, Copy, Debug, PartialEq, Eq)]
+pub struct EpSegmentFlags {
+    /// SYN: the sequence number is its own, and the payload begins at the next one.
+    pub syn: bool,
+    /// ACK.
+    pub ack: bool,
+    /// FIN: no byte comes after the payload.
+    pub fin: bool,
+    /// RST: the connection is reset, and the payload is no part of the stream.
+    pub rst: bool,
+}
+
+/// How far a connection came. Zeros are a connection of which no segment came.
+#[repr(C)]
+#[derive(Clone, Copy, Debug, PartialEq, Eq)]
+pub struct EpConnectionState {
+    /// 0 unseen, 1 SYN sent, 2 SYN received, 3 established, 4 closing, 5 closed, 6 reset.
+    pub state: u32,
+    /// Of 1 and 2: the direction of the endpoint that opens it, of 4 that of the FIN. Else 0.
+    pub direction: u32,
 }
 
 /// Where bytes are in those that were passed.
@@ -814,6 +895,49 @@ pub struct EpNdpOption {
     pub prefix: [u8; 16],
 }
 
+/// One end of a TCP connection.
+#[repr(C)]
+#[derive(Clone, Copy, Debug, PartialEq, Eq)]
+pub struct EpEndpoint {
+    /// The IP version: 4 or 6.
+    pub version: u16,
+    /// The port.
+    pub port: u16,
+    /// The address. One of IPv4 is filled up with 0 to 16 bytes.
+    pub address: [u8; 16],
+}
+
+/// What the segments of a TCP connection have in common, whichever way they go. There is no padding:
+/// keys are the same where their bytes are.
+#[repr(C)]
+#[derive(Clone, Copy, Debug, PartialEq, Eq)]
+pub struct EpFlowKey {
+    /// The endpoint of the lower version, else of the lower address by its bytes, else of the lower
+    /// port.
+    pub lower: EpEndpoint,
+    /// The other endpoint.
+    pub higher: EpEndpoint,
+    /// The caller's channel.
+    pub channel: u32,
+    /// The identifiers of the VLAN tags, the outer one first. 0 where there are fewer.
+    pub vlan_ids: [u16; 3],
+    /// How many VLAN tags there are, 0 to 3.
+    pub vlan_count: u16,
+}
+
+/// The key of a packet.
+#[repr(C)]
+#[derive(Clone, Copy, Debug, PartialEq, Eq)]
+pub struct EpPacketKey {
+    /// 0 where there is one, 3 where the packet is refused, 6 where it has no TCP segment whose
+    /// header is whole, or is a fragment. Where it isn't 0, all other fields are.
+    pub status: u32,
+    /// In which direction the packet goes: 1 from the lower endpoint, 2 from the higher one.
+    pub direction: u32,
+    /// The key.
+    pub key: EpFlowKey,
+}
+
 /// The headers of a packet to build. The fields of headers that it doesn't have are ignored.
 /// Lengths, checksums, ether types and the numbers of headers follow from it.
 #[repr(C)]
@@ -837,6 +961,14 @@ pub struct EpPlan {
     pub outer_vlan_id: u16,
     /// The identifier of the second one, 0 to 4095.
     pub inner_vlan_id: u16,
+    /// The priority of the first of them, 0 to 7 (IEEE 802.1Q, section 6.9.3).
+    pub outer_priority: u8,
+    /// The priority of the second one, 0 to 7.
+    pub inner_priority: u8,
+    /// Whether the first of them says that the frame may be dropped first.
+    pub outer_drop_eligible: bool,
+    /// Whether the second one says so.
+    pub inner_drop_eligible: bool,
     /// The IP version: 4 or 6.
     pub ip_version: u32,
     /// Of IPv4: the source address.
@@ -847,7 +979,28 @@ pub struct EpPlan {
     pub ipv6_source: [u8; 16],
     /// Of IPv6: the destination address.
     pub ipv6_destination: [u8; 16],
-    /// How many hops it may take.
+    /// Of IPv4: how many bytes of options there are, at most 40, a multiple of 4.
+    pub ipv4_options_len: usize,
+    /// Of IPv4: the options.
+    pub ipv4_options: [u8; 40],
+    /// Of IPv4: the identification, which the fragments of one datagram share.
+    pub identification: u16,
+    /// Of IPv4: the offset of the payload in the datagram, in units of 8 bytes, 0 to 8191.
+    pub fragment_offset: u16,
+    /// Of IPv4: differentiated services code point, 0 to 63 (RFC 2474).
+    pub dscp: u8,
+    /// Of IPv4: explicit congestion notification, 0 to 3 (RFC 3168).
+    pub ecn: u8,
+    /// Of IPv4: whether the packet may be fragmented. Where it may not, don't-fragment is set.
+    pub may_fragment: bool,
+    /// Of IPv4: whether other fragments follow.
+    pub more_fragments: bool,
+    /// Of IPv6: the flow label, 0 to 1048575.
+    pub flow_label: u32,
+    /// Of IPv6: the traffic class. Differentiated services code point are its upper 6 bits, explicit
+    /// congestion notification the lower 2.
+    pub traffic_class: u8,
+    /// How many hops it may take: time to live of IPv4, hop limit of IPv6.
     pub hops: u8,
     /// Without a transport header: the number of the payload.
     pub payload_number: u8,
@@ -863,6 +1016,14 @@ pub struct EpPlan {
     pub echo_id: u16,
     /// Of ICMP: the number of the echo.
     pub echo_sequence: u16,
+    /// Of ICMP: whether it isn't an echo, but has the type, the code and the 4 bytes that follow here.
+    pub icmp_is_raw: bool,
+    /// Of ICMP that is no echo: its type.
+    pub icmp_type: u8,
+    /// Of ICMP that is no echo: its code.
+    pub icmp_code: u8,
+    /// Of ICMP that is no echo: the 4 bytes after the checksum.
+    pub icmp_bytes: [u8; 4],
     /// Of TCP: the sequence number.
     pub sequence_number: u32,
     /// Of TCP: the acknowledgment number.
@@ -895,6 +1056,41 @@ pub struct EpPlan {
     pub options: [u8; 40],
 }
 
+/// The extension headers of a packet to build (RFC 8200, section 4; RFC 4302). They are written in the
+/// order of RFC 8200, section 4.1: hop-by-hop options, destination options, routing, fragment,
+/// authentication, destination options. Over IPv4 there is authentication alone. A part of options or
+/// routing is what follows the first two bytes of the header: 6 bytes and a multiple of 8, at most
+/// 2046; no bytes stand for no header. Numbers and lengths of headers follow from it.
+#[repr(C)]
+#[derive(Clone, Copy, Debug, PartialEq, Eq)]
+pub struct EpPlannedExtensions {
+    /// Hop-by-hop options.
+    pub hop_by_hop_options: EpPart,
+    /// Destination options before a routing header, or where there is none.
+    pub destination_options: EpPart,
+    /// The routing header.
+    pub routing: EpPart,
+    /// Destination options after the routing header, without which they are refused.
+    pub final_destination_options: EpPart,
+    /// Of authentication: the integrity check value, a multiple of 4 bytes, at most 1016.
+    pub integrity_check_value: EpPart,
+    /// Of a fragment header: the identification, which the fragments of one datagram share.
+    pub identification: u32,
+    /// Of authentication: the security parameters index.
+    pub spi: u32,
+    /// Of authentication: the sequence number.
+    pub sequence_number: u32,
+    /// Of a fragment header: the offset of the payload in the datagram, in units of 8 bytes, 0 to
+    /// 8191.
+    pub fragment_offset: u16,
+    /// Of a fragment header: whether other fragments follow.
+    pub more_fragments: bool,
+    /// Whether there is a fragment header.
+    pub has_fragment_header: bool,
+    /// Whether there is an authentication header.
+    pub has_authentication: bool,
+}
+
 /// A pool that reassembles datagrams. It starts as zeros, and only these calls change it.
 #[repr(C)]
 #[derive(Clone, Copy, Debug, PartialEq, Eq)]
@@ -903,6 +1099,79 @@ pub struct EpPool {
     pub is_open: bool,
     /// For these calls alone.
     pub held: *mut std::ffi::c_void,
+}
+
+/// The bytes that one end of a TCP connection sent, put together as its segments come. Positions count
+/// from 0, the number after that of SYN or, where SYN wasn't seen, that of the first segment. It starts
+/// as zeros, and only these calls change it.
+#[repr(C)]
+#[derive(Clone, Copy, Debug, PartialEq, Eq)]
+pub struct EpStream {
+    /// Whether it was opened and not freed.
+    pub is_open: bool,
+    /// For these calls alone.
+    pub held: *mut std::ffi::c_void,
+}
+
+/// Positions at which a segment has another byte than one before it. The first byte stays.
+#[repr(C)]
+#[derive(Clone, Copy, Debug, PartialEq, Eq)]
+pub struct EpConflicts {
+    /// How many there are, UINT64_MAX at most.
+    pub count: u64,
+    /// The one that was found first, 0 where there is none.
+    pub first: u64,
+}
+
+/// What became of a segment that a stream was given.
+#[repr(C)]
+#[derive(Clone, Copy, Debug, PartialEq, Eq)]
+pub struct EpStreamAdded {
+    /// 0 where it is accepted, 2 out of memory, 3 where it is refused, 4 where the stream isn't open.
+    /// Where it isn't 0, nothing changed.
+    pub status: u32,
+    /// Why it is refused: 1 it ends after the window, 2 it has a byte or FIN after FIN, or its FIN
+    /// stands before a byte or FIN, 3 the connection was reset. Else 0.
+    pub refusal: u32,
+    /// Of refusal 1: the position after the window. Of 2: that of the FIN that stands before the
+    /// other. Else 0.
+    pub refused_at: u64,
+    /// The position of its first byte, those before the ones that are held left out. 0 where it isn't
+    /// accepted.
+    pub position: u64,
+    /// The positions of its bytes that differ from those that are held.
+    pub conflicts: EpConflicts,
+}
+
+/// Positions whose bytes are missing. Both are 0 where there is no gap.
+#[repr(C)]
+#[derive(Clone, Copy, Debug, PartialEq, Eq)]
+pub struct EpGap {
+    /// The first of them.
+    pub start: u64,
+    /// The position after the last one.
+    pub end: u64,
+}
+
+/// How far a stream came. All fields are 0 where it isn't open.
+#[repr(C)]
+#[derive(Clone, Copy, Debug, PartialEq, Eq)]
+pub struct EpStreamProgress {
+    /// How many bytes can be read: those that follow the ones that were read, up to the first that
+    /// is missing.
+    pub available: usize,
+    /// How many bytes were read.
+    pub consumed: u64,
+    /// The first positions whose bytes are missing, if bytes after them are held.
+    pub gap: EpGap,
+    /// The conflicts of all segments.
+    pub conflicts: EpConflicts,
+    /// Whether all bytes before FIN came.
+    pub is_finished: bool,
+    /// Whether the connection was reset.
+    pub is_reset: bool,
+    /// Whether the first segment that came had no SYN: bytes before it may be missing.
+    pub joined_late: bool,
 }
 
 /// A block of bytes that arrived after a gap (RFC 2018, section 3).
@@ -956,8 +1225,111 @@ pub struct NetlinesSession {
     pub held: *mut std::ffi::c_void,
 }
 
+impl EpPart {
+    /// Zero in each field.
+    pub const ZERO: EpPart = EpPart {
+        offset: 0,
+        len: 0,
+    };
+}
+
+impl EpArp {
+    /// Zero in each field.
+    pub const ZERO: EpArp = EpArp {
+        packet: EpPart::ZERO,
+        sender_hardware: EpPart::ZERO,
+        sender_protocol: EpPart::ZERO,
+        target_hardware: EpPart::ZERO,
+        target_protocol: EpPart::ZERO,
+        hardware_type: 0,
+        protocol_type: 0,
+        operation: 0,
+    };
+}
+
+impl EpPlan {
+    /// Zero in each field.
+    pub const ZERO: EpPlan = EpPlan {
+        link: 0,
+        destination: [0; 6],
+        source: [0; 6],
+        packet_type: 0,
+        address_len: 0,
+        address: [0; 8],
+        tag_count: 0,
+        outer_vlan_id: 0,
+        inner_vlan_id: 0,
+        outer_priority: 0,
+        inner_priority: 0,
+        outer_drop_eligible: false,
+        inner_drop_eligible: false,
+        ip_version: 0,
+        ipv4_source: [0; 4],
+        ipv4_destination: [0; 4],
+        ipv6_source: [0; 16],
+        ipv6_destination: [0; 16],
+        ipv4_options_len: 0,
+        ipv4_options: [0; 40],
+        identification: 0,
+        fragment_offset: 0,
+        dscp: 0,
+        ecn: 0,
+        may_fragment: false,
+        more_fragments: false,
+        flow_label: 0,
+        traffic_class: 0,
+        hops: 0,
+        payload_number: 0,
+        transport: 0,
+        source_port: 0,
+        destination_port: 0,
+        is_reply: false,
+        echo_id: 0,
+        echo_sequence: 0,
+        icmp_is_raw: false,
+        icmp_type: 0,
+        icmp_code: 0,
+        icmp_bytes: [0; 4],
+        sequence_number: 0,
+        acknowledgment_number: 0,
+        window_size: 0,
+        urgent_pointer: 0,
+        ns: false,
+        fin: false,
+        syn: false,
+        rst: false,
+        psh: false,
+        ack: false,
+        urg: false,
+        ece: false,
+        cwr: false,
+        options_len: 0,
+        options: [0; 40],
+    };
+}
+
+impl EpPlannedExtensions {
+    /// Zero in each field.
+    pub const ZERO: EpPlannedExtensions = EpPlannedExtensions {
+        hop_by_hop_options: EpPart::ZERO,
+        destination_options: EpPart::ZERO,
+        routing: EpPart::ZERO,
+        final_destination_options: EpPart::ZERO,
+        integrity_check_value: EpPart::ZERO,
+        identification: 0,
+        spi: 0,
+        sequence_number: 0,
+        fragment_offset: 0,
+        more_fragments: false,
+        has_fragment_header: false,
+        has_authentication: false,
+    };
+}
+
 extern "C" {
     pub(crate) fn ep_build(plan: *const EpPlan, payload: *const u8, payload_len: usize, output: *mut u8, output_len: usize) -> EpBuilt;
+    pub(crate) fn ep_build_with_extensions(plan: *const EpPlan, extensions: *const EpPlannedExtensions, bytes: *const u8, bytes_len: usize, payload: *const u8, payload_len: usize, output: *mut u8, output_len: usize) -> EpBuilt;
+    pub(crate) fn ep_build_arp(plan: *const EpPlan, arp: *const EpArp, bytes: *const u8, bytes_len: usize, output: *mut u8, output_len: usize) -> EpBuilt;
     pub(crate) fn ep_checksum(bytes: *const u8, bytes_len: usize) -> u16;
     pub(crate) fn ep_checksum_is_right(bytes: *const u8, bytes_len: usize) -> bool;
     pub(crate) fn ep_tcp_options(packet: *const EpPacket) -> EpPart;
@@ -987,6 +1359,15 @@ extern "C" {
     pub(crate) fn ep_slice_ethernet_lax(bytes: *const u8, bytes_len: usize) -> EpLaxPacket;
     pub(crate) fn ep_slice_linux_sll_lax(bytes: *const u8, bytes_len: usize) -> EpLaxPacket;
     pub(crate) fn ep_slice_ip_lax(bytes: *const u8, bytes_len: usize) -> EpLaxPacket;
+    pub(crate) fn ep_stream_new(stream: *mut EpStream, window: usize) -> u32;
+    pub(crate) fn ep_stream_add(stream: *mut EpStream, sequence_number: u32, flags: *const EpSegmentFlags, payload: *const u8, payload_len: usize) -> EpStreamAdded;
+    pub(crate) fn ep_stream_read(stream: *mut EpStream, output: *mut u8, output_len: usize) -> usize;
+    pub(crate) fn ep_stream_progress_of(stream: *mut EpStream) -> EpStreamProgress;
+    pub(crate) fn ep_stream_free(stream: *mut EpStream);
+    pub(crate) fn ep_flow_key_ethernet(frame: *const u8, frame_len: usize, channel: u32) -> EpPacketKey;
+    pub(crate) fn ep_flow_key_linux_sll(packet: *const u8, packet_len: usize, channel: u32) -> EpPacketKey;
+    pub(crate) fn ep_flow_key_ip(packet: *const u8, packet_len: usize, channel: u32) -> EpPacketKey;
+    pub(crate) fn ep_connection_state_after(state: *const EpConnectionState, direction: u32, flags: *const EpSegmentFlags) -> EpConnectionState;
     pub(crate) fn ep_verdict_ethernet(bytes: *const u8, bytes_len: usize) -> u32;
     pub(crate) fn ep_verdict_linux_sll(bytes: *const u8, bytes_len: usize) -> u32;
     pub(crate) fn ep_verdict_ip(bytes: *const u8, bytes_len: usize) -> u32;
@@ -1003,6 +1384,8 @@ const _: () = assert!(std::mem::size_of::<EpPartRefusal>() == 24);
 const _: () = assert!(std::mem::size_of::<EpMessage>() == 56);
 const _: () = assert!(std::mem::size_of::<EpAdded>() == 128);
 const _: () = assert!(std::mem::size_of::<EpBuilt>() == 16);
+const _: () = assert!(std::mem::size_of::<EpSegmentFlags>() == 4);
+const _: () = assert!(std::mem::size_of::<EpConnectionState>() == 8);
 const _: () = assert!(std::mem::size_of::<EpPart>() == 16);
 const _: () = assert!(std::mem::size_of::<EpExtensions>() == 24);
 const _: () = assert!(std::mem::size_of::<EpExtension>() == 56);
@@ -1022,8 +1405,17 @@ const _: () = assert!(std::mem::size_of::<EpIcmp>() == 40);
 const _: () = assert!(std::mem::size_of::<EpPacket>() == 656);
 const _: () = assert!(std::mem::size_of::<EpLaxPacket>() == 704);
 const _: () = assert!(std::mem::size_of::<EpNdpOption>() == 96);
-const _: () = assert!(std::mem::size_of::<EpPlan>() == 176);
+const _: () = assert!(std::mem::size_of::<EpEndpoint>() == 20);
+const _: () = assert!(std::mem::size_of::<EpFlowKey>() == 52);
+const _: () = assert!(std::mem::size_of::<EpPacketKey>() == 60);
+const _: () = assert!(std::mem::size_of::<EpPlan>() == 248);
+const _: () = assert!(std::mem::size_of::<EpPlannedExtensions>() == 104);
 const _: () = assert!(std::mem::size_of::<EpPool>() == 16);
+const _: () = assert!(std::mem::size_of::<EpStream>() == 16);
+const _: () = assert!(std::mem::size_of::<EpConflicts>() == 16);
+const _: () = assert!(std::mem::size_of::<EpStreamAdded>() == 40);
+const _: () = assert!(std::mem::size_of::<EpGap>() == 16);
+const _: () = assert!(std::mem::size_of::<EpStreamProgress>() == 56);
 const _: () = assert!(std::mem::size_of::<EpTcpBlock>() == 8);
 const _: () = assert!(std::mem::size_of::<EpTcpOption>() == 64);
 const _: () = assert!(std::mem::size_of::<NetlinesSession>() == 16);

@@ -8,4 +8,5 @@ mod fields;
 mod groups;
 mod pool;
 mod slice;
+mod streams;
 mod verdict;

@@ -1,6 +1,7 @@
 mod CutTags
 mod ExtensionLemmas
 mod GroupRecordLemmas
+mod HeldStreamValues
 mod HeldValues
 mod LaxFrameParts
 mod LaxMessageParts
@@ -14,4 +15,6 @@ mod PacketFields
 mod PartOffsets
 mod PlanLemmas
 mod PoolLemmas
+mod StateNumbers
+mod StreamLemmas
 mod WholeLemmas

@@ -1,4 +1,5 @@
 pub mod Build
+pub mod Connection
 pub mod Extension
 pub mod FramePool
 pub mod GroupMessage
@@ -11,11 +12,18 @@ pub mod Message
 pub mod NdpOption
 pub mod Net
 pub mod Packet
+pub mod PacketKey
 pub mod Part
 pub mod PartRefusal
 pub mod Plan
+pub mod PlannedArp
+pub mod PlannedExtensions
+pub mod PlannedIp
 pub mod Pool
 pub mod Refusal
+pub mod Stream
+pub mod StreamAdded
 pub mod TcpOption
 pub mod Transport
 pub mod Verdict
+pub mod Wrong

@@ -5,5 +5,7 @@ pub mod fields;
 pub mod headers;
 pub mod numbers;
 pub mod packets;
+pub mod plans;
 pub mod pools;
 pub mod refusals;
+pub mod streams;

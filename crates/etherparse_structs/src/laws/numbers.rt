@@ -75,15 +75,25 @@ pub fn sources()
     ensures arp { source_number source.ArpAddrLengths ≡ 7 }
 {}
 
-/// The fields of a plan that may be at fault.
+/// What may be refused of a packet to build.
 pub fn plan_fields()
     ensures link { (field_number field.Link ≡ 1) × (field_number field.PacketType ≡ 2) }
     ensures tags { (field_number field.TagCount ≡ 3) × (field_number field.OuterVlanId ≡ 4)
-        × (field_number field.InnerVlanId ≡ 5) }
-    ensures ip { field_number field.IpVersion ≡ 6 }
-    ensures transport { (field_number field.Transport ≡ 7)
-        × (field_number field.OptionsLen ≡ 8) }
-    ensures payload { field_number field.Payload ≡ 9 }
+        × (field_number field.OuterPriority ≡ 5) × (field_number field.InnerVlanId ≡ 6)
+        × (field_number field.InnerPriority ≡ 7) }
+    ensures ip { field_number field.IpVersion ≡ 8 }
+    ensures ipv4 { (field_number field.Dscp ≡ 9) × (field_number field.Ecn ≡ 10)
+        × (field_number field.FragmentOffset ≡ 11) × (field_number field.Ipv4OptionsLen ≡ 12) }
+    ensures ipv6 { field_number field.FlowLabel ≡ 13 }
+    ensures extensions { (field_number field.HopByHopOptions ≡ 14)
+        × (field_number field.DestinationOptions ≡ 15) × (field_number field.Routing ≡ 16)
+        × (field_number field.FragmentHeader ≡ 17) × (field_number field.Authentication ≡ 18)
+        × (field_number field.FinalDestinationOptions ≡ 19) }
+    ensures transport { (field_number field.Transport ≡ 20)
+        × (field_number field.OptionsLen ≡ 21) }
+    ensures arp { (field_number field.HardwareAddresses ≡ 22)
+        × (field_number field.ProtocolAddresses ≡ 23) }
+    ensures payload { field_number field.Payload ≡ 24 }
 {}
 
 /// The verdicts on a message that can be read: no checksum, a right one, a wrong one.

@@ -1,9 +1,13 @@
-use Rattle.std.proofs.Common.{length}
-use Rattle.etherparse_structs.specs.Plan.{wrong_in}
-use Rattle.etherparse_structs.proofs.PlanLemmas.{at_fault_is}
 use Rattle.etherparse_structs.proofs.build.build_packet.Goals as goal
 
 pub returns-clause-refused : goal.returns-clause-refused
-returns-clause-refused c =
-    at_fault_is (wrong_in c.args.plan.now (length c.args.payload.now)) c.append.result
-    c.in-Err-Field.field c.not_built-in-Err-Field.result c.append.ensures.refused (cc) (cc)
+returns-clause-refused c = rw c.none.ensures at c.build_extended_packet.ensures.refused
+
+pub returns-clause-codes : goal.returns-clause-codes
+returns-clause-codes c = rw c.none.ensures at c.build_extended_packet.ensures.codes
+
+pub returns-clause-built : goal.returns-clause-built
+returns-clause-built c = rw c.none.ensures at c.build_extended_packet.ensures.built
+
+pub returns-clause-no_room : goal.returns-clause-no_room
+returns-clause-no_room c = rw c.none.ensures at c.build_extended_packet.ensures.no_room
