@@ -6,7 +6,7 @@ use Rattle.std.specs.Prelude.{if◌then◌else◌}
 use Rattle.std.proofs.lemmas.Bool.Decides.{nat_tests}
 use Rattle.std.proofs.lemmas.List.{get_or-take, length-take-le, take-take}
 use Rattle.etherparse.specs.base.Bytes.{num}
-use Rattle.etherparse.specs.icmp.Multicast.{RecordsLeft, record_and, record_len, records_within, size_at, sources_end, sources_of}
+use Rattle.etherparse.specs.icmp.Multicast.{record_and, record_len, records_within, size_at, sources_end, sources_of}
 use Rattle.etherparse.specs.icmp.declared.transport.multicast.multicast_error.GroupRecordError.{GroupRecordError}
 use Rattle.etherparse_structs.specs.GroupRecord.{address_len, after_size, cut_struct, first_record, group_records_left, group_struct}
 use Rattle.etherparse_structs.specs.GroupRecord.{group_structs, no_group_record, record_of_size, record_struct, records_after}

@@ -1,6 +1,6 @@
 -- The options and the extension headers of a packet, in its bytes.
 use Rattle.std.proofs.Common.{◌≡◌, ◌∙◌, sym, ap, refl, ℕ, ◌+◌, ◌-◌, ◌^◌, ◌<◌, ◌≤◌, ◌==◌, Bool, true, false, List, []}
-use Rattle.std.proofs.Common.{◌∷◌, ◌++◌, length, take, drop, Option, Some, None, Ok, arith}
+use Rattle.std.proofs.Common.{◌∷◌, ◌++◌, length, take, drop, Option, Some, Ok, arith}
 use Rattle.std.specs.Option.{option_map, option_map_or}
 use Rattle.std.specs.Prelude.{if◌then◌else◌}
 use Rattle.std.specs.Result.{result_ok}
@@ -15,7 +15,7 @@ use Rattle.etherparse.specs.ext.declared.net.ipv6_ext_slot.Ipv6ExtSlot.{Ipv6ExtS
 use Rattle.etherparse.specs.ext.declared.net.ipv6_ext_slot.Ipv6ExtSlot.TheVariants.{HopByHop}
 use Rattle.etherparse.specs.ip.Ipv4.{IsIpv4Header}
 use Rattle.etherparse.specs.ipslice.Ipv6Exts.{slot_after, view_order}
-use Rattle.etherparse.specs.ipslice.Ipv6Walk.{any_order, piece_at_start, pieces_left}
+use Rattle.etherparse.specs.ipslice.Ipv6Walk.{piece_at_start, pieces_left}
 use Rattle.etherparse_structs.specs.Extension.{extensions_from, extensions_left}
 use Rattle.etherparse_structs.specs.Part.{options_part, part_at, part_bytes}
 use Rattle.etherparse_structs.proofs.NextExtension.{first_left, nothing_left}

@@ -1,4 +1,4 @@
-use Rattle.std.proofs.Common.{◌≡◌, ◌∙◌, sym}
+use Rattle.std.proofs.Common.{◌∙◌, sym}
 use Rattle.std.specs.Option.{option_map}
 use Rattle.etherparse_structs.specs.PlannedExtensions.{auth_in, final_options_in, fragment_in, ipv6_exts_in, raw_in, wrong_auth}
 use Rattle.etherparse_structs.specs.PlannedExtensions.{wrong_final_options, wrong_fragment, wrong_ipv6_exts, wrong_raw}
