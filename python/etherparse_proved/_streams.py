@@ -15,7 +15,7 @@ class Flags(Protocol):
 
     @property
     def syn(self) -> bool:
-        """Whether a sequence number is that of the beginning."""
+        """Whether the sequence number is that of SYN."""
         ...
 
     @property
