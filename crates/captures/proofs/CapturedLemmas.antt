@@ -1,9 +1,10 @@
 -- Each packet of a capture has a line.
-use Rattle.std.proofs.Common.{◌≡◌, sym, ap, subst, ℕ, ◌+◌, ◌*◌, ◌^◌, ◌<◌, ◌≤◌, arith, List, [], ◌∷◌, length, drop, inl}
+use Rattle.std.proofs.Common.{◌≡◌, ◌∙◌, sym, ap, subst, ℕ, ◌+◌, ◌*◌, ◌^◌, ◌<◌, ◌≤◌, arith, List, [], ◌∷◌, length, drop, inl}
 use Rattle.std.proofs.Common.{inr}
 use Rattle.std.specs.Prelude.{min}
 use Rattle.std.specs.List.{AllByRecursion}
 use Rattle.captures.proofs.ByteLemmas.{Bytes, bytes_by, bytes_at, bytes_drop, bytes_take, bytes_prefix, bytes_back}
+use Rattle.captures.proofs.BlockLemmas.{word_prefix}
 use Rattle.captures.proofs.FramedLemmas.{reported_bytes, reported_fits, reported_whole}
 use Rattle.captures.specs.Framed.{frame_len, wire_len_on}
 use Rattle.captures.specs.ComeBack.{HasLine, CapturedPacketsHaveLines}
@@ -127,11 +128,13 @@ unit_fits (Classic order time_unit link passing) unit after origin frame range b
     let i = is.0 in
     let time = ap (λ (o : Origin). o.time) is.1 in
     let on_wire = ap (λ (o : Origin). o.wire_len) is.1 in
+    let r = i.is_record in
+    let captured : word order unit 8 ≡ length i.packet =
+    rw r.parts (word_prefix order r.head i.packet 8 (omega (arith, r.size)) ∙ r.captured) in
     let most_len = most_wire_len link (word order unit 8) (word order unit 12) in
     let least_len = least_wire_len link (length frame) (word order unit 8) (word order unit 12) in
     let most = most_time (1000000000 * word order unit 0
     + nanoseconds_in time_unit * word order unit 4) in
-    let p = i.is_record in
     grind (arith, fits_line, reported_fits, reported_bytes, reported_whole, bytes_back)
 unit_fits (Pcapng section) unit after origin frame range bytes is =
     block_unit_fits section unit after origin frame range bytes is

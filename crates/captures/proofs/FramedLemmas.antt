@@ -1,9 +1,8 @@
 -- The frame of a packet is bytes, and a line can hold it.
 use Rattle.std.proofs.lemmas.Bool.Decides.{nat_tests}
-use Rattle.std.proofs.Common.{◌≡◌, sym, subst, refl, ℕ, ◌+◌, ◌≤◌, arith, ◌==◌, Bool, true, false, List, [], ◌∷◌, ◌++◌}
+use Rattle.std.proofs.Common.{◌≡◌, sym, subst, refl, ℕ, ◌+◌, ◌<◌, ◌≤◌, arith, ◌==◌, Bool, true, false, List, [], ◌∷◌, ◌++◌}
 use Rattle.std.proofs.Common.{length, length-drop, take, drop, Option, Some, None, eqb-true, ltb-false, ne_eqb}
-use Rattle.std.proofs.Common.{length-append}
-use Rattle.std.proofs.Common.{IfSome, Ok, Err}
+use Rattle.std.proofs.Common.{length-append, IfSome, Ok, Err, inl, inr}
 use Rattle.std.specs.Option.{option_map}
 use Rattle.std.proofs.Math.Seq.{take-append_seam}
 use Rattle.std.proofs.lemmas.List.{length-take-le, take-append-drop}
@@ -213,7 +212,7 @@ own_len link packet frame same h some = grind arith
 pub framed_len : (link : Link) (packet frame : List ℕ) → framed link packet ≡ Some frame
     → 0 < length frame → length frame ≡ frame_len link (length packet)
 framed_len link packet frame is some =
-    elim by_parts link packet frame (frame_parts link packet) refl is [
+    elim (by_parts link packet frame (frame_parts link packet) refl is) [
       | inl own ↦ own_len link packet frame own.0 own.1 some
       | inr made ↦ made_len link packet frame made
     ]

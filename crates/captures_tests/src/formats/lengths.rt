@@ -4,7 +4,7 @@
 use crate::checks::{equal, joined};
 use crate::formats::text::{BAD, OTHER, capture_of};
 use crate::packet_lines::reports_all;
-use captures::{Extra, RunError, TimeUnit};
+use captures::{Extra, RunError, TimeUnit, frame_wire_len};
 
 // Of a classic capture, high byte first: the last byte of the link type; the head of a record at 5 seconds, after the
 // time; its bytes; and the line.
@@ -112,6 +112,25 @@ fn lengths_of_lines(rt: HostRuntime) {
     for (text, wanted, packets) in LINES.iter() {
         let file = capture_of(rt, TimeUnit::Nanoseconds, &mut text.as_bytes(), *wanted);
         equal(rt, file.as_slice().get(24..), Some(*packets));
+    }
+}
+
+// How many bytes a frame has, and how many of its packet were captured and were on the wire: whole, cut,
+// one of raw IP, a wrong record, and more than 32 bits hold.
+#[rattlefmt::skip]
+const FRAMES: &[(usize, usize, u32, u32)] = &[
+    (60, 60, 60, 60),
+    (60, 60, 1514, 1514),
+    (34, 20, 1500, 1514),
+    (34, 20, 6, 34),
+    (34, 20, 0, 34),
+    (34, 20, 4_294_967_295, 4_294_967_295),
+];
+
+#[test]
+fn lengths_of_frames(rt: HostRuntime) {
+    for (len, captured, wire_len, wanted) in FRAMES.iter() {
+        equal(rt, frame_wire_len(*len, *captured, *wire_len), *wanted);
     }
 }
 

@@ -3,7 +3,7 @@ use Rattle.hex.specs.Hex.{decode_pairs}
 use Rattle.line_grammar.specs.Commands.{command_of}
 use Rattle.line_grammar.specs.TimedLines.{timed_frame_of}
 use Rattle.captures.specs.CapturedFrames.{captured_frame_of}
-use Rattle.captures.proofs.laws.examples.lines.lines_without_frames.Goals as goal
+use Rattle.captures.proofs.laws.examples.frame_lines.lines_without_frames.Goals as goal
 
 pub returns-clause-seconds : goal.returns-clause-seconds
 unfolding captured_frame_of timed_frame_of command_of decode_pairs

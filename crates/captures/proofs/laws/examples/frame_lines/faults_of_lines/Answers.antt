@@ -2,7 +2,7 @@ use Rattle.std.proofs.Common.{refl}
 use Rattle.hex.specs.Hex.{decode_pairs}
 use Rattle.line_grammar.specs.Commands.{command_of}
 use Rattle.line_grammar.specs.TimedLines.{timed_frame_of}
-use Rattle.captures.proofs.laws.examples.lines.faults_of_lines.Goals as goal
+use Rattle.captures.proofs.laws.examples.frame_lines.faults_of_lines.Goals as goal
 
 pub returns-clause-seconds : goal.returns-clause-seconds
 unfolding timed_frame_of command_of decode_pairs

@@ -3,7 +3,7 @@ use Rattle.hex.specs.Hex.{decode_pairs}
 use Rattle.line_grammar.specs.Commands.{command_of}
 use Rattle.line_grammar.specs.TimedLines.{timed_frame_of}
 use Rattle.captures.specs.CapturedFrames.{captured_frame_of}
-use Rattle.captures.proofs.laws.examples.lines.frames_of_lines.Goals as goal
+use Rattle.captures.proofs.laws.examples.frame_lines.frames_of_lines.Goals as goal
 
 pub returns-clause-alone : goal.returns-clause-alone
 unfolding captured_frame_of timed_frame_of command_of decode_pairs
