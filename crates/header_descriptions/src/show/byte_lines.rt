@@ -51,7 +51,7 @@ fn append_offset(offset: usize, out: &mut Vec<u8>) -> Result<(), AllocError>
 }
 
 // All digits of a number.
-#[tactic(auto, using(crate::proofs::HexLemmas::more_digits, crate::proofs::HexLemmas::one_digit))]
+#[tactic(auto, using(crate::proofs::HexLemmas::one_digit))]
 fn append_number(n: usize, out: &mut Vec<u8>) -> Result<(), AllocError>
     ensures { OnOk result (out.new.items ≡ out.old.items ++ digits 16 false n) }
 {
@@ -59,7 +59,8 @@ fn append_number(n: usize, out: &mut Vec<u8>) -> Result<(), AllocError>
         return out.extend_from_slice(&[digit(n)]);
     }
     append_number(n / 16, out)?;
-    out.extend_from_slice(&[digit(n)])
+    out.extend_from_slice(&[digit(n)])?;
+    Ok(())
 }
 
 // Eight columns of two bytes.
