@@ -22,8 +22,13 @@ before_others : (most n : ℕ) (following : List ℕ)
     → spelled most n following ≡ spelled most n [] ++ following
 before_others zero n following = refl
 before_others (suc most) n following =
-    grind (arith, nat_tests, before_others most (n / 16) (digit_of n ∷ following),
-    before_others most (n / 16) (digit_of n ∷ []), append_assoc)
+    grind (
+      arith,
+      nat_tests,
+      before_others most (n / 16) (digit_of n ∷ following),
+      before_others most (n / 16) (digit_of n ∷ []),
+      append_assoc,
+    )
 
 -- how many there may be doesn't matter once it is enough
 enough : (most more n : ℕ) (following : List ℕ) → n < 16 ^ suc most → n < 16 ^ suc more

@@ -20,9 +20,9 @@ module _ {K V : Type 0} (test : K → Bool) where
   found_entry [] value is = absurd (cc is)
   found_entry (entry ∷ entries) value is = (elim (test entry.0) as (λ y. test entry.0 ≡ y
       → (key : K) × (lookup_entry test (entry ∷ entries) ≡ Some (key, value)) × (test key ≡ true)) [
-    | true ↦ λ t. let same = rw t at is in (entry.0, rw t (ap (λ v. Some (entry.0, v)) (cc same)), t)
-    | false ↦ λ t. let later = found_entry entries value (rw t at is) in (later.0, rw t later.1, later.2)
-  ]) refl
+        | true ↦ λ t. let same = rw t at is in (entry.0, rw t (ap (λ v. Some (entry.0, v)) (cc same)), t)
+        | false ↦ λ t. let later = found_entry entries value (rw t at is) in (later.0, rw t later.1, later.2)
+      ]) refl
 
   -- of fewer entries, and of more
   found_in_more : (count : ℕ) (entries : List (K × V)) (value : V)
@@ -31,9 +31,9 @@ module _ {K V : Type 0} (test : K → Bool) where
   found_in_more (suc count) [] value is = absurd (cc is)
   found_in_more (suc count) (entry ∷ entries) value is = (elim (test entry.0) as (λ y. test entry.0 ≡ y
       → lookup test (entry ∷ entries) ≡ Some value) [
-    | true ↦ λ t. rw t (rw t at is)
-    | false ↦ λ t. rw t (found_in_more count entries value (rw t at is))
-  ]) refl
+        | true ↦ λ t. rw t (rw t at is)
+        | false ↦ λ t. rw t (found_in_more count entries value (rw t at is))
+      ]) refl
 
 -- a test that passes no key that another one passes
 module _ {K V : Type 0} (test other : K → Bool)
@@ -42,9 +42,9 @@ module _ {K V : Type 0} (test other : K → Bool)
   without_other [] = refl
   without_other (entry ∷ entries) = (elim (other entry.0) as (λ y. other entry.0 ≡ y
       → lookup test (remove_entry other (entry ∷ entries)) ≡ lookup test (entry ∷ entries)) [
-    | true ↦ λ t. rw (t, apart entry.0 t) refl
-    | false ↦ λ t. rw (t, without_other entries) refl
-  ]) refl
+        | true ↦ λ t. rw (t, apart entry.0 t) refl
+        | false ↦ λ t. rw (t, without_other entries) refl
+      ]) refl
 
   after_promoted : (entries : List (K × V)) (found : Option (K × V)) → lookup_entry other entries ≡ found
       → lookup test (option_map_or (λ e. e ∷ remove_entry other entries) found entries) ≡ lookup test entries
@@ -72,9 +72,9 @@ module _ {K V : Type 0} (test : K → Bool) where
   found_in_one_more (suc count) [] value is = absurd (cc is)
   found_in_one_more (suc count) (entry ∷ entries) value is = (elim (test entry.0) as (λ y. test entry.0 ≡ y
       → lookup test (take (suc (suc count)) (entry ∷ entries)) ≡ Some value) [
-    | true ↦ λ t. rw t (rw t at is)
-    | false ↦ λ t. rw t (found_in_one_more count entries value (rw t at is))
-  ]) refl
+        | true ↦ λ t. rw t (rw t at is)
+        | false ↦ λ t. rw t (found_in_one_more count entries value (rw t at is))
+      ]) refl
 
   -- where only so many are kept
   found_in_kept : (count kept : ℕ) (entries : List (K × V)) (value : V) → count ≤ kept
@@ -102,9 +102,9 @@ module _ {K V : Type 0} (test other : K → Bool)
         | true ↦ λ o. rw o (found_in_one_more test count entries value (rw (apart entry.0 o) at is))
         | false ↦ λ o. rw o ((elim (test entry.0) as (λ y. test entry.0 ≡ y
             → lookup test (take (suc count) (entry ∷ remove_entry other entries)) ≡ Some value) [
-          | true ↦ λ t. rw t (rw t at is)
-          | false ↦ λ t. rw t (found_without_other count entries value (rw t at is))
-        ]) refl)
+              | true ↦ λ t. rw t (rw t at is)
+              | false ↦ λ t. rw t (found_without_other count entries value (rw t at is))
+            ]) refl)
       ]) refl
 
   found_promoted : (count : ℕ) (entries : List (K × V)) (value : V) (found : Option (K × V))
@@ -188,15 +188,15 @@ module _ (same : Conversation → Conversation → Bool) (laws : IsEquivalence s
         → lookup (same connection) (known_after same known segment).entries ≡ Some starts
     goes_on calm stays = (elim segment.ack as (λ a. segment.ack ≡ a
         → lookup (same connection) (known_after same known segment).entries ≡ Some starts) [
-      | false ↦ λ a. rw a is
-      | true ↦ λ a. rw a ((elim (same connection segment.conversation)
-          as (λ y. same connection segment.conversation ≡ y
-          → lookup (same connection) (if begins segment (lookup (same segment.conversation) known.entries)
-          then lru_cache put known.cap else lru_cache own known.cap).entries ≡ Some starts) [
-        | true ↦ λ equal. after_own equal (calm equal a)
-        | false ↦ λ differs. after_other differs _ (rw a at stays)
-      ]) refl)
-    ]) refl
+          | false ↦ λ a. rw a is
+          | true ↦ λ a. rw a ((elim (same connection segment.conversation)
+              as (λ y. same connection segment.conversation ≡ y
+              → lookup (same connection) (if begins segment (lookup (same segment.conversation) known.entries)
+              then lru_cache put known.cap else lru_cache own known.cap).entries ≡ Some starts) [
+                | true ↦ λ equal. after_own equal (calm equal a)
+                | false ↦ λ differs. after_other differs _ (rw a at stays)
+              ]) refl)
+        ]) refl
 
   module _ (connection : Conversation) (known : LruCache Conversation Starts) (segment : Segment)
       (starts : Starts) (before : ℕ)
@@ -233,9 +233,9 @@ module _ (same : Conversation → Conversation → Bool) (laws : IsEquivalence s
     other_is_passed differs few = (elim segment.ack as (λ a. segment.ack ≡ a
         → lookup (same connection) (take (suc (suc before)) (known_after same known segment).entries)
         ≡ Some starts) [
-      | false ↦ λ a. rw a (found_in_one_more (same connection) (suc before) known.entries starts is)
-      | true ↦ λ a. rw a (other_goes_first differs few _)
-    ]) refl
+          | false ↦ λ a. rw a (found_in_one_more (same connection) (suc before) known.entries starts is)
+          | true ↦ λ a. rw a (other_goes_first differs few _)
+        ]) refl
 
     own_is_passed : same connection segment.conversation ≡ true
         → (segment.ack ≡ true → segment.syn ≡ false)
@@ -243,9 +243,9 @@ module _ (same : Conversation → Conversation → Bool) (laws : IsEquivalence s
     own_is_passed equal calm = (elim segment.ack as (λ a. segment.ack ≡ a
         → lookup (same connection) (take (suc before) (known_after same known segment).entries)
         ≡ Some starts) [
-      | false ↦ λ a. rw a is
-      | true ↦ λ a. own_is_found equal a (calm a)
-    ]) refl
+          | false ↦ λ a. rw a is
+          | true ↦ λ a. own_is_found equal a (calm a)
+        ]) refl
 
   same_cap : (known : LruCache Conversation Starts) (segment : Segment)
       → (known_after same known segment).cap ≡ known.cap
@@ -311,10 +311,10 @@ module _ (same : Conversation → Conversation → Bool) (laws : IsEquivalence s
       all_go_on connection (known_after same known segment) starts segments
       (goes_on connection known segment starts is goes.0 goes.1) goes.2
 
-  begun : (known : LruCache Conversation Starts) (first : Segment) → first.ack ≡ true
+  first_is_known : (known : LruCache Conversation Starts) (first : Segment) → first.ack ≡ true
       → begins first (lookup (same first.conversation) known.entries) ≡ true
       → lookup (same first.conversation) (known_after same known first).entries ≡ Some (starts_from first)
-  begun known first acks new =
+  first_is_known known first acks new =
       rw (acks, new) (lookup-put_entries same known first.conversation (starts_from first) laws)
 
   pub numbers_after : (known : LruCache Conversation Starts) (first next : Segment)
@@ -327,7 +327,7 @@ module _ (same : Conversation → Conversation → Bool) (laws : IsEquivalence s
       ≡ initial_numbers_by (starts_from first) next.ascends
   numbers_after known first next between acks new goes equal acks' calm =
       let after = known_after same known first in
-      let there = all_go_on first.conversation after (starts_from first) between (begun known first acks new) goes in
+      let there = all_go_on first.conversation after (starts_from first) between (first_is_known known first acks new) goes in
       let there' : lookup (same next.conversation) (known_after_all same after between).entries
       ≡ Some (starts_from first) =
       sym (found_alike first.conversation next.conversation equal (known_after_all same after between).entries) ∙ there in

@@ -5,8 +5,8 @@ use crate::checks::{equal, fail, holds, is_text};
 use crate::frames::FRAMES;
 use etherparse::{Addresses, IpNumber};
 use packets::{
-    Connections, Conversation, Dissector, KNOWN_CONNECTIONS, LineWriter, InitialNumbers, Ports, Segment,
-    ShowLines, ShowOptions, ShownBytes, Style, TimeForm,
+    Connections, Conversation, Dissector, InitialNumbers, KNOWN_CONNECTIONS, LineWriter, Ports,
+    Segment, ShowLines, ShowOptions, ShownBytes, Style, TimeForm,
 };
 use std::alloc::Global;
 use std::hash::{BuildHasherDefault, FoldHasher};
