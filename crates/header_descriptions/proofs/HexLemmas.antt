@@ -5,21 +5,21 @@ use Rattle.std.specs.Fmt.{digits, digits_onto}
 use Rattle.header_descriptions.specs.ByteLines.{digit_of}
 
 -- before others, so many at most
-abbrev spelled : (most n : ℕ) → List ℕ → List ℕ
-spelled most n following = digits_onto most 16 false n following
+abbrev encoded : (most n : ℕ) → List ℕ → List ℕ
+encoded most n following = digits_onto most 16 false n following
 
 last_digit : (most n : ℕ) (following : List ℕ) → n < 16
-    → spelled (suc most) n following ≡ digit_of n ∷ following
+    → encoded (suc most) n following ≡ digit_of n ∷ following
 last_digit most n following small =
     let none : n / 16 ≡ 0 = omega arith in grind (arith, nat_tests)
 
 next_digit : (most n : ℕ) (following : List ℕ) → 16 ≤ n
-    → spelled (suc most) n following ≡ spelled most (n / 16) (digit_of n ∷ following)
+    → encoded (suc most) n following ≡ encoded most (n / 16) (digit_of n ∷ following)
 next_digit most n following large =
     let some : 1 ≤ n / 16 = omega arith in grind (arith, nat_tests)
 
 before_others : (most n : ℕ) (following : List ℕ)
-    → spelled most n following ≡ spelled most n [] ++ following
+    → encoded most n following ≡ encoded most n [] ++ following
 before_others zero n following = refl
 before_others (suc most) n following =
     grind (
@@ -32,7 +32,7 @@ before_others (suc most) n following =
 
 -- how many there may be doesn't matter once it is enough
 enough : (most more n : ℕ) (following : List ℕ) → n < 16 ^ suc most → n < 16 ^ suc more
-    → spelled (suc most) n following ≡ spelled (suc more) n following
+    → encoded (suc most) n following ≡ encoded (suc more) n following
 enough zero more n following few few' =
     last_digit zero n following (omega arith) ∙ sym (last_digit more n following (omega arith))
 enough (suc most) zero n following few few' =
