@@ -30,6 +30,7 @@ ghost use Rattle.packets.specs.declared.reason.Reason.TheVariants as reason;
 ghost use Rattle.packets.specs.declared.show.endpoints.Ports.{Ports};
 ghost use Rattle.packets.specs.declared.summary.verified.Verified.TheVariants as verified;
 
+pub mod connections;
 pub mod examples;
 
 use crate::program::{Coloring, LineRequest, SizeError};

@@ -44,7 +44,7 @@ pub use flows::object::FlowObject;
 pub use flows::row::{Connection, Row};
 pub use flows::text::FlowTable;
 pub use flows::transfer::{Flags, Transfer};
-pub use header_descriptions::show::tcp::Origins;
+pub use header_descriptions::show::tcp::InitialNumbers;
 pub use header_descriptions::show::{Style, TimeForm};
 pub use header_descriptions::{Protocol, ip_number_name, ip_number_named};
 pub use json::packet::JsonLines;
