@@ -2,12 +2,13 @@
 
 ghost use Rattle.std.specs.Prelude.{◌≡◌, ◌+◌, ◌-◌, ◌<◌, ◌≤◌, ◌^◌, [], ◌∷◌, ◌++◌, if◌then◌else◌, nat_lt, length};
 ghost use Rattle.std.specs.Prelude.{take, drop};
-ghost use Rattle.std.specs.Prelude.{replicate, vec_len, vec_capacity, IfOk, IsOk, OnOk, OnErr};
+ghost use Rattle.std.specs.Prelude.{replicate, slice_get, vec_len, vec_capacity, IfOk, IfNone, IfSome, IsOk, OnOk, OnErr};
+ghost use Rattle.std.specs.Prelude.{Some};
 ghost use Rattle.std.specs.List.{AllWithin};
 ghost use Rattle.tcp_streams.specs.Gaps.{AreGapsIn, Reaches, without};
 ghost use Rattle.tcp_streams.specs.Segments.{byte_from, clashes};
 ghost use Rattle.tcp_streams.specs.SparseBytes.{Sparse, sparse, IsSparse, held_end, available_end, byte_in};
-ghost use Rattle.tcp_streams.specs.SparseBytes.{AddsBytes, Fills, counted};
+ghost use Rattle.tcp_streams.specs.SparseBytes.{AddsBytes, Fills, bytes_after_gap, counted};
 
 use super::byte_queue::ByteQueue;
 use super::conflicts::{Conflicts, differences};
@@ -82,6 +83,24 @@ impl SparseBytes {
     {
         let len = (self.available_end() - self.taken) as usize;
         &self.bytes.as_slice()[..len]
+    }
+
+    /// The gap with this index, and the bytes after it, up to the next gap or to the last byte.
+    pub(crate) fn after_gap(&self, index: usize) -> Option<(Gap, &[u8])>
+        ensures gap { IfSome result (λ after. slice_get self.now.gaps index ≡ Some after.0) }
+        ensures bytes { IfSome result (λ after. after.1.now ≡ bytes_after_gap self.now index after.0) }
+        ensures none { IfNone result (length self.now.gaps ≤ index) }
+    {
+        let Some(gap) = self.gaps.get(index) else {
+            return None;
+        };
+        let end = match self.gaps.get(index + 1) {
+            Some(next) => next.start,
+            None => self.end(),
+        };
+        let from = (gap.end - self.taken) as usize;
+        let to = (end - self.taken) as usize;
+        Some((*gap, &self.bytes.as_slice()[from..to]))
     }
 
     /// Takes so many of them.
