@@ -28,8 +28,10 @@ fn append_line(event: &Event<'_>, out: &mut Vec<u8>) -> Result<(), AllocError> {
         Some(Way::FromSecond) => line.text("<")?,
         None => line.counted("connection ", event.connection)?,
     }
-    if let Some(packet) = event.packet {
-        line.counted(" packet ", packet)?;
+    match (event.packet, event.kind) {
+        (Some(packet), _) => line.counted(" packet ", packet)?,
+        (None, EventKind::Bytes { .. } | EventKind::Gap(_)) => line.text(" at the end")?,
+        (None, _) => {}
     }
     kind(&mut line, event)?;
     line.text("\n")
