@@ -76,12 +76,12 @@ EVENTS = (
     (1, 10, 1, ("Conflicts", 2, 0)),
     (1, 12, 1, ("Bytes", 12, b"bye", ["bye"])),
     (1, 13, 2, ("Refused", {"AfterFin": {"fin": 9}}, "it has a byte or FIN after the FIN at 9")),
-    (1, None, 1, ("StreamEnd", 15, True, False, 2, 0)),
-    (1, None, 2, ("StreamEnd", 9, True, False, 0, 0)),
+    (1, None, 1, ("DirectionEnd", 15, True, False, 2, 0)),
+    (1, None, 2, ("DirectionEnd", 9, True, False, 0, 0)),
     (1, None, None, ("End", "Closed", "closed")),
     (2, 15, None, ("Begin",)),
-    (2, None, 1, ("StreamEnd", 0, False, False, 0, 0)),
-    (2, None, 2, ("StreamEnd", 0, False, True, 0, 0)),
+    (2, None, 1, ("DirectionEnd", 0, False, False, 0, 0)),
+    (2, None, 2, ("DirectionEnd", 0, False, True, 0, 0)),
     (2, None, None, ("End", "Reset", "reset")),
     (3, 17, None, ("Begin",)),
     (3, 19, 1, ("Gap", 0, 2)),
@@ -91,8 +91,8 @@ EVENTS = (
     (3, None, 1, ("Bytes", 2, b"cd", ["cd"])),
     (3, None, 1, ("Gap", 4, 12)),
     (3, None, 1, ("Bytes", 12, b"k", ["k"])),
-    (3, None, 1, ("StreamEnd", 0, False, False, 0, 0)),
-    (3, None, 2, ("StreamEnd", 5, False, False, 0, 0)),
+    (3, None, 1, ("DirectionEnd", 0, False, False, 0, 0)),
+    (3, None, 2, ("DirectionEnd", 5, False, False, 0, 0)),
     (3, None, None, ("End", "Established", "open")),
 )
 # The same with a window of 4: 4 bytes are kept that were written, and 4 after them are taken; while fewer than 4 were written, 8 in all.
@@ -106,12 +106,12 @@ NARROW = (
     (1, 12, 1, ("Refused", None, "it ends after the window, which ends at 11")),
     (1, 13, 2, ("Refused", None, "it ends after the window, which ends at 10")),
     (1, 14, 1, ("Refused", None, "it ends after the window, which ends at 11")),
-    (1, None, 1, ("StreamEnd", 7, False, False, 0, 0)),
-    (1, None, 2, ("StreamEnd", 6, False, False, 0, 0)),
+    (1, None, 1, ("DirectionEnd", 7, False, False, 0, 0)),
+    (1, None, 2, ("DirectionEnd", 6, False, False, 0, 0)),
     (1, None, None, ("End", "Closed", "closed")),
     (2, 15, None, ("Begin",)),
-    (2, None, 1, ("StreamEnd", 0, False, False, 0, 0)),
-    (2, None, 2, ("StreamEnd", 0, False, True, 0, 0)),
+    (2, None, 1, ("DirectionEnd", 0, False, False, 0, 0)),
+    (2, None, 2, ("DirectionEnd", 0, False, True, 0, 0)),
     (2, None, None, ("End", "Reset", "reset")),
     (3, 17, None, ("Begin",)),
     (3, 19, 1, ("Gap", 0, 2)),
@@ -120,8 +120,8 @@ NARROW = (
     (3, 26, 2, ("Bytes", 0, b"hell\n", ["hell\\n"])),
     (3, None, 1, ("Gap", 0, 2)),
     (3, None, 1, ("Bytes", 2, b"cd", ["cd"])),
-    (3, None, 1, ("StreamEnd", 0, False, False, 0, 0)),
-    (3, None, 2, ("StreamEnd", 5, False, False, 0, 0)),
+    (3, None, 1, ("DirectionEnd", 0, False, False, 0, 0)),
+    (3, None, 2, ("DirectionEnd", 5, False, False, 0, 0)),
     (3, None, None, ("End", "Established", "open")),
 )
 
@@ -156,7 +156,7 @@ def text(event, is_hex=False):
             return [f"{start}: {conflicts(count, first)}"]
         case "Refused", [_, reason]:
             return [f"{start}: refused, {reason}"]
-        case "StreamEnd", [size, finished, late, count, first]:
+        case "DirectionEnd", [size, finished, late, count, first]:
             notes = ("FIN" if finished else "no FIN",) + (("SYN not seen",) if late else ()) + ((conflicts(count, first),) if count else ())
             return [", ".join((f"{start} ends: bytes 0..{size}", *notes))]
         case "End", [_, state]:
@@ -177,8 +177,8 @@ def member(event):
             value = {"Conflicts": {"count": count, "first": first}}
         case "Refused", [reason, _]:
             value = {"Refused": reason}
-        case "StreamEnd", [size, finished, late, count, _]:
-            value = {"StreamEnd": {"len": size, "is_finished": finished, "joined_late": late, "conflicts": count}}
+        case "DirectionEnd", [size, finished, late, count, _]:
+            value = {"DirectionEnd": {"len": size, "is_finished": finished, "joined_late": late, "conflicts": count}}
         case "End", [state, _]:
             value = {"End": state}
     return [json.dumps(found | {"event": value}, separators=(",", ":"))]

@@ -23,31 +23,31 @@ use Rattle.tcp_streams.specs.StreamBuf.{Contents, Shows, IsFirstGap}
 -- ---- one direction
 
 -- the number of position 0, once a segment was accepted; and those that were, the oldest first
-pub record Stream : Type 0 where
+pub record Side : Type 0 where
   pub start : Option ℕ
   pub segments : List Placed
 
-abbrev pub no_stream : Stream
-no_stream = record { start = None; segments = [] }
+abbrev pub no_side : Side
+no_side = record { start = None; segments = [] }
 
 -- of the bytes up to the first gap the last ones are kept, so many at most; those before them aren't
-abbrev pub taken_of : (kept : ℕ) → Stream → ℕ
-taken_of kept stream = length (text_of stream.segments) - kept
+abbrev pub taken_of : (kept : ℕ) → Side → ℕ
+taken_of kept side = length (text_of side.segments) - kept
 
 -- a segment at its place
-abbrev pub placed_on : (kept : ℕ) → Stream → Segment → Placed
-placed_on kept stream s = placed stream.start (taken_of kept stream) stream.segments s
+abbrev pub placed_on : (kept : ℕ) → Side → Segment → Placed
+placed_on kept side s = placed side.start (taken_of kept side) side.segments s
 
 -- why it is refused: the window has as many bytes that are missing as ones that are kept
-abbrev pub refusal_on : (kept : ℕ) → Stream → Segment → Option Refused
-refusal_on kept stream s =
-    refusal_of (2 * kept) (taken_of kept stream) stream.segments (placed_on kept stream s)
+abbrev pub refusal_on : (kept : ℕ) → Side → Segment → Option Refused
+refusal_on kept side s =
+    refusal_of (2 * kept) (taken_of kept side) side.segments (placed_on kept side s)
 
--- the stream with it, unless it is refused
-abbrev pub stream_with : (kept : ℕ) → Stream → Segment → Stream
-stream_with kept stream s = if is_some (refusal_on kept stream s) then stream else record {
-  start = Some (start_number stream.start s.number s.flags);
-  segments = stream.segments ++ placed_on kept stream s ∷ [];
+-- the side with it, unless it is refused
+abbrev pub side_with : (kept : ℕ) → Side → Segment → Side
+side_with kept side s = if is_some (refusal_on kept side s) then side else record {
+  start = Some (start_number side.start s.number s.flags);
+  segments = side.segments ++ placed_on kept side s ∷ [];
 }
 
 -- ---- both
@@ -71,11 +71,11 @@ control_on s = control_with s.segment.flags s.ack
 
 pub record Connection : Type 0 where
   pub state : ConnectionState
-  pub from_lower : Stream
-  pub from_higher : Stream
+  pub from_lower : Side
+  pub from_higher : Side
 
 abbrev pub no_connection : Connection
-no_connection = record { state = Unseen; from_lower = no_stream; from_higher = no_stream }
+no_connection = record { state = Unseen; from_lower = no_side; from_higher = no_side }
 
 -- SYN without ACK begins a new connection after the end of one
 abbrev pub begins_anew : ConnectionState → Control → Bool
@@ -102,13 +102,13 @@ abbrev pub connection_for : Connection → Control → Connection
 connection_for connection control =
     if begins_anew connection.state control then no_connection else connection
 
-abbrev pub stream_in : Direction → Connection → Stream
-stream_in FromLower connection = connection.from_lower
-stream_in FromHigher connection = connection.from_higher
+abbrev pub side_in : Direction → Connection → Side
+side_in FromLower connection = connection.from_lower
+side_in FromHigher connection = connection.from_higher
 
-abbrev pub with_stream : Direction → Connection → Stream → Connection
-with_stream FromLower connection stream = record connection { from_lower = stream }
-with_stream FromHigher connection stream = record connection { from_higher = stream }
+abbrev pub with_side : Direction → Connection → Side → Connection
+with_side FromLower connection side = record connection { from_lower = side }
+with_side FromHigher connection side = record connection { from_higher = side }
 
 -- that connection with the segment
 abbrev pub with_state : ConnectionState → Connection → Connection
@@ -118,7 +118,7 @@ abbrev pub connection_with : (kept : ℕ) → Connection → ConnectionSegment �
 connection_with kept earlier s =
     let connection = connection_for earlier (control_on s) in
     with_state (state_after connection.state s.direction (control_on s))
-    (with_stream s.direction connection (stream_with kept (stream_in s.direction connection) s.segment))
+    (with_side s.direction connection (side_with kept (side_in s.direction connection) s.segment))
 
 -- the connection after segments, the oldest first
 abbrev pub connection_after : (kept : ℕ) → List ConnectionSegment → Connection
@@ -139,31 +139,31 @@ new_gap (Some before) (Some after) = if before.start == after.start then None el
 
 -- the bytes that it makes available begin where those ended that were available; which gap begins, at
 -- how many positions it differs, and why it is refused
-pub record IsTaken (kept : ℕ) (stream : Stream) (s : Segment) (taken : FollowedSegment) : Type 0 where
-  pub position : taken.position ≡ length (text_of stream.segments)
-  pub gap : (before : Option Gap) × (after : Option Gap) × IsGapIn stream.segments before
-      × IsGapIn (stream_with kept stream s).segments after × (taken.gap ≡ new_gap before after)
-  pub conflicts : taken.conflicts ≡ counted (if is_some (refusal_on kept stream s) then []
-      else conflicts_with stream.segments (placed_on kept stream s))
-  pub refused : taken.refused ≡ refusal_on kept stream s
+pub record IsTaken (kept : ℕ) (side : Side) (s : Segment) (taken : FollowedSegment) : Type 0 where
+  pub position : taken.position ≡ length (text_of side.segments)
+  pub gap : (before : Option Gap) × (after : Option Gap) × IsGapIn side.segments before
+      × IsGapIn (side_with kept side s).segments after × (taken.gap ≡ new_gap before after)
+  pub conflicts : taken.conflicts ≡ counted (if is_some (refusal_on kept side s) then []
+      else conflicts_with side.segments (placed_on kept side s))
+  pub refused : taken.refused ≡ refusal_on kept side s
 
 -- and whether it begins a new connection
 pub record IsFollowed (kept : ℕ) (earlier : Connection) (s : ConnectionSegment) (followed : FollowedSegment)
     : Type 0 where
   pub anew : followed.begins_anew ≡ begins_anew earlier.state (control_on s)
-  pub taken : IsTaken kept (stream_in s.direction (connection_for earlier (control_on s))) s.segment followed
+  pub taken : IsTaken kept (side_in s.direction (connection_for earlier (control_on s))) s.segment followed
 
 -- ---- what a follower holds
 
--- a buffer shows a stream, whose last bytes it keeps, so many at least
-pub record ShowsStream (kept : ℕ) (buf : Contents) (stream : Stream) : Type 0 where
-  pub shows : Shows buf stream.segments
-  pub start : buf.start ≡ stream.start
+-- a buffer shows a side, whose last bytes it keeps, so many at least
+pub record ShowsSide (kept : ℕ) (buf : Contents) (side : Side) : Type 0 where
+  pub shows : Shows buf side.segments
+  pub start : buf.start ≡ side.start
   pub window : buf.window ≡ 2 * kept
-  pub taken : buf.held.taken ≤ taken_of kept stream
+  pub taken : buf.held.taken ≤ taken_of kept side
 
 -- both buffers show those of a connection
 pub record Follows (follower : Follower) (connection : Connection) : Type 0 where
   pub state : follower.state ≡ connection.state
-  pub from_lower : ShowsStream follower.window follower.from_lower connection.from_lower
-  pub from_higher : ShowsStream follower.window follower.from_higher connection.from_higher
+  pub from_lower : ShowsSide follower.window follower.from_lower connection.from_lower
+  pub from_higher : ShowsSide follower.window follower.from_higher connection.from_higher

@@ -2,9 +2,9 @@
 
 ghost use Rattle.std.specs.Prelude.{◌≡◌, ◌++◌, ◌∷◌, ◌*◌, [], List, IfOk, MatchResult, OnErr, OnOk, Option};
 ghost use Rattle.tcp_streams.specs.Following.{Connection, ConnectionSegment, Follows, IsFollowed, IsGapIn, IsTaken};
-ghost use Rattle.tcp_streams.specs.Following.{ShowsStream, Stream, begins_anew, connection_after, connection_for};
+ghost use Rattle.tcp_streams.specs.Following.{ShowsSide, Side, begins_anew, connection_after, connection_for};
 ghost use Rattle.tcp_streams.specs.Following.{connection_segment, connection_with, control_with, new_gap, no_connection};
-ghost use Rattle.tcp_streams.specs.Following.{no_stream, stream_in, stream_with, taken_of, with_stream};
+ghost use Rattle.tcp_streams.specs.Following.{no_side, side_in, side_with, taken_of, with_side};
 ghost use Rattle.tcp_streams.specs.Placing.{Segment, segment};
 ghost use Rattle.tcp_streams.specs.StreamBuf.{Contents, IsBounded};
 
@@ -73,9 +73,9 @@ impl Follower {
     }
 
     /// The bytes of a direction.
-    pub fn stream(&self, direction: Direction) -> &StreamBuf
+    pub fn buf(&self, direction: Direction) -> &StreamBuf
         ensures { (connection : Connection) → Follows self.now connection
-            → ShowsStream self.now.window result.now (stream_in direction connection) }
+            → ShowsSide self.now.window result.now (side_in direction connection) }
     {
         match direction {
             Direction::FromLower => &self.from_lower,
@@ -94,7 +94,7 @@ impl Follower {
 
     /// Takes a segment. If it begins a new connection, nothing of the one before is left.
     ///
-    /// Where there is no memory for it, it isn't taken; a connection has begun anew then too.
+    /// Where there is no memory for it, it isn't taken; a new connection begins then too.
     pub fn add(
         &mut self,
         direction: Direction,
@@ -155,11 +155,11 @@ impl Follower {
         flags: SegmentFlags,
         payload: &[u8],
     ) -> Result<FollowedSegment, AllocError>
-        ensures { (connection : Connection) → Follows self.old connection →
+        ensures taken { (connection : Connection) → Follows self.old connection →
             let s = segment sequence_number flags payload.now in
-            let stream = stream_in direction connection in MatchResult result
-            (λ taken. Follows self.new (with_stream direction connection (stream_with self.old.window stream s))
-            × IsTaken self.old.window stream s taken)
+            let side = side_in direction connection in MatchResult result
+            (λ taken. Follows self.new (with_side direction connection (side_with self.old.window side s))
+            × IsTaken self.old.window side s taken)
             (λ _. Follows self.new connection) }
         ensures window { self.new.window ≡ self.old.window }
         ensures state { self.new.state ≡ self.old.state }
@@ -191,25 +191,25 @@ fn is_ended(state: ConnectionState) -> bool
 
 // Takes a segment of one direction, of which so many bytes are kept.
 fn take(
-    stream: &mut StreamBuf,
+    buf: &mut StreamBuf,
     kept: u32,
     sequence_number: u32,
     flags: SegmentFlags,
     payload: &[u8],
 ) -> Result<FollowedSegment, AllocError>
-    ensures { (earlier : Stream) → ShowsStream kept stream.old earlier →
+    ensures { (earlier : Side) → ShowsSide kept buf.old earlier →
         let s = segment sequence_number flags payload.now in MatchResult result
-        (λ taken. ShowsStream kept stream.new (stream_with kept earlier s) × IsTaken kept earlier s taken)
-        (λ _. ShowsStream kept stream.new earlier) }
+        (λ taken. ShowsSide kept buf.new (side_with kept earlier s) × IsTaken kept earlier s taken)
+        (λ _. ShowsSide kept buf.new earlier) }
 {
-    forget(stream, kept);
-    let position = stream.available_end();
-    let before = stream.gap();
-    match stream.add(sequence_number, flags, payload) {
+    forget(buf, kept);
+    let position = buf.available_end();
+    let before = buf.gap();
+    match buf.add(sequence_number, flags, payload) {
         Ok(added) => Ok(FollowedSegment {
             begins_anew: false,
             position,
-            gap: new_gap(before, stream.gap()),
+            gap: new_gap(before, buf.gap()),
             conflicts: added.conflicts,
             refused: None,
         }),
@@ -225,14 +225,14 @@ fn take(
 }
 
 // Forgets the available bytes but the last ones, which are kept.
-fn forget(stream: &mut StreamBuf, kept: u32)
-    ensures shows { (earlier : Stream) → ShowsStream kept stream.old earlier
-        → ShowsStream kept stream.new earlier }
-    ensures taken { (earlier : Stream) → ShowsStream kept stream.old earlier
-        → stream.new.held.taken ≡ taken_of kept earlier }
+fn forget(buf: &mut StreamBuf, kept: u32)
+    ensures shows { (earlier : Side) → ShowsSide kept buf.old earlier
+        → ShowsSide kept buf.new earlier }
+    ensures taken { (earlier : Side) → ShowsSide kept buf.old earlier
+        → buf.new.held.taken ≡ taken_of kept earlier }
 {
-    let count = stream.available().len().saturating_sub(kept as usize);
-    stream.consume(count);
+    let count = buf.available().len().saturating_sub(kept as usize);
+    buf.consume(count);
 }
 
 // A gap that begins elsewhere than the one before, or where there was none.

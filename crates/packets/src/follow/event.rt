@@ -37,14 +37,14 @@ pub(crate) enum EventKind<'e> {
     /// A segment is refused.
     Refused(Refused),
     /// How a direction ends.
-    StreamEnd(StreamEnd),
+    DirectionEnd(DirectionEnd),
     /// How far the connection came.
     End(ConnectionState),
 }
 
 /// How a direction ends.
 #[derive(Clone, Copy)]
-pub(crate) struct StreamEnd {
+pub(crate) struct DirectionEnd {
     /// How many bytes it has up to the first one that is missing.
     pub len: u64,
     /// Whether FIN follows them.

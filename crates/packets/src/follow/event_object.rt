@@ -1,6 +1,6 @@
 //! Events as JSON objects. The functions have no contracts: tests compare the texts.
 
-use crate::follow::event::{Event, EventKind, StreamEnd, Way};
+use crate::follow::event::{Event, EventKind, DirectionEnd, Way};
 use header_descriptions::json::fields::{begin, flag, number, text};
 use serde::{Described, Serialize, Serializer};
 use std::alloc::{AllocError, Global};
@@ -71,7 +71,7 @@ impl EventObject<'_, '_> {
                 reason(out, refused)?;
                 out.end_map()
             }
-            EventKind::StreamEnd(end) => stream_end(out, end),
+            EventKind::DirectionEnd(end) => direction_end(out, end),
             EventKind::End(state) => {
                 begin(out, "event")?;
                 text(out, "End", state_name(state))?;
@@ -126,8 +126,8 @@ fn reason<S: Serializer>(out: &mut S, refused: Refused) -> Result<(), S::Error> 
     }
 }
 
-fn stream_end<S: Serializer>(out: &mut S, end: StreamEnd) -> Result<(), S::Error> {
-    begin_variant(out, "StreamEnd")?;
+fn direction_end<S: Serializer>(out: &mut S, end: DirectionEnd) -> Result<(), S::Error> {
+    begin_variant(out, "DirectionEnd")?;
     number(out, "len", end.len)?;
     flag(out, "is_finished", end.is_finished)?;
     flag(out, "joined_late", end.joined_late)?;

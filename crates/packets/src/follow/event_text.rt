@@ -1,6 +1,6 @@
 //! Events as text. The functions have no contracts: tests compare the texts.
 
-use crate::follow::event::{Event, EventKind, StreamEnd, Way};
+use crate::follow::event::{Event, EventKind, DirectionEnd, Way};
 use header_descriptions::show::byte_lines::append_byte_lines;
 use header_descriptions::show::{Line, Style};
 use std::alloc::AllocError;
@@ -56,7 +56,7 @@ fn kind(line: &mut Line<'_>, event: &Event<'_>) -> Result<(), AllocError> {
             line.text(": refused, ")?;
             reason(line, refused)
         }
-        EventKind::StreamEnd(end) => stream_end(line, end),
+        EventKind::DirectionEnd(end) => direction_end(line, end),
         EventKind::End(state) => {
             line.text(": ")?;
             line.text(state_text(state))
@@ -88,7 +88,7 @@ fn reason(line: &mut Line<'_>, refused: Refused) -> Result<(), AllocError> {
     }
 }
 
-fn stream_end(line: &mut Line<'_>, end: StreamEnd) -> Result<(), AllocError> {
+fn direction_end(line: &mut Line<'_>, end: DirectionEnd) -> Result<(), AllocError> {
     line.counted(" ends: bytes 0..", end.len)?;
     line.text(if end.is_finished { ", FIN" } else { ", no FIN" })?;
     if end.joined_late {

@@ -4,7 +4,7 @@ ghost use Rattle.packets.specs.Written.{AreTexts, Writes};
 ghost use Rattle.packets.specs.declared.dissection.Dissection.{Dissection};
 
 use crate::follow::connection_id::ConnectionId;
-use crate::follow::event::{Event, EventKind, StreamEnd, Way};
+use crate::follow::event::{Event, EventKind, DirectionEnd, Way};
 use crate::follow::{event_object, event_text};
 use crate::flows::conversation::Conversation;
 use crate::flows::transfer::Transfer;
@@ -216,7 +216,7 @@ impl Connections {
             writing.append(count, packet, direction_of, kind, out)?;
         }
         let position = followed.position;
-        let bytes = self.follower.stream(direction).available_from(position);
+        let bytes = self.follower.buf(direction).available_from(position);
         if !bytes.is_empty() {
             let kind = EventKind::Bytes { position, bytes };
             writing.append(count, packet, direction_of, kind, out)?;
@@ -234,22 +234,22 @@ impl Connections {
         }
         self.is_over = true;
         let [first, second] = writing.directions();
-        self.append_stream_end(writing, first, out)?;
-        self.append_stream_end(writing, second, out)?;
+        self.append_direction_end(writing, first, out)?;
+        self.append_direction_end(writing, second, out)?;
         let kind = EventKind::End(self.follower.state());
         writing.append(self.count, None, None, kind, out)
     }
 
     // What is held after gaps, and how the direction ends.
-    fn append_stream_end(
+    fn append_direction_end(
         &self,
         writing: &Writing<'_>,
         direction: Direction,
         out: &mut Vec<u8>,
     ) -> Result<(), AllocError> {
-        let stream = self.follower.stream(direction);
+        let buf = self.follower.buf(direction);
         'gaps: for index in 0..usize::MAX {
-            let Some((gap, bytes)) = stream.after_gap(index) else {
+            let Some((gap, bytes)) = buf.after_gap(index) else {
                 break 'gaps;
             };
             let position = gap.end;
@@ -257,13 +257,13 @@ impl Connections {
             let kind = EventKind::Bytes { position, bytes };
             writing.append(self.count, None, Some(direction), kind, out)?;
         }
-        let end = StreamEnd {
-            len: stream.available_end(),
-            is_finished: stream.is_finished(),
-            joined_late: stream.joined_late(),
-            conflicts: stream.conflicts(),
+        let end = DirectionEnd {
+            len: buf.available_end(),
+            is_finished: buf.is_finished(),
+            joined_late: buf.joined_late(),
+            conflicts: buf.conflicts(),
         };
-        writing.append(self.count, None, Some(direction), EventKind::StreamEnd(end), out)
+        writing.append(self.count, None, Some(direction), EventKind::DirectionEnd(end), out)
     }
 }
 
