@@ -12,6 +12,7 @@ use Rattle.tcp_streams.specs.declared.follower.Follower.{Follower}
 use Rattle.tcp_streams.specs.declared.follower.FollowedSegment.{FollowedSegment}
 use Rattle.tcp_streams.specs.declared.gaps.Gap.{Gap}
 use Rattle.tcp_streams.specs.declared.refusal.Refused.{Refused}
+use Rattle.tcp_streams.specs.declared.refusal.Refused.TheVariants.{OutsideWindow, AfterFin, AfterReset, OutOfMemory}
 use Rattle.tcp_streams.specs.declared.segment_flags.SegmentFlags.{SegmentFlags}
 use Rattle.tcp_streams.specs.ConnectionStates.{by_direction, control_in, state_after}
 use Rattle.tcp_streams.specs.Placing.{Segment, placed, segment, start_number}
@@ -136,6 +137,13 @@ abbrev pub new_gap : (before after : Option Gap) → Option Gap
 new_gap None after = after
 new_gap (Some before) None = None
 new_gap (Some before) (Some after) = if before.start == after.start then None else Some after
+
+-- a segment is refused for what it is, and not since there is no memory
+abbrev pub is_of_segment : Refused → Bool
+is_of_segment (OutsideWindow window_end) = true
+is_of_segment (AfterFin fin) = true
+is_of_segment AfterReset = true
+is_of_segment OutOfMemory = false
 
 -- the bytes that it makes available begin where those ended that were available; which gap begins, at
 -- how many positions it differs, and why it is refused

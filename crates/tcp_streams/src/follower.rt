@@ -3,7 +3,7 @@
 ghost use Rattle.std.specs.Prelude.{◌≡◌, ◌++◌, ◌∷◌, ◌*◌, [], List, IfOk, MatchResult, OnErr, OnOk, Option};
 ghost use Rattle.tcp_streams.specs.Following.{Connection, ConnectionSegment, Follows, IsFollowed, IsGapIn, IsTaken};
 ghost use Rattle.tcp_streams.specs.Following.{ShowsSide, Side, begins_anew, connection_after, connection_for};
-ghost use Rattle.tcp_streams.specs.Following.{connection_segment, connection_with, control_with, new_gap, no_connection};
+ghost use Rattle.tcp_streams.specs.Following.{connection_segment, connection_with, control_with, is_of_segment, new_gap, no_connection};
 ghost use Rattle.tcp_streams.specs.Following.{no_side, side_in, side_with, taken_of, with_side};
 ghost use Rattle.tcp_streams.specs.Placing.{Segment, segment};
 ghost use Rattle.tcp_streams.specs.StreamBuf.{Contents, IsBounded};
@@ -213,14 +213,24 @@ fn take(
             conflicts: added.conflicts,
             refused: None,
         }),
-        Err(Refused::OutOfMemory) => Err(AllocError),
-        Err(refused) => Ok(FollowedSegment {
+        Err(refused) if is_of_segment(refused) => Ok(FollowedSegment {
             begins_anew: false,
             position,
             gap: None,
             conflicts: Conflicts::none(),
             refused: Some(refused),
         }),
+        Err(_) => Err(AllocError),
+    }
+}
+
+// Whether a segment is refused for what it is.
+fn is_of_segment(refused: Refused) -> bool
+    ensures { result ≡ is_of_segment refused }
+{
+    match refused {
+        Refused::OutsideWindow { .. } | Refused::AfterFin { .. } | Refused::AfterReset => true,
+        Refused::OutOfMemory => false,
     }
 }
 

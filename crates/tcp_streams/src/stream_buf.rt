@@ -350,9 +350,7 @@ impl StreamBuf {
         ensures text { (ss : List Placed) → Shows self.now ss → self.now.held.taken ≤ position
             → result.now ≡ drop position (text_of ss) }
     {
-        let available = self.held.available();
-        let count = position.saturating_sub(self.held.taken());
-        available.get(count as usize..).unwrap_or(&[])
+        self.held.available_from(position)
     }
 
     /// Takes so many of the available bytes away, or all where there are fewer.
