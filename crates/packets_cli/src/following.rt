@@ -2,9 +2,7 @@
 use crate::{FileEnd, Task, end_of, take_files};
 use capture_programs::packets_arguments::PROGRAM;
 use capture_programs::{ClosableWriter, Input, Look, ProgressLine, ProgressReader, Subject};
-use packets::program::{
-    Requested, exit_code, goes_on, write_follow_end, write_followed_flushed,
-};
+use packets::program::{Requested, exit_code, goes_on, write_follow_end, write_followed_flushed};
 use packets::{FollowOptions, Following, Omitted};
 use std::hash::RandomState;
 use std::io::{Read, Write};

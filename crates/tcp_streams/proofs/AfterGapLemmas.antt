@@ -96,8 +96,12 @@ module _ (held : Sparse) (sound : IsSparse held) (i : ℕ) (g : Gap) (is : slice
       let there = there_after held.taken (held_end held) held.gaps i g (g.end + j) sound.gaps is (omega arith) (omega arith) in
       let here = byte_from-is held.taken held.bytes (g.end + j) (g.end - held.taken + j) (omega arith) (omega arith) in
       let short : j < first_gap (drop (i + 1) held.gaps) (held_end held) - g.end = omega arith in
-      rw (there, here, get_or-take (first_gap (drop (i + 1) held.gaps) (held_end held) - g.end) (drop (g.end - held.taken) held.bytes) j 0 short,
-      get_or-drop (g.end - held.taken) held.bytes j 0)
+      rw (
+        there,
+        here,
+        get_or-take (first_gap (drop (i + 1) held.gaps) (held_end held) - g.end) (drop (g.end - held.taken) held.bytes) j 0 short,
+        get_or-drop (g.end - held.taken) held.bytes j 0,
+      )
 
   byte_past : byte_in held (g.end + length (bytes_after_gap held i g)) ≡ None
   byte_past =

@@ -23,10 +23,14 @@ impl ConnectionId {
         };
         match (endpoint(first), endpoint(second)) {
             (Some((first, source)), Some((second, destination))) => {
-                between(first, second, Ports {
-                    source,
-                    destination,
-                })
+                between(
+                    first,
+                    second,
+                    Ports {
+                        source,
+                        destination,
+                    },
+                )
             }
             _ => None,
         }

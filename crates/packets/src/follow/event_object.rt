@@ -1,6 +1,6 @@
 //! Events as JSON objects. The functions have no contracts: tests compare the texts.
 
-use crate::follow::event::{Event, EventKind, DirectionEnd, Way};
+use crate::follow::event::{DirectionEnd, Event, EventKind, Way};
 use header_descriptions::json::fields::{begin, flag, number, text};
 use serde::{Described, Serialize, Serializer};
 use std::alloc::{AllocError, Global};
@@ -12,16 +12,13 @@ pub(crate) fn append_event(
     event: &Event<'_>,
     out: &mut Vec<u8>,
 ) -> Result<(), AllocError> {
-    let object = EventObject {
-        alloc,
-        event,
-    };
+    let object = EventObject { alloc, event };
     // The only error is that memory ran out.
     let Ok(bytes) = serde_json::to_vec(alloc, &object) else {
         return Err(AllocError);
     };
     out.extend_from_slice(bytes.as_slice())?;
-    out.push(b'\n')
+    out.extend_from_slice(b"\n")
 }
 
 #[derive(Drop)]

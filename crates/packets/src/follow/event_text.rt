@@ -1,6 +1,6 @@
 //! Events as text. The functions have no contracts: tests compare the texts.
 
-use crate::follow::event::{Event, EventKind, DirectionEnd, Way};
+use crate::follow::event::{DirectionEnd, Event, EventKind, Way};
 use header_descriptions::show::byte_lines::append_byte_lines;
 use header_descriptions::show::{Line, Style};
 use std::alloc::AllocError;
@@ -126,7 +126,11 @@ fn append_escaped_lines(bytes: &[u8], out: &mut Vec<u8>) -> Result<(), AllocErro
             out.push(b'\n')?;
         }
     }
-    if begins { Ok(()) } else { out.push(b'\n') }
+    if begins {
+        Ok(())
+    } else {
+        out.extend_from_slice(b"\n")
+    }
 }
 
 fn append_escaped(byte: u8, out: &mut Vec<u8>) -> Result<(), AllocError> {
@@ -135,7 +139,7 @@ fn append_escaped(byte: u8, out: &mut Vec<u8>) -> Result<(), AllocError> {
         b'\n' => out.extend_from_slice(b"\\n"),
         b'\r' => out.extend_from_slice(b"\\r"),
         b'\t' => out.extend_from_slice(b"\\t"),
-        32..=126 => out.push(byte),
+        32..=126 => out.extend_from_slice(&[byte]),
         _ => {
             out.extend_from_slice(b"\\x")?;
             out.extend_from_slice(&[digit(byte / 16), digit(byte % 16)])
@@ -146,5 +150,9 @@ fn append_escaped(byte: u8, out: &mut Vec<u8>) -> Result<(), AllocError> {
 fn digit(value: u8) -> u8
     requires { value < 16 }
 {
-    if value < 10 { b'0' + value } else { b'a' - 10 + value }
+    if value < 10 {
+        b'0' + value
+    } else {
+        b'a' - 10 + value
+    }
 }

@@ -3,11 +3,11 @@ ghost use Rattle.std.specs.Prelude.{ℕ, List};
 ghost use Rattle.packets.specs.Written.{AreTexts, Writes};
 ghost use Rattle.packets.specs.declared.dissection.Dissection.{Dissection};
 
-use crate::follow::connection_id::ConnectionId;
-use crate::follow::event::{Event, EventKind, DirectionEnd, Way};
-use crate::follow::{event_object, event_text};
 use crate::flows::conversation::Conversation;
 use crate::flows::transfer::Transfer;
+use crate::follow::connection_id::ConnectionId;
+use crate::follow::event::{DirectionEnd, Event, EventKind, Way};
+use crate::follow::{event_object, event_text};
 use crate::run::omitted::Omitted;
 use crate::run::output::{PacketWriter, write_packets};
 use crate::run::rules::Rules;
@@ -209,7 +209,13 @@ impl Connections {
     ) -> Result<(), AllocError> {
         let (count, packet, direction_of) = (self.count, Some(packet), Some(direction));
         if let Some(refused) = followed.refused {
-            writing.append(count, packet, direction_of, EventKind::Refused(refused), out)?;
+            writing.append(
+                count,
+                packet,
+                direction_of,
+                EventKind::Refused(refused),
+                out,
+            )?;
         }
         if followed.conflicts.count > 0 {
             let kind = EventKind::Conflicts(followed.conflicts);
@@ -263,7 +269,13 @@ impl Connections {
             joined_late: buf.joined_late(),
             conflicts: buf.conflicts(),
         };
-        writing.append(self.count, None, Some(direction), EventKind::DirectionEnd(end), out)
+        writing.append(
+            self.count,
+            None,
+            Some(direction),
+            EventKind::DirectionEnd(end),
+            out,
+        )
     }
 }
 

@@ -5,13 +5,13 @@ use Rattle.tcp_streams.proofs.sparse_bytes.SparseBytes.after_gap.Goals as goal
 pub overflow_sub-from : goal.overflow_sub-from
 overflow_sub-from c =
     let found = gap_found c.self.inside.gaps.items c.deref.result.now c.args.index c.in-Some.gap c.deref.ensures.value
-        c.in-Some.ensures.lookup in
+    c.in-Some.ensures.lookup in
     (after_bounds _ c.self.invariant c.args.index c.in-Some.gap.now found).0
 
 pub overflow_sub-to : goal.overflow_sub-to
 overflow_sub-to c =
     let found = gap_found c.self.inside.gaps.items c.deref.result.now c.args.index c.in-Some.gap c.deref.ensures.value
-        c.in-Some.ensures.lookup in
+    c.in-Some.ensures.lookup in
     let end_is = rw (← c.self.view_is) at c.end_after_gap-end.ensures in
     let bounds = after_bounds _ c.self.invariant c.args.index c.in-Some.gap.now found in
     omega (arith, end_is, bounds.0, bounds.1)
@@ -19,7 +19,7 @@ overflow_sub-to c =
 pub part-requires-clause-order : goal.part-requires-clause-order
 part-requires-clause-order c =
     let found = gap_found c.self.inside.gaps.items c.deref.result.now c.args.index c.in-Some.gap c.deref.ensures.value
-        c.in-Some.ensures.lookup in
+    c.in-Some.ensures.lookup in
     let end_is = rw (← c.self.view_is) at c.end_after_gap-end.ensures in
     let bounds = after_bounds _ c.self.invariant c.args.index c.in-Some.gap.now found in
     omega (arith, end_is, bounds.0, bounds.1)
@@ -27,7 +27,7 @@ part-requires-clause-order c =
 pub part-requires-clause-within : goal.part-requires-clause-within
 part-requires-clause-within c =
     let found = gap_found c.self.inside.gaps.items c.deref.result.now c.args.index c.in-Some.gap c.deref.ensures.value
-        c.in-Some.ensures.lookup in
+    c.in-Some.ensures.lookup in
     let end_is = rw (← c.self.view_is) at c.end_after_gap-end.ensures in
     let bounds = after_bounds _ c.self.invariant c.args.index c.in-Some.gap.now found in
     rw c.as_slice.ensures (omega (arith, end_is, bounds.0, bounds.2))
@@ -40,7 +40,7 @@ returns-clause-gap c =
 pub returns-clause-bytes : goal.returns-clause-bytes
 returns-clause-bytes c =
     let found = gap_found c.self.inside.gaps.items c.deref.result.now c.args.index c.in-Some.gap c.deref.ensures.value
-        c.in-Some.ensures.lookup in
+    c.in-Some.ensures.lookup in
     let end_is = rw (← c.self.view_is) at c.end_after_gap-end.ensures in
     let bounds = after_bounds _ c.self.invariant c.args.index c.in-Some.gap.now found in
     rw (c.part.ensures, c.as_slice.ensures, ← c.self.view_is)
