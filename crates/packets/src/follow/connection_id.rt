@@ -7,7 +7,7 @@ use ep_packet::Addresses;
 use std::net::{IpAddr, Ipv4Addr, Ipv6Addr};
 
 /// The endpoints of TCP connections, in the order in which they are named.
-#[derive(Clone, Copy, Debug, PartialEq, Eq)]
+#[derive(Clone, Copy, Debug)]
 pub struct ConnectionId {
     /// From the first one to the second.
     pub conversation: Conversation,

@@ -22,7 +22,7 @@ use std::io::{Read, Write};
 use tcp_streams::{Control, Direction, FollowedSegment, Follower, SegmentFlags};
 
 /// Which connection is followed, and how it is written.
-#[derive(Clone, Copy, Debug, PartialEq, Eq)]
+#[derive(Clone, Copy, Debug)]
 pub struct FollowOptions {
     /// Its endpoints.
     pub id: ConnectionId,
@@ -67,7 +67,7 @@ struct Connections {
 }
 
 impl Following {
-    /// No packet came.
+    /// No packet came. It has no contract: tests compare the texts.
     pub fn new(alloc: Global, options: FollowOptions) -> Following {
         Following {
             alloc,
@@ -82,7 +82,7 @@ impl Following {
 
     /// Appends how the last connection ends, if there is one. It has no contract: tests compare the
     /// texts.
-    pub fn append_end(&self, out: &mut Vec<u8>) -> Result<(), AllocError> {
+    pub(crate) fn append_end(&self, out: &mut Vec<u8>) -> Result<(), AllocError> {
         match self.connections.try_borrow_mut() {
             Ok(mut connections) => {
                 let writing = Writing {

@@ -12,7 +12,7 @@ ghost use Rattle.tcp_streams.specs.declared.flow_key.FlowKey.{FlowKey as Key};
 
 use crate::{
     Added, Conflicts, ConnectionState, Control, Direction, Distance, Endpoint, Flow, FlowKey,
-    FlowPacket, Gap, Refused, SegmentFlags, Traffic,
+    FlowPacket, FollowedSegment, Gap, Refused, SegmentFlags, Traffic,
 };
 use ep_base::laws::traits::Value;
 use std::hash::Hash;
@@ -26,6 +26,7 @@ pub fn types_are_plain_data()
     ensures direction { IsPlainData ⟦<Direction as Value>⟧ }
     ensures distance { IsPlainData ⟦<Distance as Value>⟧ }
     ensures endpoint { IsPlainData ⟦<Endpoint as Value>⟧ }
+    ensures followed_segment { IsPlainData ⟦<FollowedSegment as Value>⟧ }
     ensures flow_packet { IsPlainData ⟦<FlowPacket as Value>⟧ }
     ensures gap { IsPlainData ⟦<Gap as Value>⟧ }
     ensures refused { IsPlainData ⟦<Refused as Value>⟧ }
