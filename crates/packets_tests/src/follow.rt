@@ -5,7 +5,7 @@ use crate::checks::{equal, fail, holds, is_text};
 use crate::outcomes::every_packet;
 use captures::RunError;
 use fault_devices::UnflushableWriter;
-use packets::program::write_follow_end;
+use packets::program::{write_follow_end, write_followed_flushed};
 use packets::{ConnectionId, FollowForm, FollowOptions, Following, Omitted, Way, write_followed};
 use std::alloc::Global;
 use std::hash::{BuildHasherDefault, FoldHasher};
@@ -101,7 +101,7 @@ fn an_end_that_cannot_be_written(rt: HostRuntime) {
     let following = following(&rt, rt.alloc(), FollowForm::Json);
     let capture = captured(&rt, rt.alloc(), 101, FRAMES);
     let mut lines = Vec::new(rt.alloc());
-    let written = write_followed(
+    let written = write_followed_flushed(
         rt.alloc(),
         BuildHasherDefault::<FoldHasher>::new(),
         &every_packet(rt.alloc()),
