@@ -26,13 +26,19 @@ pub fn types_are_plain_data()
     ensures direction { IsPlainData ⟦<Direction as Value>⟧ }
     ensures distance { IsPlainData ⟦<Distance as Value>⟧ }
     ensures endpoint { IsPlainData ⟦<Endpoint as Value>⟧ }
-    ensures followed_segment { IsPlainData ⟦<FollowedSegment as Value>⟧ }
     ensures flow_packet { IsPlainData ⟦<FlowPacket as Value>⟧ }
     ensures gap { IsPlainData ⟦<Gap as Value>⟧ }
     ensures refused { IsPlainData ⟦<Refused as Value>⟧ }
     ensures segment_flags { IsPlainData ⟦<SegmentFlags as Value>⟧ }
     ensures traffic { IsPlainData ⟦<Traffic as Value>⟧ }
 {}
+
+/// The same of what a segment does in a connection that is followed.
+pub fn followed_segments_are_plain_data()
+    ensures { IsPlainData ⟦<FollowedSegment as Value>⟧ }
+{
+    types_are_plain_data();
+}
 
 /// By default there is no conflict, no flag is set, and no packet came.
 pub fn defaults_are_none()
