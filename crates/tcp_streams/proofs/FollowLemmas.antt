@@ -114,10 +114,10 @@ pub follows_with : (window : ℕ) (mid new : Follower) (earlier : List Connectio
     (side_with mid.window (side_in s.direction (connection_for (connection_after window earlier) (control_on s))) s.segment))
     → state ≡ state_after mid.state s.direction (control_on s)
     → Follows (record new { state = state }) (connection_after window (earlier ++ s ∷ []))
-follows_with window mid new earlier s state same begun taken is =
+follows_with window mid new earlier s state same since taken is =
     let taken = rw same at taken in
     rw (fold-append (connection_with window) no_connection earlier (s ∷ [])) record {
-      state = is ∙ ap (λ (c : ConnectionState). state_after c s.direction (control_on s)) begun.state;
+      state = is ∙ ap (λ (c : ConnectionState). state_after c s.direction (control_on s)) since.state;
       from_lower = taken.from_lower;
       from_higher = taken.from_higher;
     }

@@ -4,9 +4,9 @@ use Rattle.tcp_streams.proofs.follower.Follower.add.Goals as goal
 
 pub returns-in-Ok-clause-follows : goal.returns-in-Ok-clause-follows
 returns-in-Ok-clause-follows c earlier was =
-    let begun = rw c.of_flags-control.ensures at c.begin-begins_anew.ensures.follows _ was in
-    let taken = c.in-Ok.ensures.taken _ begun in
+    let since = rw c.of_flags-control.ensures at c.begin-begins_anew.ensures.follows _ was in
+    let taken = c.in-Ok.ensures.taken _ since in
     let state = rw c.of_flags-control.ensures at c.after-state.ensures in
     follows_with c.args.self.now.window c.begin-begins_anew.new.self c.take.new.self earlier
     (connection_segment c.args.direction c.args.sequence_number c.args.flags c.args.ack c.args.payload.now)
-    c.after-state.result c.begin-begins_anew.ensures.window begun taken.0 state
+    c.after-state.result c.begin-begins_anew.ensures.window since taken.0 state
