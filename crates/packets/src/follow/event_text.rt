@@ -1,5 +1,7 @@
 //! Events as text. The functions have no contracts: tests compare the texts.
 
+ghost use Rattle.std.specs.Prelude.{◌<◌};
+
 use crate::follow::event::{DirectionEnd, Event, EventKind, Way};
 use header_descriptions::show::byte_lines::append_byte_lines;
 use header_descriptions::show::{Line, Style};
