@@ -14,16 +14,24 @@ class Flags(Protocol):
     """What has the control flags of a segment: the `tcp` of a packet, or a SegmentFlags."""
 
     @property
-    def syn(self) -> bool: ...
+    def syn(self) -> bool:
+        """Whether the sequence number is that of SYN."""
+        ...
 
     @property
-    def ack(self) -> bool: ...
+    def ack(self) -> bool:
+        """Whether the acknowledgment number counts."""
+        ...
 
     @property
-    def fin(self) -> bool: ...
+    def fin(self) -> bool:
+        """Whether the sender sends no more."""
+        ...
 
     @property
-    def rst(self) -> bool: ...
+    def rst(self) -> bool:
+        """Whether the connection is reset."""
+        ...
 
 
 @dataclass(frozen=True)

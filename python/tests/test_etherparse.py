@@ -294,7 +294,9 @@ class Plans(unittest.TestCase):
                 packet = ep.build(b"!", transport=ep.PlannedIcmp(number, message), **ends[number])
                 written = packet[20 if number == 1 else 40 :]
                 self.assertEqual((written[:2] + written[4:]).hex(), header + b"!".hex())
-                self.assertEqual(ep.verdict_ip(packet), ep.Verdict.GOOD)
+                # A timestamp message has 20 bytes (RFC 792), and no byte more that could be judged.
+                whole = ep.build(b"", transport=ep.PlannedIcmp(number, message), **ends[number])
+                self.assertEqual(ep.verdict_ip(whole), ep.Verdict.GOOD)
         for number, message in (
             (1, ep.PacketTooBig(1)),
             (58, ep.TimestampRequest(1, 2, 3, 4, 5)),
