@@ -45,7 +45,7 @@ pub fn connections_stay_known()
 /// way round. A SYN has its own numbers, and so have a segment that acknowledges nothing and one of a
 /// connection that isn't known.
 pub fn numbers_of_a_handshake()
-    ensures { (answer : Segment) → answer.ascends ≡ false → answer.sequence_number ≡ 1000
+    ensures handshake { (answer : Segment) → answer.ascends ≡ false → answer.sequence_number ≡ 1000
         → answer.acknowledgment_number ≡ 0
         → (initial_numbers_by (starts_from answer) true
         ≡ record { sequence = 4_294_967_295; acknowledgment = 1000 })
