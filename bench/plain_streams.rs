@@ -121,7 +121,7 @@ impl Stream {
         } else {
             self.compare(position, payload, end);
         }
-        Some(position)
+        Some(position.max(self.taken))
     }
 
     /// Compares the bytes up to a position with those that are held.

@@ -8,7 +8,8 @@ use std::hash::RandomState;
 use std::io::{Read, Write};
 use std::process::ExitCode;
 
-/// Writes what goes over a connection in all files, and at their end how it ends.
+/// Writes what goes over a connection in all files, and at their end how it ends. It has no contract:
+/// it rests with the system what they hold.
 pub fn follow_files<W: Write>(
     rt: &HostRuntime,
     requested: &Requested<'_>,

@@ -3,7 +3,7 @@ use Rattle.std.proofs.Common.{◌≡◌, ◌∙◌, ℕ, ◌+◌, ◌-◌, ◌*�
 use Rattle.std.proofs.Common.{take, arith, refl, sym, ap}
 use Rattle.std.proofs.lemmas.Bool.Decides.{nat_tests}
 use Rattle.std.proofs.lemmas.List.{length-take}
-use Rattle.std.specs.Prelude.{fold}
+use Rattle.std.specs.Prelude.{if◌then◌else◌, fold, is_some, not}
 use Rattle.std.proofs.lemmas.Grind.{fold-append}
 use Rattle.tcp_streams.specs.declared.conflicts.Conflicts.{Conflicts}
 use Rattle.tcp_streams.specs.declared.gaps.Gap.{Gap}
@@ -48,11 +48,13 @@ module _ (kept : ℕ) (mid : Contents) (side : Side) (s : Segment) (was : ShowsS
     not_refused : refusal_on kept side s ≡ None
     not_refused = sym refusal_same ∙ none
 
-    pub shows_with : new.start ≡ Some (start_number mid.start s.number s.flags) → new.held.taken ≡ mid.held.taken
-        → new.window ≡ mid.window → ShowsSide kept new (side_with kept side s)
-    shows_with start taken window = rw not_refused record {
+    pub shows_with : new.start ≡ Some (start_number mid.start s.number s.flags)
+        → new.joined_late ≡ (if is_some mid.start then mid.joined_late else not s.flags.syn)
+        → new.held.taken ≡ mid.held.taken → new.window ≡ mid.window → ShowsSide kept new (side_with kept side s)
+    shows_with start joined_late taken window = rw not_refused record {
       shows = rw placed_same at accepted;
       start = start ∙ ap (λ (o : Option ℕ). Some (start_number o s.number s.flags)) was.start;
+      joined_late = rw (was.start, was.joined_late) at joined_late;
       window = window ∙ was.window;
       taken = omega (arith, taken, at, grows side.segments (placed_on kept side s ∷ []));
     }

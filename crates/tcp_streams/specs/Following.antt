@@ -1,5 +1,5 @@
 -- A connection that is followed: its state, and the segments of both directions that were accepted.
-use Rattle.std.specs.Prelude.{◌≡◌, ℕ, ◌-◌, ◌*◌, ◌≤◌, ◌==◌, Bool, true, false, if◌then◌else◌, is_some, IfSome, IfNone}
+use Rattle.std.specs.Prelude.{◌≡◌, ℕ, ◌-◌, ◌*◌, ◌≤◌, ◌==◌, Bool, true, false, not, if◌then◌else◌, is_some, IfSome, IfNone}
 use Rattle.std.specs.Prelude.{List, [], ◌∷◌, ◌++◌, fold, length, Option, Some, None}
 use Rattle.tcp_streams.specs.declared.connection_state.ConnectionState.{ConnectionState}
 use Rattle.tcp_streams.specs.declared.connection_state.ConnectionState.TheVariants.{Unseen, SynSent, SynReceived}
@@ -23,13 +23,15 @@ use Rattle.tcp_streams.specs.StreamBuf.{Contents, Shows, IsFirstGap}
 
 -- ---- one direction
 
--- the number of position 0, once a segment was accepted; and those that were, the oldest first
+-- the number of position 0, once a segment was accepted; whether the first one that was had no SYN; and
+-- all of them, the oldest first
 pub record Side : Type 0 where
   pub start : Option ℕ
+  pub joined_late : Bool
   pub segments : List Placed
 
 abbrev pub no_side : Side
-no_side = record { start = None; segments = [] }
+no_side = record { start = None; joined_late = false; segments = [] }
 
 -- of the bytes up to the first gap the last ones are kept, so many at most; those before them aren't
 abbrev pub taken_of : (kept : ℕ) → Side → ℕ
@@ -48,6 +50,7 @@ refusal_on kept side s =
 abbrev pub side_with : (kept : ℕ) → Side → Segment → Side
 side_with kept side s = if is_some (refusal_on kept side s) then side else record {
   start = Some (start_number side.start s.number s.flags);
+  joined_late = if is_some side.start then side.joined_late else not s.flags.syn;
   segments = side.segments ++ placed_on kept side s ∷ [];
 }
 
@@ -167,6 +170,7 @@ pub record IsFollowed (kept : ℕ) (earlier : Connection) (s : ConnectionSegment
 pub record ShowsSide (kept : ℕ) (buf : Contents) (side : Side) : Type 0 where
   pub shows : Shows buf side.segments
   pub start : buf.start ≡ side.start
+  pub joined_late : buf.joined_late ≡ side.joined_late
   pub window : buf.window ≡ 2 * kept
   pub taken : buf.held.taken ≤ taken_of kept side
 
@@ -175,3 +179,12 @@ pub record Follows (follower : Follower) (connection : Connection) : Type 0 wher
   pub state : follower.state ≡ connection.state
   pub from_lower : ShowsSide follower.window follower.from_lower connection.from_lower
   pub from_higher : ShowsSide follower.window follower.from_higher connection.from_higher
+
+-- the buffer of a direction
+abbrev pub buf_in : Direction → Follower → Contents
+buf_in FromLower follower = follower.from_lower
+buf_in FromHigher follower = follower.from_higher
+
+-- the bytes that a segment makes available are kept, those of the direction from there on
+abbrev pub keeps : Contents → FollowedSegment → Type 0
+keeps buf followed = buf.held.taken ≤ followed.position

@@ -51,6 +51,7 @@ available_in held = take (available_end held - held.taken) held.bytes
 -- after it
 pub record IsFirstGap (ss : List Placed) (gap : Gap) : Type 0 where
   pub start : gap.start ≡ length (text_of ss)
+  pub order : gap.start < gap.end
   pub missing : (p : ℕ) → gap.start ≤ p → p < gap.end → byte_at ss p ≡ None
   pub end_held : IsSome (byte_at ss gap.end)
 

@@ -2,8 +2,8 @@
 
 ghost use Rattle.std.specs.Prelude.{◌≡◌, ◌++◌, ◌∷◌, ◌*◌, [], List, IfOk, MatchResult, OnErr, OnOk, Option};
 ghost use Rattle.tcp_streams.specs.Following.{Connection, ConnectionSegment, Follows, IsFollowed, IsGapIn, IsTaken};
-ghost use Rattle.tcp_streams.specs.Following.{ShowsSide, Side, begins_anew, connection_after, connection_for};
-ghost use Rattle.tcp_streams.specs.Following.{connection_segment, connection_with, control_with, is_of_segment, new_gap, no_connection};
+ghost use Rattle.tcp_streams.specs.Following.{ShowsSide, Side, begins_anew, buf_in, connection_after, connection_for};
+ghost use Rattle.tcp_streams.specs.Following.{connection_segment, control_with, is_of_segment, keeps, new_gap, no_connection};
 ghost use Rattle.tcp_streams.specs.Following.{no_side, side_in, side_with, taken_of, with_side};
 ghost use Rattle.tcp_streams.specs.Placing.{Segment, segment};
 ghost use Rattle.tcp_streams.specs.StreamBuf.{Contents, IsBounded};
@@ -74,8 +74,9 @@ impl Follower {
 
     /// The bytes of a direction.
     pub fn buf(&self, direction: Direction) -> &StreamBuf
-        ensures { (connection : Connection) → Follows self.now connection
+        ensures shows { (connection : Connection) → Follows self.now connection
             → ShowsSide self.now.window result.now (side_in direction connection) }
+        ensures buf { result.now ≡ buf_in direction self.now }
     {
         match direction {
             Direction::FromLower => &self.from_lower,
@@ -111,6 +112,9 @@ impl Follower {
             → Follows self.old (connection_after self.old.window earlier) →
             let s = connection_segment direction sequence_number flags ack payload.now in
             IfOk result (IsFollowed self.old.window (connection_after self.old.window earlier) s) }
+        ensures kept { (earlier : List ConnectionSegment)
+            → Follows self.old (connection_after self.old.window earlier)
+            → IfOk result (keeps (buf_in direction self.new)) }
         ensures err { (earlier : List ConnectionSegment)
             → Follows self.old (connection_after self.old.window earlier) → OnErr result (Follows self.new
             (connection_for (connection_after self.old.window earlier) (control_with flags ack))) }
@@ -161,6 +165,8 @@ impl Follower {
             (λ taken. Follows self.new (with_side direction connection (side_with self.old.window side s))
             × IsTaken self.old.window side s taken)
             (λ _. Follows self.new connection) }
+        ensures kept { (connection : Connection) → Follows self.old connection
+            → IfOk result (keeps (buf_in direction self.new)) }
         ensures window { self.new.window ≡ self.old.window }
         ensures state { self.new.state ≡ self.old.state }
     {
@@ -197,10 +203,12 @@ fn take(
     flags: SegmentFlags,
     payload: &[u8],
 ) -> Result<FollowedSegment, AllocError>
-    ensures { (earlier : Side) → ShowsSide kept buf.old earlier →
+    ensures taken { (earlier : Side) → ShowsSide kept buf.old earlier →
         let s = segment sequence_number flags payload.now in MatchResult result
         (λ taken. ShowsSide kept buf.new (side_with kept earlier s) × IsTaken kept earlier s taken)
         (λ _. ShowsSide kept buf.new earlier) }
+    ensures kept { (earlier : Side) → ShowsSide kept buf.old earlier
+        → IfOk result (keeps buf.new) }
 {
     forget(buf, kept);
     let position = buf.available_end();

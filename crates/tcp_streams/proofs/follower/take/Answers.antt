@@ -1,17 +1,17 @@
-use Rattle.std.proofs.Common.{◌∙◌, sym}
+use Rattle.std.proofs.Common.{◌∙◌, arith, sym}
 use Rattle.tcp_streams.specs.Placing.{segment}
 use Rattle.tcp_streams.proofs.FollowLemmas.{of_segment, shows_with, shows_without, taken_with, taken_without}
 use Rattle.tcp_streams.proofs.follower.take.Goals as goal
 
-pub returns-in-Ok : goal.returns-in-Ok
-returns-in-Ok c earlier was =
+pub returns-in-Ok-clause-taken : goal.returns-in-Ok-clause-taken
+returns-in-Ok-clause-taken c earlier was =
     let mid = c.forget.ensures.shows earlier was in
     let at = c.forget.ensures.taken earlier was in
     let s = segment c.args.sequence_number c.args.flags c.args.payload.now in
     let none = c.in-Ok.ensures.refused earlier.segments mid.shows in
     let accepted = c.in-Ok.ensures.accepted earlier.segments mid.shows in (
       shows_with c.args.kept c.forget.new.buf earlier s mid at c.add.new.self accepted none c.in-Ok.ensures.start
-          c.add.ensures.taken c.add.ensures.window,
+          c.in-Ok.ensures.joined_late c.add.ensures.taken c.add.ensures.window,
       rw c.new_gap.ensures (taken_with c.args.kept c.forget.new.buf earlier s mid at c.add.new.self accepted none
           c.available_end-position.result c.gap-before.result c.gap.result c.in-Ok.added.conflicts
           (c.available_end-position.ensures earlier.segments mid.shows)
@@ -23,8 +23,8 @@ returns-in-Ok c earlier was =
           (c.in-Ok.ensures.conflicts earlier.segments mid.shows)),
     )
 
-pub returns-in-Err : goal.returns-in-Err
-returns-in-Err c earlier was =
+pub returns-in-Err-clause-taken : goal.returns-in-Err-clause-taken
+returns-in-Err-clause-taken c earlier was =
     let mid = c.forget.ensures.shows earlier was in
     let at = c.forget.ensures.taken earlier was in
     let s = segment c.args.sequence_number c.args.flags c.args.payload.now in
@@ -37,4 +37,24 @@ returns-in-Err c earlier was =
             some = c.gap-before.ensures.gap earlier.segments mid.shows;
             none = c.gap-before.ensures.none earlier.segments mid.shows;
           })),
+    )
+
+pub returns-in-Ok-clause-kept : goal.returns-in-Ok-clause-kept
+returns-in-Ok-clause-kept c earlier was =
+    let mid = c.forget.ensures.shows earlier was in
+    omega (
+      arith,
+      c.forget.ensures.taken earlier was,
+      c.add.ensures.taken,
+      c.available_end-position.ensures earlier.segments mid.shows,
+    )
+
+pub returns-in-Err-clause-kept : goal.returns-in-Err-clause-kept
+returns-in-Err-clause-kept c earlier was =
+    let mid = c.forget.ensures.shows earlier was in
+    omega (
+      arith,
+      c.forget.ensures.taken earlier was,
+      c.add.ensures.taken,
+      c.available_end-position.ensures earlier.segments mid.shows,
     )
