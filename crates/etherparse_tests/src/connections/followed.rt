@@ -39,18 +39,27 @@ struct Step(
     &'static [u8],
 );
 
-const fn nothing(position: u64) -> FollowedSegment {
-    FollowedSegment {
-        begins_anew: false,
-        position,
-        gap: None,
-        conflicts: Conflicts {
-            count: 0,
-            first: None,
-        },
-        refused: None,
-    }
-}
+const NOTHING_AT_0: FollowedSegment = FollowedSegment {
+    begins_anew: false,
+    position: 0,
+    gap: None,
+    conflicts: Conflicts {
+        count: 0,
+        first: None,
+    },
+    refused: None,
+};
+
+const NOTHING_AT_7: FollowedSegment = FollowedSegment {
+    begins_anew: false,
+    position: 7,
+    gap: None,
+    conflicts: Conflicts {
+        count: 0,
+        first: None,
+    },
+    refused: None,
+};
 
 const OUTSIDE: FollowedSegment = FollowedSegment {
     begins_anew: false,
@@ -98,8 +107,8 @@ const ANEW: FollowedSegment = FollowedSegment {
 
 // Four bytes are kept. The number of SYN is the greatest but two.
 const STEPS: &[Step] = &[
-    Step("SYN", true, 4294967293, SYN, false, b"", nothing(0), b""),
-    Step("its answer", false, 1000, SYN, true, b"", nothing(0), b""),
+    Step("SYN", true, 4294967293, SYN, false, b"", NOTHING_AT_0, b""),
+    Step("its answer", false, 1000, SYN, true, b"", NOTHING_AT_0, b""),
     Step(
         "bytes",
         true,
@@ -107,7 +116,7 @@ const STEPS: &[Step] = &[
         NONE,
         true,
         b"GET /\r\n",
-        nothing(0),
+        NOTHING_AT_0,
         b"GET /\r\n",
     ),
     Step(
@@ -117,7 +126,7 @@ const STEPS: &[Step] = &[
         NONE,
         true,
         b"PUT",
-        nothing(7),
+        NOTHING_AT_7,
         b"",
     ),
     Step(
@@ -147,11 +156,11 @@ const STEPS: &[Step] = &[
         NONE,
         true,
         b"ab",
-        nothing(0),
+        NOTHING_AT_0,
         b"abcd",
     ),
     Step("far", false, 1010, NONE, true, b"zz", OUTSIDE, b""),
-    Step("RST", true, 5, RST, false, b"why", nothing(7), b""),
+    Step("RST", true, 5, RST, false, b"why", NOTHING_AT_7, b""),
     Step("SYN again", true, 77, SYN, false, b"", ANEW, b""),
     Step(
         "without SYN",
@@ -160,7 +169,7 @@ const STEPS: &[Step] = &[
         NONE,
         true,
         b"new",
-        nothing(0),
+        NOTHING_AT_0,
         b"new",
     ),
 ];
