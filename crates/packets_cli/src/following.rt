@@ -24,18 +24,7 @@ pub fn follow_files<W: Write>(
         is_stopped: false,
     };
     let failed = take_files(rt, requested.names, &mut task)?;
-    if task.is_stopped {
-        return Ok(failed.unwrap_or(ExitCode::SUCCESS));
-    }
-    let written = write_follow_end(rt.alloc(), &task.following, task.output);
-    let subject = Subject {
-        program: PROGRAM,
-        input: "-",
-    };
-    let closed = task.output.is_closed();
-    let command = requested.output.command();
-    let code = exit_code(rt, subject, command, written, closed, Look::Other);
-    Ok(failed.unwrap_or(code))
+    Ok(task.end(failed))
 }
 
 #[derive(Drop)]
@@ -46,6 +35,24 @@ struct FollowTask<'a, W> {
     output: &'a mut ClosableWriter<W>,
     // Whether nothing more is written.
     is_stopped: bool,
+}
+
+impl<W: Write> FollowTask<'_, W> {
+    // Writes how the last connection ends. The status is that of the first file that failed, if any did.
+    fn end(&mut self, failed: Option<ExitCode>) -> ExitCode {
+        if self.is_stopped {
+            return failed.unwrap_or(ExitCode::SUCCESS);
+        }
+        let written = write_follow_end(self.rt.alloc(), &self.following, self.output);
+        let subject = Subject {
+            program: PROGRAM,
+            input: "-",
+        };
+        let closed = self.output.is_closed();
+        let command = self.requested.output.command();
+        let code = exit_code(self.rt, subject, command, written, closed, Look::Other);
+        failed.unwrap_or(code)
+    }
 }
 
 impl<W: Write> Task for FollowTask<'_, W> {
