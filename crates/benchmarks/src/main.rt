@@ -1,10 +1,10 @@
-//! Benchmarks of library calls, a module for each kind of packet, and of reassembly.
+//! Benchmarks of library calls, a module for each kind of packet, of reassembly, and of TCP streams.
 //!
 //! The arguments name the benchmarks that are run, one after another, and each prints a line with its
 //! name and a sum of all that it computed. One of a call makes it once with each of 1000 packets, one of
-//! reassembly completes its datagrams once. Where the first argument is `--timed`, it does so a thousand
-//! times, in blocks of twenty, or twenty times, and also prints the nanoseconds of the fastest block or
-//! time.
+//! reassembly completes its datagrams once, one of streams puts them together once. Where the first
+//! argument is `--timed`, it does so a thousand times, in blocks of twenty, or twenty times, and also
+//! prints the nanoseconds of the fastest block or time.
 #![tactic(auto)]
 
 mod built_frames;
@@ -28,6 +28,7 @@ mod reassemblies;
 mod reassembly;
 mod segments;
 mod sliced_packets;
+mod streams;
 
 use std::io;
 use std::process::ExitCode;

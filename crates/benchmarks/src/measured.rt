@@ -1,6 +1,7 @@
 //! What a benchmark gives, and how the arguments name the benchmarks.
 
-use crate::{calls, reassemblies};
+use crate::streams::Arrival;
+use crate::{calls, reassemblies, streams};
 use std::process::ExitCode;
 use std::time::Duration;
 use std::{env, io};
@@ -56,6 +57,18 @@ pub fn run(rt: &HostRuntime) -> io::Result<ExitCode> {
 
 /// It has no contract: the time is a measurement, and the sum is compared with that of a plain program.
 fn measure(rt: &HostRuntime, name: &str, repeats: Repeats) -> io::Result<Option<Measured>> {
+    let arrival = match name {
+        "streams_ordered" => Arrival::Ordered,
+        "streams_swapped" => Arrival::Swapped,
+        "streams_late" => Arrival::Late,
+        "streams_repeated" => Arrival::Repeated,
+        _ => return by_packets(rt, name, repeats),
+    };
+    streams::measure(rt, arrival, repeats.turns).map(Some)
+}
+
+/// It has no contract, as `measure`.
+fn by_packets(rt: &HostRuntime, name: &str, repeats: Repeats) -> io::Result<Option<Measured>> {
     match calls::measure(rt, name, repeats)? {
         Some(measured) => Ok(Some(measured)),
         None => reassemblies::measure(rt, name, repeats),

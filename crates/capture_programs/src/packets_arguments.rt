@@ -65,6 +65,12 @@ Examples:
   packets report --only 'not arp' x.pcap > x.html   the same without some packets
   packets report a.pcap b.pcap > both.html          of both captures";
 
+const EXAMPLES_OF_FOLLOW: &str = "\
+Examples:
+  packets flows --only tcp x.pcap                                       the connections
+  packets follow 10.0.0.1:4000-10.0.0.2:80 x.pcap                       what both endpoints sent
+  packets follow --raw --direction 2 10.0.0.1:4000-10.0.0.2:80 x.pcap   the bytes of the second one";
+
 /// The command line. Without a command it is that of `show`. It has no contract: tests compare what
 /// words request.
 pub fn command<'a>(alloc: Global) -> Result<Command<'a>, AllocError> {
@@ -81,7 +87,8 @@ pub fn command<'a>(alloc: Global) -> Result<Command<'a>, AllocError> {
     let program = with_command(program, json(alloc))?;
     let program = with_command(program, summary(alloc))?;
     let program = with_command(program, flows(alloc))?;
-    with_command(program, report(alloc))
+    let program = with_command(program, report(alloc))?;
+    with_command(program, follow(alloc))
 }
 
 fn show<'a>(alloc: Global) -> Result<Command<'a>, AllocError> {
@@ -203,6 +210,57 @@ fn report<'a>(alloc: Global) -> Result<Command<'a>, AllocError> {
         .about("Writes what summary and flows count as a page for a browser")
         .after_help(EXAMPLES_OF_REPORT);
     with_input(alloc, command)
+}
+
+fn follow<'a>(alloc: Global) -> Result<Command<'a>, AllocError> {
+    let command = Command::new(alloc, "follow")
+        .about("Writes what the endpoints of a TCP connection sent, put together")
+        .after_help(EXAMPLES_OF_FOLLOW)
+        .arg(id(alloc))?
+        .arg(direction(alloc))?
+        .arg(raw(alloc)?)?
+        .arg(hex(alloc)?)?
+        .arg(flag(alloc, "json", "Writes a JSON object for each event"))?
+        .arg(follow_window(alloc))?;
+    with_input(alloc, command)
+}
+
+fn id<'a>(alloc: Global) -> Arg<'a> {
+    Arg::new(alloc, "ID")
+        .help("The endpoints, HOST:PORT-HOST:PORT, with IPv6 addresses in brackets")
+        .required(true)
+}
+
+fn direction<'a>(alloc: Global) -> Arg<'a> {
+    Arg::new(alloc, "direction")
+        .long("direction")
+        .value_name("N")
+        .help("Only what the first endpoint of ID sent, or the second one")
+        .value_parser(["1", "2"].as_slice())
+}
+
+fn raw<'a>(alloc: Global) -> Result<Arg<'a>, AllocError> {
+    flag(
+        alloc,
+        "raw",
+        "Writes the bytes alone, as they became available",
+    )
+    .conflicts_with("hex")?
+    .conflicts_with("json")
+}
+
+fn hex<'a>(alloc: Global) -> Result<Arg<'a>, AllocError> {
+    flag(alloc, "hex", "Writes the bytes in hex, 16 a line").conflicts_with("json")
+}
+
+fn follow_window<'a>(alloc: Global) -> Arg<'a> {
+    Arg::new(alloc, "window")
+        .long("window")
+        .value_name("SIZE")
+        .help(
+            "Keeps SIZE bytes of each direction, or K, M, G, that were written, and takes as many after them",
+        )
+        .default_value("1M")
 }
 
 fn by<'a>(alloc: Global) -> Arg<'a> {

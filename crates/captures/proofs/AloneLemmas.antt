@@ -6,7 +6,7 @@ use Rattle.std.specs.Prelude.{IsTrue, if◌then◌else◌}
 use Rattle.std.proofs.Math.Seq.{take-append_seam, drop-append_seam}
 use Rattle.std.proofs.lemmas.List.{get_or-append-add}
 use Rattle.hex.specs.Hex.{IsBytes}
-use Rattle.captures.specs.Framed.{frame_wire_len, reported_frame}
+use Rattle.captures.specs.Framed.{reported_frame, wire_len_on}
 use Rattle.captures.specs.Lines.{packets_of}
 use Rattle.captures.specs.Numbers.{half, word}
 use Rattle.captures.specs.Pcap.{is_magic}
@@ -86,14 +86,15 @@ abbrev pub timed_origin : Section → ByteOrder → List ℕ → ℕ → Origin
 timed_origin section order block interface = record {
   channel = section.first + interface;
   time = clock_time (clock_at section interface) (word order block 12) (word order block 16);
-  wire_len = frame_wire_len (link_at section interface) (word order block 24);
+  wire_len = wire_len_on (link_at section interface) (word order block 20) (word order block 24);
 }
 
 abbrev pub untimed_origin : Section → ByteOrder → List ℕ → Origin
 untimed_origin section order block = record {
   channel = section.first;
   time = 0;
-  wire_len = frame_wire_len (link_at section 0) (word order block 8);
+  wire_len = wire_len_on (link_at section 0) (captured_len section.snap_len (word order block 8))
+      (word order block 8);
 }
 
 -- what a section header says, by whether its version is read

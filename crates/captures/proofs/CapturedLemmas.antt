@@ -1,11 +1,12 @@
 -- Each packet of a capture has a line.
-use Rattle.std.proofs.Common.{◌≡◌, sym, ap, subst, ℕ, ◌+◌, ◌*◌, ◌^◌, ◌<◌, ◌≤◌, arith, List, [], ◌∷◌, length, drop, inl}
+use Rattle.std.proofs.Common.{◌≡◌, ◌∙◌, sym, ap, subst, ℕ, ◌+◌, ◌*◌, ◌^◌, ◌<◌, ◌≤◌, arith, List, [], ◌∷◌, length, drop, inl}
 use Rattle.std.proofs.Common.{inr}
 use Rattle.std.specs.Prelude.{min}
 use Rattle.std.specs.List.{AllByRecursion}
 use Rattle.captures.proofs.ByteLemmas.{Bytes, bytes_by, bytes_at, bytes_drop, bytes_take, bytes_prefix, bytes_back}
-use Rattle.captures.proofs.FramedLemmas.{reported_bytes, reported_fits}
-use Rattle.captures.specs.Framed.{frame_wire_len}
+use Rattle.captures.proofs.BlockLemmas.{word_prefix}
+use Rattle.captures.proofs.FramedLemmas.{reported_bytes, reported_fits, reported_whole}
+use Rattle.captures.specs.Framed.{frame_len, wire_len_on}
 use Rattle.captures.specs.ComeBack.{HasLine, CapturedPacketsHaveLines}
 use Rattle.captures.specs.Lines.{Packet, packets_of}
 use Rattle.captures.specs.Numbers.{half, word}
@@ -25,8 +26,13 @@ use Rattle.captures.specs.declared.origin.Origin.{Origin}
 most_time : (n : ℕ) → min n TIME_LIMIT ≤ TIME_LIMIT
 most_time n = omega arith
 
-most_wire_len : (link : Link) (n : ℕ) → frame_wire_len link n < 2 ^ 32
-most_wire_len link n = omega arith
+most_wire_len : (link : Link) (captured n : ℕ) → wire_len_on link captured n < 2 ^ 32
+most_wire_len link captured n = omega arith
+
+-- on the wire a frame had at least its own length
+least_wire_len : (link : Link) (len captured n : ℕ) → len ≤ frame_len link captured → len ≤ FRAME_LIMIT
+    → len ≤ wire_len_on link captured n
+least_wire_len link len captured n fits short = omega arith
 
 -- ---- a unit's packet
 
@@ -35,8 +41,8 @@ Fit origin frame = AllByRecursion HasLine (packets_of origin frame)
 
 fits_line : (origin : Origin) (frame : List ℕ) → length frame ≤ FRAME_LIMIT → Bytes frame
     → origin.channel < 2 ^ 32 → origin.time ≤ TIME_LIMIT → origin.wire_len < 2 ^ 32
-    → Fit origin frame
-fits_line origin frame short bytes number time wire_len = grind (arith, bytes_at)
+    → length frame ≤ origin.wire_len → Fit origin frame
+fits_line origin frame short bytes number time wire_len whole = grind (arith, bytes_at)
 
 none_fits : (origin : Origin) (frame : List ℕ) → frame ≡ [] → Fit origin frame
 none_fits origin frame none = subst (λ (f : List ℕ). Fit origin f) (sym none) tt
@@ -61,13 +67,14 @@ timed_fits interface section order block after origin frame range bytes number l
     let reported_time = says.time in
     let on_wire = ap (λ (o : Origin). o.wire_len) becomes.1 in
     let reported_len = says.wire in
-    let most_len = most_wire_len link (word order block 24) in
+    let most_len = most_wire_len link (length held) (word order block 24) in
+    let least_len = least_wire_len link (length frame) (length held) (word order block 24) in
     let most = most_time (moved (clock_at section interface).offset
     (nanoseconds_of (clock_at section interface).resolution
     (2 ^ 32 * word order block 12 + word order block 16))) in
     let held' : Bytes held = subst Bytes (sym says.bytes)
     (bytes_take (length held) (drop 28 block) (bytes_drop 28 block bytes)) in
-    grind (arith, fits_line, reported_fits, reported_bytes)
+    grind (arith, fits_line, reported_fits, reported_bytes, reported_whole)
 
 block_fits : (section : Section) (order : ByteOrder) (block : List ℕ) (after : Section)
     (origin : Origin) (frame : List ℕ) → section.first < 2 ^ 32 → Bytes block
@@ -98,9 +105,10 @@ block_fits section order block after origin frame range bytes
     let reported_time = says.time in
     let on_wire = ap (λ (o : Origin). o.wire_len) becomes.1 in
     let reported_len = says.wire in
-    let most_len = most_wire_len link (word order block 8) in
+    let most_len = most_wire_len link (length held) (word order block 8) in
+    let least_len = least_wire_len link (length frame) (length held) (word order block 8) in
     let held' : Bytes held = grind (arith, bytes_take, bytes_drop) in
-    grind (arith, fits_line, reported_fits, reported_bytes)
+    grind (arith, fits_line, reported_fits, reported_bytes, reported_whole)
 block_fits section order block after origin frame range bytes Nothing says becomes = grind arith
 
 block_unit_fits : (section : Section) (unit : List ℕ) (after : State) (origin : Origin) (frame : List ℕ)
@@ -120,10 +128,14 @@ unit_fits (Classic order time_unit link passing) unit after origin frame range b
     let i = is.0 in
     let time = ap (λ (o : Origin). o.time) is.1 in
     let on_wire = ap (λ (o : Origin). o.wire_len) is.1 in
-    let most_len = most_wire_len link (word order unit 12) in
+    let r = i.is_record in
+    let captured : word order unit 8 ≡ length i.packet =
+    rw r.parts (word_prefix order r.head i.packet 8 (omega (arith, r.size)) ∙ r.captured) in
+    let most_len = most_wire_len link (word order unit 8) (word order unit 12) in
+    let least_len = least_wire_len link (length frame) (word order unit 8) (word order unit 12) in
     let most = most_time (1000000000 * word order unit 0
     + nanoseconds_in time_unit * word order unit 4) in
-    let p = i.is_record in grind (arith, fits_line, reported_fits, reported_bytes, bytes_back)
+    grind (arith, fits_line, reported_fits, reported_bytes, reported_whole, bytes_back)
 unit_fits (Pcapng section) unit after origin frame range bytes is =
     block_unit_fits section unit after origin frame range bytes is
 

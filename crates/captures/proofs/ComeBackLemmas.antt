@@ -70,7 +70,7 @@ given_by true packet whole fits =
     ) refl
 given_by false packet whole fits =
     wired_frame packet.origin.channel packet.frame packet.origin.time packet.origin.wire_len
-    fits.number fits.bytes fits.some fits.short (omega (arith, fits.time)) fits.wire_len
+    fits.number fits.bytes fits.some fits.short (omega (arith, fits.time)) fits.wire_len fits.whole
 
 timed_line_gives_frame : (packet : Packet) → HasLine packet
     → captured_frame_of (timed_text_of packet) ≡ Some (at_its_time packet)
@@ -165,6 +165,7 @@ without_writable packet fits =
       seconds = omega arith;
       nanoseconds = omega arith;
       wire_len = omega arith;
+      whole = omega arith;
     }
 
 without_same : (time_unit : TimeUnit) (packet : Packet) → HasLine packet
@@ -178,6 +179,7 @@ timed_writable packet fits = let few = fits.time in
       seconds = omega arith;
       nanoseconds = omega arith;
       wire_len = fits.wire_len;
+      whole = fits.whole;
     }
 
 timed_same : (time_unit : TimeUnit) (packet : Packet) → HasLine packet

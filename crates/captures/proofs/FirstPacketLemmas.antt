@@ -1,14 +1,15 @@
 -- The first packet of some bytes.
 use Rattle.std.proofs.Common.{◌≡◌, ◌∙◌, sym, ap, ap₂, refl, subst, ℕ, ◌-◌, ◌<◌, ◌==◌, arith, true, false, List, [], ◌∷◌}
 use Rattle.std.proofs.Common.{◌++◌, length, inl, inr}
-use Rattle.std.proofs.Common.{append_assoc, length-append, append-nil, Option}
-use Rattle.captures.specs.Framed.{FrameParts, frame_bytes, frame_wire_len}
+use Rattle.std.proofs.Common.{append_assoc, length-append, append-nil, Option, Some}
+use Rattle.captures.specs.Framed.{FrameParts, captured_len, frame_bytes, frame_parts, frame_wire_len, wire_len_on}
 use Rattle.captures.specs.Numbers.{word}
 use Rattle.captures.specs.Pcapng.{Says, block_wire_len}
 use Rattle.captures.specs.Pcapng.Content.{Holds}
 use Rattle.captures.specs.PacketSteps.{HasNone, IsFirst, IsFromEnd, origin_of, taken_of}
 use Rattle.captures.specs.Lines.{Packet as TakenPacket, noted, reported}
-use Rattle.captures.specs.Units.{HasPacket, IsOn, IsUnit, Passes, StandsAt, Takes, in_a_row, no_section}
+use Rattle.captures.specs.Pcap.{record_wire_len}
+use Rattle.captures.specs.Units.{HasPacket, IsBlockOn, IsOn, IsUnit, Passes, StandsAt, Takes, in_a_row, no_section}
 use Rattle.captures.specs.declared.byte_order.ByteOrder.{ByteOrder}
 use Rattle.captures.specs.declared.capture_error.CaptureError.{CaptureError}
 use Rattle.captures.specs.declared.link.kind.Link.{Link}
@@ -18,6 +19,8 @@ use Rattle.captures.specs.declared.pcapng.section.Section.{Section}
 use Rattle.captures.specs.declared.text.ledger.Ledger.{Ledger}
 use Rattle.captures.specs.declared.translation.state.State.{State}
 use Rattle.captures.specs.declared.translation.state.State.TheVariants.{Start, Classic, Pcapng}
+use Rattle.captures.proofs.BlockLemmas.{word_prefix}
+use Rattle.captures.proofs.FrameLengthLemmas.{captured_of, frame_len_is}
 use Rattle.captures.proofs.UnitLemmas.{Reported, lines_from-append, no_packets_of, noted_all-append, one_packet}
 use Rattle.captures.proofs.UnitLemmas.{passes_none, passes_unit}
 
@@ -39,27 +42,50 @@ some_bytes frame some = grind arith
 
 held_wire_len : (section : Section) (order : ByteOrder) (block : List ℕ) (origin : Origin) (link : Link)
     (packet : List ℕ) (wire_len : ℕ) → Says section order block (Holds origin link packet)
-    → block_wire_len order block ≡ wire_len → origin.wire_len ≡ frame_wire_len link wire_len
+    → block_wire_len order block ≡ wire_len
+    → origin.wire_len ≡ wire_len_on link (length packet) wire_len
 held_wire_len section order block origin link packet wire_len (inl h) is =
     let which : block_wire_len order block ≡ word order block 24 = rw h.0 refl in
-    sym h.1.wire ∙ ap (frame_wire_len link) (sym which ∙ is)
+    sym h.1.wire ∙ ap (wire_len_on link (length packet)) (sym which ∙ is)
 held_wire_len section order block origin link packet wire_len (inr (inl h)) is =
     let which : block_wire_len order block ≡ word order block 24 = rw h.0 refl in
-    sym h.1.wire ∙ ap (frame_wire_len link) (sym which ∙ is)
+    sym h.1.wire ∙ ap (wire_len_on link (length packet)) (sym which ∙ is)
 held_wire_len section order block origin link packet wire_len (inr (inr h)) is =
     let which : block_wire_len order block ≡ word order block 8 = rw h.kind refl in
-    sym h.wire ∙ ap (frame_wire_len link) (sym which ∙ is)
+    sym h.wire ∙ ap (wire_len_on link (length packet)) (sym which ∙ is)
+
+-- a packet by its frame
+by_frame : (link : Link) (packet : List ℕ) (wire_len : ℕ) (frame : FrameParts)
+    → frame_parts link packet ≡ Some frame → 0 < length (frame_bytes frame)
+    → wire_len_on link (length packet) wire_len
+    ≡ frame_wire_len (length (frame_bytes frame)) (captured_len link frame) wire_len
+by_frame link packet wire_len frame is some =
+    rw (captured_of link packet frame some is, frame_len_is link packet frame some is) refl
+
+on_block : (section : Section) (block : List ℕ) (origin : Origin) (link : Link) (wire_len : ℕ)
+    (frame : FrameParts) → IsBlockOn section block origin link wire_len frame
+    → 0 < length (frame_bytes frame)
+    → origin.wire_len ≡ frame_wire_len (length (frame_bytes frame)) (captured_len link frame) wire_len
+on_block section block origin link wire_len frame on some =
+    held_wire_len section on.0 block origin link on.2.packet wire_len on.2.says on.2.wire
+    ∙ by_frame link on.2.packet wire_len frame on.2.parts some
 
 on_wire : (state : State) (unit : List ℕ) (after : State) (origin : Origin) (link : Link)
     (wire_len : ℕ) (frame : FrameParts) → IsUnit state unit after origin (frame_bytes frame)
-    → IsOn state unit origin link wire_len frame → origin.wire_len ≡ frame_wire_len link wire_len
-on_wire (Start unfit) unit after origin link wire_len frame is on =
-    held_wire_len (no_section unfit) on.0 unit origin link on.2.packet wire_len on.2.says on.2.wire
-on_wire (Classic order time_unit link' passing) unit after origin link wire_len frame is on =
+    → IsOn state unit origin link wire_len frame → 0 < length (frame_bytes frame)
+    → origin.wire_len ≡ frame_wire_len (length (frame_bytes frame)) (captured_len link frame) wire_len
+on_wire (Start unfit) unit after origin link wire_len frame is on some =
+    on_block (no_section unfit) unit origin link wire_len frame on some
+on_wire (Classic order time_unit link' passing) unit after origin link wire_len frame is on some =
+    let r = on.1.is_record in
+    let captured : word order unit 8 ≡ length on.1.packet =
+    rw r.parts (word_prefix order r.head on.1.packet 8 (omega (arith, r.size)) ∙ r.captured) in
     ap (λ (o : Origin). o.wire_len) is.1
-    ∙ ap₂ frame_wire_len on.0 on.1.wire
-on_wire (Pcapng section) unit after origin link wire_len frame is on =
-    held_wire_len section on.0 unit origin link on.2.packet wire_len on.2.says on.2.wire
+    ∙ ap₂ (λ (k : Link) (n : ℕ). wire_len_on k n (record_wire_len order unit)) on.0 captured
+    ∙ ap (wire_len_on link (length on.1.packet)) on.1.wire
+    ∙ by_frame link on.1.packet wire_len frame on.1.parts some
+on_wire (Pcapng section) unit after origin link wire_len frame is on some =
+    on_block section unit origin link wire_len frame on some
 
 origin_is : (state : State) (bytes : List ℕ) (after : State) (origin : Origin) (link : Link)
     (wire_len : ℕ) (frame : FrameParts) (rest : List ℕ)
@@ -67,11 +93,11 @@ origin_is : (state : State) (bytes : List ℕ) (after : State) (origin : Origin)
     → origin ≡ record {
       channel = origin.channel;
       time = origin.time;
-      wire_len = frame_wire_len link wire_len;
+      wire_len = frame_wire_len (length (frame_bytes frame)) (captured_len link frame) wire_len;
     }
 origin_is state bytes after origin link wire_len frame rest h some =
     let same = on_wire state h.has_unit.unit after origin link wire_len frame h.has_unit.is_unit
-    (h.is_on some) in
+    (h.is_on some) some in
     λ i. record { channel = origin.channel; time = origin.time; wire_len = same i }
 
 pub with_wire_len : (state : State) (bytes : List ℕ) (after : State) (origin : Origin) (link : Link)
@@ -80,7 +106,7 @@ pub with_wire_len : (state : State) (bytes : List ℕ) (after : State) (origin :
     → HasPacket state bytes after (record {
       channel = origin.channel;
       time = origin.time;
-      wire_len = frame_wire_len link wire_len;
+      wire_len = frame_wire_len (length (frame_bytes frame)) (captured_len link frame) wire_len;
     }) link wire_len frame rest
 with_wire_len state bytes after origin link wire_len frame rest h some =
     subst (λ (o : Origin). HasPacket state bytes after o link wire_len frame rest)

@@ -1,8 +1,8 @@
 -- The frame of a packet is bytes, and a line can hold it.
 use Rattle.std.proofs.lemmas.Bool.Decides.{nat_tests}
-use Rattle.std.proofs.Common.{◌≡◌, sym, subst, refl, ℕ, ◌+◌, ◌≤◌, arith, ◌==◌, Bool, true, false, List, [], ◌∷◌, ◌++◌}
-use Rattle.std.proofs.Common.{length, take, drop, Option, Some, None, eqb-true, ltb-false, ne_eqb, length-append}
-use Rattle.std.proofs.Common.{IfSome, Ok, Err}
+use Rattle.std.proofs.Common.{◌≡◌, sym, subst, refl, ℕ, ◌+◌, ◌<◌, ◌≤◌, arith, ◌==◌, Bool, true, false, List, [], ◌∷◌, ◌++◌}
+use Rattle.std.proofs.Common.{length, length-drop, take, drop, Option, Some, None, eqb-true, ltb-false, ne_eqb}
+use Rattle.std.proofs.Common.{length-append, IfSome, Ok, Err, inl, inr}
 use Rattle.std.specs.Option.{option_map}
 use Rattle.std.proofs.Math.Seq.{take-append_seam}
 use Rattle.std.proofs.lemmas.List.{length-take-le, take-append-drop}
@@ -10,7 +10,7 @@ use Rattle.std.specs.Prelude.{◌⊎◌, nat_lt, slice_index, if◌then◌else�
 use Rattle.hex.proofs.HexLemmas.{length-encode_with}
 use Rattle.hex.specs.Hex.{IsBytes, encode_lower, encode_with, lower_digits}
 use Rattle.captures.specs.Framed.{address_at, captured_limit, cooked_type, ethernet_header, family_type, framed_after}
-use Rattle.captures.specs.Framed.{framed_packet, head_len, reason_on, reported_by, reported_frame, FrameParts}
+use Rattle.captures.specs.Framed.{frame_len, framed, framed_packet, head_len, reason_on, reported_by, reported_frame, FrameParts}
 use Rattle.captures.specs.Framed.{frame_bytes, frame_parts, own_frame, IsBack, ip_type, made_header, no_address}
 use Rattle.captures.specs.Framed.{null_family}
 use Rattle.captures.specs.declared.link.header.Header.{Header}
@@ -175,6 +175,10 @@ found_back link packet found is = grind (arith, frame_back)
 
 -- ---- what is reported of a packet
 
+pub header_len : (source : List ℕ) (ether_type : ℕ) → length source ≡ 6
+    → 14 ≡ length (ethernet_header source ether_type)
+header_len source ether_type six = grind (arith, length-append)
+
 found_reported : (reason : Reason) (found : Option (List ℕ)) (frame : List ℕ)
     → reported_by reason found ≡ Ok frame → found ≡ Some frame
 found_reported reason found frame is = grind arith
@@ -187,6 +191,42 @@ reported_is link long found frame is = grind arith
 pub reported_fits : (unfit : Unfit) (link : Link) (packet frame : List ℕ)
     → reported_frame unfit link packet ≡ Some frame → length frame ≤ FRAME_LIMIT
 reported_fits unfit link packet frame is = grind (arith, nat_tests)
+
+-- how many bytes a frame has, if it has any
+made_len : (link : Link) (packet frame : List ℕ) → IsMade link packet frame
+    → length frame ≡ frame_len link (length packet)
+made_len link packet frame m =
+    rw m.parts (omega (
+      arith,
+      length-append (ethernet_header m.source m.ether_type) (drop (head_len link) packet),
+      header_len m.source m.ether_type m.size,
+      length-drop (head_len link) packet,
+      m.fits,
+    ))
+
+own_len : (link : Link) (packet frame : List ℕ) → frame ≡ packet
+    → (link ≡ Ethernet) ⊎ (length packet ≡ 0) → 0 < length frame
+    → length frame ≡ frame_len link (length packet)
+own_len link packet frame same h some = grind arith
+
+pub framed_len : (link : Link) (packet frame : List ℕ) → framed link packet ≡ Some frame
+    → 0 < length frame → length frame ≡ frame_len link (length packet)
+framed_len link packet frame is some =
+    elim (by_parts link packet frame (frame_parts link packet) refl is) [
+      | inl own ↦ own_len link packet frame own.0 own.1 some
+      | inr made ↦ made_len link packet frame made
+    ]
+
+framed_whole : (link : Link) (packet frame : List ℕ) → framed link packet ≡ Some frame
+    → length frame ≤ frame_len link (length packet)
+framed_whole link packet [] is = omega arith
+framed_whole link packet (byte ∷ bytes) is =
+    omega (arith, framed_len link packet (byte ∷ bytes) is (omega arith))
+
+-- of a packet that is passed over no bytes are reported
+pub reported_whole : (unfit : Unfit) (link : Link) (packet frame : List ℕ)
+    → reported_frame unfit link packet ≡ Some frame → length frame ≤ frame_len link (length packet)
+reported_whole unfit link packet frame is = grind (arith, nat_tests, framed_whole)
 
 pub reported_bytes : (unfit : Unfit) (link : Link) (packet frame : List ℕ) → Bytes packet
     → reported_frame unfit link packet ≡ Some frame → Bytes frame
@@ -209,10 +249,6 @@ encode_lower-append xs ys = encode_with-append lower_digits xs ys
 pub header_some : (header : Header) (rest : List ℕ)
     → (length (made_header (Some header) ++ rest) == 0) ≡ false
 header_some header rest = ne_eqb (length (made_header (Some header) ++ rest)) 0 (λ e. omega arith)
-
-pub header_len : (source : List ℕ) (ether_type : ℕ) → length source ≡ 6
-    → 14 ≡ length (ethernet_header source ether_type)
-header_len source ether_type six = grind (arith, length-append)
 
 -- the digits of a header come before those of what follows it
 pub header_digits : (source : List ℕ) (ether_type : ℕ) (following : List ℕ) → length source ≡ 6

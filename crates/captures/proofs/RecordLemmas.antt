@@ -1,7 +1,7 @@
 -- The record of the frame that a line gives.
 use Rattle.std.proofs.Common.{◌≡◌, ◌∙◌, sym, ap, refl, ℕ, ◌+◌, ◌/◌, ◌<◌, ◌≤◌, Bool, true, false, List, ◌++◌, length}
 use Rattle.std.proofs.Common.{Option, take, drop, Some, None, Result, Ok, append_assoc, arith}
-use Rattle.std.specs.Prelude.{◌⊎◌, MatchResult, unwrap_or}
+use Rattle.std.specs.Prelude.{◌⊎◌, MatchResult}
 use Rattle.std.proofs.Math.Seq.{take-append-add, take-append_seam}
 use Rattle.std.proofs.lemmas.List.{length-take-le}
 use borrow.Rule.Slice.PartMut.{put_mid}
@@ -12,7 +12,7 @@ use Rattle.line_grammar.specs.Commands.{frame_on}
 use Rattle.line_grammar.specs.TimedLines.{TimedFrame, frame_at, timed_frame_of}
 use Rattle.line_grammar.specs.declared.frame_limits.TheConstants.{FRAME_LIMIT}
 use Rattle.line_grammar.specs.declared.timed_line.Time.{Time}
-use Rattle.captures.specs.CapturedFrames.{captured_frame_of, captured_with, length_after, sixth_space}
+use Rattle.captures.specs.CapturedFrames.{captured_frame_of, captured_with, length_after, sixth_space, wire_len_given}
 use Rattle.captures.specs.Encoding.{parts_in, record_head, record_of}
 use Rattle.captures.specs.declared.time.time_unit.TimeUnit.{TimeUnit}
 
@@ -65,7 +65,7 @@ put_prefix out new a n m fits size same =
 pub record_put : (time_unit : TimeUnit) (out out' new head : List ℕ) (used start n m : ℕ) (time : Time)
     (wire_len : Option ℕ)
     → start ≤ length out' → length new ≡ n → m ≡ n → take start out' ≡ take used out ++ head
-    → head ≡ record_head time.seconds (parts_in time_unit time.nanoseconds) n (unwrap_or wire_len n)
+    → head ≡ record_head time.seconds (parts_in time_unit time.nanoseconds) n (wire_len_given wire_len n)
     → take (start + n) (put_mid start m out' new) ≡ take used out
     ++ record_of time_unit (captured_with wire_len
     (record { seconds = time.seconds; nanoseconds = time.nanoseconds; frame = new }))

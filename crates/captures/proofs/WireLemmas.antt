@@ -1,7 +1,7 @@
 -- Lines with lengths on the wire, read again.
 use Rattle.std.proofs.Common.{◌≡◌, ◌∙◌, sym, ap, ap₂, refl, ℕ, ◌+◌, ◌*◌, ◌/◌, ◌%◌, ◌<◌, ◌≤◌, ◌^◌, [], Bool}
 use Rattle.std.proofs.Common.{true, false, List, ◌∷◌, ◌++◌, length, take, drop, Some, None, append_assoc, length-append}
-use Rattle.std.proofs.Common.{Result, Ok, Err, arith}
+use Rattle.std.proofs.Common.{Option, Result, Ok, Err, arith}
 use Rattle.std.specs.Prelude.{codes, decimal, option_map, position}
 use Rattle.std.specs.Char.{is_ascii_digit}
 use Rattle.std.specs.List.{after_first, list_all, position_or_len}
@@ -24,7 +24,9 @@ use Rattle.line_grammar.specs.Written.{written_frame}
 use Rattle.line_grammar.specs.declared.frame_limits.TheConstants.{FRAME_LIMIT}
 use Rattle.line_grammar.proofs.WrittenLemmas.{decimal_digits, decimal_one_line, digit_other, hex_digits, hex_other}
 use Rattle.line_grammar.proofs.WrittenLemmas.{written_frame-one_line, written_frame-requests}
-use Rattle.captures.specs.CapturedFrames.{captured_by, captured_frame_of, captured_or, length_after, sixth_space, third_after}
+use Rattle.captures.specs.CapturedFrames.{CapturedFrame, captured_by, captured_frame_of, captured_or, length_after}
+use Rattle.captures.specs.CapturedFrames.{sixth_space, third_after}
+use Rattle.captures.specs.Framed.{frame_wire_len}
 use Rattle.captures.specs.Lines.{wire_text}
 
 -- ---- words, which have no space
@@ -233,7 +235,8 @@ wire_text-is time wire_len = grind (arith, append_assoc)
 
 module _ (channel : ℕ) (frame : List ℕ) (time wire_len : ℕ) (fits : channel < 2 ^ 32)
     (bytes : IsBytes frame) (some : 1 ≤ length frame) (short : length frame ≤ FRAME_LIMIT)
-    (few : time / 1000000000 < 2 ^ 32) (in_range : wire_len < 2 ^ 32) where
+    (few : time / 1000000000 < 2 ^ 32) (in_range : wire_len < 2 ^ 32)
+    (whole : length frame ≤ wire_len) where
   abbrev line : List ℕ
   line = head channel frame fits bytes ++ 32 ∷ (whole_time time ++ 32 ∷ decimal wire_len)
 
@@ -268,6 +271,17 @@ module _ (channel : ℕ) (frame : List ℕ) (time wire_len : ℕ) (fits : channe
       (time_space time few (decimal wire_len))
       ∙ ap Some (omega arith)
 
+  wire_len_is : frame_wire_len (length frame) (length frame) wire_len ≡ wire_len
+  wire_len_is = omega (arith, whole, in_range)
+
+  abbrev of_length : ℕ → Option CapturedFrame
+  of_length n = Some (record {
+    seconds = time / 1000000000;
+    nanoseconds = time % 1000000000;
+    wire_len = n;
+    frame = frame;
+  })
+
   pub wired_frame : captured_frame_of (written_frame channel frame ++ wire_text time wire_len)
       ≡ Some (record {
         seconds = time / 1000000000;
@@ -284,6 +298,7 @@ module _ (channel : ℕ) (frame : List ℕ) (time wire_len : ℕ) (fits : channe
       ∙ ap₂ (λ l r. captured_by (number_of_digits r) (timed_frame_of l))
       (before_space before (decimal wire_len)) (after_space before (decimal wire_len))
       ∙ ap₂ captured_by (is_word wire_len in_range) timed
+      ∙ ap of_length wire_len_is
 
 pub wired_one_line : (channel : ℕ) (frame : List ℕ) (time wire_len : ℕ) → channel < 2 ^ 32
     → IsBytes frame → time / 1000000000 < 2 ^ 32 → wire_len < 2 ^ 32

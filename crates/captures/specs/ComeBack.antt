@@ -19,7 +19,7 @@ use Rattle.captures.specs.declared.unfit.Unfit.{Unfit}
 
 -- a packet that has a line: its frame is bytes, one at least and no more than a line can hold, its
 -- channel is a number of 32 bits, and so are the seconds of its time and its frame's length on the
--- wire
+-- wire, which is at least the frame's own
 pub record HasLine (packet : Packet) : Type 0 where
   pub some : 1 ≤ length packet.frame
   pub short : length packet.frame ≤ FRAME_LIMIT
@@ -27,6 +27,7 @@ pub record HasLine (packet : Packet) : Type 0 where
   pub number : packet.origin.channel < 2 ^ 32
   pub time : packet.origin.time ≤ TIME_LIMIT
   pub wire_len : packet.origin.wire_len < 2 ^ 32
+  pub whole : length packet.frame ≤ packet.origin.wire_len
 
 abbrev pub at_no_time : Packet → CapturedFrame
 at_no_time packet = record {

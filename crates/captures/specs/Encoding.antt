@@ -52,9 +52,10 @@ abbrev pub packets_in : TimeUnit → List CapturedFrame → List Packet
 packets_in time_unit frames = flat_map (timed_packets time_unit) frames
 
 -- a frame that a line can hold, at a time of 32 bits of seconds and of a length of 32 bits on the
--- wire
+-- wire, at least its own
 pub record IsWritable (given : CapturedFrame) : Type 0 where
   pub short : length given.frame ≤ FRAME_LIMIT
   pub seconds : given.seconds < 2 ^ 32
   pub nanoseconds : given.nanoseconds < 1000000000
   pub wire_len : given.wire_len < 2 ^ 32
+  pub whole : length given.frame ≤ given.wire_len

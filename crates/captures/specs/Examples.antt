@@ -1,5 +1,6 @@
 -- Example captures, byte by byte, and the packets in them.
 use Rattle.std.specs.Prelude.{ℕ, List, [], ◌∷◌, replicate, slice_set, Some}
+use Rattle.captures.specs.CapturedFrames.{CapturedFrame}
 use Rattle.captures.specs.Lines.{Packet}
 use Rattle.captures.specs.Skipping.{passing_from}
 use Rattle.captures.specs.Times.{usual_clock}
@@ -136,6 +137,15 @@ numbered number = record {
     header = Some (record { source = 2 ∷ 0 ∷ 0 ∷ 0 ∷ 0 ∷ 1 ∷ []; ether_type = 0x0800 });
     bytes = 0x45 ∷ [];
   };
+}
+
+-- the frame of two bytes that lines give
+abbrev pub given_at : (seconds nanoseconds wire_len : ℕ) → CapturedFrame
+given_at seconds nanoseconds wire_len = record {
+  seconds = seconds;
+  nanoseconds = nanoseconds;
+  wire_len = wire_len;
+  frame = 0x0a ∷ 0xff ∷ [];
 }
 
 abbrev pub longer_packet : Packet

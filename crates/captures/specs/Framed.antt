@@ -40,10 +40,20 @@ head_len Sll = 16
 head_len Sll2 = 20
 head_len (Other number) = 0
 
--- how many bytes the frame of a packet had on the wire, where the packet itself had so many: the
--- greatest number of 32 bits stands for all greater ones
-abbrev pub frame_wire_len : Link → ℕ → ℕ
-frame_wire_len link wire_len = min (14 + wire_len - head_len link) 4294967295
+-- how many bytes the frame of a packet has of which so many were captured, if it has a frame
+abbrev pub frame_len : Link → (captured : ℕ) → ℕ
+frame_len link captured = 14 + captured - head_len link
+
+-- how many bytes a frame of such a length had on the wire, of whose packet so many bytes were
+-- captured, and which had so many on the wire by its record: those that the frame has, and those of
+-- the packet that weren't captured. Where the record states fewer than were captured, no others are
+-- missing. The greatest number of 32 bits stands for all greater ones
+abbrev pub frame_wire_len : (len captured wire_len : ℕ) → ℕ
+frame_wire_len len captured wire_len = min (len + (wire_len - captured)) 4294967295
+
+-- the same of the frame of a packet that was captured on such a link
+abbrev pub wire_len_on : Link → (captured wire_len : ℕ) → ℕ
+wire_len_on link captured wire_len = frame_wire_len (frame_len link captured) captured wire_len
 
 -- the captured bytes of a packet at most, so that a line can hold its frame
 abbrev pub captured_limit : Link → ℕ

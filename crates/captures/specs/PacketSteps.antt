@@ -14,7 +14,8 @@ abbrev pub origin_of : Packet → Origin
 origin_of packet = record {
   channel = packet.interface;
   time = packet.time;
-  wire_len = frame_wire_len packet.link packet.wire_len;
+  wire_len = frame_wire_len (length (frame_bytes packet.frame)) (captured_len packet.link packet.frame)
+      packet.wire_len;
 }
 
 -- what is taken of a packet, beside its link and the parts of its frame

@@ -20,13 +20,17 @@ pub record IsFileHeader (order : ByteOrder) (header : List ℕ) : Type 0 where
 abbrev pub link_type : ByteOrder → List ℕ → ℕ
 link_type order header = word order header 20 % 65536
 
+-- the Captured Packet Length of a packet record: the number of the packet's bytes that follow
+abbrev pub record_captured_len : ByteOrder → List ℕ → ℕ
+record_captured_len order bytes = word order bytes 8
+
 -- a packet record: a head of 16 bytes (the time, the number of bytes that follow, and the packet's
 -- length on the wire), and these bytes
 pub record IsPacketRecord (order : ByteOrder) (bytes frame : List ℕ) : Type 0 where
   pub head : List ℕ
   pub parts : bytes ≡ head ++ frame
   pub size : length head ≡ 16
-  pub captured : word order head 8 ≡ length frame
+  pub captured : record_captured_len order head ≡ length frame
 
 -- the Original Packet Length of a packet record: the number of the packet's bytes on the wire
 abbrev pub record_wire_len : ByteOrder → List ℕ → ℕ

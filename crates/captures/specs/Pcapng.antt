@@ -4,7 +4,7 @@
 use Rattle.std.specs.Prelude.{◌≡◌, ◌≢◌, ◌⊎◌, ℕ, ◌+◌, ◌-◌, ◌%◌, ◌^◌, ◌<◌, ◌≤◌, ◌==◌, ◌&&◌, ◌||◌, min, Bool, true, false}
 use Rattle.std.specs.Prelude.{if◌then◌else◌, nat_lt, List, [], length, take, drop, slice_index_or, slice_set, Option}
 use Rattle.std.specs.Prelude.{Some, None}
-use Rattle.captures.specs.Framed.{frame_wire_len, link_of, refused_type, reported_frame, taken_limit}
+use Rattle.captures.specs.Framed.{link_of, refused_type, reported_frame, taken_limit, wire_len_on}
 use Rattle.captures.specs.Numbers.{half, word}
 use Rattle.captures.specs.Skipping.{counted}
 use Rattle.captures.specs.Times.{clock_of, clock_time, usual_clock}
@@ -107,7 +107,7 @@ pub record IsTimedPacket (interface : ℕ) (section : Section) (order : ByteOrde
   pub time : clock_time (clock_at section interface) (word order block 12) (word order block 16)
       ≡ origin.time
   pub over : link_at section interface ≡ link
-  pub wire : frame_wire_len link (word order block 24) ≡ origin.wire_len
+  pub wire : wire_len_on link (length packet) (word order block 24) ≡ origin.wire_len
   pub captured : word order block 20 ≡ length packet
   pub bytes : packet ≡ take (length packet) (drop 28 block)
 
@@ -130,7 +130,7 @@ pub record IsSimplePacket (section : Section) (order : ByteOrder) (block : List 
   pub number : section.first ≡ origin.channel
   pub time : 0 ≡ origin.time
   pub over : link_at section 0 ≡ link
-  pub wire : frame_wire_len link (word order block 8) ≡ origin.wire_len
+  pub wire : wire_len_on link (length packet) (word order block 8) ≡ origin.wire_len
   pub captured : captured_len section.snap_len (word order block 8) ≡ length packet
   pub bytes : packet ≡ take (length packet) (drop 12 block)
 

@@ -1,12 +1,12 @@
 -- A capture as units in a row: a file header and packet records, or blocks.
 use Rattle.std.specs.Prelude.{◌≡◌, ◌≢◌, ◌⊎◌, ℕ, ◌-◌, ◌%◌, ◌<◌, ◌≤◌, List, [], ◌∷◌, ◌++◌, length, Option, Some, None}
 use Rattle.std.specs.Prelude.{replicate}
-use Rattle.captures.specs.Framed.{FrameParts, frame_bytes, frame_parts, frame_wire_len, link_of, refused_type}
-use Rattle.captures.specs.Framed.{reported_frame, taken_limit}
+use Rattle.captures.specs.Framed.{FrameParts, frame_bytes, frame_parts, link_of, refused_type, reported_frame}
+use Rattle.captures.specs.Framed.{taken_limit, wire_len_on}
 use Rattle.captures.specs.declared.unfit.Unfit.{Unfit}
 use Rattle.captures.specs.Numbers.{word}
 use Rattle.captures.specs.Lines.{Packet, packets_of, lines_from, noted_all}
-use Rattle.captures.specs.Pcap.{IsFileHeader, IsPacketRecord, link_type, record_wire_len}
+use Rattle.captures.specs.Pcap.{IsFileHeader, IsPacketRecord, link_type, record_captured_len, record_wire_len}
 use Rattle.captures.specs.Skipping.{counted, none_skipped, passing_from}
 use Rattle.captures.specs.declared.byte_order.ByteOrder.{ByteOrder}
 use Rattle.captures.specs.declared.byte_order.ByteOrder.TheVariants.{Big}
@@ -67,7 +67,7 @@ abbrev pub record_origin : ByteOrder → TimeUnit → Link → List ℕ → Orig
 record_origin order time_unit link unit = record {
   channel = 0;
   time = record_time time_unit (word order unit 0) (word order unit 4);
-  wire_len = frame_wire_len link (record_wire_len order unit);
+  wire_len = wire_len_on link (record_captured_len order unit) (record_wire_len order unit);
 }
 
 -- a packet record of such a link, of a packet that is reported or passed over

@@ -123,7 +123,7 @@ pub fn worked_spans()
 {}
 
 /// Each packet of a capture has at least one byte, no more than a line can hold, and a channel of
-/// 32 bits.
+/// 32 bits; and it had at least as many bytes on the wire as its frame has.
 pub fn captured_packets_have_lines()
     ensures { CapturedPacketsHaveLines }
 {}

@@ -28,6 +28,7 @@ pub use line_grammar::FRAME_LIMIT;
 pub use link::frame::Frame;
 pub use link::header::Header;
 pub use link::kind::Link;
+pub use link::wire_len::frame_wire_len;
 pub use packet::Packet;
 pub use pcap::writer::{Writer, file_header, record_head};
 pub use position::Position;

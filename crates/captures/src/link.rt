@@ -3,3 +3,4 @@
 pub(crate) mod frame;
 pub(crate) mod header;
 pub(crate) mod kind;
+pub(crate) mod wire_len;

@@ -5,6 +5,7 @@ ghost use Rattle.captures.specs.PacketSteps.{is_cut, origin_of};
 
 use crate::link::frame::Frame;
 use crate::link::kind::Link;
+use crate::link::wire_len::frame_wire_len;
 use crate::origin::Origin;
 
 /// A packet of a capture, of which at least one byte was captured.
@@ -56,7 +57,7 @@ impl<'a> Packet<'a> {
         Origin {
             channel: self.interface,
             time: self.time,
-            wire_len: self.link.frame_wire_len(self.wire_len),
+            wire_len: frame_wire_len(self.frame.len(), self.captured_len(), self.wire_len),
         }
     }
 }

@@ -206,6 +206,11 @@ const NO_FRACTION: RunError = RunError::BadLine(BadLine {
     fault: LineFault::NoFraction,
 });
 
+const OTHER_AFTER_FRAME: RunError = RunError::BadLine(BadLine {
+    number: 3,
+    fault: LineFault::OtherAfterFrame,
+});
+
 // Each error with what is reported of it, and the status.
 #[rattlefmt::skip]
 const ERRORS: &[(RunError, &str, u8)] = &[
@@ -216,6 +221,7 @@ const ERRORS: &[(RunError, &str, u8)] = &[
     (RunError::TooManyReads, "too many reads", 5),
     (BAD_LINE, "line 7 has no frame", 3),
     (NO_FRACTION, "line 1 has a time without its fraction, the microseconds", 3),
+    (OTHER_AFTER_FRAME, "line 3 has neither a time nor a time and a length after its frame", 3),
     (RunError::Capture(CaptureError::NotCapture, THIRD), "no capture file", 3),
     (
         RunError::Capture(CaptureError::LinkType(105), THIRD),

@@ -13,6 +13,7 @@ mod NextExtension
 pub mod Offsets
 mod PacketFields
 mod PartOffsets
+mod PlainIp
 mod PlanLemmas
 mod PoolLemmas
 mod StateNumbers

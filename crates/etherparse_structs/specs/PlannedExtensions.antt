@@ -1,5 +1,5 @@
 -- The extension headers that a plan describes, and the first field that describes none.
-use Rattle.std.specs.Prelude.{ℕ, ◌%◌, ◌==◌, ◌||◌, not, nat_lt, false, if◌then◌else◌, List, length, Option, Some, None}
+use Rattle.std.specs.Prelude.{ℕ, ◌≡◌, ◌%◌, ◌==◌, ◌||◌, not, nat_lt, false, if◌then◌else◌, List, length, Option, Some, None}
 use Rattle.std.specs.Option.{option_map, option_or}
 use Rattle.etherparse.specs.ext.declared.net.ip_auth_header.IpAuthHeader.{IpAuthHeader}
 use Rattle.etherparse.specs.ext.declared.net.ipv4_extensions.Ipv4Extensions.{Ipv4Extensions}
@@ -28,6 +28,15 @@ no_extensions = record {
   has_fragment_header = false;
   has_authentication = false;
 }
+
+-- no header is described
+pub record HasNone (e : EpPlannedExtensions) : Type 0 where
+  pub hop_by_hop_options : e.hop_by_hop_options.len ≡ 0
+  pub destination_options : e.destination_options.len ≡ 0
+  pub routing : e.routing.len ≡ 0
+  pub final_destination_options : e.final_destination_options.len ≡ 0
+  pub fragment_header : e.has_fragment_header ≡ false
+  pub authentication : e.has_authentication ≡ false
 
 -- the header whose payload is this part, if it has bytes. (The builder sets the next number.)
 abbrev pub raw_in : (bytes : List ℕ) → EpPart → Option Ipv6RawExtHeader

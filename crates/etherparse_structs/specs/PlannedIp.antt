@@ -1,5 +1,5 @@
 -- The headers of the network layer that a plan describes, and the first field that describes none.
-use Rattle.std.specs.Prelude.{ℕ, ◌%◌, ◌==◌, ◌||◌, not, nat_lt, if◌then◌else◌, List, take, Option, Some, None}
+use Rattle.std.specs.Prelude.{ℕ, ◌≡◌, ◌%◌, ◌==◌, ◌||◌, not, false, nat_lt, if◌then◌else◌, List, take, Option, Some, None}
 use Rattle.std.specs.Option.{option_or}
 use Rattle.etherparse.specs.base.IpEcn.{ecn_of}
 use Rattle.etherparse.specs.ip.Ipv4.{default_header}
@@ -7,7 +7,7 @@ use Rattle.etherparse.specs.ip.declared.net.ipv4_header.Ipv4Header.{Ipv4Header}
 use Rattle.etherparse.specs.ip.declared.net.ipv6_header.Ipv6Header.{Ipv6Header}
 use Rattle.etherparse.specs.packet.declared.net.ip_headers.IpHeaders.{IpHeaders}
 use Rattle.etherparse.specs.packet.declared.net.ip_headers.IpHeaders.TheVariants.{Ipv4, Ipv6}
-use Rattle.etherparse_structs.specs.PlannedExtensions.{ipv4_exts_in, ipv6_exts_in, wrong_ipv4_exts, wrong_ipv6_exts}
+use Rattle.etherparse_structs.specs.PlannedExtensions.{HasNone, ipv4_exts_in, ipv6_exts_in, wrong_ipv4_exts, wrong_ipv6_exts}
 use Rattle.etherparse_structs.specs.Wrong.{wrong_above}
 use Rattle.etherparse_structs.specs.declared.plan.EpPlan.{EpPlan}
 use Rattle.etherparse_structs.specs.declared.plan.PlanField.{PlanField}
@@ -64,3 +64,21 @@ unfoldable pub wrong_ip : EpPlan → EpPlannedExtensions → List ℕ → Option
 wrong_ip p e bytes = if p.ip_version == 4 then option_or (wrong_ipv4 p) (wrong_ipv4_exts e bytes)
     else (if p.ip_version == 6 then option_or (wrong_ipv6 p) (wrong_ipv6_exts e bytes)
     else Some field.IpVersion)
+
+-- addresses and hops determine the headers
+pub record IsPlainIpv4 (p : EpPlan) (e : EpPlannedExtensions) : Type 0 where
+  pub version : p.ip_version ≡ 4
+  pub no_options : p.ipv4_options_len ≡ 0
+  pub identification : p.identification ≡ 0
+  pub fragment_offset : p.fragment_offset ≡ 0
+  pub dscp : p.dscp ≡ 0
+  pub ecn : p.ecn ≡ 0
+  pub may_not_fragment : p.may_fragment ≡ false
+  pub last_fragment : p.more_fragments ≡ false
+  pub no_extensions : HasNone e
+
+pub record IsPlainIpv6 (p : EpPlan) (e : EpPlannedExtensions) : Type 0 where
+  pub version : p.ip_version ≡ 6
+  pub traffic_class : p.traffic_class ≡ 0
+  pub flow_label : p.flow_label ≡ 0
+  pub no_extensions : HasNone e

@@ -1,6 +1,6 @@
 //! The headers that a plan describes, but for those of the network layer.
 ghost use Rattle.std.specs.Prelude.{◌≡◌, ◌==◌, Some, false};
-ghost use Rattle.etherparse.specs.BuiltSteps.{echo};
+ghost use Rattle.etherparse.specs.BuiltSteps.{echo, no_headers};
 ghost use Rattle.etherparse_structs.specs.Plan.{icmpv4_in, icmpv6_in, inner_tag_in, lower_headers_in};
 ghost use Rattle.etherparse_structs.specs.Plan.{outer_tag_in, tag_in, tags_in, tcp_in};
 ghost use Rattle.etherparse_structs.specs.Plan.{wrong_inner_tag, wrong_lower_headers, wrong_options};
@@ -10,7 +10,7 @@ ghost use Rattle.etherparse_structs.specs.Wrong.{unless, wrong_above};
 
 use crate::plan::{EpPlan, PlanField};
 use crate::planned_extensions::EpPlannedExtensions;
-use crate::planned_ip::ip_headers;
+use crate::planned_ip::{ip_headers, is_plain_ipv4, is_plain_ipv6};
 use etherparse::{
     DoubleVlanHeader, EtherType, IcmpEchoHeader, Icmpv4Type, Icmpv6Type, IpHeaders, LinkStep,
     LinuxSllPacketType, PacketBuilder, PacketBuilderStep, SingleVlanHeader, TcpHeader, TcpOptions,
@@ -45,6 +45,37 @@ fn headers_without_link(
         (lower_headers_in plan.now extensions.now bytes.now) }
 {
     no_tags(plan)?;
+    ip_alone(plan, extensions, bytes)
+}
+
+// The 9 kilobytes of extension headers are moved only where there are some, or where fields are
+// described that no smaller step has.
+fn ip_alone(
+    plan: &EpPlan,
+    extensions: &EpPlannedExtensions,
+    bytes: &[u8],
+) -> Result<PacketBuilderStep<IpHeaders>, PlanField>
+    ensures { result ≡ unless (wrong_ip plan.now extensions.now bytes.now)
+        (record no_headers { ip_headers = Some (ip_in plan.now extensions.now bytes.now) }) }
+{
+    if is_plain_ipv4(plan, extensions) {
+        return Ok(PacketBuilder::ipv4(plan.ipv4_source, plan.ipv4_destination, plan.hops));
+    }
+    if is_plain_ipv6(plan, extensions) {
+        return Ok(PacketBuilder::ipv6(plan.ipv6_source, plan.ipv6_destination, plan.hops));
+    }
+    given_ip_alone(plan, extensions, bytes)
+}
+
+#[inline(never)]
+fn given_ip_alone(
+    plan: &EpPlan,
+    extensions: &EpPlannedExtensions,
+    bytes: &[u8],
+) -> Result<PacketBuilderStep<IpHeaders>, PlanField>
+    ensures { result ≡ unless (wrong_ip plan.now extensions.now bytes.now)
+        (record no_headers { ip_headers = Some (ip_in plan.now extensions.now bytes.now) }) }
+{
     match ip_headers(plan, extensions, bytes) {
         Ok(headers) => Ok(PacketBuilder::ip(headers)),
         Err(field) => Err(field),
@@ -83,6 +114,25 @@ fn headers_of_capture(
 }
 
 fn with_ip<L: LinkStep>(
+    step: PacketBuilderStep<L>,
+    plan: &EpPlan,
+    extensions: &EpPlannedExtensions,
+    bytes: &[u8],
+) -> Result<PacketBuilderStep<IpHeaders>, PlanField>
+    ensures { result ≡ unless (wrong_ip plan.now extensions.now bytes.now)
+        (record step { ip_headers = Some (ip_in plan.now extensions.now bytes.now) }) }
+{
+    if is_plain_ipv4(plan, extensions) {
+        return Ok(step.ipv4(plan.ipv4_source, plan.ipv4_destination, plan.hops));
+    }
+    if is_plain_ipv6(plan, extensions) {
+        return Ok(step.ipv6(plan.ipv6_source, plan.ipv6_destination, plan.hops));
+    }
+    with_given_ip(step, plan, extensions, bytes)
+}
+
+#[inline(never)]
+fn with_given_ip<L: LinkStep>(
     step: PacketBuilderStep<L>,
     plan: &EpPlan,
     extensions: &EpPlannedExtensions,

@@ -1,8 +1,8 @@
 //! The extension headers of a packet to build.
-ghost use Rattle.std.specs.Prelude.{◌≡◌, Some};
+ghost use Rattle.std.specs.Prelude.{◌≡◌, IsTrue, Some};
 ghost use Rattle.std.specs.Option.{option_map};
 ghost use Rattle.etherparse_structs.specs.Wrong.{unless};
-ghost use Rattle.etherparse_structs.specs.PlannedExtensions.{auth_in, final_options_in, fragment_in, ipv4_exts_in};
+ghost use Rattle.etherparse_structs.specs.PlannedExtensions.{HasNone, auth_in, final_options_in, fragment_in, ipv4_exts_in};
 ghost use Rattle.etherparse_structs.specs.PlannedExtensions.{ipv6_exts_in, no_extensions, raw_in, wrong_auth};
 ghost use Rattle.etherparse_structs.specs.PlannedExtensions.{wrong_final_options, wrong_fragment, wrong_ipv4_exts};
 ghost use Rattle.etherparse_structs.specs.PlannedExtensions.{wrong_ipv6_exts, wrong_raw, wrong_there};
@@ -69,6 +69,19 @@ impl EpPlannedExtensions {
             has_fragment_header: false,
             has_authentication: false,
         }
+    }
+
+    /// Whether it describes no extension header.
+    pub(crate) fn is_empty(&self) -> bool
+        ensures { IsTrue result → HasNone self.now }
+    {
+        if self.hop_by_hop_options.len != 0 || self.destination_options.len != 0 {
+            return false;
+        }
+        if self.routing.len != 0 || self.final_destination_options.len != 0 {
+            return false;
+        }
+        !self.has_fragment_header && !self.has_authentication
     }
 }
 

@@ -1,9 +1,9 @@
 //! The headers of the network layer that a plan describes.
-ghost use Rattle.std.specs.Prelude.{◌≡◌};
+ghost use Rattle.std.specs.Prelude.{◌≡◌, IsTrue};
 ghost use Rattle.etherparse.specs.base.IpEcn.{ecn_of};
 ghost use Rattle.etherparse_structs.specs.Wrong.{unless, wrong_above};
 ghost use Rattle.etherparse_structs.specs.PlannedIp.{ip_in, ipv4_in, ipv4_options_in, ipv6_in, wrong_ip, wrong_ipv4};
-ghost use Rattle.etherparse_structs.specs.PlannedIp.{wrong_ipv4_options, wrong_ipv6};
+ghost use Rattle.etherparse_structs.specs.PlannedIp.{IsPlainIpv4, IsPlainIpv6, wrong_ipv4_options, wrong_ipv6};
 
 use crate::plan::{EpPlan, PlanField};
 use crate::planned_extensions::{EpPlannedExtensions, ipv4_extensions, ipv6_extensions};
@@ -36,6 +36,35 @@ pub(crate) fn ip_headers(
         }
         _ => Err(PlanField::IpVersion),
     }
+}
+
+/// Whether they are those of IPv4 that addresses and hops determine.
+pub(crate) fn is_plain_ipv4(plan: &EpPlan, extensions: &EpPlannedExtensions) -> bool
+    ensures { IsTrue result → IsPlainIpv4 plan.now extensions.now }
+{
+    if plan.ip_version != 4 || plan.ipv4_options_len != 0 {
+        return false;
+    }
+    if plan.identification != 0 || plan.fragment_offset != 0 {
+        return false;
+    }
+    if plan.dscp != 0 || plan.ecn != 0 {
+        return false;
+    }
+    if plan.may_fragment || plan.more_fragments {
+        return false;
+    }
+    extensions.is_empty()
+}
+
+/// Whether they are those of IPv6 that addresses and hops determine.
+pub(crate) fn is_plain_ipv6(plan: &EpPlan, extensions: &EpPlannedExtensions) -> bool
+    ensures { IsTrue result → IsPlainIpv6 plan.now extensions.now }
+{
+    if plan.ip_version != 6 || plan.traffic_class != 0 || plan.flow_label != 0 {
+        return false;
+    }
+    extensions.is_empty()
 }
 
 fn ipv4_header(plan: &EpPlan) -> Result<Ipv4Header, PlanField>

@@ -2,5 +2,6 @@
 
 mod bytes;
 mod flows;
+mod followed;
 mod keys;
 mod states;

@@ -1,7 +1,8 @@
 -- Bytes as text, 16 a line, as they are written by `tcpdump -X`.
-use Rattle.std.specs.Prelude.{ℕ, ◌+◌, ◌/◌, ◌%◌, ◌&&◌, nat_le, nat_lt, if◌then◌else◌, List, [], ◌∷◌, ◌++◌, codes, drop}
+use Rattle.std.specs.Prelude.{ℕ, ◌+◌, ◌/◌, ◌%◌, ◌&&◌, nat_le, nat_lt, if◌then◌else◌, false, List, [], ◌∷◌, ◌++◌, codes, drop}
 use Rattle.std.specs.Prelude.{length, map, take, zero, suc}
 use Rattle.std.specs.Int.{div_ceil}
+use Rattle.std.specs.Fmt.{digits}
 
 -- the digit of the lowest four bits of a number, `0` to `9` and `a` to `f`
 abbrev pub digit_of : ℕ → ℕ
@@ -11,11 +12,13 @@ digit_of n = if nat_lt (n % 16) 10 then 48 + n % 16 else 87 + n % 16
 abbrev pub digits_of : ℕ → List ℕ
 digits_of byte = digit_of (byte / 16) ∷ digit_of byte ∷ []
 
--- four digits of an offset, and a fifth before them where it has one; no packet has more bytes
+-- all digits of an offset, four at least, as `%04x` writes them
 abbrev pub offset_text : ℕ → List ℕ
-offset_text offset = (if nat_lt offset 65536 then [] else digit_of (offset / 65536) ∷ [])
-    ++ (digit_of (offset / 4096) ∷ digit_of (offset / 256) ∷ digit_of (offset / 16)
-    ∷ digit_of offset ∷ [])
+offset_text offset =
+    if nat_lt offset 65536
+    then digit_of (offset / 4096) ∷ digit_of (offset / 256) ∷ digit_of (offset / 16) ∷ digit_of offset
+    ∷ []
+    else digits 16 false offset
 
 -- the digits of the first byte, or two spaces where there is none
 abbrev pub first_digits : List ℕ → List ℕ

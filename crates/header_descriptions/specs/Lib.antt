@@ -1,2 +1,3 @@
 pub mod ByteLines
+pub mod RelativeNumbers
 pub mod Seconds

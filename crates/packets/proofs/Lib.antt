@@ -1,5 +1,6 @@
 mod StartedLemmas
 mod BucketLemmas
+mod ConnectionLemmas
 mod ConversationLemmas
 mod CourseLemmas
 mod EndLemmas

@@ -1,8 +1,10 @@
 -- What sequence numbers and acknowledgment numbers of TCP segments are counted from.
-use Rattle.std.specs.Prelude.{◌≡◌, ℕ, ◌+◌, ◌-◌, ◌%◌, ◌^◌, ◌==◌, ◌||◌, not, if◌then◌else◌, Bool, true, false, List, Option, Some, None, is_none}
+use Rattle.std.specs.Prelude.{◌≡◌, ℕ, ◌+◌, ◌-◌, ◌%◌, ◌^◌, ◌==◌, ◌||◌, not, if◌then◌else◌, Bool, true, false, List, [], ◌∷◌, Option, Some, None}
+use Rattle.std.specs.Prelude.{is_none}
+use Rattle.std.specs.Option.{IsSome}
 use Rattle.std.specs.Map.{lookup}
 use Rattle.lru.specs.LruCache.{LruCache, lru_cache, promoted, put_entries}
-use Rattle.header_descriptions.specs.declared.show.tcp.Origins.{Origins}
+use Rattle.header_descriptions.specs.declared.show.tcp.InitialNumbers.{InitialNumbers}
 use Rattle.packets.specs.LaxLayers.{lax_layers_of}
 use Rattle.packets.specs.MessageHeaders.{message_header}
 use Rattle.packets.specs.Transfers.{transfer_of}
@@ -41,12 +43,12 @@ abbrev pub starts_from : Segment → Starts
 starts_from segment = either_way segment.ascends segment.sequence_number
     ((segment.acknowledgment_number + (2 ^ 32 - 1)) % 2 ^ 32)
 
-abbrev pub origins_by : Starts → (ascends : Bool) → Origins
-origins_by starts true = record { sequence = starts.ascending; acknowledgment = starts.descending }
-origins_by starts false = record { sequence = starts.descending; acknowledgment = starts.ascending }
+abbrev pub initial_numbers_by : Starts → (ascends : Bool) → InitialNumbers
+initial_numbers_by starts true = record { sequence = starts.ascending; acknowledgment = starts.descending }
+initial_numbers_by starts false = record { sequence = starts.descending; acknowledgment = starts.ascending }
 
-abbrev pub no_origins : Origins
-no_origins = record { sequence = 0; acknowledgment = 0 }
+abbrev pub no_initial_numbers : InitialNumbers
+no_initial_numbers = record { sequence = 0; acknowledgment = 0 }
 
 -- a segment begins a connection that isn't known, and by SYN one that is
 abbrev pub begins : Segment → Option Starts → Bool
@@ -54,10 +56,10 @@ begins segment known = segment.syn || is_none known
 
 -- of a segment, with what is known of its connection: one that begins it, and one that acknowledges
 -- nothing, have their own numbers
-abbrev pub origins_of : Segment → Option Starts → Origins
-origins_of segment None = no_origins
-origins_of segment (Some starts) = if not segment.ack || segment.syn then no_origins
-    else origins_by starts segment.ascends
+abbrev pub initial_numbers_of : Segment → Option Starts → InitialNumbers
+initial_numbers_of segment None = no_initial_numbers
+initial_numbers_of segment (Some starts) = if not segment.ack || segment.syn then no_initial_numbers
+    else initial_numbers_by starts segment.ascends
 
 -- what is known after a segment: what it begins comes first, and pushes out the connection of which no
 -- segment came for the longest time where all places are taken
@@ -67,3 +69,19 @@ known_after same known segment = if not segment.ack then known
     else (if begins segment (lookup (same segment.conversation) known.entries)
     then lru_cache (put_entries same known segment.conversation (starts_from segment)) known.cap
     else lru_cache (promoted (same segment.conversation) known.entries) known.cap)
+
+-- what is known after some segments, one after the other
+abbrev pub known_after_all : (Conversation → Conversation → Bool) → LruCache Conversation Starts
+    → List Segment → LruCache Conversation Starts
+known_after_all same known [] = known
+known_after_all same known (segment ∷ segments) =
+    known_after_all same (known_after same known segment) segments
+
+-- a connection is known after each of some segments, and none of them begins it anew
+abbrev pub GoesOn : (Conversation → Conversation → Bool) → Conversation → LruCache Conversation Starts
+    → List Segment → Type 0
+GoesOn same connection known [] = Unit {0}
+GoesOn same connection known (segment ∷ segments) =
+    (same connection segment.conversation ≡ true → segment.ack ≡ true → segment.syn ≡ false)
+    × IsSome (lookup (same connection) (known_after same known segment).entries)
+    × GoesOn same connection (known_after same known segment) segments

@@ -1,9 +1,9 @@
 -- The captures that are written of packets: classic captures of Ethernet II frames, with times in
 -- nanoseconds (draft-ietf-opsawg-pcap, sections 4 and 5).
-use Rattle.std.specs.Prelude.{◌≡◌, ℕ, ◌+◌, ◌-◌, ◌/◌, ◌%◌, ◌^◌, min, List, ◌++◌, length, Option, Result}
+use Rattle.std.specs.Prelude.{◌≡◌, ℕ, ◌-◌, ◌/◌, ◌%◌, ◌^◌, min, List, ◌++◌, length, Option, Result}
 use Rattle.std.specs.List.{flat_map}
 use Rattle.captures.specs.Encoding.{file_header, record_head}
-use Rattle.captures.specs.Framed.{made_header}
+use Rattle.captures.specs.Framed.{frame_wire_len, made_header}
 use Rattle.captures.specs.declared.time.time_unit.TimeUnit.TheVariants.{Nanoseconds}
 use Rattle.captures.specs.declared.translation.run_error.RunError.{RunError}
 use Rattle.packets.specs.Written.{Writes}
@@ -19,14 +19,10 @@ in_32_bits n = min n (2 ^ 32 - 1)
 abbrev pub frame_of : Dissection → List ℕ
 frame_of packet = made_header packet.header ++ packet.bytes
 
--- how many bytes the frame had on the wire: those that it has, and those of the packet that were not
--- captured
-abbrev pub frame_wire_len : Dissection → ℕ
-frame_wire_len packet = length (frame_of packet) + (packet.wire_len - packet.captured_len)
-
 abbrev pub head_of : Dissection → List ℕ
 head_of packet = record_head (in_32_bits (packet.time / 1000000000)) (packet.time % 1000000000)
-    (in_32_bits (length (frame_of packet))) (in_32_bits (frame_wire_len packet))
+    (in_32_bits (length (frame_of packet)))
+    (frame_wire_len (length (frame_of packet)) packet.captured_len packet.wire_len)
 
 abbrev pub record_of : Dissection → List ℕ
 record_of packet = head_of packet ++ frame_of packet

@@ -5,7 +5,7 @@ ghost use Rattle.std.specs.Hash as fed;
 ghost use Rattle.captures.specs.declared.link.header.Header.{Header};
 ghost use Rattle.captures.specs.declared.link.kind.Link.{Link};
 ghost use Rattle.captures.specs.declared.packet.Packet.{Packet};
-ghost use Rattle.ep_base.specs.Traits.{IsPlainData, VariantFeeds};
+ghost use Rattle.ep_base.specs.Traits.{CopyIsValue, CopyNeverFails, IsPlainData, VariantFeeds};
 ghost use Rattle.etherparse.specs.PoolCalls.{Lists};
 ghost use Rattle.etherparse.specs.Fragments.{Fragment};
 ghost use Rattle.ep_packet.specs.Class.{FragmentName};
@@ -30,14 +30,16 @@ ghost use Rattle.packets.specs.declared.reason.Reason.TheVariants as reason;
 ghost use Rattle.packets.specs.declared.show.endpoints.Ports.{Ports};
 ghost use Rattle.packets.specs.declared.summary.verified.Verified.TheVariants as verified;
 
+pub mod connections;
 pub mod examples;
 
 use crate::program::{Coloring, LineRequest, SizeError};
 use crate::{
-    By, ChecksumTallies, Condition, Connection, Conversation, Direction, Ending, Flags, Flow,
-    FragmentState, FragmentTallies, GrammarError, Headers, Lengths, Listing, Net, NoProgress,
-    Omitted, Outline, Period, Ports, Reason, Row, Segment, ShowOptions, ShownBytes, Side, Sizes,
-    Starts, Tally, TcpFlag, Transfer, Verified, Word, WordError,
+    By, ChecksumTallies, Condition, Connection, ConnectionId, Conversation, Direction, Ending,
+    Flags, Flow, FollowForm, FollowOptions, FragmentState, FragmentTallies, GrammarError, Headers,
+    Lengths, Listing, Net, NoProgress, Omitted, Outline, Period, Ports, Reason, Row, Segment,
+    ShowOptions, ShownBytes, Side, Sizes, Starts, Tally, TcpFlag, Transfer, Verified, Way, Word,
+    WordError,
 };
 use ep_base::IpNumber;
 use ep_base::err::Layer;
@@ -48,6 +50,8 @@ use std::hash::Hash;
 /// A copy is the value and takes no memory. Equal are the values that are the same.
 pub fn types_are_plain_data()
     ensures coloring { IsPlainData ⟦<Coloring as Value>⟧ }
+    ensures follow_form { IsPlainData ⟦<FollowForm as Value>⟧ }
+    ensures way { IsPlainData ⟦<Way as Value>⟧ }
     ensures side { IsPlainData ⟦<Side as Value>⟧ }
     ensures tcp_flag { IsPlainData ⟦<TcpFlag as Value>⟧ }
     ensures condition { IsPlainData ⟦<Condition as Value>⟧ }
@@ -87,6 +91,17 @@ pub fn holders_are_plain_data()
 {
     types_are_plain_data();
     captures::laws::types_are_plain_data();
+}
+
+/// What is followed is copied by all its fields, without memory.
+pub fn follow_options_are_copied()
+    ensures id { CopyIsValue ⟦<ConnectionId as Clone>⟧.is_clone }
+    ensures id_never_fails { CopyNeverFails ⟦<ConnectionId as Clone>⟧.is_infallible }
+    ensures options { CopyIsValue ⟦<FollowOptions as Clone>⟧.is_clone }
+    ensures options_never_fail { CopyNeverFails ⟦<FollowOptions as Clone>⟧.is_infallible }
+{
+    types_are_plain_data();
+    holders_are_plain_data();
 }
 
 /// The same of outlines of packets.

@@ -1,12 +1,14 @@
-//! Shows what is in captures: `packets [show|json|summary|flows|report] [FILE|-]..`.
+//! Shows what is in captures: `packets [show|json|summary|flows|report|follow ID] [FILE|-]..`.
 #![tactic(auto)]
 
 mod capture_output;
 mod counting;
+mod following;
 mod local_zone;
 
 use crate::capture_output::CaptureOutput;
 use crate::counting::{FlowCounts, PageCounts, SummaryCounts, count_files};
+use crate::following::follow_files;
 use crate::local_zone::LocalZone;
 use capture_programs::packets_arguments::PROGRAM;
 use capture_programs::{
@@ -94,6 +96,7 @@ fn run_on_files(
             };
             count_files(rt, requested, counts, &mut output)
         }
+        Output::Follow(options) => follow_files(rt, requested, *options, &mut output),
     }
 }
 

@@ -17,6 +17,8 @@ mod faults;
 #[cfg(test)]
 mod flows;
 #[cfg(test)]
+mod follow;
+#[cfg(test)]
 mod frames;
 #[cfg(test)]
 mod limits;

@@ -5,8 +5,8 @@ use crate::checks::{equal, fail, holds, is_text};
 use crate::frames::FRAMES;
 use etherparse::{Addresses, IpNumber};
 use packets::{
-    Connections, Conversation, Dissector, KNOWN_CONNECTIONS, LineWriter, Origins, Ports, Segment,
-    ShowLines, ShowOptions, ShownBytes, Style, TimeForm,
+    Connections, Conversation, Dissector, InitialNumbers, KNOWN_CONNECTIONS, LineWriter, Ports,
+    Segment, ShowLines, ShowOptions, ShownBytes, Style, TimeForm,
 };
 use std::alloc::Global;
 use std::hash::{BuildHasherDefault, FoldHasher};
@@ -44,16 +44,16 @@ fn segment(port: u16, ascends: bool, syn: bool, numbers: (u32, u32)) -> Segment 
     }
 }
 
-fn origins(sequence: u32, acknowledgment: u32) -> Origins {
-    Origins {
+fn initial_numbers(sequence: u32, acknowledgment: u32) -> InitialNumbers {
+    InitialNumbers {
         sequence,
         acknowledgment,
     }
 }
 
-fn is_taken(rt: impl Abort + Copy, known: &mut Known, segment: &Segment, wanted: Origins) {
+fn is_taken(rt: impl Abort + Copy, known: &mut Known, segment: &Segment, wanted: InitialNumbers) {
     match known.take(segment) {
-        Ok(origins) => equal(rt, origins, wanted),
+        Ok(initial_numbers) => equal(rt, initial_numbers, wanted),
         Err(_) => fail(rt, "no memory"),
     }
 }
@@ -64,31 +64,31 @@ fn numbers_of_a_connection(rt: HostRuntime) {
     let mut known = connections(rt, rt.alloc());
     let mut first = segment(5000, true, true, (7, 0));
     first.ack = false;
-    is_taken(rt, &mut known, &first, Origins::NONE);
+    is_taken(rt, &mut known, &first, InitialNumbers::NONE);
     let answer = segment(5000, false, true, (1000, 0));
-    is_taken(rt, &mut known, &answer, Origins::NONE);
+    is_taken(rt, &mut known, &answer, InitialNumbers::NONE);
     let next = segment(5000, true, false, (0, 1001));
-    is_taken(rt, &mut known, &next, origins(u32::MAX, 1000));
+    is_taken(rt, &mut known, &next, initial_numbers(u32::MAX, 1000));
     let back = segment(5000, false, false, (1001, 4));
-    is_taken(rt, &mut known, &back, origins(1000, u32::MAX));
+    is_taken(rt, &mut known, &back, initial_numbers(1000, u32::MAX));
     is_taken(
         rt,
         &mut known,
         &segment(5000, true, true, (50, 60)),
-        Origins::NONE,
+        InitialNumbers::NONE,
     );
-    is_taken(rt, &mut known, &next, origins(50, 59));
+    is_taken(rt, &mut known, &next, initial_numbers(50, 59));
     is_taken(
         rt,
         &mut known,
         &segment(5001, false, false, (3, 4)),
-        Origins::NONE,
+        InitialNumbers::NONE,
     );
     is_taken(
         rt,
         &mut known,
         &segment(5001, true, false, (4, 3)),
-        origins(3, 3),
+        initial_numbers(3, 3),
     );
 }
 
@@ -98,25 +98,25 @@ fn connections_that_are_forgotten(rt: HostRuntime) {
     let mut known = connections(rt, rt.alloc());
     for port in 0..KNOWN_CONNECTIONS {
         let segment = segment(port as u16, true, false, (10, 20));
-        is_taken(rt, &mut known, &segment, Origins::NONE);
+        is_taken(rt, &mut known, &segment, InitialNumbers::NONE);
     }
     let oldest = segment(0, true, false, (11, 20));
-    is_taken(rt, &mut known, &oldest, origins(10, 19));
+    is_taken(rt, &mut known, &oldest, initial_numbers(10, 19));
     let mut other = segment(0, true, false, (70, 80));
     other.conversation.ports = None;
-    is_taken(rt, &mut known, &other, Origins::NONE);
-    is_taken(rt, &mut known, &oldest, origins(10, 19));
+    is_taken(rt, &mut known, &other, InitialNumbers::NONE);
+    is_taken(rt, &mut known, &oldest, initial_numbers(10, 19));
     is_taken(
         rt,
         &mut known,
         &segment(2, true, false, (11, 20)),
-        origins(10, 19),
+        initial_numbers(10, 19),
     );
     is_taken(
         rt,
         &mut known,
         &segment(1, true, false, (11, 20)),
-        Origins::NONE,
+        InitialNumbers::NONE,
     );
 }
 

@@ -182,6 +182,7 @@ module _ (buf : Contents) (ss : List Placed) (sound : IsSparse buf.held) (shows 
       let length_is = shows_length buf ss sound shows in
       let high = gaps_end (g.end + 1) (held_end buf.held) (drop 1 buf.held.gaps) o.2 in record {
         start = rw length_is (rw gaps_are refl);
+        order = o.1;
         missing = λ p low below.
             sym (shows.held p (omega (arith, o.0)))
             ∙ rw (gaps_are, gap_in buf.held.taken (held_end buf.held) g (drop 1 buf.held.gaps) p o low below);

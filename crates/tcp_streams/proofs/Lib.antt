@@ -1,6 +1,8 @@
+mod AfterGapLemmas
 mod BufLemmas
 mod FlowKeyLemmas
 mod FlowLemmas
+mod FollowLemmas
 mod GapLemmas
 mod LawLemmas
 mod NumberLaws

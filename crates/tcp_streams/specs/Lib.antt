@@ -1,6 +1,7 @@
 pub mod ConnectionStates
 pub mod FlowKeys
 pub mod Flows
+pub mod Following
 pub mod Gaps
 pub mod Laws
 pub mod PacketKeys

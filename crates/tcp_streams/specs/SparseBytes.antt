@@ -1,6 +1,6 @@
 -- Bytes of a stream, of which some are missing.
 use Rattle.std.specs.Prelude.{◌≡◌, ℕ, ◌+◌, ◌-◌, ◌^◌, ◌<◌, ◌≤◌, ◌==◌, if◌then◌else◌, max, min}
-use Rattle.std.specs.Prelude.{Option, None, List, length, slice_index, slice_get}
+use Rattle.std.specs.Prelude.{Option, None, List, drop, length, slice_index, slice_get, take}
 use Rattle.std.specs.Option.{option_or}
 use Rattle.tcp_streams.specs.declared.gaps.Gap.{Gap}
 use Rattle.tcp_streams.specs.declared.conflicts.Conflicts.{Conflicts}
@@ -33,6 +33,11 @@ pub record IsSparse (held : Sparse) : Type 0 where
 -- the end of the bytes that follow without a gap
 abbrev pub available_end : Sparse → ℕ
 available_end held = first_gap held.gaps (held_end held)
+
+-- the bytes after a gap with this index, up to the next gap or to the last byte
+abbrev pub bytes_after_gap : Sparse → (index : ℕ) → Gap → List ℕ
+bytes_after_gap held index gap = take (first_gap (drop (index + 1) held.gaps) (held_end held) - gap.end)
+    (drop (gap.end - held.taken) held.bytes)
 
 -- the end of bytes from a position on, if there are any
 abbrev pub end_with : ℕ → List ℕ → ℕ

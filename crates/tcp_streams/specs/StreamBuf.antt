@@ -1,7 +1,7 @@
 -- What a buffer of one direction of a TCP connection holds, and which segments it shows.
 use Rattle.std.specs.Prelude.{◌≡◌, ◌*◌, ℕ, ◌<◌, ◌≤◌, ◌⊎◌, Bool, not, ◌||◌, if◌then◌else◌, Option, Some, None}
 use Rattle.std.specs.Prelude.{IsSome}
-use Rattle.std.specs.Prelude.{is_some, unwrap_or, Result, MatchResult, List, ◌++◌, ◌-◌, length, take, drop}
+use Rattle.std.specs.Prelude.{is_some, unwrap_or, Result, MatchResult, List, ◌+◌, ◌++◌, ◌-◌, length, slice_index, take, drop}
 use Rattle.tcp_streams.specs.declared.conflicts.Conflicts.{Conflicts}
 use Rattle.tcp_streams.specs.declared.gaps.Gap.{Gap}
 use Rattle.tcp_streams.specs.declared.stream_buf.Added.{Added}
@@ -51,8 +51,16 @@ available_in held = take (available_end held - held.taken) held.bytes
 -- after it
 pub record IsFirstGap (ss : List Placed) (gap : Gap) : Type 0 where
   pub start : gap.start ≡ length (text_of ss)
+  pub order : gap.start < gap.end
   pub missing : (p : ℕ) → gap.start ≤ p → p < gap.end → byte_at ss p ≡ None
   pub end_held : IsSome (byte_at ss gap.end)
+
+-- the bytes after a gap: no segment has one in the gap, and none has the one after them
+pub record IsAfterGap (ss : List Placed) (gap : Gap) (bytes : List ℕ) : Type 0 where
+  pub missing : (p : ℕ) → gap.start ≤ p → p < gap.end → byte_at ss p ≡ None
+  pub some : 0 < length bytes
+  pub held : (i : ℕ) → i < length bytes → byte_at ss (gap.end + i) ≡ Some (slice_index bytes i)
+  pub past : byte_at ss (gap.end + length bytes) ≡ None
 
 -- what is answered to a segment: the refusal, where there is one; else it is accepted, unless there
 -- is no memory

@@ -2,12 +2,13 @@
 
 ghost use Rattle.std.specs.Prelude.{◌≡◌, ◌+◌, ◌-◌, ◌<◌, ◌≤◌, ◌^◌, [], ◌∷◌, ◌++◌, if◌then◌else◌, nat_lt, length};
 ghost use Rattle.std.specs.Prelude.{take, drop};
-ghost use Rattle.std.specs.Prelude.{replicate, vec_len, vec_capacity, IfOk, IsOk, OnOk, OnErr};
+ghost use Rattle.std.specs.Prelude.{replicate, slice_get, vec_len, vec_capacity, IfOk, IfNone, IfSome, IsOk, OnOk, OnErr};
+ghost use Rattle.std.specs.Prelude.{Some};
 ghost use Rattle.std.specs.List.{AllWithin};
-ghost use Rattle.tcp_streams.specs.Gaps.{AreGapsIn, Reaches, without};
+ghost use Rattle.tcp_streams.specs.Gaps.{AreGapsIn, Reaches, first_gap, without};
 ghost use Rattle.tcp_streams.specs.Segments.{byte_from, clashes};
 ghost use Rattle.tcp_streams.specs.SparseBytes.{Sparse, sparse, IsSparse, held_end, available_end, byte_in};
-ghost use Rattle.tcp_streams.specs.SparseBytes.{AddsBytes, Fills, counted};
+ghost use Rattle.tcp_streams.specs.SparseBytes.{AddsBytes, Fills, bytes_after_gap, counted};
 
 use super::byte_queue::ByteQueue;
 use super::conflicts::{Conflicts, differences};
@@ -84,6 +85,42 @@ impl SparseBytes {
         &self.bytes.as_slice()[..len]
     }
 
+    /// Those of them from a position on.
+    pub(crate) fn available_from(&self, position: u64) -> &[u8]
+        ensures { result.now ≡ drop (position - self.now.taken)
+            (take (available_end self.now - self.now.taken) self.now.bytes) }
+    {
+        let available = self.available();
+        let count = position.saturating_sub(self.taken);
+        available.get(count as usize..).unwrap_or(&[])
+    }
+
+    /// The gap with this index, and the bytes after it, up to the next gap or to the last byte.
+    pub(crate) fn after_gap(&self, index: usize) -> Option<(Gap, &[u8])>
+        ensures gap { IfSome result (λ after. slice_get self.now.gaps index ≡ Some after.0) }
+        ensures bytes { IfSome result (λ after. after.1.now ≡ bytes_after_gap self.now index after.0) }
+        ensures none { IfNone result (length self.now.gaps ≤ index) }
+    {
+        let Some(gap) = self.gaps.get(index) else {
+            return None;
+        };
+        let end = self.end_after_gap(index);
+        let from = (gap.end - self.taken) as usize;
+        let to = (end - self.taken) as usize;
+        Some((*gap, part(self.bytes.as_slice(), from, to)))
+    }
+
+    // The position after the bytes that follow the gap with this index.
+    fn end_after_gap(&self, index: usize) -> u64
+        requires { index < length self.now.gaps }
+        ensures { result ≡ first_gap (drop (index + 1) self.now.gaps) (held_end self.now) }
+    {
+        match self.gaps.get(index + 1) {
+            Some(next) => next.start,
+            None => self.end(),
+        }
+    }
+
     /// Takes so many of them.
     pub(crate) fn consume(&mut self, count: usize)
         requires { self.old.taken + count ≤ available_end self.old }
@@ -117,6 +154,15 @@ impl SparseBytes {
         }
         insert(&mut self.bytes, &mut self.gaps, self.taken, position, bytes)
     }
+}
+
+// The bytes from one index on up to another.
+fn part(bytes: &[u8], from: usize, to: usize) -> &[u8]
+    requires order { from ≤ to }
+    requires within { to ≤ length bytes.now }
+    ensures { result.now ≡ take (to - from) (drop from bytes.now) }
+{
+    &bytes[from..to]
 }
 
 // Adds bytes from a position on where they are missing, and returns where the others differ.

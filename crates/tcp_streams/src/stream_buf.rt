@@ -3,7 +3,7 @@
 ghost use Rattle.std.specs.Prelude.{◌≡◌, ℕ, ◌+◌, ◌<◌, ◌≤◌, ◌↔◌, ◌^◌, ◌++◌, ◌∷◌, ◌==◌, [], if◌then◌else◌, List};
 ghost use Rattle.std.specs.Prelude.{None, Some, false};
 ghost use Rattle.std.specs.Prelude.{IsTrue, IfOk, IfErr, IsOk, OnOk, OnErr, IfSome, IfNone, not, is_some, length, drop};
-ghost use Rattle.std.specs.Prelude.{min};
+ghost use Rattle.std.specs.Prelude.{◌-◌, min, slice_get};
 ghost use Rattle.tcp_streams.specs.Placing.{Segment, segment, bytes_of, first_number, start_number, placed_at};
 ghost use Rattle.tcp_streams.specs.Placing.{placed};
 ghost use Rattle.tcp_streams.specs.Refusals.{window_end, fin_refusal, refusal_of};
@@ -11,7 +11,7 @@ ghost use Rattle.tcp_streams.specs.Segments.{Placed, byte_at, text_of, fin_of, i
 ghost use Rattle.tcp_streams.specs.Segments.{conflicts_of};
 ghost use Rattle.tcp_streams.specs.SparseBytes.{byte_in, counted};
 ghost use Rattle.tcp_streams.specs.StreamBuf.{Contents, Shows, IsSound, IsBounded, IsLocation, IsLocated};
-ghost use Rattle.tcp_streams.specs.StreamBuf.{IsFirstGap, AnswersAdd, IsAdded};
+ghost use Rattle.tcp_streams.specs.StreamBuf.{IsAfterGap, IsFirstGap, AnswersAdd, IsAdded};
 ghost use Rattle.tcp_streams.specs.StreamBuf.{available_in, next_in, placed_in, refusal_in};
 
 use super::conflicts::Conflicts;
@@ -337,6 +337,22 @@ impl StreamBuf {
         self.held.available()
     }
 
+    /// The position after them: that of the first byte that is missing.
+    pub fn available_end(&self) -> u64
+        ensures { (ss : List Placed) → Shows self.now ss → result ≡ length (text_of ss) }
+    {
+        self.held.available_end()
+    }
+
+    /// The available bytes from a position on: all of them, if it was consumed.
+    pub fn available_from(&self, position: u64) -> &[u8]
+        ensures bytes { result.now ≡ drop (position - self.now.held.taken) (available_in self.now.held) }
+        ensures text { (ss : List Placed) → Shows self.now ss → self.now.held.taken ≤ position
+            → result.now ≡ drop position (text_of ss) }
+    {
+        self.held.available_from(position)
+    }
+
     /// Takes so many of the available bytes away, or all where there are fewer.
     pub fn consume(&mut self, count: usize)
         ensures shows { (ss : List Placed) → Shows self.old ss → Shows self.new ss }
@@ -358,6 +374,17 @@ impl StreamBuf {
             ((p : ℕ) → length (text_of ss) ≤ p → byte_at ss p ≡ None) }
     {
         self.held.gaps().first().copied()
+    }
+
+    /// The gap with this index, of those before bytes that are held, in the order of their positions;
+    /// and the bytes after it, up to the next gap or to the last byte that is held.
+    pub fn after_gap(&self, index: usize) -> Option<(Gap, &[u8])>
+        ensures gap { IfSome result (λ after. slice_get self.now.held.gaps index ≡ Some after.0) }
+        ensures none { IfNone result (length self.now.held.gaps ≤ index) }
+        ensures bytes { (ss : List Placed) → Shows self.now ss
+            → IfSome result (λ after. IsAfterGap ss after.0 after.1.now) }
+    {
+        self.held.after_gap(index)
     }
 
     /// Whether all bytes before FIN came.

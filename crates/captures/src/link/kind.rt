@@ -1,10 +1,12 @@
 //! The kinds of links that packets are captured on.
 ghost use Rattle.std.specs.Prelude.{◌≡◌};
-ghost use Rattle.captures.specs.Framed.{captured_limit, frame_wire_len, head_len, link_of, refused_type, taken_limit};
+ghost use Rattle.captures.specs.Framed.{captured_limit, frame_len, head_len, link_of, refused_type, taken_limit};
+ghost use Rattle.captures.specs.Framed.{wire_len_on};
 
 use crate::FRAME_LIMIT;
 use crate::limits::SKIPPED_LIMIT;
 use crate::link::header::HEADER_LEN;
+use crate::link::wire_len::frame_wire_len;
 use crate::unfit::Unfit;
 
 /// A kind of link, by what its packets begin with. The numbers are those of the registry of link
@@ -82,14 +84,21 @@ impl Link {
         FRAME_LIMIT - HEADER_LEN + self.head_len()
     }
 
-    /// How many bytes the frame of a packet had on the wire, where the packet itself had so many. The
-    /// greatest number of 32 bits stands for all greater ones.
+    /// How many bytes the frame of a packet had on the wire, of which so many were captured and which
+    /// had so many on the wire by its record.
     #[inline(always)]
-    pub(crate) fn frame_wire_len(self, wire_len: u32) -> u32
-        ensures { result ≡ frame_wire_len self wire_len }
+    pub(crate) fn wire_len_on(self, captured: u32, wire_len: u32) -> u32
+        ensures { result ≡ wire_len_on self captured wire_len }
     {
-        let len = (HEADER_LEN as u64 + u64::from(wire_len)).saturating_sub(self.head_len() as u64);
-        len.min(4_294_967_295) as u32
+        frame_wire_len(self.frame_len(captured), captured as usize, wire_len)
+    }
+
+    // How many bytes the frame of a packet has of which so many were captured, if it has a frame.
+    #[inline(always)]
+    fn frame_len(self, captured: u32) -> usize
+        ensures { result ≡ frame_len self captured }
+    {
+        (HEADER_LEN + captured as usize).saturating_sub(self.head_len())
     }
 
     /// How many bytes a packet's own header has, which an Ethernet II header replaces in its frame.

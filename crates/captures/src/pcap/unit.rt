@@ -262,6 +262,6 @@ fn record_origin(order: ByteOrder, time_unit: TimeUnit, link: Link, head: &[u8])
     Origin {
         channel: 0,
         time: time_unit.time(order.word(head, 0), order.word(head, 4)),
-        wire_len: link.frame_wire_len(order.word(head, 12)),
+        wire_len: link.wire_len_on(order.word(head, 8), order.word(head, 12)),
     }
 }

@@ -344,7 +344,7 @@ fn timed_packet<'a>(
         origin: Origin {
             channel,
             time,
-            wire_len: link.frame_wire_len(wire_len),
+            wire_len: link.wire_len_on(captured, wire_len),
         },
         link,
         wire_len,
@@ -379,7 +379,7 @@ fn simple_packet<'a>(section: &Section, order: ByteOrder, block: &'a [u8]) -> Op
         origin: Origin {
             channel: section.first,
             time: 0,
-            wire_len: link.frame_wire_len(wire_len),
+            wire_len: link.wire_len_on(captured, wire_len),
         },
         link,
         wire_len,

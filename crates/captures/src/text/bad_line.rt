@@ -13,11 +13,14 @@ pub struct BadLine {
 /// Why a line gives no frame.
 #[derive(Clone, Copy, Debug, PartialEq, Eq)]
 pub enum LineFault {
-    /// It has no frame, or one that a line of `run` can't hold, or something else after it than a
-    /// time and a length on the wire.
+    /// It has no frame, or one of more than [`FRAME_LIMIT`](crate::FRAME_LIMIT) bytes, or it is longer
+    /// than any line that gives one.
     NoFrame,
     /// After the frame it has the seconds of a time alone, without microseconds.
     NoFraction,
+    /// After the frame it has something else: neither a time nor a time with its nanoseconds and a
+    /// length on the wire.
+    OtherAfterFrame,
 }
 
 /// It has no contract: tests compare the texts.
@@ -30,6 +33,12 @@ impl fmt::Display for BadLine {
                 write!(
                     f,
                     "line {number} has a time without its fraction, the microseconds"
+                )
+            }
+            LineFault::OtherAfterFrame => {
+                write!(
+                    f,
+                    "line {number} has neither a time nor a time and a length after its frame"
                 )
             }
         }

@@ -2,8 +2,8 @@
 ghost use Rattle.std.specs.Prelude.{◌≡◌, ◌≤◌, ◌+◌, ◌*◌, ◌++◌, length, take, position, nat_lt};
 ghost use Rattle.std.specs.Prelude.{if◌then◌else◌, MatchOption, IfSome, None, Some};
 ghost use Rattle.line_grammar.specs.TimedLines.{TimedFrame, timed_frame_of};
-ghost use Rattle.captures.specs.CapturedFrames.{CapturedFrame, captured_frame_of, captured_with, fault_of, length_after};
-ghost use Rattle.captures.specs.CapturedFrames.{sixth_space};
+ghost use Rattle.captures.specs.CapturedFrames.{CapturedFrame, captured_frame_of, captured_with, fault_after, fault_of};
+ghost use Rattle.captures.specs.CapturedFrames.{length_after, sixth_space, wire_len_given};
 ghost use Rattle.captures.specs.declared.limits.TheConstants.{CAPTURED_LINE_LIMIT};
 ghost use Rattle.captures.specs.declared.text.bad_line.LineFault.TheVariants.{NoFrame};
 ghost use Rattle.captures.specs.Encoding.{record_of};
@@ -11,6 +11,7 @@ ghost use Rattle.captures.specs.Texts.{TakesLines, is_newline};
 
 use crate::FRAME_LIMIT;
 use crate::limits::CAPTURED_LINE_LIMIT;
+use crate::link::wire_len::frame_wire_len;
 use crate::pcap::writer::record_head;
 use crate::text::bad_line::LineFault;
 use crate::text::line::append;
@@ -143,7 +144,7 @@ fn append_timed(
         line.time.seconds,
         parts,
         len as u32,
-        wire_len.unwrap_or(len as u32),
+        wire_len_given(wire_len, len),
     );
     let start = append(out, used, &head);
     let end = start + len;
@@ -151,6 +152,17 @@ fn append_timed(
         Some(end)
     } else {
         None
+    }
+}
+
+// How many bytes a frame of so many had on the wire: as many as are given, but no fewer.
+fn wire_len_given(wire_len: Option<u32>, len: usize) -> u32
+    requires { len ≤ FRAME_LIMIT }
+    ensures { result ≡ wire_len_given wire_len len }
+{
+    match wire_len {
+        Some(wire_len) => frame_wire_len(len, len, wire_len),
+        None => len as u32,
     }
 }
 
@@ -163,11 +175,18 @@ fn fault_in(time_unit: TimeUnit, out: &mut [u8], used: usize, line: &[u8]) -> Li
     let Some(space) = third_space(line) else {
         return LineFault::NoFrame;
     };
-    if number(&line[space + 1..]).is_none() {
-        return LineFault::NoFrame;
-    }
     match append_timed(time_unit, out, used, &line[..space], None) {
-        Some(_) => LineFault::NoFraction,
+        Some(_) => fault_after(&line[space + 1..]),
         None => LineFault::NoFrame,
+    }
+}
+
+// Why a frame with this after it isn't given.
+fn fault_after(rest: &[u8]) -> LineFault
+    ensures { result ≡ fault_after rest.now }
+{
+    match number(rest) {
+        Some(_) => LineFault::NoFraction,
+        None => LineFault::OtherAfterFrame,
     }
 }

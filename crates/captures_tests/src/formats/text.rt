@@ -63,6 +63,12 @@ const NO_FRACTION: Result<(), RunError> = Err(RunError::BadLine(BadLine {
     fault: LineFault::NoFraction,
 }));
 
+/// After the frame of a first line comes something else than a time, or a time and a length.
+pub const OTHER: Result<(), RunError> = Err(RunError::BadLine(BadLine {
+    number: 1,
+    fault: LineFault::OtherAfterFrame,
+}));
+
 // Each with how its run ends, and what follows the file header.
 #[rattlefmt::skip]
 const TEXTS: &[(&[u8], Result<(), RunError>, &[u8])] = &[
@@ -73,17 +79,19 @@ const TEXTS: &[(&[u8], Result<(), RunError>, &[u8])] = &[
     (b"frame 4294967295 01 1700000000 250000\n", Ok(()), b"\x00\xf1\x53\x65\x90\xd0\x03\x00\x01\0\0\0\x01\0\0\0\x01"),
     (b"frame 0 01 4294967295 999999\n", Ok(()), b"\xff\xff\xff\xff\x3f\x42\x0f\x00\x01\0\0\0\x01\0\0\0\x01"),
     // a million microseconds, a second beyond 32 bits, no time, a thousand nanoseconds
-    (b"frame 0 01 0 1000000\n", BAD, b""),
-    (b"frame 0 01 4294967296 0\n", BAD, b""),
-    (b"frame 0 01 \n", BAD, b""),
-    (b"frame 0 01 5 6 1000\n", BAD, b""),
-    // the seconds alone; after no frame they are not what is missing
+    (b"frame 0 01 0 1000000\n", OTHER, b""),
+    (b"frame 0 01 4294967296 0\n", OTHER, b""),
+    (b"frame 0 01 \n", OTHER, b""),
+    (b"frame 0 01 5 6 1000\n", OTHER, b""),
+    // the seconds alone, or what are none; after no frame they are not what is missing
     (b"frame 0 01 5\n", NO_FRACTION, b""),
     (b"frame 0 00 1700000000\n", NO_FRACTION, b""),
     (b"frame 0 01 4294967295", NO_FRACTION, b""),
-    (b"frame 0 01 4294967296\n", BAD, b""),
-    (b"frame 0 01 1700000000.25\n", BAD, b""),
-    (b"frame 0 01 5 \n", BAD, b""),
+    (b"frame 0 01 4294967296\n", OTHER, b""),
+    (b"frame 0 01 1700000000.25\n", OTHER, b""),
+    (b"frame 0 01 5 \n", OTHER, b""),
+    (b"frame 0 01 five\n", OTHER, b""),
+    (b"frame 0 01 5 6\r\n", OTHER, b""),
     (b"frame 0 0 5\n", BAD, b""),
     (b"frame 0  5\n", BAD, b""),
     // no channel, one beyond 32 bits, one of 11 digits
@@ -122,7 +130,8 @@ fn prefix_of_two(n: usize) -> (Result<(), RunError>, &'static [u8]) {
         10 => (Ok(()), b"\0\0\0\0\0\0\0\0\x01\0\0\0\x01\0\0\0\x0a"),
         12 => (Ok(()), b"\0\0\0\0\0\0\0\0\x02\0\0\0\x02\0\0\0\x0a\xff"),
         14 => (NO_FRACTION, b""),
-        1..=15 => (BAD, b""),
+        13 | 15 => (OTHER, b""),
+        1..=11 => (BAD, b""),
         16 | 17 => (Ok(()), b"\x05\0\0\0\x06\0\0\0\x02\0\0\0\x02\0\0\0\x0a\xff"),
         18..=26 => (
             SECOND_BAD,

@@ -5,7 +5,7 @@ use crate::checks::{append, equal, joined};
 use crate::formats::classic::{
     BIG_MICROSECONDS, BIG_NANOSECONDS, LITTLE_MICROSECONDS, LITTLE_NANOSECONDS,
 };
-use crate::formats::text::{BAD, capture_of};
+use crate::formats::text::{BAD, OTHER, capture_of};
 use crate::packet_lines::reports_all;
 use captures::{Extra, RunError, TimeUnit};
 use std::process::Abort;
@@ -205,9 +205,9 @@ const CAPTURED: &[(&str, Result<(), RunError>, &[u8], &[u8])] = &[
         b"\x05\0\0\0\x3f\x42\x0f\0\x01\0\0\0\x01\0\0\0\x01",
         b"\x05\0\0\0\xff\xc9\x9a\x3b\x01\0\0\0\x01\0\0\0\x01",
     ),
-    ("frame 0 01 5 6 1000\n", BAD, b"", b""),
-    ("frame 0 01 5 1000000 0\n", BAD, b"", b""),
-    ("frame 0 01 5 6 \n", BAD, b"", b""),
+    ("frame 0 01 5 6 1000\n", OTHER, b"", b""),
+    ("frame 0 01 5 1000000 0\n", OTHER, b"", b""),
+    ("frame 0 01 5 6 \n", OTHER, b"", b""),
     ("forget 1\n", BAD, b"", b""),
 ];
 

@@ -1,5 +1,6 @@
 //! Bytes in hex, 16 a line.
-ghost use Rattle.std.specs.Prelude.{◌≡◌, ◌++◌, OnOk, drop, map};
+ghost use Rattle.std.specs.Prelude.{◌≡◌, ◌++◌, OnOk, drop, false, map};
+ghost use Rattle.std.specs.Fmt.{digits};
 ghost use Rattle.header_descriptions.specs.ByteLines.{byte_line, byte_lines, column, digit_of, digits_of};
 ghost use Rattle.header_descriptions.specs.ByteLines.{first_digits, letter_of, offset_text, pair_columns};
 
@@ -39,7 +40,7 @@ fn append_offset(offset: usize, out: &mut Vec<u8>) -> Result<(), AllocError>
     ensures { OnOk result (out.new.items ≡ out.old.items ++ offset_text offset) }
 {
     if offset >= 65536 {
-        out.extend_from_slice(&[digit(offset / 65536)])?;
+        return append_number(offset, out);
     }
     out.extend_from_slice(&[
         digit(offset / 4096),
@@ -47,6 +48,19 @@ fn append_offset(offset: usize, out: &mut Vec<u8>) -> Result<(), AllocError>
         digit(offset / 16),
         digit(offset),
     ])
+}
+
+// All digits of a number.
+#[tactic(auto, using(crate::proofs::HexLemmas::one_digit))]
+fn append_number(n: usize, out: &mut Vec<u8>) -> Result<(), AllocError>
+    ensures { OnOk result (out.new.items ≡ out.old.items ++ digits 16 false n) }
+{
+    if n < 16 {
+        return out.extend_from_slice(&[digit(n)]);
+    }
+    append_number(n / 16, out)?;
+    out.extend_from_slice(&[digit(n)])?;
+    Ok(())
 }
 
 // Eight columns of two bytes.

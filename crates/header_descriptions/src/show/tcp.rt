@@ -1,4 +1,6 @@
 //! TCP segments (RFC 9293).
+ghost use Rattle.std.specs.Prelude.{◌≡◌};
+ghost use Rattle.header_descriptions.specs.RelativeNumbers.{relative};
 
 use crate::show::ip::after_sized;
 use crate::show::line::Line;
@@ -6,38 +8,41 @@ use arrayvec::ArrayVec;
 use ep_tcpudp::{TcpOptionElement, TcpOptionReadError, TcpOptions, TcpOptionsIterator, TcpSlice};
 use std::alloc::AllocError;
 
-/// The numbers that those of a segment are counted from, modulo 2^32.
+/// The initial sequence numbers (RFC 9293, section 3.4) that the numbers of a segment are counted from,
+/// modulo 2^32.
 #[derive(Clone, Copy, Debug, PartialEq, Eq)]
-pub struct Origins {
+pub struct InitialNumbers {
     /// That of its sequence number.
     pub sequence: u32,
     /// That of its acknowledgment number, and of what it acknowledges selectively.
     pub acknowledgment: u32,
 }
 
-impl Origins {
+impl InitialNumbers {
     /// With these the numbers are those of the segment.
-    pub const NONE: Origins = Origins {
+    pub const NONE: InitialNumbers = InitialNumbers {
         sequence: 0,
         acknowledgment: 0,
     };
 }
 
-/// Flags, numbers from these origins on, window and options of a segment whose payload has so many
-/// bytes. It has no contract: tests compare the texts.
+/// Flags, numbers counted from these initial ones, window and options of a segment whose payload has so
+/// many bytes. It has no contract: tests compare the texts.
 pub fn segment(
     line: &mut Line<'_>,
     segment: &TcpSlice<'_>,
     payload_len: usize,
-    origins: Origins,
+    initial_numbers: InitialNumbers,
 ) -> Result<(), AllocError> {
     line.text(" ")?;
     flags(line, segment)?;
-    let sequence = segment.sequence_number().wrapping_sub(origins.sequence);
+    let sequence = relative(segment.sequence_number(), initial_numbers.sequence);
     line.counted(" seq ", sequence.into())?;
     if segment.ack() {
-        let acknowledgment = segment.acknowledgment_number();
-        let acknowledgment = acknowledgment.wrapping_sub(origins.acknowledgment);
+        let acknowledgment = relative(
+            segment.acknowledgment_number(),
+            initial_numbers.acknowledgment,
+        );
         line.counted(" ack ", acknowledgment.into())?;
     }
     line.counted(" win ", segment.window_size().into())?;
@@ -45,7 +50,7 @@ pub fn segment(
         line.counted(" urg ", segment.urgent_pointer().into())?;
     }
     line.counted(" len ", payload_len as u64)?;
-    options(line, segment, origins.acknowledgment)
+    options(line, segment, initial_numbers.acknowledgment)
 }
 
 // A letter for each flag that is set, and a dot for ack.
@@ -153,8 +158,15 @@ fn option(
 }
 
 fn block(line: &mut Line<'_>, block: (u32, u32), acknowledged: u32) -> Result<(), AllocError> {
-    line.counted(" ", block.0.wrapping_sub(acknowledged).into())?;
-    line.counted("-", block.1.wrapping_sub(acknowledged).into())
+    line.counted(" ", relative(block.0, acknowledged).into())?;
+    line.counted("-", relative(block.1, acknowledged).into())
+}
+
+// How far a number is from the initial one, modulo 2^32.
+fn relative(number: u32, initial: u32) -> u32
+    ensures { result ≡ relative number initial }
+{
+    number.wrapping_sub(initial)
 }
 
 fn unread(line: &mut Line<'_>, error: &TcpOptionReadError) -> Result<(), AllocError> {

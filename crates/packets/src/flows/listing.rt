@@ -33,7 +33,8 @@ pub struct Listing {
 }
 
 impl Listing {
-    /// The indices of the conversations that are listed. It has no contract: tests compare the texts.
+    /// The indices of the conversations that are listed. It has no contract, since the tables and objects
+    /// that are made of them have none: tests compare those.
     pub(crate) fn indices<S: BuildHasher>(
         &self,
         alloc: Global,
@@ -79,7 +80,7 @@ pub(crate) struct Greatest {
 
 impl Greatest {
     /// Those of these, in the order of [`By::Bytes`]. It takes no memory. It has no contract, nor has
-    /// the next: tests compare the texts.
+    /// the next, since the reports that are made of them have none: tests compare those.
     pub(crate) fn of<S: BuildHasher>(flows: &Flows<S>) -> Greatest {
         let mut greatest = Greatest {
             indices: [0; GREATEST_COUNT],

@@ -64,7 +64,8 @@ impl Transfer {
     }
 }
 
-fn transfer_with(outline: Outline, header: Option<MessageHeader>) -> Transfer
+/// The same of the packet's outline and of what its message's header says.
+pub(crate) fn transfer_with(outline: Outline, header: Option<MessageHeader>) -> Transfer
     ensures { result ≡ transfer_with outline header }
 {
     let flags = flags_of(header);

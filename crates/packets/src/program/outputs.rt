@@ -1,13 +1,14 @@
 //! What is written and flushed.
-ghost use Rattle.std.specs.Prelude.{Result};
+ghost use Rattle.std.specs.Prelude.{List, Result, ℕ};
 ghost use Rattle.device_runs.specs.Endings.{EndsFlushed};
 ghost use Rattle.captures.specs.declared.translation.run_error.RunError.{RunError};
-ghost use Rattle.packets.specs.Written.{WritesLines};
+ghost use Rattle.packets.specs.Written.{AreTexts, Writes, WritesLines};
 ghost use Rattle.packets.specs.WrittenCaptures.{WritesCapture, WritesRecords};
+ghost use Rattle.packets.specs.declared.dissection.Dissection.{Dissection};
 
 use crate::{
-    FlowObject, FlowTable, Flows, LineWriter, Listing, Omitted, Report, Rules, WebPage,
-    write_capture, write_lines, write_records,
+    FlowObject, FlowTable, Flows, Following, LineWriter, Listing, Omitted, Report, Rules, WebPage,
+    write_capture, write_followed, write_lines, write_records,
 };
 use captures::{RunError, Skipped};
 use device_runs::flush_after;
@@ -66,6 +67,37 @@ pub fn write_records_flushed<R: Read + Drop, W: Write, S: BuildHasher + Drop>(
 {
     let ended = write_records(alloc, state, rules, reader, writer, omitted);
     flush_after(writer, ended, RunError::Write)
+}
+
+/// [`write_followed`], and a flush after it, as [`write_flushed`].
+pub fn write_followed_flushed<R: Read + Drop, W: Write, S: BuildHasher + Drop>(
+    alloc: Global,
+    state: S,
+    rules: &Rules,
+    following: &Following,
+    reader: R,
+    writer: &mut W,
+    omitted: &mut Omitted,
+) -> Result<(), RunError>
+    ensures { (done : Result Unit RunError) × EndsFlushed RunError.Write done result
+        × Writes (AreTexts (λ (packet : Dissection) (text : List ℕ). Unit {0})) rules.now omitted.new
+        (R.remaining reader) (W.contents writer.old) (W.contents writer.new) done }
+{
+    let ended = write_followed(alloc, state, rules, following, reader, writer, omitted);
+    flush_after(writer, ended, RunError::Write)
+}
+
+/// Writes how the connection ends that is followed. It has no contract: tests compare the texts.
+pub fn write_follow_end<W: Write>(
+    alloc: Global,
+    following: &Following,
+    writer: &mut W,
+) -> Result<(), RunError> {
+    let mut text = Vec::new(alloc);
+    match following.append_end(&mut text) {
+        Ok(()) => write_whole_flushed(text.as_slice(), writer),
+        Err(_) => Err(RunError::Memory),
+    }
 }
 
 /// Writes the report on a capture at its end. It has no contract: tests compare the texts.

@@ -1,6 +1,7 @@
 //! What the words of the command line request.
 use crate::{
-    By, Condition, Expression, ExpressionError, Filter, Listing, Rules, ShownBytes, TimeForm, Words,
+    By, Condition, ConnectionId, Expression, ExpressionError, Filter, FollowForm, FollowOptions,
+    Listing, Rules, ShownBytes, TimeForm, Way, Words,
 };
 use captures::Unfit;
 use clap::ArgMatches;
@@ -29,6 +30,12 @@ pub enum RequestError {
     /// This word is no size.
     #[error("invalid value '{word}' for '--reassembly-memory <SIZE>': {error}")]
     Size { word: String, error: SizeError },
+    /// This word is no number of bytes that a window may have.
+    #[error("invalid value '{word}' for '--window <SIZE>': {error}")]
+    Window { word: String, error: SizeError },
+    /// This word names no connection.
+    #[error("invalid value '{word}' for '<ID>': not HOST:PORT-HOST:PORT, as 10.0.0.1:4000-10.0.0.2:80")]
+    Connection { word: String },
     /// Packets with a wrong checksum, where none is verified.
     #[error("the argument '--only bad' cannot be used with '--no-checksums'")]
     Unverified,
@@ -63,6 +70,8 @@ pub enum Output<'m> {
     Flows(Listing),
     /// Both, as a page.
     Report,
+    /// What goes over a TCP connection.
+    Follow(FollowOptions),
 }
 
 impl Output<'_> {
@@ -74,6 +83,7 @@ impl Output<'_> {
             Output::Summary => "summary",
             Output::Flows(_) => "flows",
             Output::Report => "report",
+            Output::Follow(_) => "follow ID",
         }
     }
 }
@@ -117,6 +127,7 @@ pub fn requested_by<'m>(
         Some(("summary", words)) => (Output::Summary, words),
         Some(("flows", words)) => (Output::Flows(listing(words)), words),
         Some(("report", words)) => (Output::Report, words),
+        Some(("follow", words)) => (Output::Follow(follow_options(alloc, words)?), words),
         Some((_, words)) => (show(words), words),
         None => (show(matches), matches),
     };
@@ -175,6 +186,49 @@ fn listing(words: &ArgMatches) -> Listing {
         top: words.get_one::<u32>("top"),
         json: words.get_flag("json"),
     }
+}
+
+fn follow_options(alloc: Global, words: &ArgMatches) -> Result<FollowOptions, RequestError> {
+    let word = words.get_str("ID").unwrap_or("");
+    let Some(id) = ConnectionId::of(word) else {
+        let word = String::from_str(alloc, word)?;
+        return Err(RequestError::Connection { word });
+    };
+    Ok(FollowOptions {
+        id,
+        direction: match words.get_str("direction") {
+            Some("1") => Some(Way::FromFirst),
+            Some("2") => Some(Way::FromSecond),
+            _ => None,
+        },
+        form: follow_form(words),
+        window: window(alloc, words)?,
+    })
+}
+
+fn follow_form(words: &ArgMatches) -> FollowForm {
+    if words.get_flag("raw") {
+        FollowForm::Raw
+    } else if words.get_flag("hex") {
+        FollowForm::Hex
+    } else if words.get_flag("json") {
+        FollowForm::Json
+    } else {
+        FollowForm::Text
+    }
+}
+
+fn window(alloc: Global, words: &ArgMatches) -> Result<u32, RequestError> {
+    let word = words.get_str("window").unwrap_or("1M");
+    let error = match size_of(word) {
+        Ok(size) => match u32::try_from(size) {
+            Ok(size) => return Ok(size),
+            Err(_) => SizeError::TooLarge,
+        },
+        Err(error) => error,
+    };
+    let word = String::from_str(alloc, word)?;
+    Err(RequestError::Window { word, error })
 }
 
 fn filter_of(alloc: Global, texts: &[&str], checksums: bool) -> Result<Filter, RequestError> {

@@ -7,7 +7,7 @@ use crate::Dissection;
 use crate::run::omitted::Omitted;
 use crate::run::output::{PacketWriter, write_packets, write_text};
 use crate::run::rules::Rules;
-use captures::{RunError, TimeUnit, file_header, record_head};
+use captures::{RunError, TimeUnit, file_header, frame_wire_len, record_head};
 use std::alloc::{AllocError, Global};
 use std::hash::BuildHasher;
 use std::io::{Read, Write};
@@ -75,12 +75,11 @@ fn head_of(packet: &Dissection<'_>) -> [u8; 16]
     ensures { result ≡ head_of packet.now }
 {
     let len = frame_len(packet);
-    let missing = (packet.wire_len as usize).saturating_sub(packet.captured_len);
     record_head(
         in_32_bits(packet.time / NANOSECONDS),
         (packet.time % NANOSECONDS) as u32,
         in_32_bits(len as u64),
-        in_32_bits(len.saturating_add(missing) as u64),
+        frame_wire_len(len, packet.captured_len, packet.wire_len),
     )
 }
 

@@ -2,11 +2,11 @@
 ghost use Rattle.std.specs.Prelude.{◌≡◌, [], IfOk, OnOk, OnErr};
 ghost use Rattle.std.specs.Map.{lookup};
 ghost use Rattle.lru.specs.LruCache.{lru_cache};
-ghost use Rattle.packets.specs.Segments.{known_after, origins_of};
+ghost use Rattle.packets.specs.Segments.{initial_numbers_of, known_after};
 
 use crate::flows::conversation::Conversation;
 use crate::show::segment::{Segment, Starts};
-use header_descriptions::show::tcp::Origins;
+use header_descriptions::show::tcp::InitialNumbers;
 use lru::LruCache;
 use std::alloc::{AllocError, Global};
 use std::hash::BuildHasher;
@@ -39,8 +39,8 @@ impl<S: BuildHasher + Drop> Connections<S> {
     /// What the numbers of a segment are counted from, as by `tcpdump`: nothing, where it begins its
     /// connection or acknowledges nothing. A connection that isn't known begins with each segment, and
     /// any with SYN. Where there is no memory for it, all is as it was.
-    pub fn take(&mut self, segment: &Segment) -> Result<Origins, AllocError>
-        ensures origins { IfOk result (λ origins. origins ≡ origins_of segment.now
+    pub fn take(&mut self, segment: &Segment) -> Result<InitialNumbers, AllocError>
+        ensures numbers { IfOk result (λ numbers. numbers ≡ initial_numbers_of segment.now
             (lookup (⟦<Conversation as PartialEq>⟧.eq segment.now.conversation)
             self.old.known.entries)) }
         ensures known { OnOk result (self.new.known
@@ -48,16 +48,16 @@ impl<S: BuildHasher + Drop> Connections<S> {
         ensures err { OnErr result (self.new.known ≡ self.old.known) }
     {
         if !segment.ack {
-            return Ok(Origins::NONE);
+            return Ok(InitialNumbers::NONE);
         }
         match self.known.peek(&segment.conversation) {
             Some(starts) if !segment.syn => {
-                let origins = segment.origins_by(*starts);
+                let numbers = segment.initial_numbers_by(*starts);
                 self.known.promote(&segment.conversation);
-                Ok(origins)
+                Ok(numbers)
             }
             _ => match self.known.put(segment.conversation, segment.starts()) {
-                Ok(_) => Ok(Origins::NONE),
+                Ok(_) => Ok(InitialNumbers::NONE),
                 Err(_) => Err(AllocError),
             },
         }

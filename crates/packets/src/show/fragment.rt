@@ -7,7 +7,7 @@ use checksum_verdicts::Verdict;
 use ep_packet::{Addresses, IpFragment};
 use etherparse::defrag::IpDefragPayloadVec;
 use header_descriptions::show::Line;
-use header_descriptions::show::tcp::Origins;
+use header_descriptions::show::tcp::InitialNumbers;
 use std::alloc::AllocError;
 
 /// A fragment, and what became of it. It has no contract: tests compare the texts.
@@ -17,7 +17,7 @@ pub(crate) fn fragment(
     cut: &IpFragment<'_>,
     fragment: Option<&Fragment>,
     checked: Option<Verdict>,
-    origins: Origins,
+    initial_numbers: InitialNumbers,
 ) -> Result<(), AllocError> {
     FragmentHeaders::of(cut).show(line)?;
     match fragment {
@@ -27,7 +27,14 @@ pub(crate) fn fragment(
         }
         Some(Fragment::Completes { started, message }) => {
             line.text("), ")?;
-            completed(line, &cut.addresses, *started, message, checked, origins)
+            completed(
+                line,
+                &cut.addresses,
+                *started,
+                message,
+                checked,
+                initial_numbers,
+            )
         }
         Some(Fragment::Refused { started, error }) => {
             if let Some(started) = started {
@@ -55,11 +62,18 @@ fn completed(
     started: u64,
     payload: &IpDefragPayloadVec,
     checked: Option<Verdict>,
-    origins: Origins,
+    initial_numbers: InitialNumbers,
 ) -> Result<(), AllocError> {
     let bytes = payload.payload.as_slice();
     line.counted("completes a message of ", bytes.len() as u64)?;
     line.counted(" bytes begun in packet ", started)?;
     line.text(": ")?;
-    message::completed(line, addresses, payload.ip_number, bytes, checked, origins)
+    message::completed(
+        line,
+        addresses,
+        payload.ip_number,
+        bytes,
+        checked,
+        initial_numbers,
+    )
 }

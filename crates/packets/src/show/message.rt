@@ -8,7 +8,7 @@ use checksum_verdicts::{Verdict, judge};
 use ep_base::IpNumber;
 use ep_packet::{Addresses, LaxNetSlice, Message, NetSlice, WholeMessage, read_message};
 use ep_tcpudp::{UdpHeader, UdpSlice};
-use header_descriptions::show::tcp::Origins;
+use header_descriptions::show::tcp::InitialNumbers;
 use header_descriptions::show::{Line, Tone, groups, names, tcp};
 use std::alloc::AllocError;
 
@@ -20,7 +20,7 @@ pub(crate) fn whole(
     net: &Option<NetSlice<'_>>,
     whole: &WholeMessage<'_>,
     checked: Option<Verdict>,
-    origins: Origins,
+    initial_numbers: InitialNumbers,
 ) -> Result<(), AllocError> {
     endpoints(
         line,
@@ -34,7 +34,7 @@ pub(crate) fn whole(
         whole.ip_number,
         &whole.message,
         whole.bytes.len(),
-        origins,
+        initial_numbers,
     )?;
     verdict(line, checked, &whole.addresses, &whole.message)
 }
@@ -48,7 +48,7 @@ pub(crate) fn lax_message(
     ip_number: IpNumber,
     read: Option<&Message<'_>>,
     len: usize,
-    origins: Origins,
+    initial_numbers: InitialNumbers,
 ) -> Result<(), AllocError> {
     let ports = match read {
         Some(read) => ports_of(ip_number, read),
@@ -58,7 +58,7 @@ pub(crate) fn lax_message(
     lax_net_headers(line, net)?;
     line.text(" ")?;
     match read {
-        Some(read) => message(line, ip_number, read, len, origins),
+        Some(read) => message(line, ip_number, read, len, initial_numbers),
         None => names::protocol(line, ip_number),
     }
 }
@@ -71,7 +71,7 @@ pub(crate) fn completed(
     ip_number: IpNumber,
     bytes: &[u8],
     checked: Option<Verdict>,
-    origins: Origins,
+    initial_numbers: InitialNumbers,
 ) -> Result<(), AllocError> {
     match read_message(ip_number, bytes) {
         Ok(read) => {
@@ -80,7 +80,7 @@ pub(crate) fn completed(
                 line.counted(" > ", ports.destination.into())?;
                 line.text(" ")?;
             }
-            message(line, ip_number, &read, bytes.len(), origins)?;
+            message(line, ip_number, &read, bytes.len(), initial_numbers)?;
             verdict(line, checked, addresses, &read)
         }
         Err(error) => refusal::message(line, &error),
@@ -110,13 +110,13 @@ fn message(
     number: IpNumber,
     message: &Message<'_>,
     len: usize,
-    origins: Origins,
+    initial_numbers: InitialNumbers,
 ) -> Result<(), AllocError> {
     names::protocol(line, number)?;
     match message {
         Message::Tcp(segment) => {
             let payload_len = len.saturating_sub(segment.header_len());
-            tcp::segment(line, segment, payload_len, origins)
+            tcp::segment(line, segment, payload_len, initial_numbers)
         }
         Message::Udp(datagram) => match payload_len(datagram, len) {
             Some(len) => line.counted(" len ", len as u64),

@@ -2,14 +2,14 @@
 
 use crate::show::fragment_headers::two_fragment_headers;
 use crate::show::options::ShowOptions;
-use crate::show::shown_lines::Circumstances;
+use crate::show::shown_lines::LineContext;
 use crate::show::{fragment, link, message, refused};
 use crate::{Dissection, Headers};
 use checksum_verdicts::Verdict;
 use ep_packet::{Class, NetSlice, SlicedPacket};
 use header_descriptions::show::arp::arp;
 use header_descriptions::show::tags::tags;
-use header_descriptions::show::tcp::Origins;
+use header_descriptions::show::tcp::InitialNumbers;
 use header_descriptions::show::time::{Times, number_and_time};
 use header_descriptions::show::{Line, Tone};
 use std::alloc::AllocError;
@@ -22,32 +22,32 @@ impl ShowOptions {
     /// of its bytes were captured. Numbers of TCP are those of the segment, and local times those of UTC.
     /// It has no contract, nor has the next: tests compare the texts.
     pub fn write_line(&self, packet: &Dissection<'_>, out: &mut Vec<u8>) -> Result<(), AllocError> {
-        self.write_in(&Circumstances::NONE, packet, out)
+        self.write_in(&LineContext::NONE, packet, out)
     }
 
     /// The same with these numbers and local times.
     pub(crate) fn write_in(
         &self,
-        circumstances: &Circumstances,
+        context: &LineContext,
         packet: &Dissection<'_>,
         out: &mut Vec<u8>,
     ) -> Result<(), AllocError> {
-        let origins = circumstances.origins;
+        let initial_numbers = context.initial_numbers;
         let mut line = Line::begin(self.style, self.width, out);
         let times = Times {
             own: packet.time,
             first: packet.first_time,
             previous: packet.previous_time,
-            ahead: circumstances.ahead,
+            ahead: context.ahead,
         };
         number_and_time(&mut line, self.time, packet.number, &times)?;
         let separator = match &packet.layers {
             Ok(layers) => {
-                self.body(&mut line, packet, layers, origins)?;
+                self.body(&mut line, packet, layers, initial_numbers)?;
                 header_checksum(&mut line, packet)?;
                 ", "
             }
-            Err(error) => refused::refused(&mut line, packet, *error, self.link, origins)?,
+            Err(error) => refused::refused(&mut line, packet, *error, self.link, initial_numbers)?,
         };
         if packet.is_cut() {
             line.text(separator)?;
@@ -62,7 +62,7 @@ impl ShowOptions {
         line: &mut Line<'_>,
         packet: &Dissection<'_>,
         layers: &SlicedPacket<'_>,
-        origins: Origins,
+        initial_numbers: InitialNumbers,
     ) -> Result<(), AllocError> {
         tags(line, layers.link_exts.as_slice())?;
         if self.link && layers.net.is_some() {
@@ -74,7 +74,7 @@ impl ShowOptions {
                 &layers.net,
                 &whole,
                 packet.verdict,
-                origins,
+                initial_numbers,
             ),
             Class::Cut(cut) => fragment::fragment(
                 line,
@@ -82,7 +82,7 @@ impl ShowOptions {
                 &cut,
                 packet.fragment.as_ref(),
                 packet.verdict,
-                origins,
+                initial_numbers,
             ),
             Class::Other => other(line, packet, layers),
             Class::Refused => Ok(()),

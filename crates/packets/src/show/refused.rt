@@ -11,7 +11,7 @@ use ep_packet::{Addresses, LaxNetSlice, LaxSlicedPacket, Message, TransportSlice
 use header_descriptions::show::Line;
 use header_descriptions::show::arp::arp;
 use header_descriptions::show::tags::lax_tags;
-use header_descriptions::show::tcp::Origins;
+use header_descriptions::show::tcp::InitialNumbers;
 use std::alloc::AllocError;
 
 /// The headers that are there of a packet that is refused, and the fault that is shown of it, if one
@@ -23,13 +23,13 @@ pub(crate) fn refused(
     packet: &Dissection<'_>,
     error: SliceError,
     shows_link: bool,
-    origins: Origins,
+    initial_numbers: InitialNumbers,
 ) -> Result<&'static str, AllocError> {
     let layers = packet.lax_layers();
     let fault = packet.shown_fault(error, &layers);
     let gap = match layers {
         Some(layers) => {
-            headers(line, packet, layers, shows_link, origins)?;
+            headers(line, packet, layers, shows_link, initial_numbers)?;
             "  "
         }
         None => "",
@@ -49,7 +49,7 @@ fn headers(
     packet: &Dissection<'_>,
     layers: LaxSlicedPacket<'_>,
     shows_link: bool,
-    origins: Origins,
+    initial_numbers: InitialNumbers,
 ) -> Result<(), AllocError> {
     lax_tags(line, layers.link_exts.as_slice())?;
     if layers.net.is_none() {
@@ -69,11 +69,11 @@ fn headers(
         Some(LaxNetSlice::Arp(packet)) => arp(line, packet),
         Some(LaxNetSlice::Ipv4(packet)) => {
             let read = read_in(transport, stop_err.is_some(), packet.payload().payload);
-            over_ipv4(line, &net, packet, read.as_ref(), len, origins)
+            over_ipv4(line, &net, packet, read.as_ref(), len, initial_numbers)
         }
         Some(LaxNetSlice::Ipv6(packet)) => {
             let read = read_in(transport, stop_err.is_some(), packet.payload().payload);
-            over_ipv6(line, &net, packet, read.as_ref(), len, origins)
+            over_ipv6(line, &net, packet, read.as_ref(), len, initial_numbers)
         }
         None => Ok(()),
     }
@@ -86,7 +86,7 @@ fn over_ipv4(
     packet: &LaxIpv4Slice<'_>,
     read: Option<&Message<'_>>,
     len: usize,
-    origins: Origins,
+    initial_numbers: InitialNumbers,
 ) -> Result<(), AllocError> {
     if packet.is_payload_fragmented() {
         FragmentHeaders::over_ipv4(packet, len).show(line)?;
@@ -98,7 +98,7 @@ fn over_ipv4(
         destination: header.destination(),
     };
     let number = packet.payload_ip_number();
-    message::lax_message(line, net, &addresses, number, read, len, origins)
+    message::lax_message(line, net, &addresses, number, read, len, initial_numbers)
 }
 
 fn over_ipv6(
@@ -107,7 +107,7 @@ fn over_ipv6(
     packet: &LaxIpv6Slice<'_>,
     read: Option<&Message<'_>>,
     len: usize,
-    origins: Origins,
+    initial_numbers: InitialNumbers,
 ) -> Result<(), AllocError> {
     let header = packet.header();
     let addresses = Addresses::V6 {
@@ -119,7 +119,7 @@ fn over_ipv6(
         let fragment = FragmentHeaders::over_ipv6(packet, len);
         return fragment_over_ipv6(line, fragment, addresses, number);
     }
-    message::lax_message(line, net, &addresses, number, read, len, origins)
+    message::lax_message(line, net, &addresses, number, read, len, initial_numbers)
 }
 
 fn fragment_over_ipv6(

@@ -1,20 +1,20 @@
 //! Segments of TCP, and what their numbers are counted from.
 ghost use Rattle.std.specs.Prelude.{◌≡◌};
-ghost use Rattle.packets.specs.Segments.{either_way, origins_by, segment_in, segment_of, starts_from};
+ghost use Rattle.packets.specs.Segments.{either_way, initial_numbers_by, segment_in, segment_of, starts_from};
 
-use crate::Dissection;
 use crate::flows::conversation::Conversation;
-use crate::flows::transfer::Transfer;
+use crate::flows::transfer::transfer_with;
 use crate::message_header::MessageHeader;
+use crate::{Dissection, Outline};
 use ep_base::IpNumber;
-use header_descriptions::show::tcp::Origins;
+use header_descriptions::show::tcp::InitialNumbers;
 
-/// What the sequence numbers of a connection are counted from (RFC 9293, section 3.4).
+/// The initial sequence numbers of a connection (RFC 9293, section 3.4).
 #[derive(Clone, Copy, Debug, PartialEq, Eq)]
 pub struct Starts {
-    /// Those of the lower end of its conversation.
+    /// That of the lower end of its conversation.
     pub ascending: u32,
-    /// Those of the higher end.
+    /// That of the higher end.
     pub descending: u32,
 }
 
@@ -41,15 +41,12 @@ impl Segment {
     pub fn of(dissection: &Dissection<'_>) -> Option<Segment>
         ensures { result ≡ segment_of dissection.now }
     {
-        let transfer = Transfer::of(dissection);
-        segment_in(
-            transfer.conversation,
-            transfer.ascends,
-            MessageHeader::of(dissection),
-        )
+        let header = MessageHeader::of(dissection);
+        let transfer = transfer_with(Outline::of(dissection), header);
+        segment_in(transfer.conversation, transfer.ascends, header)
     }
 
-    /// What the numbers of a connection are counted from that begins with it.
+    /// The initial numbers of a connection that begins with it.
     pub(crate) fn starts(&self) -> Starts
         ensures { result ≡ starts_from self.now }
     {
@@ -60,17 +57,17 @@ impl Segment {
         )
     }
 
-    /// What its numbers are counted from in such a connection.
-    pub(crate) fn origins_by(&self, starts: Starts) -> Origins
-        ensures { result ≡ origins_by starts self.now.ascends }
+    /// Those that its numbers are counted from in such a connection.
+    pub(crate) fn initial_numbers_by(&self, starts: Starts) -> InitialNumbers
+        ensures { result ≡ initial_numbers_by starts self.now.ascends }
     {
         if self.ascends {
-            Origins {
+            InitialNumbers {
                 sequence: starts.ascending,
                 acknowledgment: starts.descending,
             }
         } else {
-            Origins {
+            InitialNumbers {
                 sequence: starts.descending,
                 acknowledgment: starts.ascending,
             }

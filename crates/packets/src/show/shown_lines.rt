@@ -6,7 +6,7 @@ use crate::show::connections::Connections;
 use crate::show::segment::Segment;
 use crate::{Dissection, ShowOptions};
 use header_descriptions::show::TimeForm;
-use header_descriptions::show::tcp::Origins;
+use header_descriptions::show::tcp::InitialNumbers;
 use jiff::Timestamp;
 use jiff::tz::TimeZone;
 use std::alloc::AllocError;
@@ -23,19 +23,19 @@ pub struct ShowLines<'z, S: BuildHasher> {
     connections: Option<RefCell<Connections<S>>>,
 }
 
-/// What the line of a packet has that isn't in it.
+/// What the numbers and the time of a packet's line are counted from.
 #[derive(Clone, Copy)]
-pub(crate) struct Circumstances {
-    /// What the numbers of its segment are counted from.
-    pub origins: Origins,
+pub(crate) struct LineContext {
+    /// The initial numbers of its segment's connection.
+    pub initial_numbers: InitialNumbers,
     /// The seconds that clocks at the place are ahead of UTC.
     pub ahead: i32,
 }
 
-impl Circumstances {
+impl LineContext {
     /// Numbers as they are, and UTC.
-    pub(crate) const NONE: Circumstances = Circumstances {
-        origins: Origins::NONE,
+    pub(crate) const NONE: LineContext = LineContext {
+        initial_numbers: InitialNumbers::NONE,
         ahead: 0,
     };
 }
@@ -61,13 +61,13 @@ impl<'z, S: BuildHasher + Drop> ShowLines<'z, S> {
     }
 
     // No line is written while another one is.
-    fn origins(&self, packet: &Dissection<'_>) -> Result<Origins, AllocError> {
+    fn initial_numbers(&self, packet: &Dissection<'_>) -> Result<InitialNumbers, AllocError> {
         let Some(connections) = &self.connections else {
-            return Ok(Origins::NONE);
+            return Ok(InitialNumbers::NONE);
         };
         match (Segment::of(packet), connections.try_borrow_mut()) {
             (Some(segment), Ok(mut connections)) => connections.take(&segment),
-            _ => Ok(Origins::NONE),
+            _ => Ok(InitialNumbers::NONE),
         }
     }
 
@@ -91,11 +91,11 @@ impl<S: BuildHasher + Drop> LineWriter for ShowLines<'_, S> {
     ghost details = { λ lines packet. details_of lines.options.bytes packet };
 
     fn write_line(&self, packet: &Dissection<'_>, out: &mut Vec<u8>) -> Result<(), AllocError> {
-        let circumstances = Circumstances {
-            origins: self.origins(packet)?,
+        let context = LineContext {
+            initial_numbers: self.initial_numbers(packet)?,
             ahead: self.ahead(packet),
         };
-        self.options.write_in(&circumstances, packet, out)
+        self.options.write_in(&context, packet, out)
     }
 
     fn write_details(&self, packet: &Dissection<'_>, out: &mut Vec<u8>) -> Result<(), AllocError> {

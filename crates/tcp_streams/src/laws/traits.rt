@@ -12,7 +12,7 @@ ghost use Rattle.tcp_streams.specs.declared.flow_key.FlowKey.{FlowKey as Key};
 
 use crate::{
     Added, Conflicts, ConnectionState, Control, Direction, Distance, Endpoint, Flow, FlowKey,
-    FlowPacket, Gap, Refused, SegmentFlags, Traffic,
+    FlowPacket, FollowedSegment, Gap, Refused, SegmentFlags, Traffic,
 };
 use ep_base::laws::traits::Value;
 use std::hash::Hash;
@@ -32,6 +32,13 @@ pub fn types_are_plain_data()
     ensures segment_flags { IsPlainData ⟦<SegmentFlags as Value>⟧ }
     ensures traffic { IsPlainData ⟦<Traffic as Value>⟧ }
 {}
+
+/// The same of what a segment does in a connection that is followed.
+pub fn followed_segments_are_plain_data()
+    ensures { IsPlainData ⟦<FollowedSegment as Value>⟧ }
+{
+    types_are_plain_data();
+}
 
 /// By default there is no conflict, no flag is set, and no packet came.
 pub fn defaults_are_none()

@@ -4,7 +4,7 @@
 ghost use Rattle.std.specs.Prelude.{◌≡◌, ℕ, List, [], ◌∷◌, length, replicate, true, false, Some, None, Ok, Err};
 ghost use Rattle.captures.specs.Examples.{numbered};
 ghost use Rattle.captures.specs.Framed.{FrameParts, address_at, captured_len, captured_limit, cooked_type};
-ghost use Rattle.captures.specs.Framed.{family_type, frame_bytes, frame_parts};
+ghost use Rattle.captures.specs.Framed.{family_type, frame_bytes, frame_parts, frame_wire_len, wire_len_on};
 ghost use Rattle.captures.specs.Framed.{link_of, own_frame, refused_type, reported_frame, reported_of, taken_limit};
 ghost use Rattle.captures.specs.PacketSteps.{is_cut};
 ghost use Rattle.captures.specs.declared.link.kind.Link.TheVariants.{Ethernet, Ip, Null, Loop, Other, Sll, Sll2};
@@ -130,6 +130,24 @@ pub fn captured_bytes()
         × (is_cut (record (numbered number) { wire_len = 22 }) ≡ true)
         × (is_cut (record (numbered number) { wire_len = 21 }) ≡ false)
         × (is_cut (record (numbered number) { wire_len = 20 }) ≡ false) }
+{}
+
+/// How many bytes frames had on the wire, by the header that one of 14 replaces, after records of
+/// packets that were captured whole; that were cut; that state fewer bytes than they hold, or none;
+/// and that state as many as 32 bits can say, or 14 fewer, to which IP adds 14.
+pub fn lengths_of_frames()
+    ensures whole { (wire_len_on Ethernet 60 60 ≡ 60) × (wire_len_on Ip 20 20 ≡ 34)
+        × (wire_len_on Null 24 24 ≡ 34) × (wire_len_on Loop 24 24 ≡ 34)
+        × (wire_len_on Sll 36 36 ≡ 34) × (wire_len_on Sll2 40 40 ≡ 34) }
+    ensures cut { (wire_len_on Ethernet 60 1514 ≡ 1514) × (wire_len_on Ip 20 1500 ≡ 1514)
+        × (wire_len_on Null 24 1504 ≡ 1514) × (wire_len_on Loop 24 1504 ≡ 1514)
+        × (wire_len_on Sll 36 1516 ≡ 1514) × (wire_len_on Sll2 40 1520 ≡ 1514) }
+    ensures fewer { (wire_len_on Ethernet 60 59 ≡ 60) × (wire_len_on Ip 20 6 ≡ 34)
+        × (wire_len_on Sll2 40 0 ≡ 34) }
+    ensures greatest { (wire_len_on Ethernet 60 4_294_967_295 ≡ 4_294_967_295)
+        × (wire_len_on Ip 20 4_294_967_281 ≡ 4_294_967_295)
+        × (wire_len_on Ip 20 4_294_967_295 ≡ 4_294_967_295) }
+    ensures by_frame { (frame_wire_len 34 20 1500 ≡ 1514) × (frame_wire_len 34 20 6 ≡ 34) }
 {}
 
 /// Why packets are not reported: they are too long for a line, have no frame, or no link that is

@@ -7,7 +7,8 @@ ghost use Rattle.captures.specs.Framed.{link_of};
 ghost use Rattle.captures.specs.Lines.{blank};
 ghost use Rattle.captures.specs.Numbers.{half, word};
 ghost use Rattle.captures.specs.PacketSteps.{Gives};
-ghost use Rattle.captures.specs.Pcap.{IsFileHeader, IsPacketRecord, is_magic, link_type, record_wire_len};
+ghost use Rattle.captures.specs.Pcap.{IsFileHeader, IsPacketRecord, is_magic, link_type, record_captured_len};
+ghost use Rattle.captures.specs.Pcap.{record_wire_len};
 ghost use Rattle.captures.specs.CaptureRuns.{IsCapture};
 ghost use Rattle.captures.specs.Skipping.{none_skipped};
 ghost use Rattle.captures.specs.Encoding.{IsWritable};
@@ -56,6 +57,8 @@ pub fn packet_records()
     ensures wire { record_wire_len Little (replicate 8 0 ++ 2 ∷ 0 ∷ 0 ∷ 0 ∷ 0xdc ∷ 5 ∷ 0 ∷ 0 ∷ 7 ∷ 8
         ∷ []) ≡ 1500 }
     ensures high_first { record_wire_len Big packet_record ≡ 1500 }
+    ensures captured { (record_captured_len Little (replicate 8 0 ++ 2 ∷ 0 ∷ 0 ∷ 0 ∷ 0xdc ∷ 5 ∷ 0 ∷ 0
+        ∷ 7 ∷ 8 ∷ []) ≡ 2) × (record_captured_len Big packet_record ≡ 21) }
 {}
 
 /// A capture of one packet, whose first 21 bytes of 1500 were captured on LINUX_SLL2.
@@ -93,7 +96,8 @@ pub fn packets_before_a_rest()
 {}
 
 /// The greatest frame that is written has as many bytes as a line can hold, its time is the last
-/// nanosecond of 32 bits of seconds, and its length on the wire the greatest number of 32 bits.
+/// nanosecond of 32 bits of seconds, and its length on the wire the greatest number of 32 bits, and
+/// at least its own.
 pub fn greatest_written_frames()
     ensures greatest { (frame : List ℕ) → length frame ≡ 99_991 → IsWritable
         (record {
@@ -105,6 +109,8 @@ pub fn greatest_written_frames()
     ensures longer { (given : CapturedFrame) → length given.frame ≡ 99_992 → IsWritable given → ⊥ }
     ensures later { (given : CapturedFrame) → given.seconds ≡ 2 ^ 32 → IsWritable given → ⊥ }
     ensures on_wire { (given : CapturedFrame) → given.wire_len ≡ 2 ^ 32 → IsWritable given → ⊥ }
+    ensures fewer { (given : CapturedFrame) → given.wire_len ≡ 59 → length given.frame ≡ 60
+        → IsWritable given → ⊥ }
     ensures nanoseconds { (given : CapturedFrame) → given.nanoseconds ≡ 1_000_000_000
         → IsWritable given → ⊥ }
 {}

@@ -3,7 +3,7 @@ use Rattle.captures.proofs.laws.examples.pcap.greatest_written_frames.Goals as g
 
 pub returns-clause-greatest : goal.returns-clause-greatest
 returns-clause-greatest c frame size =
-    record { short = omega arith; seconds = omega arith; nanoseconds = omega arith; wire_len = omega arith }
+    record { short = omega arith; seconds = omega arith; nanoseconds = omega arith; wire_len = omega arith; whole = omega arith }
 
 pub returns-clause-longer : goal.returns-clause-longer
 returns-clause-longer c given size is = let short = is.short in absurd (omega arith)
@@ -16,3 +16,6 @@ returns-clause-nanoseconds c given whole is = let part = is.nanoseconds in absur
 
 pub returns-clause-on_wire : goal.returns-clause-on_wire
 returns-clause-on_wire c given large is = let before = is.wire_len in absurd (omega arith)
+
+pub returns-clause-fewer : goal.returns-clause-fewer
+returns-clause-fewer c given stated has is = let whole = is.whole in absurd (omega arith)

@@ -2,7 +2,7 @@ use Rattle.std.proofs.Common.{◌≡◌, arith, inl, inr, refl, List, [], ◌∷
 use Rattle.std.specs.Prelude.{drop, length, replicate, slice_set, take, ◌≢◌}
 use Rattle.captures.specs.Examples.{cooked_packet, empty_block, enhanced_block, interface_block, origin_at, other_block}
 use Rattle.captures.specs.Examples.{other_interface, packet_at, section_block}
-use Rattle.captures.specs.Framed.{frame_wire_len}
+use Rattle.captures.specs.Framed.{wire_len_on}
 use Rattle.captures.specs.Pcapng.{HasOrder, IsBlock, IsTaken, IsTimedPacket, Reads, clock_at, link_at}
 use Rattle.captures.specs.Pcapng.Content.{Opens, Describes, Holds}
 use Rattle.captures.specs.Numbers.{word}
@@ -45,6 +45,10 @@ nowhere = origin_at 0 0
 
 abbrev moment : Origin
 moment = record { channel = 0; time = 1700000000250000000; wire_len = 1494 }
+
+-- of the packet without captured bytes
+abbrev empty_moment : Origin
+empty_moment = record { channel = 0; time = 1700000000250000000; wire_len = 1500 }
 
 abbrev other_moment : Origin
 other_moment = record { channel = 1; time = 1700000000250000000; wire_len = 18 }
@@ -89,7 +93,7 @@ in_block : (interface : ℕ) (section : Section) (block : List ℕ) (origin : Or
     → section.first + interface ≡ origin.channel → origin.channel < 2 ^ 32
     → clock_time (clock_at section interface) (word Little block 12) (word Little block 16) ≡ origin.time
     → link_at section interface ≡ link
-    → frame_wire_len link (word Little block 24) ≡ origin.wire_len
+    → wire_len_on link (length packet) (word Little block 24) ≡ origin.wire_len
     → (word Little block 20 ≡ length packet) × (packet ≡ take (length packet) (drop 28 block))
     → IsTimedPacket interface section Little block origin link packet
 in_block interface section block origin link packet size described number fits time over wire bytes = record {
@@ -142,15 +146,15 @@ passes_over = in_section (section_of 2 22 both_links 0 0) (section_of 2 22 both_
     })
 
 holds_nothing : IsBlockUnit (section_of 2 22 both_links 1 1) empty_block
-    (Pcapng (section_of 2 22 both_links 1 2)) moment []
+    (Pcapng (section_of 2 22 both_links 1 2)) empty_moment []
 holds_nothing = in_section (section_of 2 22 both_links 1 1) (section_of 2 22 both_links 1 2) empty_block
-    moment [] (inl (other_kind 0x06000000 (omega arith), refl))
+    empty_moment [] (inl (other_kind 0x06000000 (omega arith), refl))
     (record { size = omega arith; words = refl; prefix = refl; back = refl }) (inl (omega arith))
     (record {
-      content = Holds moment Sll2 [];
+      content = Holds empty_moment Sll2 [];
       says = inl (
         refl,
-        in_block 0 (section_of 2 22 both_links 1 1) empty_block moment Sll2 []
+        in_block 0 (section_of 2 22 both_links 1 1) empty_block empty_moment Sll2 []
             (omega arith) (omega arith) refl (omega arith) refl refl refl (refl, refl),
       );
       becomes = (refl, refl, refl, omega arith, refl);
@@ -210,7 +214,7 @@ returns c = (
                 passes_over,
                 (
                   Pcapng (section_of 2 22 both_links 1 2),
-                  moment,
+                  empty_moment,
                   [],
                   [],
                   holds_nothing,

@@ -1,0 +1,240 @@
+//! Connections that are followed: what each segment does, and what is held after gaps. The rows are worked by hand after
+//! RFC 9293, section 3.4.
+
+use crate::checks::{equal_in, fail, holds_in};
+use std::process::Abort;
+use tcp_streams::{
+    Conflicts, ConnectionState, Control, Direction, FollowedSegment, Follower, Gap, Refused,
+    SegmentFlags, StreamBuf,
+};
+
+const NONE: SegmentFlags = SegmentFlags {
+    syn: false,
+    fin: false,
+    rst: false,
+};
+
+const SYN: SegmentFlags = SegmentFlags {
+    syn: true,
+    fin: false,
+    rst: false,
+};
+
+const RST: SegmentFlags = SegmentFlags {
+    syn: false,
+    fin: false,
+    rst: true,
+};
+
+/// A segment by name, whether it comes from the lower endpoint and has ACK, what it does, and the bytes that it
+/// makes available.
+struct Step(
+    &'static str,
+    bool,
+    u32,
+    SegmentFlags,
+    bool,
+    &'static [u8],
+    FollowedSegment,
+    &'static [u8],
+);
+
+const NOTHING_AT_0: FollowedSegment = FollowedSegment {
+    begins_anew: false,
+    position: 0,
+    gap: None,
+    conflicts: Conflicts {
+        count: 0,
+        first: None,
+    },
+    refused: None,
+};
+
+const NOTHING_AT_7: FollowedSegment = FollowedSegment {
+    begins_anew: false,
+    position: 7,
+    gap: None,
+    conflicts: Conflicts {
+        count: 0,
+        first: None,
+    },
+    refused: None,
+};
+
+const OUTSIDE: FollowedSegment = FollowedSegment {
+    begins_anew: false,
+    position: 4,
+    gap: None,
+    conflicts: Conflicts {
+        count: 0,
+        first: None,
+    },
+    refused: Some(Refused::OutsideWindow { window_end: 8 }),
+};
+
+const CONFLICT: FollowedSegment = FollowedSegment {
+    begins_anew: false,
+    position: 7,
+    gap: None,
+    conflicts: Conflicts {
+        count: 1,
+        first: Some(6),
+    },
+    refused: None,
+};
+
+const AFTER_A_GAP: FollowedSegment = FollowedSegment {
+    begins_anew: false,
+    position: 0,
+    gap: Some(Gap { start: 0, end: 2 }),
+    conflicts: Conflicts {
+        count: 0,
+        first: None,
+    },
+    refused: None,
+};
+
+const ANEW: FollowedSegment = FollowedSegment {
+    begins_anew: true,
+    position: 0,
+    gap: None,
+    conflicts: Conflicts {
+        count: 0,
+        first: None,
+    },
+    refused: None,
+};
+
+// Four bytes are kept. The number of SYN is the greatest but two.
+const STEPS: &[Step] = &[
+    Step("SYN", true, 4294967293, SYN, false, b"", NOTHING_AT_0, b""),
+    Step("its answer", false, 1000, SYN, true, b"", NOTHING_AT_0, b""),
+    Step(
+        "bytes",
+        true,
+        4294967294,
+        NONE,
+        true,
+        b"GET /\r\n",
+        NOTHING_AT_0,
+        b"GET /\r\n",
+    ),
+    Step(
+        "others, which are not kept",
+        true,
+        4294967294,
+        NONE,
+        true,
+        b"PUT",
+        NOTHING_AT_7,
+        b"",
+    ),
+    Step(
+        "others, of which one is",
+        true,
+        3,
+        NONE,
+        true,
+        b"\rX",
+        CONFLICT,
+        b"",
+    ),
+    Step(
+        "after a gap",
+        false,
+        1003,
+        NONE,
+        true,
+        b"cd",
+        AFTER_A_GAP,
+        b"",
+    ),
+    Step(
+        "the gap",
+        false,
+        1001,
+        NONE,
+        true,
+        b"ab",
+        NOTHING_AT_0,
+        b"abcd",
+    ),
+    Step("far", false, 1010, NONE, true, b"zz", OUTSIDE, b""),
+    Step("RST", true, 5, RST, false, b"why", NOTHING_AT_7, b""),
+    Step("SYN again", true, 77, SYN, false, b"", ANEW, b""),
+    Step(
+        "without SYN",
+        false,
+        1001,
+        NONE,
+        true,
+        b"new",
+        NOTHING_AT_0,
+        b"new",
+    ),
+];
+
+fn direction(from_lower: bool) -> Direction {
+    if from_lower {
+        Direction::FromLower
+    } else {
+        Direction::FromHigher
+    }
+}
+
+fn is_same(described: &[u8], wanted: &[u8]) -> bool {
+    described == wanted
+}
+
+#[test]
+fn segments_in_both_directions(rt: HostRuntime) {
+    let mut follower = Follower::new(rt.alloc(), 4);
+    for Step(name, from_lower, number, flags, ack, payload, wanted, bytes) in STEPS {
+        let way = direction(*from_lower);
+        let control = Control::of_flags(flags.syn, *ack, flags.fin, flags.rst);
+        holds_in(
+            &rt,
+            name,
+            follower.begins_anew(control) == wanted.begins_anew,
+        );
+        match follower.add(way, *number, *flags, *ack, payload) {
+            Ok(followed) => equal_in(&rt, name, &followed, wanted),
+            Err(_) => fail(&rt, "no memory"),
+        }
+        let shown = follower.buf(way).available_from(wanted.position);
+        holds_in(&rt, name, is_same(shown, bytes));
+    }
+    let opener = Direction::FromLower;
+    equal_in(
+        &rt,
+        "state",
+        &follower.state(),
+        &ConnectionState::SynSent { opener },
+    );
+    let late = follower.buf(Direction::FromHigher).joined_late();
+    equal_in(&rt, "joined late", &late, &true);
+}
+
+fn is_after(rt: impl Abort + Copy, buf: &StreamBuf, index: usize, gap: Gap, bytes: &[u8]) {
+    match buf.after_gap(index) {
+        Some((found, held)) => {
+            equal_in(rt, "gap", &found, &gap);
+            holds_in(rt, "held", is_same(held, bytes));
+        }
+        None => fail(rt, "no gap"),
+    }
+}
+
+#[test]
+fn bytes_after_gaps(rt: HostRuntime) {
+    let mut buf = StreamBuf::new(rt.alloc(), 64);
+    for (number, payload) in [(7, b"ab"), (12, b"fg"), (16, b"jk")] {
+        holds_in(&rt, "added", buf.add(number, NONE, payload).is_ok());
+    }
+    is_after(&rt, &buf, 0, Gap { start: 2, end: 5 }, b"fg");
+    is_after(&rt, &buf, 1, Gap { start: 7, end: 9 }, b"jk");
+    holds_in(&rt, "no more", buf.after_gap(2).is_none());
+    equal_in(&rt, "end", &buf.available_end(), &2);
+    holds_in(&rt, "from 1", is_same(buf.available_from(1), b"b"));
+    holds_in(&rt, "from 9", buf.available_from(9).is_empty());
+}

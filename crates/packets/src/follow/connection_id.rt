@@ -1,0 +1,97 @@
+//! The endpoints of a TCP connection.
+
+use crate::flows::conversation::Conversation;
+use crate::show::endpoints::Ports;
+use ep_base::IpNumber;
+use ep_packet::Addresses;
+use std::net::{IpAddr, Ipv4Addr, Ipv6Addr};
+
+/// The endpoints of TCP connections, in the order in which they are named.
+#[derive(Clone, Copy, Debug)]
+pub struct ConnectionId {
+    /// From the first one to the second.
+    pub conversation: Conversation,
+}
+
+impl ConnectionId {
+    /// The endpoints that a text names: `HOST:PORT-HOST:PORT`, where an IPv6 address has brackets
+    /// around it. There are none where it is no such text, and where the addresses have different
+    /// versions. It has no contract: tests compare what texts name.
+    pub fn of(text: &str) -> Option<ConnectionId> {
+        let Some((first, second)) = text.split_once('-') else {
+            return None;
+        };
+        match (endpoint(first), endpoint(second)) {
+            (Some((first, source)), Some((second, destination))) => {
+                between(
+                    first,
+                    second,
+                    Ports {
+                        source,
+                        destination,
+                    },
+                )
+            }
+            _ => None,
+        }
+    }
+}
+
+fn between(first: IpAddr, second: IpAddr, ports: Ports) -> Option<ConnectionId> {
+    let addresses = match (first, second) {
+        (IpAddr::V4(first), IpAddr::V4(second)) => Addresses::V4 {
+            source: first.octets(),
+            destination: second.octets(),
+        },
+        (IpAddr::V6(first), IpAddr::V6(second)) => Addresses::V6 {
+            source: first.octets(),
+            destination: second.octets(),
+        },
+        _ => return None,
+    };
+    Some(ConnectionId {
+        conversation: Conversation {
+            addresses,
+            ports: Some(ports),
+            protocol: IpNumber::TCP,
+        },
+    })
+}
+
+fn endpoint(text: &str) -> Option<(IpAddr, u16)> {
+    match text.strip_prefix("[") {
+        Some(text) => match text.split_once("]:") {
+            Some((address, port)) => with_port(ipv6(address), port),
+            None => None,
+        },
+        None => match text.split_once(':') {
+            Some((address, port)) => with_port(ipv4(address), port),
+            None => None,
+        },
+    }
+}
+
+fn ipv4(text: &str) -> Option<IpAddr> {
+    match text.parse::<Ipv4Addr>() {
+        Ok(address) => Some(IpAddr::V4(address)),
+        Err(_) => None,
+    }
+}
+
+fn ipv6(text: &str) -> Option<IpAddr> {
+    match text.parse::<Ipv6Addr>() {
+        Ok(address) => Some(IpAddr::V6(address)),
+        Err(_) => None,
+    }
+}
+
+// With a port in decimal digits.
+fn with_port(address: Option<IpAddr>, port: &str) -> Option<(IpAddr, u16)> {
+    if !port.bytes().all(|byte| byte.is_ascii_digit()) {
+        return None;
+    }
+    match (address, port.parse::<u16>()) {
+        (Some(address), Ok(port)) => Some((address, port)),
+        _ => None,
+    }
+}

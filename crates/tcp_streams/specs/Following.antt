@@ -1,0 +1,190 @@
+-- A connection that is followed: its state, and the segments of both directions that were accepted.
+use Rattle.std.specs.Prelude.{◌≡◌, ℕ, ◌-◌, ◌*◌, ◌≤◌, ◌==◌, Bool, true, false, not, if◌then◌else◌, is_some, IfSome, IfNone}
+use Rattle.std.specs.Prelude.{List, [], ◌∷◌, ◌++◌, fold, length, Option, Some, None}
+use Rattle.tcp_streams.specs.declared.connection_state.ConnectionState.{ConnectionState}
+use Rattle.tcp_streams.specs.declared.connection_state.ConnectionState.TheVariants.{Unseen, SynSent, SynReceived}
+use Rattle.tcp_streams.specs.declared.connection_state.ConnectionState.TheVariants.{Established, Closing, Closed, Reset}
+use Rattle.tcp_streams.specs.declared.connection_state.Control.{Control}
+use Rattle.tcp_streams.specs.declared.connection_state.Control.TheVariants.{Rst, Syn, SynAck, Fin, Ack, Nothing}
+use Rattle.tcp_streams.specs.declared.direction.Direction.{Direction}
+use Rattle.tcp_streams.specs.declared.direction.Direction.TheVariants.{FromLower, FromHigher}
+use Rattle.tcp_streams.specs.declared.follower.Follower.{Follower}
+use Rattle.tcp_streams.specs.declared.follower.FollowedSegment.{FollowedSegment}
+use Rattle.tcp_streams.specs.declared.gaps.Gap.{Gap}
+use Rattle.tcp_streams.specs.declared.refusal.Refused.{Refused}
+use Rattle.tcp_streams.specs.declared.refusal.Refused.TheVariants.{OutsideWindow, AfterFin, AfterReset, OutOfMemory}
+use Rattle.tcp_streams.specs.declared.segment_flags.SegmentFlags.{SegmentFlags}
+use Rattle.tcp_streams.specs.ConnectionStates.{by_direction, control_in, state_after}
+use Rattle.tcp_streams.specs.Placing.{Segment, placed, segment, start_number}
+use Rattle.tcp_streams.specs.Refusals.{refusal_of}
+use Rattle.tcp_streams.specs.Segments.{Placed, byte_at, conflicts_with, text_of}
+use Rattle.tcp_streams.specs.SparseBytes.{counted}
+use Rattle.tcp_streams.specs.StreamBuf.{Contents, Shows, IsFirstGap}
+
+-- ---- one direction
+
+-- the number of position 0, once a segment was accepted; whether the first one that was had no SYN; and
+-- all of them, the oldest first
+pub record Side : Type 0 where
+  pub start : Option ℕ
+  pub joined_late : Bool
+  pub segments : List Placed
+
+abbrev pub no_side : Side
+no_side = record { start = None; joined_late = false; segments = [] }
+
+-- of the bytes up to the first gap the last ones are kept, so many at most; those before them aren't
+abbrev pub taken_of : (kept : ℕ) → Side → ℕ
+taken_of kept side = length (text_of side.segments) - kept
+
+-- a segment at its place
+abbrev pub placed_on : (kept : ℕ) → Side → Segment → Placed
+placed_on kept side s = placed side.start (taken_of kept side) side.segments s
+
+-- why it is refused: the window has as many bytes that are missing as ones that are kept
+abbrev pub refusal_on : (kept : ℕ) → Side → Segment → Option Refused
+refusal_on kept side s =
+    refusal_of (2 * kept) (taken_of kept side) side.segments (placed_on kept side s)
+
+-- the side with it, unless it is refused
+abbrev pub side_with : (kept : ℕ) → Side → Segment → Side
+side_with kept side s = if is_some (refusal_on kept side s) then side else record {
+  start = Some (start_number side.start s.number s.flags);
+  joined_late = if is_some side.start then side.joined_late else not s.flags.syn;
+  segments = side.segments ++ placed_on kept side s ∷ [];
+}
+
+-- ---- both
+
+-- a segment, its direction, and whether it acknowledges something
+pub record ConnectionSegment : Type 0 where
+  pub direction : Direction
+  pub ack : Bool
+  pub segment : Segment
+
+abbrev pub connection_segment : Direction → (number : ℕ) → SegmentFlags → (ack : Bool) → (payload : List ℕ)
+    → ConnectionSegment
+connection_segment direction number flags ack payload =
+    record { direction = direction; ack = ack; segment = segment number flags payload }
+
+abbrev pub control_with : SegmentFlags → (ack : Bool) → Control
+control_with flags ack = control_in flags.syn ack flags.fin flags.rst
+
+abbrev pub control_on : ConnectionSegment → Control
+control_on s = control_with s.segment.flags s.ack
+
+pub record Connection : Type 0 where
+  pub state : ConnectionState
+  pub from_lower : Side
+  pub from_higher : Side
+
+abbrev pub no_connection : Connection
+no_connection = record { state = Unseen; from_lower = no_side; from_higher = no_side }
+
+-- SYN without ACK begins a new connection after the end of one
+abbrev pub begins_anew : ConnectionState → Control → Bool
+begins_anew Closed Syn = true
+begins_anew Closed Rst = false
+begins_anew Closed SynAck = false
+begins_anew Closed Fin = false
+begins_anew Closed Ack = false
+begins_anew Closed Nothing = false
+begins_anew Reset Syn = true
+begins_anew Reset Rst = false
+begins_anew Reset SynAck = false
+begins_anew Reset Fin = false
+begins_anew Reset Ack = false
+begins_anew Reset Nothing = false
+begins_anew Unseen control = false
+begins_anew (SynSent opener) control = false
+begins_anew (SynReceived opener) control = false
+begins_anew Established control = false
+begins_anew (Closing closer) control = false
+
+-- the connection that a segment is one of
+abbrev pub connection_for : Connection → Control → Connection
+connection_for connection control =
+    if begins_anew connection.state control then no_connection else connection
+
+abbrev pub side_in : Direction → Connection → Side
+side_in FromLower connection = connection.from_lower
+side_in FromHigher connection = connection.from_higher
+
+abbrev pub with_side : Direction → Connection → Side → Connection
+with_side FromLower connection side = record connection { from_lower = side }
+with_side FromHigher connection side = record connection { from_higher = side }
+
+-- that connection with the segment
+abbrev pub with_state : ConnectionState → Connection → Connection
+with_state state connection = record connection { state = state }
+
+abbrev pub connection_with : (kept : ℕ) → Connection → ConnectionSegment → Connection
+connection_with kept earlier s =
+    let connection = connection_for earlier (control_on s) in
+    with_state (state_after connection.state s.direction (control_on s))
+    (with_side s.direction connection (side_with kept (side_in s.direction connection) s.segment))
+
+-- the connection after segments, the oldest first
+abbrev pub connection_after : (kept : ℕ) → List ConnectionSegment → Connection
+connection_after kept ss = fold (connection_with kept) no_connection ss
+
+-- ---- what a segment does
+
+-- the first gap, if bytes are held after one
+pub record IsGapIn (ss : List Placed) (gap : Option Gap) : Type 0 where
+  pub some : IfSome gap (IsFirstGap ss)
+  pub none : IfNone gap ((p : ℕ) → length (text_of ss) ≤ p → byte_at ss p ≡ None)
+
+-- a gap that begins elsewhere than the one before, or where there was none
+abbrev pub new_gap : (before after : Option Gap) → Option Gap
+new_gap None after = after
+new_gap (Some before) None = None
+new_gap (Some before) (Some after) = if before.start == after.start then None else Some after
+
+-- a segment is refused for what it is, and not since there is no memory
+abbrev pub is_of_segment : Refused → Bool
+is_of_segment (OutsideWindow window_end) = true
+is_of_segment (AfterFin fin) = true
+is_of_segment AfterReset = true
+is_of_segment OutOfMemory = false
+
+-- the bytes that it makes available begin where those ended that were available; which gap begins, at
+-- how many positions it differs, and why it is refused
+pub record IsTaken (kept : ℕ) (side : Side) (s : Segment) (taken : FollowedSegment) : Type 0 where
+  pub position : taken.position ≡ length (text_of side.segments)
+  pub gap : (before : Option Gap) × (after : Option Gap) × IsGapIn side.segments before
+      × IsGapIn (side_with kept side s).segments after × (taken.gap ≡ new_gap before after)
+  pub conflicts : taken.conflicts ≡ counted (if is_some (refusal_on kept side s) then []
+      else conflicts_with side.segments (placed_on kept side s))
+  pub refused : taken.refused ≡ refusal_on kept side s
+
+-- and whether it begins a new connection
+pub record IsFollowed (kept : ℕ) (earlier : Connection) (s : ConnectionSegment) (followed : FollowedSegment)
+    : Type 0 where
+  pub anew : followed.begins_anew ≡ begins_anew earlier.state (control_on s)
+  pub taken : IsTaken kept (side_in s.direction (connection_for earlier (control_on s))) s.segment followed
+
+-- ---- what a follower holds
+
+-- a buffer shows a side, whose last bytes it keeps, so many at least
+pub record ShowsSide (kept : ℕ) (buf : Contents) (side : Side) : Type 0 where
+  pub shows : Shows buf side.segments
+  pub start : buf.start ≡ side.start
+  pub joined_late : buf.joined_late ≡ side.joined_late
+  pub window : buf.window ≡ 2 * kept
+  pub taken : buf.held.taken ≤ taken_of kept side
+
+-- both buffers show those of a connection
+pub record Follows (follower : Follower) (connection : Connection) : Type 0 where
+  pub state : follower.state ≡ connection.state
+  pub from_lower : ShowsSide follower.window follower.from_lower connection.from_lower
+  pub from_higher : ShowsSide follower.window follower.from_higher connection.from_higher
+
+-- the buffer of a direction
+abbrev pub buf_in : Direction → Follower → Contents
+buf_in FromLower follower = follower.from_lower
+buf_in FromHigher follower = follower.from_higher
+
+-- the bytes that a segment makes available are kept, those of the direction from there on
+abbrev pub keeps : Contents → FollowedSegment → Type 0
+keeps buf followed = buf.held.taken ≤ followed.position

@@ -1,0 +1,264 @@
+//! A TCP connection, followed.
+
+ghost use Rattle.std.specs.Prelude.{◌≡◌, ◌++◌, ◌∷◌, ◌*◌, [], List, IfOk, MatchResult, OnErr, OnOk, Option};
+ghost use Rattle.tcp_streams.specs.Following.{Connection, ConnectionSegment, Follows, IsFollowed, IsGapIn, IsTaken};
+ghost use Rattle.tcp_streams.specs.Following.{ShowsSide, Side, begins_anew, buf_in, connection_after, connection_for};
+ghost use Rattle.tcp_streams.specs.Following.{connection_segment, control_with, is_of_segment, keeps, new_gap, no_connection};
+ghost use Rattle.tcp_streams.specs.Following.{no_side, side_in, side_with, taken_of, with_side};
+ghost use Rattle.tcp_streams.specs.Placing.{Segment, segment};
+ghost use Rattle.tcp_streams.specs.StreamBuf.{Contents, IsBounded};
+
+use super::conflicts::Conflicts;
+use super::connection_state::{ConnectionState, Control};
+use super::direction::Direction;
+use super::gaps::Gap;
+use super::refusal::Refused;
+use super::segment_flags::SegmentFlags;
+use super::stream_buf::StreamBuf;
+use std::alloc::{AllocError, Global};
+
+/// The connections between two endpoints, one after the other: the bytes of both directions, put
+/// together as segments come.
+///
+/// Of each direction it keeps the last bytes that became available, so that others at their positions
+/// count as conflicts, and it takes as many after them.
+#[derive(Drop)]
+pub struct Follower {
+    alloc: Global,
+    window: u32,
+    state: ConnectionState,
+    from_lower: StreamBuf,
+    from_higher: StreamBuf,
+}
+
+/// What a segment does in the connection that is followed.
+#[derive(Clone, Copy, Debug, PartialEq, Eq)]
+pub struct FollowedSegment {
+    /// It begins a new connection: it has SYN without ACK, and the one before ended by FIN of both
+    /// endpoints or by RST. All of that one is gone.
+    pub begins_anew: bool,
+    /// Where the bytes of its direction begin that it makes available:
+    /// [`StreamBuf::available_from`] returns them.
+    pub position: u64,
+    /// The first gap after it, if that begins elsewhere than the first gap before, or if there was
+    /// none.
+    pub gap: Option<Gap>,
+    /// The positions of its bytes that differ from those that are kept.
+    pub conflicts: Conflicts,
+    /// Why it is refused. It does nothing then, but that its flags change the state.
+    pub refused: Option<Refused>,
+}
+
+impl Follower {
+    /// No segment came. So many bytes of each direction are kept, and as many after them are taken.
+    pub fn new(alloc: Global, window: u32) -> Follower
+        ensures follows { Follows result (connection_after window []) }
+        ensures window { result.window ≡ window }
+    {
+        let room = 2 * window as usize;
+        Follower {
+            alloc,
+            window,
+            state: ConnectionState::Unseen,
+            from_lower: StreamBuf::new(alloc, room),
+            from_higher: StreamBuf::new(alloc, room),
+        }
+    }
+
+    /// How far the connection came, by the flags of all its segments, those that are refused included.
+    pub fn state(&self) -> ConnectionState
+        ensures { (connection : Connection) → Follows self.now connection → result ≡ connection.state }
+    {
+        self.state
+    }
+
+    /// The bytes of a direction.
+    pub fn buf(&self, direction: Direction) -> &StreamBuf
+        ensures shows { (connection : Connection) → Follows self.now connection
+            → ShowsSide self.now.window result.now (side_in direction connection) }
+        ensures buf { result.now ≡ buf_in direction self.now }
+    {
+        match direction {
+            Direction::FromLower => &self.from_lower,
+            Direction::FromHigher => &self.from_higher,
+        }
+    }
+
+    /// Whether a segment with this control begins a new connection: SYN without ACK after FIN of both
+    /// endpoints or RST.
+    pub fn begins_anew(&self, control: Control) -> bool
+        ensures { (connection : Connection) → Follows self.now connection
+            → result ≡ begins_anew connection.state control }
+    {
+        is_ended(self.state) && control == Control::Syn
+    }
+
+    /// Takes a segment. If it begins a new connection, nothing of the one before is left.
+    ///
+    /// Where there is no memory for it, it isn't taken; a new connection begins then too.
+    pub fn add(
+        &mut self,
+        direction: Direction,
+        sequence_number: u32,
+        flags: SegmentFlags,
+        ack: bool,
+        payload: &[u8],
+    ) -> Result<FollowedSegment, AllocError>
+        ensures follows { (earlier : List ConnectionSegment)
+            → Follows self.old (connection_after self.old.window earlier) →
+            let s = connection_segment direction sequence_number flags ack payload.now in
+            OnOk result (Follows self.new (connection_after self.old.window (earlier ++ s ∷ []))) }
+        ensures followed { (earlier : List ConnectionSegment)
+            → Follows self.old (connection_after self.old.window earlier) →
+            let s = connection_segment direction sequence_number flags ack payload.now in
+            IfOk result (IsFollowed self.old.window (connection_after self.old.window earlier) s) }
+        ensures kept { (earlier : List ConnectionSegment)
+            → Follows self.old (connection_after self.old.window earlier)
+            → IfOk result (keeps (buf_in direction self.new)) }
+        ensures err { (earlier : List ConnectionSegment)
+            → Follows self.old (connection_after self.old.window earlier) → OnErr result (Follows self.new
+            (connection_for (connection_after self.old.window earlier) (control_with flags ack))) }
+        ensures window { self.new.window ≡ self.old.window }
+    {
+        let control = Control::of_flags(flags.syn, ack, flags.fin, flags.rst);
+        let begins_anew = self.begin(control);
+        let state = self.state.after(direction, control);
+        match self.take(direction, sequence_number, flags, payload) {
+            Ok(taken) => {
+                self.state = state;
+                Ok(FollowedSegment {
+                    begins_anew,
+                    ..taken
+                })
+            }
+            Err(error) => Err(error),
+        }
+    }
+
+    // Forgets the connection where a segment with this control begins a new one, and returns whether
+    // it does.
+    fn begin(&mut self, control: Control) -> bool
+        ensures follows { (connection : Connection) → Follows self.old connection
+            → Follows self.new (connection_for connection control) }
+        ensures anew { (connection : Connection) → Follows self.old connection
+            → result ≡ begins_anew connection.state control }
+        ensures window { self.new.window ≡ self.old.window }
+    {
+        let begins_anew = self.begins_anew(control);
+        if begins_anew {
+            *self = Follower::new(self.alloc, self.window);
+        }
+        begins_anew
+    }
+
+    // Takes a segment of this connection, without its flags.
+    fn take(
+        &mut self,
+        direction: Direction,
+        sequence_number: u32,
+        flags: SegmentFlags,
+        payload: &[u8],
+    ) -> Result<FollowedSegment, AllocError>
+        ensures taken { (connection : Connection) → Follows self.old connection →
+            let s = segment sequence_number flags payload.now in
+            let side = side_in direction connection in MatchResult result
+            (λ taken. Follows self.new (with_side direction connection (side_with self.old.window side s))
+            × IsTaken self.old.window side s taken)
+            (λ _. Follows self.new connection) }
+        ensures kept { (connection : Connection) → Follows self.old connection
+            → IfOk result (keeps (buf_in direction self.new)) }
+        ensures window { self.new.window ≡ self.old.window }
+        ensures state { self.new.state ≡ self.old.state }
+    {
+        match direction {
+            Direction::FromLower => take(
+                &mut self.from_lower,
+                self.window,
+                sequence_number,
+                flags,
+                payload,
+            ),
+            Direction::FromHigher => take(
+                &mut self.from_higher,
+                self.window,
+                sequence_number,
+                flags,
+                payload,
+            ),
+        }
+    }
+}
+
+fn is_ended(state: ConnectionState) -> bool
+    ensures { result ≡ begins_anew state Control.Syn }
+{
+    matches!(state, ConnectionState::Closed | ConnectionState::Reset)
+}
+
+// Takes a segment of one direction, of which so many bytes are kept.
+fn take(
+    buf: &mut StreamBuf,
+    kept: u32,
+    sequence_number: u32,
+    flags: SegmentFlags,
+    payload: &[u8],
+) -> Result<FollowedSegment, AllocError>
+    ensures taken { (earlier : Side) → ShowsSide kept buf.old earlier →
+        let s = segment sequence_number flags payload.now in MatchResult result
+        (λ taken. ShowsSide kept buf.new (side_with kept earlier s) × IsTaken kept earlier s taken)
+        (λ _. ShowsSide kept buf.new earlier) }
+    ensures kept { (earlier : Side) → ShowsSide kept buf.old earlier
+        → IfOk result (keeps buf.new) }
+{
+    forget(buf, kept);
+    let position = buf.available_end();
+    let before = buf.gap();
+    match buf.add(sequence_number, flags, payload) {
+        Ok(added) => Ok(FollowedSegment {
+            begins_anew: false,
+            position,
+            gap: new_gap(before, buf.gap()),
+            conflicts: added.conflicts,
+            refused: None,
+        }),
+        Err(refused) if is_of_segment(refused) => Ok(FollowedSegment {
+            begins_anew: false,
+            position,
+            gap: None,
+            conflicts: Conflicts::none(),
+            refused: Some(refused),
+        }),
+        Err(_) => Err(AllocError),
+    }
+}
+
+// Whether a segment is refused for what it is.
+fn is_of_segment(refused: Refused) -> bool
+    ensures { result ≡ is_of_segment refused }
+{
+    match refused {
+        Refused::OutsideWindow { .. } | Refused::AfterFin { .. } | Refused::AfterReset => true,
+        Refused::OutOfMemory => false,
+    }
+}
+
+// Forgets the available bytes but the last ones, which are kept.
+fn forget(buf: &mut StreamBuf, kept: u32)
+    ensures shows { (earlier : Side) → ShowsSide kept buf.old earlier
+        → ShowsSide kept buf.new earlier }
+    ensures taken { (earlier : Side) → ShowsSide kept buf.old earlier
+        → buf.new.held.taken ≡ taken_of kept earlier }
+{
+    let count = buf.available().len().saturating_sub(kept as usize);
+    buf.consume(count);
+}
+
+// A gap that begins elsewhere than the one before, or where there was none.
+fn new_gap(before: Option<Gap>, after: Option<Gap>) -> Option<Gap>
+    ensures { result ≡ new_gap before after }
+{
+    match (before, after) {
+        (Some(before), Some(after)) if before.start == after.start => None,
+        (_, after) => after,
+    }
+}
