@@ -5,6 +5,7 @@ mod FlowLemmas
 mod FollowLemmas
 mod GapLemmas
 mod LawLemmas
+mod LossLemmas
 mod NumberLaws
 mod NumberLemmas
 mod QueueLemmas

@@ -1,5 +1,5 @@
 -- A connection that is followed: its state, and the segments of both directions that were accepted.
-use Rattle.std.specs.Prelude.{◌≡◌, ℕ, ◌-◌, ◌*◌, ◌≤◌, ◌==◌, Bool, true, false, if◌then◌else◌, is_some, IfSome, IfNone}
+use Rattle.std.specs.Prelude.{◌≡◌, ℕ, ◌-◌, ◌*◌, ◌≤◌, ◌==◌, Bool, true, false, not, if◌then◌else◌, is_some, max}
 use Rattle.std.specs.Prelude.{List, [], ◌∷◌, ◌++◌, fold, length, Option, Some, None}
 use Rattle.tcp_streams.specs.declared.connection_state.ConnectionState.{ConnectionState}
 use Rattle.tcp_streams.specs.declared.connection_state.ConnectionState.TheVariants.{Unseen, SynSent, SynReceived}
@@ -14,26 +14,31 @@ use Rattle.tcp_streams.specs.declared.gaps.Gap.{Gap}
 use Rattle.tcp_streams.specs.declared.refusal.Refused.{Refused}
 use Rattle.tcp_streams.specs.declared.refusal.Refused.TheVariants.{OutsideWindow, AfterFin, AfterReset, OutOfMemory}
 use Rattle.tcp_streams.specs.declared.segment_flags.SegmentFlags.{SegmentFlags}
-use Rattle.tcp_streams.specs.ConnectionStates.{by_direction, control_in, state_after}
+use Rattle.tcp_streams.specs.ConnectionStates.{control_in, state_after}
+use Rattle.tcp_streams.specs.Losses.{given_up, lost_of}
 use Rattle.tcp_streams.specs.Placing.{Segment, placed, segment, start_number}
 use Rattle.tcp_streams.specs.Refusals.{refusal_of}
-use Rattle.tcp_streams.specs.Segments.{Placed, byte_at, conflicts_with, text_of}
+use Rattle.tcp_streams.specs.Segments.{Placed, conflicts_with, text_of}
 use Rattle.tcp_streams.specs.SparseBytes.{counted}
-use Rattle.tcp_streams.specs.StreamBuf.{Contents, Shows, IsFirstGap}
+use Rattle.tcp_streams.specs.StreamBuf.{Contents, Shows, IsGapIn}
 
 -- ---- one direction
 
--- the number of position 0, once a segment was accepted; and those that were, the oldest first
+-- the number of position 0, once a segment was accepted; whether the first of them had no SYN; those that were, the
+-- oldest first; and the end of the last bytes that were given up
 pub record Side : Type 0 where
   pub start : Option ℕ
+  pub joined_late : Bool
   pub segments : List Placed
+  pub given_up : ℕ
 
 abbrev pub no_side : Side
-no_side = record { start = None; segments = [] }
+no_side = record { start = None; joined_late = false; segments = []; given_up = 0 }
 
--- of the bytes up to the first gap the last ones are kept, so many at most; those before them aren't
+-- of the bytes up to the first gap the last ones are kept, so many at most, and only those after bytes that were given up;
+-- those before them aren't
 abbrev pub taken_of : (kept : ℕ) → Side → ℕ
-taken_of kept side = length (text_of side.segments) - kept
+taken_of kept side = max (length (text_of side.segments) - kept) side.given_up
 
 -- a segment at its place
 abbrev pub placed_on : (kept : ℕ) → Side → Segment → Placed
@@ -48,8 +53,20 @@ refusal_on kept side s =
 abbrev pub side_with : (kept : ℕ) → Side → Segment → Side
 side_with kept side s = if is_some (refusal_on kept side s) then side else record {
   start = Some (start_number side.start s.number s.flags);
+  joined_late = if is_some side.start then side.joined_late else not s.flags.syn;
   segments = side.segments ++ placed_on kept side s ∷ [];
+  given_up = side.given_up;
 }
+
+-- the bytes that are lost, by a number of the other endpoint that acknowledges, where this is the first gap
+abbrev pub lost_on : (kept : ℕ) → Side → (first : Option Gap) → (number : ℕ) → Option Gap
+lost_on kept side first number = lost_of (2 * kept) (taken_of kept side) side.start side.segments first number
+
+-- the side with bytes given up: a segment that has bytes at their positions comes too late, and changes nothing
+abbrev pub side_without : Side → Option Gap → Side
+side_without side None = side
+side_without side (Some gap) =
+    record side { segments = side.segments ++ given_up gap ∷ []; given_up = gap.end }
 
 -- ---- both
 
@@ -121,16 +138,25 @@ connection_with kept earlier s =
     with_state (state_after connection.state s.direction (control_on s))
     (with_side s.direction connection (side_with kept (side_in s.direction connection) s.segment))
 
--- the connection after segments, the oldest first
-abbrev pub connection_after : (kept : ℕ) → List ConnectionSegment → Connection
-connection_after kept ss = fold (connection_with kept) no_connection ss
+-- the connection with bytes of a direction given up
+abbrev pub connection_without : Connection → Direction → Option Gap → Connection
+connection_without connection direction lost =
+    with_side direction connection (side_without (side_in direction connection) lost)
+
+-- what a follower is told: a segment comes, or bytes that are lost are given up
+pub data Step : Type 0 where
+  Comes : (segment : ConnectionSegment) → Step
+  GivesUp : (direction : Direction) → (lost : Option Gap) → Step
+
+abbrev pub connection_with_step : (kept : ℕ) → Connection → Step → Connection
+connection_with_step kept connection (Comes s) = connection_with kept connection s
+connection_with_step kept connection (GivesUp direction lost) = connection_without connection direction lost
+
+-- the connection after these, the oldest first
+abbrev pub connection_after : (kept : ℕ) → List Step → Connection
+connection_after kept steps = fold (connection_with_step kept) no_connection steps
 
 -- ---- what a segment does
-
--- the first gap, if bytes are held after one
-pub record IsGapIn (ss : List Placed) (gap : Option Gap) : Type 0 where
-  pub some : IfSome gap (IsFirstGap ss)
-  pub none : IfNone gap ((p : ℕ) → length (text_of ss) ≤ p → byte_at ss p ≡ None)
 
 -- a gap that begins elsewhere than the one before, or where there was none
 abbrev pub new_gap : (before after : Option Gap) → Option Gap
@@ -167,8 +193,15 @@ pub record IsFollowed (kept : ℕ) (earlier : Connection) (s : ConnectionSegment
 pub record ShowsSide (kept : ℕ) (buf : Contents) (side : Side) : Type 0 where
   pub shows : Shows buf side.segments
   pub start : buf.start ≡ side.start
+  pub joined_late : buf.joined_late ≡ side.joined_late
   pub window : buf.window ≡ 2 * kept
   pub taken : buf.held.taken ≤ taken_of kept side
+  pub given_up : side.given_up ≤ buf.held.taken
+
+-- the buffer of a direction
+abbrev pub buf_in : Direction → Follower → Contents
+buf_in FromLower follower = follower.from_lower
+buf_in FromHigher follower = follower.from_higher
 
 -- both buffers show those of a connection
 pub record Follows (follower : Follower) (connection : Connection) : Type 0 where

@@ -1,12 +1,15 @@
 //! A TCP connection, followed.
 
-ghost use Rattle.std.specs.Prelude.{◌≡◌, ◌++◌, ◌∷◌, ◌*◌, [], List, IfOk, MatchResult, OnErr, OnOk, Option};
-ghost use Rattle.tcp_streams.specs.Following.{Connection, ConnectionSegment, Follows, IsFollowed, IsGapIn, IsTaken};
-ghost use Rattle.tcp_streams.specs.Following.{ShowsSide, Side, begins_anew, connection_after, connection_for};
+ghost use Rattle.std.specs.Prelude.{◌≡◌, ◌≤◌, ◌++◌, ◌∷◌, ◌*◌, ℕ, [], List, IfOk, IfSome, MatchResult, OnErr, OnOk};
+ghost use Rattle.std.specs.Prelude.{Option};
+ghost use Rattle.tcp_streams.specs.declared.gaps.Gap.{Gap};
+ghost use Rattle.tcp_streams.specs.Following.{Connection, Follows, IsFollowed, IsTaken, ShowsSide, Side, Step};
+ghost use Rattle.tcp_streams.specs.Following.{begins_anew, buf_in, connection_after, connection_for, connection_without};
 ghost use Rattle.tcp_streams.specs.Following.{connection_segment, connection_with, control_with, is_of_segment, new_gap, no_connection};
-ghost use Rattle.tcp_streams.specs.Following.{no_side, side_in, side_with, taken_of, with_side};
+ghost use Rattle.tcp_streams.specs.Following.{lost_on, no_side, side_in, side_with, side_without, taken_of, with_side};
+ghost use Rattle.tcp_streams.specs.Following.Step.{Comes, GivesUp};
 ghost use Rattle.tcp_streams.specs.Placing.{Segment, segment};
-ghost use Rattle.tcp_streams.specs.StreamBuf.{Contents, IsBounded};
+ghost use Rattle.tcp_streams.specs.StreamBuf.{Contents, IsBounded, IsGapIn};
 
 use super::conflicts::Conflicts;
 use super::connection_state::{ConnectionState, Control};
@@ -74,7 +77,8 @@ impl Follower {
 
     /// The bytes of a direction.
     pub fn buf(&self, direction: Direction) -> &StreamBuf
-        ensures { (connection : Connection) → Follows self.now connection
+        ensures buf { result.now ≡ buf_in direction self.now }
+        ensures shows { (connection : Connection) → Follows self.now connection
             → ShowsSide self.now.window result.now (side_in direction connection) }
     {
         match direction {
@@ -103,15 +107,18 @@ impl Follower {
         ack: bool,
         payload: &[u8],
     ) -> Result<FollowedSegment, AllocError>
-        ensures follows { (earlier : List ConnectionSegment)
+        ensures follows { (earlier : List Step)
             → Follows self.old (connection_after self.old.window earlier) →
             let s = connection_segment direction sequence_number flags ack payload.now in
-            OnOk result (Follows self.new (connection_after self.old.window (earlier ++ s ∷ []))) }
-        ensures followed { (earlier : List ConnectionSegment)
+            OnOk result (Follows self.new (connection_after self.old.window (earlier ++ Comes s ∷ []))) }
+        ensures followed { (earlier : List Step)
             → Follows self.old (connection_after self.old.window earlier) →
             let s = connection_segment direction sequence_number flags ack payload.now in
             IfOk result (IsFollowed self.old.window (connection_after self.old.window earlier) s) }
-        ensures err { (earlier : List ConnectionSegment)
+        // The bytes that it makes available are there.
+        ensures kept { (earlier : List Step) → Follows self.old (connection_after self.old.window earlier)
+            → IfOk result (λ followed. (buf_in direction self.new).held.taken ≤ followed.position) }
+        ensures err { (earlier : List Step)
             → Follows self.old (connection_after self.old.window earlier) → OnErr result (Follows self.new
             (connection_for (connection_after self.old.window earlier) (control_with flags ack))) }
         ensures window { self.new.window ≡ self.old.window }
@@ -128,6 +135,53 @@ impl Follower {
                 })
             }
             Err(error) => Err(error),
+        }
+    }
+
+    /// Gives up the first bytes of a direction that are lost: they are missing, and the other endpoint
+    /// acknowledges them by this number. It returns their positions. The bytes after them become
+    /// available: [`StreamBuf::available_from`] returns them from the end of the gap on.
+    ///
+    /// Lost are the bytes of the first gap, if all of them are acknowledged. Where there is no gap the
+    /// bytes before FIN are lost and, where FIN didn't come, those before the number, if that stands after
+    /// the window. More may be lost, until it returns `None`.
+    ///
+    /// What comes later at their positions changes nothing, and bytes before them are compared no more.
+    pub fn give_up(&mut self, direction: Direction, acknowledgment_number: u32) -> Option<Gap>
+        ensures lost { (earlier : List Step) → Follows self.old (connection_after self.old.window earlier) →
+            let side = side_in direction (connection_after self.old.window earlier) in
+            (first : Option Gap) × IsGapIn side.segments first
+            × (result ≡ lost_on self.old.window side first acknowledgment_number) }
+        ensures follows { (earlier : List Step) → Follows self.old (connection_after self.old.window earlier)
+            → Follows self.new (connection_after self.old.window (earlier ++ GivesUp direction result ∷ [])) }
+        // The bytes after them are there.
+        ensures kept { IfSome result (λ gap. (buf_in direction self.new).held.taken ≤ gap.end) }
+        ensures window { self.new.window ≡ self.old.window }
+    {
+        self.give_up_in(direction, acknowledgment_number)
+    }
+
+    // The same, of any connection.
+    fn give_up_in(&mut self, direction: Direction, acknowledgment_number: u32) -> Option<Gap>
+        ensures lost { (connection : Connection) → Follows self.old connection →
+            let side = side_in direction connection in (first : Option Gap) × IsGapIn side.segments first
+            × (result ≡ lost_on self.old.window side first acknowledgment_number) }
+        ensures follows { (connection : Connection) → Follows self.old connection
+            → Follows self.new (connection_without connection direction result) }
+        ensures kept { IfSome result (λ gap. (buf_in direction self.new).held.taken ≤ gap.end) }
+        ensures window { self.new.window ≡ self.old.window }
+    {
+        match direction {
+            Direction::FromLower => give_up(
+                &mut self.from_lower,
+                self.window,
+                acknowledgment_number,
+            ),
+            Direction::FromHigher => give_up(
+                &mut self.from_higher,
+                self.window,
+                acknowledgment_number,
+            ),
         }
     }
 
@@ -159,7 +213,7 @@ impl Follower {
             let s = segment sequence_number flags payload.now in
             let side = side_in direction connection in MatchResult result
             (λ taken. Follows self.new (with_side direction connection (side_with self.old.window side s))
-            × IsTaken self.old.window side s taken)
+            × IsTaken self.old.window side s taken × ((buf_in direction self.new).held.taken ≤ taken.position))
             (λ _. Follows self.new connection) }
         ensures window { self.new.window ≡ self.old.window }
         ensures state { self.new.state ≡ self.old.state }
@@ -199,7 +253,8 @@ fn take(
 ) -> Result<FollowedSegment, AllocError>
     ensures { (earlier : Side) → ShowsSide kept buf.old earlier →
         let s = segment sequence_number flags payload.now in MatchResult result
-        (λ taken. ShowsSide kept buf.new (side_with kept earlier s) × IsTaken kept earlier s taken)
+        (λ taken. ShowsSide kept buf.new (side_with kept earlier s) × IsTaken kept earlier s taken
+        × (buf.new.held.taken ≤ taken.position))
         (λ _. ShowsSide kept buf.new earlier) }
 {
     forget(buf, kept);
@@ -232,6 +287,18 @@ fn is_of_segment(refused: Refused) -> bool
         Refused::OutsideWindow { .. } | Refused::AfterFin { .. } | Refused::AfterReset => true,
         Refused::OutOfMemory => false,
     }
+}
+
+// Gives up bytes of one direction, of which so many bytes are kept.
+fn give_up(buf: &mut StreamBuf, kept: u32, number: u32) -> Option<Gap>
+    ensures lost { (earlier : Side) → ShowsSide kept buf.old earlier → (first : Option Gap)
+        × IsGapIn earlier.segments first × (result ≡ lost_on kept earlier first number) }
+    ensures shows { (earlier : Side) → ShowsSide kept buf.old earlier
+        → ShowsSide kept buf.new (side_without earlier result) }
+    ensures kept { IfSome result (λ gap. buf.new.held.taken ≤ gap.end) }
+{
+    forget(buf, kept);
+    buf.give_up(number)
 }
 
 // Forgets the available bytes but the last ones, which are kept.

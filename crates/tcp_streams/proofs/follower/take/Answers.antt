@@ -1,6 +1,6 @@
 use Rattle.std.proofs.Common.{◌∙◌, sym}
 use Rattle.tcp_streams.specs.Placing.{segment}
-use Rattle.tcp_streams.proofs.FollowLemmas.{of_segment, shows_with, shows_without, taken_with, taken_without}
+use Rattle.tcp_streams.proofs.FollowLemmas.{kept_with, of_segment, shows_with, shows_without, taken_with, taken_without}
 use Rattle.tcp_streams.proofs.follower.take.Goals as goal
 
 pub returns-in-Ok : goal.returns-in-Ok
@@ -11,7 +11,7 @@ returns-in-Ok c earlier was =
     let none = c.in-Ok.ensures.refused earlier.segments mid.shows in
     let accepted = c.in-Ok.ensures.accepted earlier.segments mid.shows in (
       shows_with c.args.kept c.forget.new.buf earlier s mid at c.add.new.self accepted none c.in-Ok.ensures.start
-          c.add.ensures.taken c.add.ensures.window,
+          c.in-Ok.ensures.joined_late c.add.ensures.taken c.add.ensures.window,
       rw c.new_gap.ensures (taken_with c.args.kept c.forget.new.buf earlier s mid at c.add.new.self accepted none
           c.available_end-position.result c.gap-before.result c.gap.result c.in-Ok.added.conflicts
           (c.available_end-position.ensures earlier.segments mid.shows)
@@ -21,6 +21,8 @@ returns-in-Ok c earlier was =
           })
           (record { some = c.gap.ensures.gap _ accepted; none = c.gap.ensures.none _ accepted })
           (c.in-Ok.ensures.conflicts earlier.segments mid.shows)),
+      kept_with c.args.kept c.forget.new.buf earlier mid at c.add.new.self c.available_end-position.result
+          c.add.ensures.taken (c.available_end-position.ensures earlier.segments mid.shows),
     )
 
 pub returns-in-Err : goal.returns-in-Err
@@ -37,4 +39,6 @@ returns-in-Err c earlier was =
             some = c.gap-before.ensures.gap earlier.segments mid.shows;
             none = c.gap-before.ensures.none earlier.segments mid.shows;
           })),
+      kept_with c.args.kept c.forget.new.buf earlier mid at c.add.new.self c.available_end-position.result
+          c.add.ensures.taken (c.available_end-position.ensures earlier.segments mid.shows),
     )
