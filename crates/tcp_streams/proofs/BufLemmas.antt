@@ -235,7 +235,7 @@ shows_no_gap_result buf ss sound shows (Some g) is = tt
 
 -- ---- a segment is added
 
-placed_after : (d : Distance) (next taken : ℕ) (a : Segment) → taken ≤ next
+pub placed_after : (d : Distance) (next taken : ℕ) (a : Segment) → taken ≤ next
     → taken ≤ (placed_at d next taken a).position
 placed_after (After n) next taken a h = omega arith
 placed_after (Before n) next taken a h = omega arith

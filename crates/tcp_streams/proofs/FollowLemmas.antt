@@ -3,7 +3,6 @@ use Rattle.std.proofs.Common.{◌≡◌, ◌∙◌, ℕ, ◌≤◌, true, false,
 use Rattle.std.proofs.Common.{arith, refl, sym, ap}
 use Rattle.std.proofs.lemmas.Bool.Decides.{nat_tests}
 use Rattle.std.proofs.lemmas.List.{length-take}
-use Rattle.std.specs.Prelude.{Err, IfSome, MatchResult, Ok, Result, is_some, not}
 use Rattle.std.specs.Option.{option_map_or}
 use Rattle.std.proofs.lemmas.Grind.{fold-append}
 use Rattle.tcp_streams.specs.declared.conflicts.Conflicts.{Conflicts}
@@ -16,10 +15,6 @@ use Rattle.tcp_streams.specs.declared.follower.FollowedSegment.{FollowedSegment}
 use Rattle.tcp_streams.specs.declared.follower.Follower.{Follower}
 use Rattle.tcp_streams.specs.declared.refusal.Refused.TheVariants.{OutOfMemory}
 use Rattle.tcp_streams.specs.ConnectionStates.{state_after}
-use Rattle.tcp_streams.specs.Following.{Connection, ConnectionSegment, Follows, IsTaken, ShowsSide, Side, Step, connection_after}
-use Rattle.tcp_streams.specs.Following.{connection_for, connection_with_step, connection_without, control_on, is_of_segment}
-use Rattle.tcp_streams.specs.Following.{lost_on, new_gap, no_connection, placed_on, refusal_on, side_in, side_with, side_without}
-use Rattle.tcp_streams.specs.Following.{taken_of, with_side}
 use Rattle.tcp_streams.specs.Following.Step.{Comes, GivesUp}
 use Rattle.tcp_streams.specs.Losses.{lost_of, with_given_up}
 use Rattle.tcp_streams.specs.Placing.{Segment, placed, start_number}
@@ -29,6 +24,13 @@ use Rattle.tcp_streams.specs.SparseBytes.{counted}
 use Rattle.tcp_streams.specs.StreamBuf.{Contents, IsGapIn, Shows}
 use Rattle.tcp_streams.proofs.BufLemmas.{taken_in_text}
 use Rattle.tcp_streams.proofs.LawLemmas.{text_stays}
+use Rattle.std.specs.Prelude.{Err, IfOk, IfSome, MatchResult, Ok, OnOk, Result, is_some, not}
+use Rattle.tcp_streams.specs.declared.connection_state.Control.{Control}
+use Rattle.tcp_streams.specs.Following.{Connection, ConnectionSegment, DoesNothing, Follows, IsCounted, IsFollowed, IsTaken}
+use Rattle.tcp_streams.specs.Following.{ShowsSide, Side, Step, begins_anew_by, buf_in, connection_after, connection_of}
+use Rattle.tcp_streams.specs.Following.{connection_with_counted, connection_with_step, connection_without, control_on, counts}
+use Rattle.tcp_streams.specs.Following.{is_of_segment, lost_on, new_gap, no_connection, placed_on, refusal_on, side_in}
+use Rattle.tcp_streams.specs.Following.{side_with, side_without, taken_of, with_side}
 
 grows : (ss ts : List Placed) → length (text_of ss) ≤ length (text_of (ss ++ ts))
 grows ss ts =
@@ -157,20 +159,59 @@ kept_after (Some gap) old new is = omega (arith, is)
 
 -- ---- both directions
 
-pub follows_with : (window : ℕ) (mid new : Follower) (earlier : List Step) (s : ConnectionSegment)
+pub follows_with : (window : ℕ) (mid new : Follower) (earlier : Connection) (s : ConnectionSegment)
     (state : ConnectionState) → mid.window ≡ window
-    → Follows mid (connection_for (connection_after window earlier) (control_on s))
-    → Follows new (with_side s.direction (connection_for (connection_after window earlier) (control_on s))
-    (side_with mid.window (side_in s.direction (connection_for (connection_after window earlier) (control_on s))) s.segment))
+    → Follows mid (connection_of earlier s)
+    → Follows new (with_side s.direction (connection_of earlier s)
+    (side_with mid.window (side_in s.direction (connection_of earlier s)) s.segment))
     → state ≡ state_after mid.state s.direction (control_on s)
-    → Follows (record new { state = state }) (connection_after window (earlier ++ Comes s ∷ []))
+    → Follows (record new { state = state }) (connection_with_counted window earlier s)
 follows_with window mid new earlier s state same since taken is =
     let taken = rw same at taken in
-    rw (fold-append (connection_with_step window) no_connection earlier (Comes s ∷ [])) record {
+    record {
       state = is ∙ ap (λ (c : ConnectionState). state_after c s.direction (control_on s)) since.state;
       from_lower = taken.from_lower;
       from_higher = taken.from_higher;
     }
+
+-- a segment comes
+module _ (window : ℕ) (new : Follower) (earlier : List Step) (s : ConnectionSegment) where
+  pub follows_counted : counts (control_on s) ≡ true
+      → Follows new (connection_with_counted window (connection_after window earlier) s)
+      → Follows new (connection_after window (earlier ++ Comes s ∷ []))
+  follows_counted does follows =
+      rw (fold-append (connection_with_step window) no_connection earlier (Comes s ∷ []), does) follows
+
+  pub follows_left_out : counts (control_on s) ≡ false → Follows new (connection_after window earlier)
+      → Follows new (connection_after window (earlier ++ Comes s ∷ []))
+  follows_left_out does follows =
+      rw (fold-append (connection_with_step window) no_connection earlier (Comes s ∷ []), does) follows
+
+pub follows_if_ok : {X E : Type 0} (r : Result X E) (window : ℕ) (new : Follower) (earlier : List Step)
+    (s : ConnectionSegment) → counts (control_on s) ≡ true
+    → OnOk r (Follows new (connection_with_counted window (connection_after window earlier) s))
+    → OnOk r (Follows new (connection_after window (earlier ++ Comes s ∷ [])))
+follows_if_ok (Ok x) window new earlier s does follows = follows_counted window new earlier s does follows
+follows_if_ok (Err e) window new earlier s does follows = tt
+
+pub followed_if_ok : {E : Type 0} (r : Result FollowedSegment E) (kept : ℕ) (earlier : Connection) (s : ConnectionSegment)
+    → counts (control_on s) ≡ true → IfOk r (IsCounted kept earlier s) → IfOk r (IsFollowed kept earlier s)
+followed_if_ok (Ok x) kept earlier s does is = record { counted = λ h. is; left_out = λ h. cc (does, h) }
+followed_if_ok (Err e) kept earlier s does is = tt
+
+pub followed_left_out : (x : FollowedSegment) (kept : ℕ) (earlier : Connection) (s : ConnectionSegment)
+    → counts (control_on s) ≡ false → DoesNothing (side_in s.direction earlier) x → IsFollowed kept earlier s x
+followed_left_out x kept earlier s does is = record { counted = λ h. cc (does, h); left_out = λ h. is }
+
+-- the state says nothing of the bytes
+pub kept_with_state : (direction : Direction) (new : Follower) (state : ConnectionState) (n : ℕ)
+    → (buf_in direction new).held.taken ≤ n → (buf_in direction (record new { state = state })).held.taken ≤ n
+kept_with_state FromLower new state n h = h
+kept_with_state FromHigher new state n h = h
+
+pub anew_same : (state state' : ConnectionState) (start start' : Option ℕ) (number : ℕ) (control : Control)
+    → state ≡ state' → start ≡ start' → begins_anew_by state start number control ≡ begins_anew_by state' start' number control
+anew_same state state' start start' number control a b = rw (a, b) refl
 
 -- a segment is taken in one of them
 pub takes_lower : {E : Type 0} (follower : Follower) (buf : Contents) (connection : Connection) (s : Segment)

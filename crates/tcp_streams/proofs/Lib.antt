@@ -13,3 +13,4 @@ mod SegmentLemmas
 mod SparseLemmas
 mod StateLemmas
 mod StayLemmas
+mod StayingLemmas

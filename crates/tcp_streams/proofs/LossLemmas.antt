@@ -154,7 +154,7 @@ lost_place buf number gap sound lost =
 
 -- ---- a buffer that gives bytes up
 
-abbrev zeros : Gap → List ℕ
+abbrev pub zeros : Gap → List ℕ
 zeros gap = replicate (gap.end - gap.start) 0
 
 pub sound_after : (buf : Contents) (held : Sparse) (position : ℕ) → IsSound buf → buf.held.taken ≤ position

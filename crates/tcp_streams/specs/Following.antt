@@ -1,5 +1,5 @@
 -- A connection that is followed: its state, and the segments of both directions that were accepted.
-use Rattle.std.specs.Prelude.{◌≡◌, ℕ, ◌-◌, ◌*◌, ◌≤◌, ◌==◌, Bool, true, false, not, if◌then◌else◌, is_some, max}
+use Rattle.std.specs.Prelude.{◌≡◌, ℕ, ◌-◌, ◌*◌, ◌≤◌, ◌==◌, ◌+◌, ◌%◌, ◌^◌, Bool, true, false, not, ◌&&◌, ◌||◌, if◌then◌else◌, is_some, max}
 use Rattle.std.specs.Prelude.{List, [], ◌∷◌, ◌++◌, fold, length, Option, Some, None}
 use Rattle.tcp_streams.specs.declared.connection_state.ConnectionState.{ConnectionState}
 use Rattle.tcp_streams.specs.declared.connection_state.ConnectionState.TheVariants.{Unseen, SynSent, SynReceived}
@@ -95,30 +95,35 @@ pub record Connection : Type 0 where
 abbrev pub no_connection : Connection
 no_connection = record { state = Unseen; from_lower = no_side; from_higher = no_side }
 
--- SYN without ACK begins a new connection after the end of one
-abbrev pub begins_anew : ConnectionState → Control → Bool
-begins_anew Closed Syn = true
-begins_anew Closed Rst = false
-begins_anew Closed SynAck = false
-begins_anew Closed Fin = false
-begins_anew Closed Ack = false
-begins_anew Closed Nothing = false
-begins_anew Reset Syn = true
-begins_anew Reset Rst = false
-begins_anew Reset SynAck = false
-begins_anew Reset Fin = false
-begins_anew Reset Ack = false
-begins_anew Reset Nothing = false
-begins_anew Unseen control = false
-begins_anew (SynSent opener) control = false
-begins_anew (SynReceived opener) control = false
-begins_anew Established control = false
-begins_anew (Closing closer) control = false
+-- SYN without ACK
+abbrev pub opens : Control → Bool
+opens Rst = false
+opens Syn = true
+opens SynAck = false
+opens Fin = false
+opens Ack = false
+opens Nothing = false
 
--- the connection that a segment is one of
-abbrev pub connection_for : Connection → Control → Connection
-connection_for connection control =
-    if begins_anew connection.state control then no_connection else connection
+-- FIN of both endpoints came, or RST
+abbrev pub is_ended : ConnectionState → Bool
+is_ended Unseen = false
+is_ended (SynSent opener) = false
+is_ended (SynReceived opener) = false
+is_ended Established = false
+is_ended (Closing closer) = false
+is_ended Closed = true
+is_ended Reset = true
+
+-- position 0 has another number than this one
+abbrev pub begins_elsewhere : (start : Option ℕ) → (number : ℕ) → Bool
+begins_elsewhere None number = false
+begins_elsewhere (Some start) number = not (start == number)
+
+-- SYN without ACK begins a new connection after the end of one, and also before it, where position 0 of its direction
+-- hasn't the number after that of SYN: an endpoint uses its port again (RFC 9293, section 3.6.1). The same number is a repeat
+abbrev pub begins_anew_by : ConnectionState → (start : Option ℕ) → (number : ℕ) → Control → Bool
+begins_anew_by state start number control =
+    opens control && (is_ended state || begins_elsewhere start ((number + 1) % 2 ^ 32))
 
 abbrev pub side_in : Direction → Connection → Side
 side_in FromLower connection = connection.from_lower
@@ -128,15 +133,40 @@ abbrev pub with_side : Direction → Connection → Side → Connection
 with_side FromLower connection side = record connection { from_lower = side }
 with_side FromHigher connection side = record connection { from_higher = side }
 
+abbrev pub begins_anew : Connection → Direction → (number : ℕ) → Control → Bool
+begins_anew connection direction number control =
+    begins_anew_by connection.state (side_in direction connection).start number control
+
+-- the connection that a segment is one of
+abbrev pub connection_for : Connection → Direction → (number : ℕ) → Control → Connection
+connection_for connection direction number control =
+    if begins_anew connection direction number control then no_connection else connection
+
+abbrev pub connection_of : Connection → ConnectionSegment → Connection
+connection_of connection s = connection_for connection s.direction s.segment.number (control_on s)
+
 -- that connection with the segment
 abbrev pub with_state : ConnectionState → Connection → Connection
 with_state state connection = record connection { state = state }
 
-abbrev pub connection_with : (kept : ℕ) → Connection → ConnectionSegment → Connection
-connection_with kept earlier s =
-    let connection = connection_for earlier (control_on s) in
+abbrev pub connection_with_counted : (kept : ℕ) → Connection → ConnectionSegment → Connection
+connection_with_counted kept earlier s =
+    let connection = connection_of earlier s in
     with_state (state_after connection.state s.direction (control_on s))
     (with_side s.direction connection (side_with kept (side_in s.direction connection) s.segment))
+
+-- one with neither SYN, ACK nor RST changes nothing: in each state endpoints drop it (RFC 9293, section 3.10.7)
+abbrev pub counts : Control → Bool
+counts Rst = true
+counts Syn = true
+counts SynAck = true
+counts Fin = true
+counts Ack = true
+counts Nothing = false
+
+abbrev pub connection_with : (kept : ℕ) → Connection → ConnectionSegment → Connection
+connection_with kept earlier s =
+    if counts (control_on s) then connection_with_counted kept earlier s else earlier
 
 -- the connection with bytes of a direction given up
 abbrev pub connection_without : Connection → Direction → Option Gap → Connection
@@ -182,10 +212,23 @@ pub record IsTaken (kept : ℕ) (side : Side) (s : Segment) (taken : FollowedSeg
   pub refused : taken.refused ≡ refusal_on kept side s
 
 -- and whether it begins a new connection
+pub record IsCounted (kept : ℕ) (earlier : Connection) (s : ConnectionSegment) (followed : FollowedSegment)
+    : Type 0 where
+  pub anew : followed.begins_anew ≡ begins_anew earlier s.direction s.segment.number (control_on s)
+  pub taken : IsTaken kept (side_in s.direction (connection_of earlier s)) s.segment followed
+
+-- one that changes nothing does nothing
+pub record DoesNothing (side : Side) (followed : FollowedSegment) : Type 0 where
+  pub anew : followed.begins_anew ≡ false
+  pub position : followed.position ≡ length (text_of side.segments)
+  pub gap : followed.gap ≡ None
+  pub conflicts : followed.conflicts ≡ counted []
+  pub refused : followed.refused ≡ None
+
 pub record IsFollowed (kept : ℕ) (earlier : Connection) (s : ConnectionSegment) (followed : FollowedSegment)
     : Type 0 where
-  pub anew : followed.begins_anew ≡ begins_anew earlier.state (control_on s)
-  pub taken : IsTaken kept (side_in s.direction (connection_for earlier (control_on s))) s.segment followed
+  pub counted : counts (control_on s) ≡ true → IsCounted kept earlier s followed
+  pub left_out : counts (control_on s) ≡ false → DoesNothing (side_in s.direction earlier) followed
 
 -- ---- what a follower holds
 

@@ -1,10 +1,11 @@
 //! A TCP connection, followed.
 
 ghost use Rattle.std.specs.Prelude.{◌≡◌, ◌≤◌, ◌++◌, ◌∷◌, ◌*◌, ℕ, [], List, IfOk, IfSome, MatchResult, OnErr, OnOk};
-ghost use Rattle.std.specs.Prelude.{Option};
+ghost use Rattle.std.specs.Prelude.{Bool, Option};
 ghost use Rattle.tcp_streams.specs.declared.gaps.Gap.{Gap};
-ghost use Rattle.tcp_streams.specs.Following.{Connection, Follows, IsFollowed, IsTaken, ShowsSide, Side, Step};
-ghost use Rattle.tcp_streams.specs.Following.{begins_anew, buf_in, connection_after, connection_for, connection_without};
+ghost use Rattle.tcp_streams.specs.Following.{Connection, DoesNothing, Follows, IsCounted, IsFollowed, IsTaken, ShowsSide, Side, Step};
+ghost use Rattle.tcp_streams.specs.Following.{begins_anew, begins_anew_by, begins_elsewhere, buf_in, connection_after, connection_for};
+ghost use Rattle.tcp_streams.specs.Following.{connection_of, connection_with_counted, connection_without, counts, is_ended, opens};
 ghost use Rattle.tcp_streams.specs.Following.{connection_segment, connection_with, control_with, is_of_segment, new_gap, no_connection};
 ghost use Rattle.tcp_streams.specs.Following.{lost_on, no_side, side_in, side_with, side_without, taken_of, with_side};
 ghost use Rattle.tcp_streams.specs.Following.Step.{Comes, GivesUp};
@@ -38,7 +39,7 @@ pub struct Follower {
 #[derive(Clone, Copy, Debug, PartialEq, Eq)]
 pub struct FollowedSegment {
     /// It begins a new connection: it has SYN without ACK, and the one before ended by FIN of both
-    /// endpoints or by RST. All of that one is gone.
+    /// endpoints or by RST, or began with another number. All of that one is gone.
     pub begins_anew: bool,
     /// Where the bytes of its direction begin that it makes available:
     /// [`StreamBuf::available_from`] returns them.
@@ -87,16 +88,22 @@ impl Follower {
         }
     }
 
-    /// Whether a segment with this control begins a new connection: SYN without ACK after FIN of both
-    /// endpoints or RST.
-    pub fn begins_anew(&self, control: Control) -> bool
+    /// Whether a segment with this number and control begins a new connection: SYN without ACK after FIN of
+    /// both endpoints or RST, or with another number than the one that its direction began with.
+    pub fn begins_anew(&self, direction: Direction, sequence_number: u32, control: Control) -> bool
         ensures { (connection : Connection) → Follows self.now connection
-            → result ≡ begins_anew connection.state control }
+            → result ≡ begins_anew connection direction sequence_number control }
     {
-        is_ended(self.state) && control == Control::Syn
+        begins_anew(
+            self.state,
+            self.buf(direction).start(),
+            sequence_number,
+            control,
+        )
     }
 
-    /// Takes a segment. If it begins a new connection, nothing of the one before is left.
+    /// Takes a segment. If it begins a new connection, nothing of the one before is left. One with
+    /// neither SYN, ACK nor RST changes nothing.
     ///
     /// Where there is no memory for it, it isn't taken; a new connection begins then too.
     pub fn add(
@@ -120,11 +127,58 @@ impl Follower {
             → IfOk result (λ followed. (buf_in direction self.new).held.taken ≤ followed.position) }
         ensures err { (earlier : List Step)
             → Follows self.old (connection_after self.old.window earlier) → OnErr result (Follows self.new
-            (connection_for (connection_after self.old.window earlier) (control_with flags ack))) }
+            (connection_for (connection_after self.old.window earlier) direction sequence_number
+            (control_with flags ack))) }
         ensures window { self.new.window ≡ self.old.window }
     {
         let control = Control::of_flags(flags.syn, ack, flags.fin, flags.rst);
-        let begins_anew = self.begin(control);
+        if counts(control) {
+            self.take_counted(direction, sequence_number, flags, control, payload)
+        } else {
+            Ok(self.left_out(direction))
+        }
+    }
+
+    // What a segment does that changes nothing.
+    fn left_out(&self, direction: Direction) -> FollowedSegment
+        ensures nothing { (connection : Connection) → Follows self.now connection
+            → DoesNothing (side_in direction connection) result }
+        ensures kept { (connection : Connection) → Follows self.now connection
+            → (buf_in direction self.now).held.taken ≤ result.position }
+    {
+        FollowedSegment {
+            begins_anew: false,
+            position: self.buf(direction).available_end(),
+            gap: None,
+            conflicts: Conflicts::none(),
+            refused: None,
+        }
+    }
+
+    // Takes a segment that counts, with this control.
+    fn take_counted(
+        &mut self,
+        direction: Direction,
+        sequence_number: u32,
+        flags: SegmentFlags,
+        control: Control,
+        payload: &[u8],
+    ) -> Result<FollowedSegment, AllocError>
+        ensures follows { (earlier : Connection) → Follows self.old earlier
+            → (ack : Bool) → control ≡ control_with flags ack →
+            let s = connection_segment direction sequence_number flags ack payload.now in
+            OnOk result (Follows self.new (connection_with_counted self.old.window earlier s)) }
+        ensures followed { (earlier : Connection) → Follows self.old earlier
+            → (ack : Bool) → control ≡ control_with flags ack →
+            let s = connection_segment direction sequence_number flags ack payload.now in
+            IfOk result (IsCounted self.old.window earlier s) }
+        ensures kept { (earlier : Connection) → Follows self.old earlier
+            → IfOk result (λ followed. (buf_in direction self.new).held.taken ≤ followed.position) }
+        ensures err { (earlier : Connection) → Follows self.old earlier
+            → OnErr result (Follows self.new (connection_for earlier direction sequence_number control)) }
+        ensures window { self.new.window ≡ self.old.window }
+    {
+        let begins_anew = self.begin(direction, sequence_number, control);
         let state = self.state.after(direction, control);
         match self.take(direction, sequence_number, flags, payload) {
             Ok(taken) => {
@@ -162,39 +216,31 @@ impl Follower {
     }
 
     // The same, of any connection.
-    fn give_up_in(&mut self, direction: Direction, acknowledgment_number: u32) -> Option<Gap>
+    fn give_up_in(&mut self, direction: Direction, number: u32) -> Option<Gap>
         ensures lost { (connection : Connection) → Follows self.old connection →
             let side = side_in direction connection in (first : Option Gap) × IsGapIn side.segments first
-            × (result ≡ lost_on self.old.window side first acknowledgment_number) }
+            × (result ≡ lost_on self.old.window side first number) }
         ensures follows { (connection : Connection) → Follows self.old connection
             → Follows self.new (connection_without connection direction result) }
         ensures kept { IfSome result (λ gap. (buf_in direction self.new).held.taken ≤ gap.end) }
         ensures window { self.new.window ≡ self.old.window }
     {
         match direction {
-            Direction::FromLower => give_up(
-                &mut self.from_lower,
-                self.window,
-                acknowledgment_number,
-            ),
-            Direction::FromHigher => give_up(
-                &mut self.from_higher,
-                self.window,
-                acknowledgment_number,
-            ),
+            Direction::FromLower => give_up(&mut self.from_lower, self.window, number),
+            Direction::FromHigher => give_up(&mut self.from_higher, self.window, number),
         }
     }
 
-    // Forgets the connection where a segment with this control begins a new one, and returns whether
-    // it does.
-    fn begin(&mut self, control: Control) -> bool
+    // Forgets the connection where a segment with this number and control begins a new one, and returns
+    // whether it does.
+    fn begin(&mut self, direction: Direction, sequence_number: u32, control: Control) -> bool
         ensures follows { (connection : Connection) → Follows self.old connection
-            → Follows self.new (connection_for connection control) }
+            → Follows self.new (connection_for connection direction sequence_number control) }
         ensures anew { (connection : Connection) → Follows self.old connection
-            → result ≡ begins_anew connection.state control }
+            → result ≡ begins_anew connection direction sequence_number control }
         ensures window { self.new.window ≡ self.old.window }
     {
-        let begins_anew = self.begins_anew(control);
+        let begins_anew = self.begins_anew(direction, sequence_number, control);
         if begins_anew {
             *self = Follower::new(self.alloc, self.window);
         }
@@ -238,9 +284,44 @@ impl Follower {
 }
 
 fn is_ended(state: ConnectionState) -> bool
-    ensures { result ≡ begins_anew state Control.Syn }
+    ensures { result ≡ is_ended state }
 {
     matches!(state, ConnectionState::Closed | ConnectionState::Reset)
+}
+
+fn opens(control: Control) -> bool
+    ensures { result ≡ opens control }
+{
+    matches!(control, Control::Syn)
+}
+
+// Whether a segment has SYN, ACK or RST.
+fn counts(control: Control) -> bool
+    ensures { result ≡ counts control }
+{
+    !matches!(control, Control::Nothing)
+}
+
+// Whether position 0 has another number than this one.
+fn begins_elsewhere(start: Option<u32>, number: u32) -> bool
+    ensures { result ≡ begins_elsewhere start number }
+{
+    match start {
+        Some(start) => start != number,
+        None => false,
+    }
+}
+
+// Whether SYN with this number begins a new connection, where position 0 of its direction has that one.
+fn begins_anew(
+    state: ConnectionState,
+    start: Option<u32>,
+    sequence_number: u32,
+    control: Control,
+) -> bool
+    ensures { result ≡ begins_anew_by state start sequence_number control }
+{
+    opens(control) && (is_ended(state) || begins_elsewhere(start, sequence_number.wrapping_add(1)))
 }
 
 // Takes a segment of one direction, of which so many bytes are kept.

@@ -247,6 +247,13 @@ impl StreamBuf {
         if self.fin == Some(end) { end + 1 } else { end }
     }
 
+    /// The number of position 0, once a segment came.
+    pub(crate) fn start(&self) -> Option<u32>
+        ensures { result ≡ self.now.start }
+    {
+        self.start
+    }
+
     // The position before which a number acknowledges all bytes.
     fn acknowledged(&self, number: u32) -> u64
         ensures { result ≡ acknowledged self.now.start (next_in self.now) number }
@@ -264,13 +271,11 @@ impl StreamBuf {
         ensures lost { result ≡ lost_in self.now number }
         ensures sound { IsSound self.now }
     {
-        lost_by(
-            self.held.gaps().first().copied(),
-            self.held.available_end(),
-            self.fin,
-            window_end(self.window, self.held.taken()),
-            self.acknowledged(number),
-        )
+        let gaps = self.held.gaps();
+        let end = self.held.available_end();
+        let last = window_end(self.window, self.held.taken());
+        let acknowledged = self.acknowledged(number);
+        lost_by(gaps.first().copied(), end, self.fin, last, acknowledged)
     }
 
     // Where a segment of so many bytes stands, the first of which has this number.
@@ -494,6 +499,13 @@ impl StreamBuf {
             → IsTrue result ↔ (fin_of ss ≡ Some (length (text_of ss))) }
     {
         self.fin == Some(self.held.available_end())
+    }
+
+    /// The position of FIN, if it came: bytes before it may be missing.
+    pub fn fin(&self) -> Option<u64>
+        ensures { (ss : List Placed) → Shows self.now ss → result ≡ fin_of ss }
+    {
+        self.fin
     }
 
     /// The conflicts of all segments.

@@ -166,7 +166,11 @@ impl Connections {
         segment: &TcpSlice<'_>,
         out: &mut Vec<u8>,
     ) -> Result<(), AllocError> {
-        if self.follower.begins_anew(Control::of(segment)) {
+        let number = segment.sequence_number();
+        if self
+            .follower
+            .begins_anew(direction, number, Control::of(segment))
+        {
             self.end(writing, out)?;
         }
         self.begin(writing, packet, out)?;
@@ -177,7 +181,7 @@ impl Connections {
         };
         let followed = self.follower.add(
             direction,
-            segment.sequence_number(),
+            number,
             flags,
             segment.ack(),
             segment.payload(),
