@@ -146,9 +146,9 @@ lost_where (g ∷ gs) from to fin window_end a gap o most h =
     let end : gap.end ≡ g.end = ap (λ (x : Gap). x.end) (sym same) in
     (start, omega (arith, start, end, o.1), end)
 
-pub lost_place : (buf : Contents) (number : ℕ) (gap : Gap) → IsSparse buf.held → lost_in buf number ≡ Some gap
+pub lost_position : (buf : Contents) (number : ℕ) (gap : Gap) → IsSparse buf.held → lost_in buf number ≡ Some gap
     → (gap.start ≡ available_end buf.held) × (gap.start < gap.end) × CanSkipTo buf.held.gaps (held_end buf.held) gap.end
-lost_place buf number gap sound lost =
+lost_position buf number gap sound lost =
     lost_where buf.held.gaps buf.held.taken (held_end buf.held) buf.fin (window_end buf.window buf.held.taken)
     (acknowledged buf.start (next_in buf) number) gap sound.gaps (acknowledged-most buf.start (next_in buf) number) lost
 
@@ -242,7 +242,7 @@ pub shows_lost_given_up : (old new : Contents) (ss : List Placed) (number : ℕ)
     → Shows old ss → lost_in old number ≡ Some gap → Skips old.held new.held gap.end → new.fin ≡ old.fin
     → new.is_reset ≡ old.is_reset → new.conflicts ≡ old.conflicts → Shows new (ss ++ given_up gap ∷ [])
 shows_lost_given_up old new ss number gap sound shows lost skips fin reset conflicts =
-    let place = lost_place old number gap sound lost in
+    let place = lost_position old number gap sound lost in
     shows_given_up old ss sound shows new gap place.0 place.1
     (missing_by old ss sound shows (slice_get old.held.gaps 0) old.fin (window_end old.window old.held.taken)
     (acknowledged old.start (next_in old) number) gap refl lost place.0)

@@ -173,7 +173,7 @@ abbrev pub connection_without : Connection → Direction → Option Gap → Conn
 connection_without connection direction lost =
     with_side direction connection (side_without (side_in direction connection) lost)
 
--- what a follower is told: a segment comes, or bytes that are lost are given up
+-- what happens to a follower: a segment comes, or bytes that are lost are given up
 pub data Step : Type 0 where
   Comes : (segment : ConnectionSegment) → Step
   GivesUp : (direction : Direction) → (lost : Option Gap) → Step

@@ -1,11 +1,11 @@
 use Rattle.std.proofs.Common.{◌∙◌, refl, sym}
 use Rattle.std.specs.Prelude.{slice_get}
-use Rattle.tcp_streams.proofs.LossLemmas.{lost_place, shows_first, shows_lost, shows_lost_given_up}
+use Rattle.tcp_streams.proofs.LossLemmas.{lost_position, shows_first, shows_lost, shows_lost_given_up}
 use Rattle.tcp_streams.proofs.stream_buf.StreamBuf.give_up.Goals as goal
 
 pub skip_to-requires : goal.skip_to-requires
 skip_to-requires c =
-    rw (← c.self.view_is) at (lost_place c.args.self.now c.args.number c.in-Some.gap c.lost.ensures.sound.sparse
+    rw (← c.self.view_is) at (lost_position c.args.self.now c.args.number c.in-Some.gap c.lost.ensures.sound.sparse
     (sym c.lost.ensures.lost ∙ c.in-Some.is)).2
 
 pub returns-in-Some-clause-lost : goal.returns-in-Some-clause-lost
