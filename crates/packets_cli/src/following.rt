@@ -23,7 +23,8 @@ pub fn follow_files<W: Write>(
         is_stopped: false,
     };
     let failed = take_files(rt, requested.names, &mut task)?;
-    if task.is_stopped {
+    // That no segment came is said only if nothing failed.
+    if task.is_stopped || failed.is_some() && task.following.is_empty() {
         return Ok(failed.unwrap_or(ExitCode::SUCCESS));
     }
     let written = write_follow_end(rt.alloc(), &task.following, task.output);
