@@ -1,5 +1,6 @@
 //! Follows a TCP connection through the packets of captures.
-ghost use Rattle.std.specs.Prelude.{ℕ, List};
+ghost use Rattle.std.specs.Prelude.{◌≡◌, ℕ, List};
+ghost use Rattle.packets.specs.Followed.{is_whole, states_length};
 ghost use Rattle.packets.specs.Written.{AreTexts, Writes};
 ghost use Rattle.packets.specs.declared.dissection.Dissection.{Dissection};
 
@@ -13,7 +14,7 @@ use crate::run::output::{PacketWriter, write_packets};
 use crate::run::rules::Rules;
 use crate::{Dissection, Fragment};
 use captures::RunError;
-use ep_packet::{Message, TransportSlice, read_message};
+use ep_packet::{Message, NetSlice, TransportSlice, read_message};
 use ep_tcpudp::TcpSlice;
 use std::alloc::{AllocError, Global};
 use std::cell::RefCell;
@@ -49,7 +50,7 @@ pub enum FollowForm {
 }
 
 /// Writes what goes over the TCP connections between two endpoints, of packets that aren't refused and
-/// weren't cut.
+/// whose IP packet is whole.
 #[derive(Drop)]
 pub struct Following {
     alloc: Global,
@@ -112,7 +113,7 @@ impl Following {
     }
 
     fn take(&self, packet: &Dissection<'_>, out: &mut Vec<u8>) -> Result<(), AllocError> {
-        if packet.is_cut() {
+        if !is_whole(packet) {
             return Ok(());
         }
         match &packet.fragment {
@@ -155,6 +156,30 @@ impl Following {
             }
             Err(_) => Ok(()),
         }
+    }
+}
+
+// Whether all bytes of its IP packet were captured.
+fn is_whole(packet: &Dissection<'_>) -> bool
+    ensures { result ≡ is_whole packet.now.captured_len packet.now.wire_len packet.now.layers }
+{
+    if !packet.is_cut() {
+        return true;
+    }
+    match &packet.layers {
+        Ok(layers) => states_length(&layers.net),
+        Err(_) => false,
+    }
+}
+
+// Whether an IP header states the length of its packet.
+fn states_length(net: &Option<NetSlice<'_>>) -> bool
+    ensures { result ≡ states_length net.now }
+{
+    match net {
+        Some(NetSlice::Ipv4(_)) => true,
+        Some(NetSlice::Ipv6(packet)) => packet.header().payload_length() != 0,
+        _ => false,
     }
 }
 
