@@ -45,18 +45,27 @@ struct Step(
     &'static [u8],
 );
 
-const fn nothing(position: u64) -> FollowedSegment {
-    FollowedSegment {
-        begins_anew: false,
-        position,
-        gap: None,
-        conflicts: Conflicts {
-            count: 0,
-            first: None,
-        },
-        refused: None,
-    }
-}
+const NOTHING_AT_0: FollowedSegment = FollowedSegment {
+    begins_anew: false,
+    position: 0,
+    gap: None,
+    conflicts: Conflicts {
+        count: 0,
+        first: None,
+    },
+    refused: None,
+};
+
+const NOTHING_AT_7: FollowedSegment = FollowedSegment {
+    begins_anew: false,
+    position: 7,
+    gap: None,
+    conflicts: Conflicts {
+        count: 0,
+        first: None,
+    },
+    refused: None,
+};
 
 const OUTSIDE: FollowedSegment = FollowedSegment {
     begins_anew: false,
@@ -104,8 +113,8 @@ const ANEW: FollowedSegment = FollowedSegment {
 
 // Four bytes are kept. The number of SYN is the greatest but two.
 const STEPS: &[Step] = &[
-    Step("SYN", true, 4294967293, SYN, false, b"", nothing(0), b""),
-    Step("its answer", false, 1000, SYN, true, b"", nothing(0), b""),
+    Step("SYN", true, 4294967293, SYN, false, b"", NOTHING_AT_0, b""),
+    Step("its answer", false, 1000, SYN, true, b"", NOTHING_AT_0, b""),
     Step(
         "bytes",
         true,
@@ -113,7 +122,7 @@ const STEPS: &[Step] = &[
         NONE,
         true,
         b"GET /\r\n",
-        nothing(0),
+        NOTHING_AT_0,
         b"GET /\r\n",
     ),
     Step(
@@ -123,7 +132,7 @@ const STEPS: &[Step] = &[
         NONE,
         true,
         b"PUT",
-        nothing(7),
+        NOTHING_AT_7,
         b"",
     ),
     Step(
@@ -153,11 +162,11 @@ const STEPS: &[Step] = &[
         NONE,
         true,
         b"ab",
-        nothing(0),
+        NOTHING_AT_0,
         b"abcd",
     ),
     Step("far", false, 1010, NONE, true, b"zz", OUTSIDE, b""),
-    Step("RST", true, 5, RST, false, b"why", nothing(7), b""),
+    Step("RST", true, 5, RST, false, b"why", NOTHING_AT_7, b""),
     Step("SYN again", true, 77, SYN, false, b"", ANEW, b""),
     Step(
         "without SYN",
@@ -166,11 +175,20 @@ const STEPS: &[Step] = &[
         NONE,
         true,
         b"new",
-        nothing(0),
+        NOTHING_AT_0,
         b"new",
     ),
-    Step("SYN repeated", true, 77, SYN, false, b"", nothing(0), b""),
-    Step("without ACK", true, 78, NONE, false, b"no", nothing(0), b""),
+    Step("SYN repeated", true, 77, SYN, false, b"", NOTHING_AT_0, b""),
+    Step(
+        "without ACK",
+        true,
+        78,
+        NONE,
+        false,
+        b"no",
+        NOTHING_AT_0,
+        b"",
+    ),
     Step(
         "SYN with another number",
         true,
@@ -188,7 +206,7 @@ const STEPS: &[Step] = &[
         NONE,
         true,
         b"more",
-        nothing(0),
+        NOTHING_AT_0,
         b"more",
     ),
 ];
