@@ -15,7 +15,10 @@ pub(crate) fn append_event(
     in_hex: bool,
     out: &mut Vec<u8>,
 ) -> Result<(), AllocError> {
-    append_line(event, out)?;
+    match event.kind {
+        EventKind::NoSegments => return out.extend_from_slice(b"no segments\n"),
+        _ => append_line(event, out)?,
+    }
     match event.kind {
         EventKind::Bytes { bytes, .. } if in_hex => append_byte_lines(bytes, out),
         EventKind::Bytes { bytes, .. } => append_escaped_lines(bytes, out),
@@ -41,7 +44,9 @@ fn append_line(event: &Event<'_>, out: &mut Vec<u8>) -> Result<(), AllocError> {
 
 fn kind(line: &mut Line<'_>, event: &Event<'_>) -> Result<(), AllocError> {
     match event.kind {
+        EventKind::NoSegments => Ok(()),
         EventKind::Begin => line.text(": begins"),
+        EventKind::JoinedLate => line.text(": joined late"),
         EventKind::Bytes { position, bytes } => {
             line.counted(": bytes ", position)?;
             line.counted("..", position.saturating_add(bytes.len() as u64))
@@ -49,6 +54,11 @@ fn kind(line: &mut Line<'_>, event: &Event<'_>) -> Result<(), AllocError> {
         EventKind::Gap(Gap { start, end }) => {
             line.counted(": gap ", start)?;
             line.counted("..", end)
+        }
+        EventKind::Missing(Gap { start, end }) => {
+            line.text(": ")?;
+            count_of_missing(line, end.saturating_sub(start))?;
+            line.counted(" from ", start)
         }
         EventKind::Conflicts(conflicts) => {
             line.text(": ")?;
@@ -64,6 +74,15 @@ fn kind(line: &mut Line<'_>, event: &Event<'_>) -> Result<(), AllocError> {
             line.text(state_text(state))
         }
     }
+}
+
+fn count_of_missing(line: &mut Line<'_>, count: u64) -> Result<(), AllocError> {
+    line.number(count)?;
+    line.text(if count == 1 {
+        " byte missing"
+    } else {
+        " bytes missing"
+    })
 }
 
 fn count_of_conflicts(line: &mut Line<'_>, conflicts: Conflicts) -> Result<(), AllocError> {
@@ -92,15 +111,30 @@ fn reason(line: &mut Line<'_>, refused: Refused) -> Result<(), AllocError> {
 
 fn direction_end(line: &mut Line<'_>, end: DirectionEnd) -> Result<(), AllocError> {
     line.counted(" ends: bytes 0..", end.len)?;
-    line.text(if end.is_finished { ", FIN" } else { ", no FIN" })?;
+    fin(line, end)?;
     if end.joined_late {
         line.text(", SYN not seen")?;
+    }
+    if end.missing > 0 {
+        line.text(", ")?;
+        count_of_missing(line, end.missing)?;
     }
     if end.conflicts.count == 0 {
         return Ok(());
     }
     line.text(", ")?;
     count_of_conflicts(line, end.conflicts)
+}
+
+fn fin(line: &mut Line<'_>, end: DirectionEnd) -> Result<(), AllocError> {
+    match end.fin {
+        Some(_) if end.is_finished => line.text(", FIN"),
+        Some(fin) => {
+            line.counted(", FIN at ", fin)?;
+            line.text(" after missing bytes")
+        }
+        None => line.text(", no FIN"),
+    }
 }
 
 fn state_text(state: ConnectionState) -> &'static str {
