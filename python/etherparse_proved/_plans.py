@@ -278,7 +278,7 @@ PlannedLink = Union[PlannedEthernet, PlannedCapture, None]
 
 def _put(struct: ctypes.Structure, values: Dict[str, Any]) -> None:
     """Writes numbers, bytes and parts into the fields of these names; numbers that have room there, bytes as far as they have."""
-    kinds: Dict[str, Any] = {name: kind for name, kind, *_ in type(struct)._fields_}  # type: ignore[misc]
+    kinds: Dict[str, Any] = {name: kind for name, kind, *_ in type(struct)._fields_}
     for name, value in values.items():
         field, kind = getattr(type(struct), name), kinds[name]
         if isinstance(value, bytes):
@@ -366,11 +366,11 @@ def _addresses(source: Union[str, Address], destination: Union[str, Address]) ->
 
 
 # What is of one IP version, and its value where it isn't given.
-_OF_IPV4 = {
+_OF_IPV4: Dict[str, Any] = {
     "dscp": 0, "ecn": 0, "identification": 0, "dont_fragment": True, "more_fragments": False, "fragment_offset": 0,
     "ipv4_options": b"",
 }  # fmt: skip
-_OF_IPV6 = {"traffic_class": 0, "flow_label": 0}
+_OF_IPV6: Dict[str, Any] = {"traffic_class": 0, "flow_label": 0}
 
 
 def _ip_values(version: int, values: Dict[str, Any]) -> Dict[str, Any]:
@@ -424,7 +424,7 @@ def build(
     of 4; of IPv6 are `traffic_class` and `flow_label` to 1048575. Raises BuildRefused where no packet has such a field,
     ValueError where a number is out of its range or of the other version, and MemoryError.
     """
-    payload = bytes_of("payload", payload)
+    content = bytes_of("payload", payload)
     ends = _addresses(source, destination)
     version = ends[0].version
     given = dict(dscp=dscp, ecn=ecn, identification=identification, dont_fragment=dont_fragment, more_fragments=more_fragments)
@@ -434,14 +434,14 @@ def build(
     _put(plan, {"hops": hops, **_ip_values(version, {**given, "ipv4_options": ipv4_options})})
     _put(plan, {**_link_values(link), **_transport_values(transport)})
     if isinstance(transport, PlannedIcmp):
-        payload = _rest(transport.number, transport.message)[4:] + payload
+        content = _rest(transport.number, transport.message)[4:] + content
     headers, parts = _raw.EpPlannedExtensions(), _Parts()
     if extensions is not None:
         _put(headers, _extension_values(extensions, parts))
-    data, room = parts.bytes, len(payload) + len(parts.bytes) + _LONGEST_HEADERS
+    data, room = parts.bytes, len(content) + len(parts.bytes) + _LONGEST_HEADERS
     one, other = ctypes.byref(plan), ctypes.byref(headers)
-    call = etherparse.ep_build_with_extensions
-    return _built(room, lambda output: call(one, other, data, len(data), payload, len(payload), output, room))
+    call: Callable[..., _raw.EpBuilt] = etherparse.ep_build_with_extensions
+    return _built(room, lambda output: call(one, other, data, len(data), content, len(content), output, room))
 
 
 def build_arp(arp: PlannedArp, *, link: Union[PlannedEthernet, PlannedCapture]) -> bytes:
@@ -454,4 +454,5 @@ def build_arp(arp: PlannedArp, *, link: Union[PlannedEthernet, PlannedCapture]) 
     _put(packet, {name: parts.part(value) if isinstance(value, bytes) else value for name, value in vars(arp).items()})
     data, room = parts.bytes, len(parts.bytes) + _LONGEST_HEADERS
     one, other = ctypes.byref(plan), ctypes.byref(packet)
-    return _built(room, lambda output: etherparse.ep_build_arp(one, other, data, len(data), output, room))
+    call: Callable[..., _raw.EpBuilt] = etherparse.ep_build_arp
+    return _built(room, lambda output: call(one, other, data, len(data), output, room))
