@@ -1,4 +1,4 @@
-/* Packets sliced, judged, summed, built and put together by proved code. Written by tools/bindings.
+/* Packets sliced, judged, summed, built, put together and read from captures by proved code. Written by tools/bindings.
    What a caller owes:
    - no pointer is null, also where the length after it is 0, and each points to as many bytes or
      structs as that length says, at most PTRDIFF_MAX bytes of memory that was written before;
@@ -7,7 +7,7 @@
    No call keeps a pointer, blocks or ends the process.
    Calls may call malloc, realloc and free, which come from one allocator and align blocks as
    usual. None is made in a signal handler, nor in the forked child of a process with threads.
-   A pool or stream begins as zeros, which is not open, and only these calls change it. It isn't copied. Any
+   A pool, stream or capture begins as zeros, which is not open, and only these calls change it. It isn't copied. Any
    thread may use it, if each call to it begins after the one before has returned. */
 #ifndef ETHERPARSE_H
 #define ETHERPARSE_H
@@ -18,6 +18,14 @@
 extern "C" {
 #endif
 
+/* The version of this header. */
+#define EP_VERSION "2.0.0"
+
+/* The version of the library, as EP_VERSION is that of the header. No proof covers this call alone. */
+const char *ep_version(void);
+
+/* More bytes of a capture have to follow, or it ends. */
+#define EP_MORE_BYTES 7
 /* From the lower endpoint to the higher one. */
 #define EP_FROM_LOWER 1
 /* From the higher endpoint to the lower one. */
@@ -80,9 +88,9 @@ extern "C" {
 #define EP_NO_ROOM 1
 /* Out of memory. */
 #define EP_NO_MEMORY 2
-/* A packet, a fragment, a segment, a field of a plan or a payload is refused. */
+/* A packet, a fragment, a segment, a field of a plan, a payload or a capture is refused. */
 #define EP_REFUSED 3
-/* The pool or stream isn't open, or is open already, or the pool keeps a message. */
+/* The pool, stream or capture isn't open, or is open already, or the pool keeps a message. */
 #define EP_WRONG_STATE 4
 /* A message is complete. */
 #define EP_COMPLETED 5
@@ -299,6 +307,87 @@ typedef struct {
     size_t len;
 } ep_built;
 
+/* A capture file, pcap or pcapng, whose bytes are passed from its first byte on. It starts as
+   zeros, and only these calls change it. */
+typedef struct {
+    /* Whether it was opened and not freed. */
+    bool is_open;
+    /* For these calls alone. */
+    void *held;
+} ep_capture;
+
+/* Where bytes are in those that were passed. */
+typedef struct {
+    /* The offset of the first byte. */
+    size_t offset;
+    /* How many bytes. */
+    size_t len;
+} ep_part;
+
+/* A packet of a capture. */
+typedef struct {
+    /* Its number in the capture, from 1, those included that aren't given. */
+    uint64_t number;
+    /* When it was captured, in nanoseconds since the year 1970 began; 0 where the capture doesn't
+       say. */
+    uint64_t time;
+    /* The number of its interface, from 0, over all sections of a pcapng file. */
+    uint32_t interface_number;
+    /* How many bytes it had on the wire, as the capture says. */
+    uint32_t wire_len;
+    /* The kind of link that it was captured on: 1 Ethernet, 2 none but IP, 3 BSD loopback, 4 OpenBSD
+       loopback, 5 a Linux cooked capture, 6 one of version 2. */
+    uint32_t link;
+    /* How many bytes `header` has: 14, or 0 where it was captured as an Ethernet II frame. */
+    uint32_t header_len;
+    /* An Ethernet II header for what follows its link's own: to no address, from the sender's, if it
+       has six bytes. */
+    uint8_t header[14];
+    /* Where its frame is in the bytes that were passed, or what follows its link's own header. */
+    ep_part bytes;
+} ep_captured_packet;
+
+/* Why a capture is refused, and where. */
+typedef struct {
+    /* 1 no capture file, 2 another link type, 3 another link type than Ethernet's after the 32nd
+       interface of a section, 4 a packet that is too long, 5 a packet without an ether type, 6 the
+       capture ends within a packet, 7 a block that is too long, 8 another version of pcapng, 9 a
+       block that isn't well made; 0 where it isn't refused. */
+    uint32_t kind;
+    /* The link type, the packet's or block's length, or the major version, else 0. */
+    uint32_t value;
+    /* The minor version, else 0. */
+    uint32_t minor;
+    /* The type of the block there, where it is known, else 0. */
+    uint32_t block_type;
+    /* The number in the capture of the packet there, or of the first one after it. */
+    uint64_t packet;
+    /* How many bytes come before the file header, packet record or block there. */
+    uint64_t offset;
+} ep_capture_error;
+
+/* What is at the start of some bytes of a capture. */
+typedef struct {
+    /* 0 where there is a packet, 7 where more bytes have to follow or the capture ends, 3 where it
+       is refused, 4 where it isn't open: EP_DONE, EP_MORE_BYTES, EP_REFUSED or EP_WRONG_STATE. */
+    uint32_t status;
+    /* How many of the bytes are done with. The next call takes those after them. */
+    size_t done;
+    /* The packet, where there is one. */
+    ep_captured_packet packet;
+    /* Why and where it is refused, where it is. */
+    ep_capture_error error;
+} ep_captured;
+
+/* How a capture ends. */
+typedef struct {
+    /* 0 where it is whole, 3 where it is cut off or was refused before, 4 where it isn't open:
+       EP_DONE, EP_REFUSED or EP_WRONG_STATE. */
+    uint32_t status;
+    /* Why and where it is refused, where it is. */
+    ep_capture_error error;
+} ep_capture_ending;
+
 /* Control flags of a TCP segment (RFC 9293, section 3.1). */
 typedef struct {
     /* SYN: the sequence number is its own, and the payload begins at the next one. */
@@ -318,14 +407,6 @@ typedef struct {
     /* Of 1 and 2: the direction of the endpoint that opens it, of 4 that of the FIN. Else 0. */
     uint32_t direction;
 } ep_connection_state;
-
-/* Where bytes are in those that were passed. */
-typedef struct {
-    /* The offset of the first byte. */
-    size_t offset;
-    /* How many bytes. */
-    size_t len;
-} ep_part;
 
 /* The extension headers of an IP packet that are left. */
 typedef struct {
@@ -1089,6 +1170,18 @@ typedef struct {
     uint8_t stated_len;
 } ep_tcp_option;
 
+/* The header of a pcap file. */
+typedef struct {
+    /* Its bytes. */
+    uint8_t bytes[24];
+} ep_file_header;
+
+/* The head of a packet record of a pcap file, which the captured bytes of the packet follow. */
+typedef struct {
+    /* Its bytes. */
+    uint8_t bytes[16];
+} ep_record_head;
+
 /* Builds the packet of a plan with this payload, at the start of the output. The status is 0
    where it is built, 1 where the output is shorter than the packet, 2 where there is no memory,
    and 3 where a field of the plan, or the payload, is refused. Where it isn't 0 the output is as
@@ -1104,6 +1197,34 @@ ep_built ep_build_with_extensions(const ep_plan *plan, const ep_planned_extensio
    the addresses are those of `arp`, the addresses parts of these bytes: of one length for both
    ends, at most 255. The status is that of `ep_build`. Where it isn't 0 the output is as it was. */
 ep_built ep_build_arp(const ep_plan *plan, const ep_arp *arp, const uint8_t *bytes, size_t bytes_len, uint8_t *output, size_t output_len);
+
+/* Opens a capture file, pcap or pcapng, before its first byte. A packet that can't be given,
+   since it has no Ethernet frame or is too long, ends it or, where `skips`, is passed over. The
+   result is 0 where it is open, 2 where there is no memory, and 4 where it was open before.
+   Where it isn't 0 nothing is changed. */
+uint32_t ep_capture_new(ep_capture *capture, bool skips);
+
+/* The first packet of these bytes, or why none can follow. The first call is passed the first
+   bytes of the file, and each other one those that weren't done with and what follows them.
+   Where the status is 7 more bytes have to be passed, in a buffer of 262,144 bytes at most;
+   where there are none, ep_capture_end says how the capture ends. Once it is refused, each call
+   returns the same. */
+ep_captured ep_capture_next(ep_capture *capture, const uint8_t *bytes, size_t bytes_len);
+
+/* How a capture ends, where ep_capture_next needs more bytes and these are the last: those that
+   weren't done with. */
+ep_capture_ending ep_capture_end(ep_capture *capture, const uint8_t *bytes, size_t bytes_len);
+
+/* Frees what a capture holds. One that isn't open stays as it is. */
+void ep_capture_free(ep_capture *capture);
+
+/* The header of a pcap file of Ethernet frames, with times in microseconds or nanoseconds:
+   version 2.4, the low byte of each number first, a snap length of 262,144. */
+ep_file_header ep_capture_file_header(bool nanoseconds);
+
+/* The head of a packet record of such a file: its time, in seconds since 1970 and microseconds
+   or nanoseconds, how many bytes of the frame follow, and how many it had on the wire. */
+ep_record_head ep_capture_record_head(uint32_t seconds, uint32_t fraction, uint32_t len, uint32_t wire_len);
 
 /* The checksum of the bytes, as a header has it, high byte first. */
 uint16_t ep_checksum(const uint8_t *bytes, size_t bytes_len);

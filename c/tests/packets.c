@@ -64,5 +64,6 @@ int main(int argc, char **argv) {
     fclose(table);
     check(kinds_are_numbered(), "the kinds of refusals are 0 to 12");
     check(sums_are_right(), "checksums");
+    check(!strcmp(ep_version(), EP_VERSION), "the version");
     return counted();
 }

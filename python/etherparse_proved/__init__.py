@@ -11,6 +11,7 @@ The libraries libetherparse and libnetlines are looked for in the folder that ET
 the folder that it was installed beside, and where the loader looks, which chooses those for the processor.
 """
 
+from ._captures import Capture, CapturedPacket, CaptureLink, CaptureRefused, CaptureWriter
 from ._fields import (
     Authentication,
     DestinationOptions,
@@ -124,10 +125,11 @@ from ._plans import (
 )
 from ._streams import AddedSegment, Conflicts, Flags, Gap, SegmentFlags, SegmentRefused, Stream, StreamProgress
 
-__version__ = "1.0.0"
+__version__ = "2.0.0"
 
 __all__ = [
-    "AddedSegment", "Arp", "Authentication", "BuildRefused", "Conflicts", "ConnectionState", "DestinationOptions",
+    "AddedSegment", "Arp", "Authentication", "BuildRefused", "Capture", "CaptureLink", "CaptureRefused", "CaptureWriter",
+    "CapturedPacket", "Conflicts", "ConnectionState", "DestinationOptions",
     "DestinationUnreachable", "Direction", "DnsSearchList", "EchoReply", "EchoRequest", "Endpoint", "Extension", "Flags",
     "Flow", "FlowKey", "Flows", "Fragment", "Gap", "GatewayRedirect", "GroupRecord", "HopByHopOptions", "Icmp", "IcmpMessage",
     "IgmpLeave", "IgmpMessage", "IgmpQuery", "IgmpQueryV3", "IgmpReportV1", "IgmpReportV2", "IgmpReportV3", "InUse", "Ipv4",

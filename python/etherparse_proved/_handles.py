@@ -16,8 +16,8 @@ _Own = TypeVar("_Own", bound="_Handle")
 
 
 class InUse(RuntimeError):
-    """A call to a pool, session, stream or table of flows while another one hasn't returned, of another thread. It did
-    nothing."""
+    """A call to a pool, session, stream, table of flows, capture or writer while another one hasn't returned, of another
+    thread. It did nothing."""
 
 
 class _Alone:

@@ -8,7 +8,7 @@ from . import _raw
 
 
 def _loaded(name: str) -> ctypes.CDLL:
-    file = f"lib{name}.so.1"
+    file = f"lib{name}.so.2"
     # The folder that is named, that of a wheel, and that of a prefix, where this is in PREFIX/lib/python3/dist-packages.
     # In /usr/lib the loader looks itself, and chooses the library for the processor.
     here, *above = Path(__file__).resolve().parents

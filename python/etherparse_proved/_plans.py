@@ -1,6 +1,7 @@
 """Packets that are built."""
 
 import ctypes
+import functools
 import ipaddress
 from dataclasses import dataclass
 from typing import Any, Callable, Dict, Optional, Sequence, Tuple, Union
@@ -276,17 +277,24 @@ Transport = Union[PlannedUdp, PlannedTcp, PlannedEcho, PlannedIcmp, int]
 PlannedLink = Union[PlannedEthernet, PlannedCapture, None]
 
 
+@functools.lru_cache(maxsize=None)
+def _fields_of(kind: Any) -> Dict[str, Any]:
+    """Of a struct, by the name of a field: where it is, and the greatest number that has room there."""
+    fields = ((name, getattr(kind, name), of is ctypes.c_bool) for name, of, *_ in kind._fields_)
+    return {name: (field, 1 if is_bool else (1 << 8 * field.size) - 1) for name, field, is_bool in fields}
+
+
 def _put(struct: ctypes.Structure, values: Dict[str, Any]) -> None:
     """Writes numbers, bytes and parts into the fields of these names; numbers that have room there, bytes as far as they have."""
-    kinds: Dict[str, Any] = {name: kind for name, kind, *_ in type(struct)._fields_}
+    fields = _fields_of(type(struct))
     for name, value in values.items():
-        field, kind = getattr(type(struct), name), kinds[name]
+        field, most = fields[name]
         if isinstance(value, bytes):
             ctypes.memmove(ctypes.addressof(struct) + field.offset, value, min(len(value), field.size))
         elif isinstance(value, _raw.EpPart):
             setattr(struct, name, value)
         else:
-            setattr(struct, name, number_up_to(name, value, 1 if kind is ctypes.c_bool else (1 << 8 * field.size) - 1))
+            setattr(struct, name, number_up_to(name, value, most))
 
 
 class _Parts:

@@ -2,6 +2,8 @@
 
 import ctypes as c
 
+# More bytes of a capture have to follow, or it ends.
+MORE_BYTES = 7
 # From the lower endpoint to the higher one.
 FROM_LOWER = 1
 # From the higher endpoint to the lower one.
@@ -64,9 +66,9 @@ DONE = 0
 NO_ROOM = 1
 # Out of memory.
 NO_MEMORY = 2
-# A packet, a fragment, a segment, a field of a plan or a payload is refused.
+# A packet, a fragment, a segment, a field of a plan, a payload or a capture is refused.
 REFUSED = 3
-# The pool or stream isn't open, or is open already, or the pool keeps a message.
+# The pool, stream or capture isn't open, or is open already, or the pool keeps a message.
 WRONG_STATE = 4
 # A message is complete.
 COMPLETED = 5
@@ -276,6 +278,72 @@ class EpBuilt(c.Structure):
     ]
 
 
+class EpCapture(c.Structure):
+    """A capture file, pcap or pcapng, whose bytes are passed from its first byte on. It starts as zeros, and only these calls change it."""
+
+    _fields_ = [
+        ("is_open", c.c_bool),
+        ("held", c.c_void_p),
+    ]
+
+
+class EpPart(c.Structure):
+    """Where bytes are in those that were passed."""
+
+    _fields_ = [
+        ("offset", c.c_size_t),
+        ("len", c.c_size_t),
+    ]
+
+
+class EpCapturedPacket(c.Structure):
+    """A packet of a capture."""
+
+    _fields_ = [
+        ("number", c.c_uint64),
+        ("time", c.c_uint64),
+        ("interface_number", c.c_uint32),
+        ("wire_len", c.c_uint32),
+        ("link", c.c_uint32),
+        ("header_len", c.c_uint32),
+        ("header", c.c_uint8 * 14),
+        ("bytes", EpPart),
+    ]
+
+
+class EpCaptureError(c.Structure):
+    """Why a capture is refused, and where."""
+
+    _fields_ = [
+        ("kind", c.c_uint32),
+        ("value", c.c_uint32),
+        ("minor", c.c_uint32),
+        ("block_type", c.c_uint32),
+        ("packet", c.c_uint64),
+        ("offset", c.c_uint64),
+    ]
+
+
+class EpCaptured(c.Structure):
+    """What is at the start of some bytes of a capture."""
+
+    _fields_ = [
+        ("status", c.c_uint32),
+        ("done", c.c_size_t),
+        ("packet", EpCapturedPacket),
+        ("error", EpCaptureError),
+    ]
+
+
+class EpCaptureEnding(c.Structure):
+    """How a capture ends."""
+
+    _fields_ = [
+        ("status", c.c_uint32),
+        ("error", EpCaptureError),
+    ]
+
+
 class EpSegmentFlags(c.Structure):
     """Control flags of a TCP segment (RFC 9293, section 3.1)."""
 
@@ -293,15 +361,6 @@ class EpConnectionState(c.Structure):
     _fields_ = [
         ("state", c.c_uint32),
         ("direction", c.c_uint32),
-    ]
-
-
-class EpPart(c.Structure):
-    """Where bytes are in those that were passed."""
-
-    _fields_ = [
-        ("offset", c.c_size_t),
-        ("len", c.c_size_t),
     ]
 
 
@@ -811,6 +870,22 @@ class EpTcpOption(c.Structure):
     ]
 
 
+class EpFileHeader(c.Structure):
+    """The header of a pcap file."""
+
+    _fields_ = [
+        ("bytes", c.c_uint8 * 24),
+    ]
+
+
+class EpRecordHead(c.Structure):
+    """The head of a packet record of a pcap file, which the captured bytes of the packet follow."""
+
+    _fields_ = [
+        ("bytes", c.c_uint8 * 16),
+    ]
+
+
 class NetlinesSession(c.Structure):
     """Lines that come in chunks. It starts as zeros, and is changed by these calls alone."""
 
@@ -824,9 +899,14 @@ assert c.sizeof(EpPartRefusal) == 24
 assert c.sizeof(EpMessage) == 56
 assert c.sizeof(EpAdded) == 128
 assert c.sizeof(EpBuilt) == 16
+assert c.sizeof(EpCapture) == 16
+assert c.sizeof(EpPart) == 16
+assert c.sizeof(EpCapturedPacket) == 64
+assert c.sizeof(EpCaptureError) == 32
+assert c.sizeof(EpCaptured) == 112
+assert c.sizeof(EpCaptureEnding) == 40
 assert c.sizeof(EpSegmentFlags) == 4
 assert c.sizeof(EpConnectionState) == 8
-assert c.sizeof(EpPart) == 16
 assert c.sizeof(EpExtensions) == 24
 assert c.sizeof(EpExtension) == 56
 assert c.sizeof(EpGroupRecords) == 24
@@ -858,6 +938,8 @@ assert c.sizeof(EpGap) == 16
 assert c.sizeof(EpStreamProgress) == 56
 assert c.sizeof(EpTcpBlock) == 8
 assert c.sizeof(EpTcpOption) == 64
+assert c.sizeof(EpFileHeader) == 24
+assert c.sizeof(EpRecordHead) == 16
 
 assert c.sizeof(NetlinesSession) == 16
 
@@ -870,6 +952,18 @@ def declare_etherparse(library: c.CDLL) -> None:
     library.ep_build_with_extensions.restype = EpBuilt
     library.ep_build_arp.argtypes = [c.POINTER(EpPlan), c.POINTER(EpArp), c.c_char_p, c.c_size_t, c.POINTER(c.c_uint8), c.c_size_t]
     library.ep_build_arp.restype = EpBuilt
+    library.ep_capture_new.argtypes = [c.POINTER(EpCapture), c.c_bool]
+    library.ep_capture_new.restype = c.c_uint32
+    library.ep_capture_next.argtypes = [c.POINTER(EpCapture), c.c_char_p, c.c_size_t]
+    library.ep_capture_next.restype = EpCaptured
+    library.ep_capture_end.argtypes = [c.POINTER(EpCapture), c.c_char_p, c.c_size_t]
+    library.ep_capture_end.restype = EpCaptureEnding
+    library.ep_capture_free.argtypes = [c.POINTER(EpCapture)]
+    library.ep_capture_free.restype = None
+    library.ep_capture_file_header.argtypes = [c.c_bool]
+    library.ep_capture_file_header.restype = EpFileHeader
+    library.ep_capture_record_head.argtypes = [c.c_uint32, c.c_uint32, c.c_uint32, c.c_uint32]
+    library.ep_capture_record_head.restype = EpRecordHead
     library.ep_checksum.argtypes = [c.c_char_p, c.c_size_t]
     library.ep_checksum.restype = c.c_uint16
     library.ep_checksum_is_right.argtypes = [c.c_char_p, c.c_size_t]

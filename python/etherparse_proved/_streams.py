@@ -5,7 +5,7 @@ from dataclasses import dataclass
 from typing import Any, Optional, Protocol
 
 from . import _raw
-from ._arguments import Buffer, bytes_of, number_up_to
+from ._arguments import Buffer, bytes_of, integer, number_up_to
 from ._handles import _Handle
 from ._libraries import etherparse
 
@@ -179,6 +179,7 @@ class Stream(_Handle):
     def read(self, size: int = -1) -> bytes:
         """The next bytes, which are taken away: as many as are available, and not more than `size` where it isn't negative.
         None where the next byte is missing; more may come."""
+        size = integer("size", size)
         with self._alone:
             stream = self._opened()
             available = etherparse.ep_stream_progress_of(stream).available

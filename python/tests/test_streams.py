@@ -123,6 +123,7 @@ class Streams(unittest.TestCase):
                 (lambda: stream.add("1", ACK, b""), TypeError, "sequence_number has to be an int, not str"),
                 (lambda: stream.add(1, 16, b""), TypeError, "flags has to be SegmentFlags or the tcp of a packet, not int"),
                 (lambda: stream.add(1, ACK, "a"), TypeError, "payload has to be bytes or another buffer, not str"),
+                (lambda: stream.read("1"), TypeError, "size has to be an int, not str"),
                 (lambda: ep.Stream(-1), ValueError, "window is -1"),
                 (lambda: ep.Stream(2**64), ValueError, "window is 18446744073709551616"),
                 (lambda: ep.flow_key_ip("a"), TypeError, "packet has to be bytes"),

@@ -3,7 +3,7 @@ that it doesn't refuse is reported as well."""
 
 from array import array
 from ipaddress import IPv4Address, IPv6Address
-from typing import List, Optional, Tuple, Union
+from typing import BinaryIO, List, Optional, Tuple, Union
 
 import etherparse_proved as ep
 
@@ -91,6 +91,14 @@ def text_of(frames: List[bytes]) -> bytes:
     return ended[1].value.read() if ended and ended[1].state.state is ep.State.CLOSED else b""
 
 
+def copied(path: str, output: BinaryIO) -> List[int]:
+    with ep.Capture(path) as capture, ep.CaptureWriter(output, nanoseconds=True) as writer:
+        packets = list(capture)
+        for packet in packets:
+            writer.write(packet.bytes, packet.time, packet.wire_len)
+    return [packet.number for packet in packets if packet.link is ep.CaptureLink.ETHERNET]
+
+
 version: str = ep.__version__
 verdict: Optional[ep.Verdict] = ep.verdict_ip(b"")
 cut: ep.Packet = ep.slice_ip_lax(b"")
@@ -119,4 +127,6 @@ ep.Stream("1")  # type: ignore[arg-type]
 ep.Stream(1).add(1, 2, b"")  # type: ignore[arg-type]
 ep.Stream(1).gap.start  # type: ignore[union-attr]
 ep.SegmentFlags().syn = True  # type: ignore[misc]
+ep.Capture(1)  # type: ignore[arg-type]
+ep.CaptureWriter("x").write("y", 1)  # type: ignore[arg-type]
 ep.no_such_call  # type: ignore[attr-defined]

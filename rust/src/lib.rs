@@ -9,6 +9,7 @@
 #![deny(missing_docs)]
 
 mod addresses;
+mod captures;
 mod fields;
 mod flows;
 mod groups;
@@ -23,6 +24,7 @@ mod refusal;
 mod streams;
 
 pub use addresses::Addresses;
+pub use captures::{Capture, CaptureError, CaptureFault, CaptureLink, CaptureWriter, CapturedPacket};
 pub use fields::{
     AuthenticationExtension, Extension, Extensions, FragmentExtension, IcmpEchoHeader, IcmpType, NdpMessage, RawExtension,
     TcpOptionElement, TcpOptionReadError, TcpOptionsIterator, TimestampMessage,

@@ -1,6 +1,8 @@
 //! The exports and their structs. Written by `tools/bindings`.
 #![allow(dead_code)]
 
+/// More bytes of a capture have to follow, or it ends.
+pub const MORE_BYTES: u32 = 7;
 /// From the lower endpoint to the higher one.
 pub const FROM_LOWER: u32 = 1;
 /// From the higher endpoint to the lower one.
@@ -63,9 +65,9 @@ pub const DONE: u32 = 0;
 pub const NO_ROOM: u32 = 1;
 /// Out of memory.
 pub const NO_MEMORY: u32 = 2;
-/// A packet, a fragment, a segment, a field of a plan or a payload is refused.
+/// A packet, a fragment, a segment, a field of a plan, a payload or a capture is refused.
 pub const REFUSED: u32 = 3;
-/// The pool or stream isn't open, or is open already, or the pool keeps a message.
+/// The pool, stream or capture isn't open, or is open already, or the pool keeps a message.
 pub const WRONG_STATE: u32 = 4;
 /// A message is complete.
 pub const COMPLETED: u32 = 5;
@@ -361,6 +363,98 @@ pub struct EpBuilt {
     pub len: usize,
 }
 
+/// A capture file, pcap or pcapng, whose bytes are passed from its first byte on. It starts as zeros, and
+/// only these calls change it.
+#[repr(C)]
+#[derive(Clone, Copy, Debug, PartialEq, Eq)]
+pub struct EpCapture {
+    /// Whether it was opened and not freed.
+    pub is_open: bool,
+    /// For these calls alone.
+    pub held: *mut std::ffi::c_void,
+}
+
+/// Where bytes are in those that were passed.
+#[repr(C)]
+#[derive(Clone, Copy, Debug, PartialEq, Eq)]
+pub struct EpPart {
+    /// The offset of the first byte.
+    pub offset: usize,
+    /// How many bytes.
+    pub len: usize,
+}
+
+/// A packet of a capture.
+#[repr(C)]
+#[derive(Clone, Copy, Debug, PartialEq, Eq)]
+pub struct EpCapturedPacket {
+    /// Its number in the capture, from 1, those included that aren't given.
+    pub number: u64,
+    /// When it was captured, in nanoseconds since the year 1970 began; 0 where the capture doesn't say.
+    pub time: u64,
+    /// The number of its interface, from 0, over all sections of a pcapng file.
+    pub interface_number: u32,
+    /// How many bytes it had on the wire, as the capture says.
+    pub wire_len: u32,
+    /// The kind of link that it was captured on: 1 Ethernet, 2 none but IP, 3 BSD loopback, 4 OpenBSD
+    /// loopback, 5 a Linux cooked capture, 6 one of version 2.
+    pub link: u32,
+    /// How many bytes `header` has: 14, or 0 where it was captured as an Ethernet II frame.
+    pub header_len: u32,
+    /// An Ethernet II header for what follows its link's own: to no address, from the sender's, if it
+    /// has six bytes.
+    pub header: [u8; 14],
+    /// Where its frame is in the bytes that were passed, or what follows its link's own header.
+    pub bytes: EpPart,
+}
+
+/// Why a capture is refused, and where.
+#[repr(C)]
+#[derive(Clone, Copy, Debug, PartialEq, Eq)]
+pub struct EpCaptureError {
+    /// 1 no capture file, 2 another link type, 3 another link type than Ethernet's after the 32nd
+    /// interface of a section, 4 a packet that is too long, 5 a packet without an ether type, 6 the
+    /// capture ends within a packet, 7 a block that is too long, 8 another version of pcapng, 9 a block
+    /// that isn't well made; 0 where it isn't refused.
+    pub kind: u32,
+    /// The link type, the packet's or block's length, or the major version, else 0.
+    pub value: u32,
+    /// The minor version, else 0.
+    pub minor: u32,
+    /// The type of the block there, where it is known, else 0.
+    pub block_type: u32,
+    /// The number in the capture of the packet there, or of the first one after it.
+    pub packet: u64,
+    /// How many bytes come before the file header, packet record or block there.
+    pub offset: u64,
+}
+
+/// What is at the start of some bytes of a capture.
+#[repr(C)]
+#[derive(Clone, Copy, Debug, PartialEq, Eq)]
+pub struct EpCaptured {
+    /// 0 where there is a packet, 7 where more bytes have to follow or the capture ends, 3 where it is
+    /// refused, 4 where it isn't open: EP_DONE, EP_MORE_BYTES, EP_REFUSED or EP_WRONG_STATE.
+    pub status: u32,
+    /// How many of the bytes are done with. The next call takes those after them.
+    pub done: usize,
+    /// The packet, where there is one.
+    pub packet: EpCapturedPacket,
+    /// Why and where it is refused, where it is.
+    pub error: EpCaptureError,
+}
+
+/// How a capture ends.
+#[repr(C)]
+#[derive(Clone, Copy, Debug, PartialEq, Eq)]
+pub struct EpCaptureEnding {
+    /// 0 where it is whole, 3 where it is cut off or was refused before, 4 where it isn't open: EP_DONE,
+    /// EP_REFUSED or EP_WRONG_STATE.
+    pub status: u32,
+    /// Why and where it is refused, where it is.
+    pub error: EpCaptureError,
+}
+
 /// Control flags of a TCP segment (RFC 9293, section 3.1).
 #[repr(C)]
 #[derive(Clone, Copy, Debug, PartialEq, Eq)]
@@ -383,16 +477,6 @@ pub struct EpConnectionState {
     pub state: u32,
     /// Of 1 and 2: the direction of the endpoint that opens it, of 4 that of the FIN. Else 0.
     pub direction: u32,
-}
-
-/// Where bytes are in those that were passed.
-#[repr(C)]
-#[derive(Clone, Copy, Debug, PartialEq, Eq)]
-pub struct EpPart {
-    /// The offset of the first byte.
-    pub offset: usize,
-    /// How many bytes.
-    pub len: usize,
 }
 
 /// The extension headers of an IP packet that are left.
@@ -1215,6 +1299,22 @@ pub struct EpTcpOption {
     pub stated_len: u8,
 }
 
+/// The header of a pcap file.
+#[repr(C)]
+#[derive(Clone, Copy, Debug, PartialEq, Eq)]
+pub struct EpFileHeader {
+    /// Its bytes.
+    pub bytes: [u8; 24],
+}
+
+/// The head of a packet record of a pcap file, which the captured bytes of the packet follow.
+#[repr(C)]
+#[derive(Clone, Copy, Debug, PartialEq, Eq)]
+pub struct EpRecordHead {
+    /// Its bytes.
+    pub bytes: [u8; 16],
+}
+
 /// Lines that come in chunks. It starts as zeros, and is changed by these calls alone.
 #[repr(C)]
 #[derive(Clone, Copy, Debug, PartialEq, Eq)]
@@ -1330,6 +1430,12 @@ extern "C" {
     pub(crate) fn ep_build(plan: *const EpPlan, payload: *const u8, payload_len: usize, output: *mut u8, output_len: usize) -> EpBuilt;
     pub(crate) fn ep_build_with_extensions(plan: *const EpPlan, extensions: *const EpPlannedExtensions, bytes: *const u8, bytes_len: usize, payload: *const u8, payload_len: usize, output: *mut u8, output_len: usize) -> EpBuilt;
     pub(crate) fn ep_build_arp(plan: *const EpPlan, arp: *const EpArp, bytes: *const u8, bytes_len: usize, output: *mut u8, output_len: usize) -> EpBuilt;
+    pub(crate) fn ep_capture_new(capture: *mut EpCapture, skips: bool) -> u32;
+    pub(crate) fn ep_capture_next(capture: *mut EpCapture, bytes: *const u8, bytes_len: usize) -> EpCaptured;
+    pub(crate) fn ep_capture_end(capture: *mut EpCapture, bytes: *const u8, bytes_len: usize) -> EpCaptureEnding;
+    pub(crate) fn ep_capture_free(capture: *mut EpCapture);
+    pub(crate) fn ep_capture_file_header(nanoseconds: bool) -> EpFileHeader;
+    pub(crate) fn ep_capture_record_head(seconds: u32, fraction: u32, len: u32, wire_len: u32) -> EpRecordHead;
     pub(crate) fn ep_checksum(bytes: *const u8, bytes_len: usize) -> u16;
     pub(crate) fn ep_checksum_is_right(bytes: *const u8, bytes_len: usize) -> bool;
     pub(crate) fn ep_tcp_options(packet: *const EpPacket) -> EpPart;
@@ -1384,9 +1490,14 @@ const _: () = assert!(std::mem::size_of::<EpPartRefusal>() == 24);
 const _: () = assert!(std::mem::size_of::<EpMessage>() == 56);
 const _: () = assert!(std::mem::size_of::<EpAdded>() == 128);
 const _: () = assert!(std::mem::size_of::<EpBuilt>() == 16);
+const _: () = assert!(std::mem::size_of::<EpCapture>() == 16);
+const _: () = assert!(std::mem::size_of::<EpPart>() == 16);
+const _: () = assert!(std::mem::size_of::<EpCapturedPacket>() == 64);
+const _: () = assert!(std::mem::size_of::<EpCaptureError>() == 32);
+const _: () = assert!(std::mem::size_of::<EpCaptured>() == 112);
+const _: () = assert!(std::mem::size_of::<EpCaptureEnding>() == 40);
 const _: () = assert!(std::mem::size_of::<EpSegmentFlags>() == 4);
 const _: () = assert!(std::mem::size_of::<EpConnectionState>() == 8);
-const _: () = assert!(std::mem::size_of::<EpPart>() == 16);
 const _: () = assert!(std::mem::size_of::<EpExtensions>() == 24);
 const _: () = assert!(std::mem::size_of::<EpExtension>() == 56);
 const _: () = assert!(std::mem::size_of::<EpGroupRecords>() == 24);
@@ -1418,4 +1529,6 @@ const _: () = assert!(std::mem::size_of::<EpGap>() == 16);
 const _: () = assert!(std::mem::size_of::<EpStreamProgress>() == 56);
 const _: () = assert!(std::mem::size_of::<EpTcpBlock>() == 8);
 const _: () = assert!(std::mem::size_of::<EpTcpOption>() == 64);
+const _: () = assert!(std::mem::size_of::<EpFileHeader>() == 24);
+const _: () = assert!(std::mem::size_of::<EpRecordHead>() == 16);
 const _: () = assert!(std::mem::size_of::<NetlinesSession>() == 16);

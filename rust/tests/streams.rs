@@ -180,7 +180,10 @@ fn frames_to_flows_and_streams() {
         let frame = frame(back, flags);
         let (key, direction) = FlowKey::of_ethernet(&frame, 0).unwrap();
         let packet = slice_ethernet(&frame).unwrap();
-        let Some(Transport::Tcp(header)) = packet.transport() else { panic!("no segment") };
+        let header = match packet.transport() {
+            Some(Transport::Tcp(header)) => header,
+            _ => panic!("no segment"),
+        };
         let flags = SegmentFlags::from(header);
         let counted = FlowPacket { time: 10 - number as u64, bytes: frame.len() as u64, direction, flags };
         assert!(flows.add(key, counted, || Stream::new(100).unwrap()).is_none());

@@ -1,6 +1,7 @@
-//! Pools and sessions that pass from thread to thread.
+//! Pools, sessions, streams and captures that pass from thread to thread.
 
-use etherparse_proved::{Pool, Session};
+use etherparse_proved::{Capture, CaptureWriter, Pool, SegmentFlags, Session, Stream};
+use std::io::{Cursor, Read};
 use std::sync::{Arc, Mutex};
 use std::thread;
 
@@ -36,6 +37,32 @@ fn a_pool_and_a_session_are_moved() {
     assert_eq!((message.number, message.bytes), (253, vec![0; 16]));
     assert_eq!(pool.open_len(), 0);
     assert_eq!(session.finish(), Ok(b"bad line\n".to_vec()));
+}
+
+#[test]
+fn a_capture_and_a_stream_are_moved() {
+    is_send::<Capture<Cursor<Vec<u8>>>>();
+    is_send::<Stream>();
+    let mut writer = CaptureWriter::new(Vec::new()).unwrap();
+    for byte in 1..=3 {
+        writer.write(0, &[byte], 1).unwrap();
+    }
+    let mut capture = Capture::new(Cursor::new(writer.into_inner())).unwrap();
+    assert_eq!(capture.next().unwrap().unwrap().bytes, [1]);
+    let mut stream = Stream::new(100).unwrap();
+    let flags = SegmentFlags { syn: false, ack: true, fin: false, rst: false };
+    stream.add(7, flags, b"ab").unwrap();
+    let moved = thread::spawn(move || {
+        assert_eq!(capture.next().unwrap().unwrap().bytes, [2]);
+        stream.add(9, flags, b"c").unwrap();
+        (capture, stream)
+    });
+    let (mut capture, mut stream) = moved.join().unwrap();
+    assert_eq!(capture.next().unwrap().unwrap().bytes, [3]);
+    assert!(capture.next().is_none());
+    let mut text = Vec::new();
+    stream.read_to_end(&mut text).unwrap();
+    assert_eq!(text, b"abc");
 }
 
 #[test]

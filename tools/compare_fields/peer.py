@@ -42,15 +42,21 @@ def address6(layer, field):
 
 def read(kind, frame):
     """Yields the layers, each as its name and fields."""
+    for _, found in walk(kind, frame):
+        yield found
+
+
+def walk(kind, frame):
+    """Yields scapy's layers, each with its name and fields, and last what stands after them."""
     layer = Ether(frame) if kind == "E" else CookedLinux(frame)
     while layer:
         found = fields_of(layer)
         if found is None:
             break
-        yield found
+        yield layer, found
         if found[0] in ("udp", "tcp", "icmp"):
             # What stands in a message, as the packet that an ICMP error quotes, is its payload.
-            yield "rest", {"bytes": raw(layer)[header_len(layer) :]}
+            yield None, ("rest", {"bytes": raw(layer)[header_len(layer) :]})
             return
         if isinstance(layer, macsec.MACsec) and found[1]["ether_type"] is not None and len(protected(layer)) > 1:
             layer = Ether(bytes(12) + protected(layer)).payload
@@ -58,7 +64,7 @@ def read(kind, frame):
             layer = after_auth(layer)
         else:
             layer = layer.payload
-    yield "rest", {"bytes": raw(layer) if layer else b""}
+    yield None, ("rest", {"bytes": raw(layer) if layer else b""})
 
 
 def header_len(layer):

@@ -7,6 +7,8 @@ import expected
 
 # From one packet to the next.
 STEP = 1_500_000
+# Stands in a row after a last line that no newline ends.
+NO_NEWLINE = "\\ no newline at the end"
 
 
 @dataclasses.dataclass

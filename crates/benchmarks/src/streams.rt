@@ -86,13 +86,6 @@ impl Connections {
         payload: &[u8],
     ) -> Result<(), AllocError> {
         let (key, direction) = key_of(client);
-        let index = match self.flows.get(&key) {
-            Some(flow) => flow.value,
-            None => {
-                self.streams.push(StreamBuf::new(alloc, WINDOW))?;
-                self.streams.len() - 1
-            }
-        };
         let packet = FlowPacket {
             time: self.time,
             bytes: payload.len() as u64,
@@ -100,7 +93,15 @@ impl Connections {
             control: Control::of_flags(flags.syn, !flags.syn, flags.fin, flags.rst),
         };
         self.time = self.time.wrapping_add(1);
-        self.flows.add(key, packet, index)?;
+        let index = match self.flows.count(&key, packet) {
+            Some(index) => index,
+            None => {
+                let index = self.streams.len();
+                self.streams.push(StreamBuf::new(alloc, WINDOW))?;
+                self.flows.add(key, packet, index)?;
+                index
+            }
+        };
         if let Some(stream) = self.streams.get_mut(index) {
             if let Ok(added) = stream.add(number, flags, payload) {
                 self.sum = sum_with(self.sum, added.position, stream);

@@ -11,7 +11,7 @@ pub fn program<'a>(
 ) -> Result<Command<'a>, AllocError> {
     Command::new(alloc, name)
         .about(about)
-        .version("1.0.0")
+        .version("2.0.0")
         .bin_name(name)
 }
 

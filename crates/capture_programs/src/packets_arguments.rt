@@ -227,7 +227,7 @@ fn follow<'a>(alloc: Global) -> Result<Command<'a>, AllocError> {
 
 fn id<'a>(alloc: Global) -> Arg<'a> {
     Arg::new(alloc, "ID")
-        .help("The endpoints, HOST:PORT-HOST:PORT, with IPv6 addresses in brackets")
+        .help("The endpoints, HOST:PORT-HOST:PORT, with IPv6 addresses in brackets; or HOST.PORT")
         .required(true)
 }
 

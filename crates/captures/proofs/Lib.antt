@@ -17,6 +17,7 @@ mod GivenLemmas
 mod KnownLemmas
 mod LengthLemmas
 mod OffsetLemmas
+mod ParserLemmas
 mod ReadLemmas
 mod RecordLemmas
 mod SkipLemmas

@@ -7,6 +7,7 @@ pub mod Examples
 pub mod Forgetting
 pub mod Framed
 pub mod PacketSteps
+pub mod Parsers
 pub mod Held
 pub mod Lines
 pub mod Numbers

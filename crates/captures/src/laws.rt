@@ -42,7 +42,7 @@ use crate::limits::{BLOCK_LIMIT, FIRST_UNIT_LEN, INPUT_CAPACITY, SKIPPED_LIMIT, 
 use crate::pcapng::section::ETHERNET;
 use crate::{
     BadLine, CaptureError, Extra, FRAME_LIMIT, Header, LineFault, Link, Position, ReadError,
-    RunError, Skipped, TimeUnit, Unfit,
+    RefusedAt, RunError, Skipped, TimeUnit, Unfit,
 };
 use device_runs::Fault;
 use ep_base::laws::traits::Value;
@@ -217,6 +217,7 @@ pub fn types_are_plain_data()
     ensures header { IsPlainData ⟦<Header as Value>⟧ }
     ensures link { IsPlainData ⟦<Link as Value>⟧ }
     ensures read_error { IsPlainData ⟦<ReadError as Value>⟧ }
+    ensures refused_at { IsPlainData ⟦<RefusedAt as Value>⟧ }
 {}
 
 /// The numbers that the definitions take from the code.

@@ -4,6 +4,7 @@
 mod chunks;
 mod forgetting;
 mod numbers;
+mod parsers;
 mod readers;
 mod reads;
 mod skipping;

@@ -3,6 +3,7 @@
 #![tactic(auto)]
 
 mod build;
+mod capture;
 mod checksum;
 mod fields;
 mod groups;

@@ -171,6 +171,7 @@ pub extern "C" fn ep_pool_open(alloc: Global, pool: &mut EpPool) -> usize
 pub extern "C" fn ep_pool_free(alloc: Global, pool: &mut EpPool)
     requires { IsPool pool.old }
     ensures closed { pool.new.is_open ≡ false }
+    ensures freed { pool.old.is_open ≡ true → pool.new.held.value ≡ None }
     ensures unchanged { pool.old.is_open ≡ false → pool.new ≡ pool.old }
 {
     pool.free(alloc);

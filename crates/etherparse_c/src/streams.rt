@@ -1,5 +1,5 @@
 //! TCP streams, keys of connections and their states.
-ghost use Rattle.std.specs.Prelude.{◌≡◌, ◌<◌, ◌⊎◌, true, false};
+ghost use Rattle.std.specs.Prelude.{◌≡◌, ◌<◌, ◌⊎◌, true, false, None};
 ghost use Rattle.etherparse.specs.packet.Sliced.{sliced_ethernet, sliced_ip, sliced_linux_sll};
 ghost use Rattle.etherparse_structs.specs.Connection.{state_struct_after};
 ghost use Rattle.etherparse_structs.specs.PacketKey.{packet_key_in};
@@ -88,6 +88,7 @@ pub extern "C" fn ep_stream_progress_of(alloc: Global, stream: &mut EpStream) ->
 pub extern "C" fn ep_stream_free(alloc: Global, stream: &mut EpStream)
     requires { IsStream stream.old }
     ensures closed { stream.new.is_open ≡ false }
+    ensures freed { stream.old.is_open ≡ true → stream.new.held.value ≡ None }
     ensures unchanged { stream.old.is_open ≡ false → stream.new ≡ stream.old }
 {
     stream.free(alloc);

@@ -1,6 +1,8 @@
+mod CaptureLemmas
 mod CutTags
 mod ExtensionLemmas
 mod GroupRecordLemmas
+mod HeldCaptureValues
 mod HeldStreamValues
 mod HeldValues
 mod LaxFrameParts

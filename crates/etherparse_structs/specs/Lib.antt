@@ -1,4 +1,6 @@
 pub mod Build
+pub mod Capture
+pub mod Captured
 pub mod Connection
 pub mod Extension
 pub mod FramePool

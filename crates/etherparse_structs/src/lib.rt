@@ -4,6 +4,9 @@
 
 mod added;
 mod build;
+mod capture;
+mod capture_box;
+mod captured;
 mod connection;
 mod extension;
 mod frame_pool;
@@ -11,6 +14,7 @@ mod group_message;
 mod group_record;
 mod header_parts;
 mod held;
+mod held_capture;
 mod held_stream;
 mod icmp_fields;
 pub mod laws;
@@ -37,15 +41,19 @@ mod stream_progress;
 mod tcp_option;
 mod transport;
 mod verdict;
+mod written_capture;
 
 pub use added::EpAdded;
 pub use build::{EpBuilt, build_arp_packet, build_extended_packet, build_packet};
+pub use capture::EpCapture;
+pub use captured::{EpCaptureEnding, EpCaptureError, EpCaptured, EpCapturedPacket};
 pub use connection::{EpConnectionState, EpSegmentFlags};
 pub use extension::{EpExtension, EpExtensions, next_extension};
 pub use group_message::{EpGroupMessage, igmp_message, mld_message};
 pub use group_record::{EpGroupRecord, EpGroupRecords, next_group_record};
 pub use header_parts::{ip_extensions, ipv4_options, tcp_options};
 pub use held::Held;
+pub use held_capture::HeldCapture;
 pub use held_stream::HeldStream;
 pub use icmp_fields::{EpIcmpFields, EpNdp, icmpv4_fields, icmpv6_fields, ndp_message};
 pub use lax_packet::{EpLaxPacket, sliced_lax_ethernet, sliced_lax_ip, sliced_lax_linux_sll};
@@ -67,6 +75,7 @@ pub use stream_progress::{EpGap, EpStreamProgress};
 pub use tcp_option::{EpTcpBlock, EpTcpOption, next_tcp_option};
 pub use transport::{EpIcmp, EpTcp, EpUdp};
 pub use verdict::verdict_on;
+pub use written_capture::{EpFileHeader, EpRecordHead, capture_header, packet_head};
 
 /// It is done, or there was nothing to do.
 pub const DONE: u32 = 0;
@@ -77,10 +86,10 @@ pub const NO_ROOM: u32 = 1;
 /// Out of memory.
 pub const NO_MEMORY: u32 = 2;
 
-/// A packet, a fragment, a segment, a field of a plan or a payload is refused.
+/// A packet, a fragment, a segment, a field of a plan, a payload or a capture is refused.
 pub const REFUSED: u32 = 3;
 
-/// The pool or stream isn't open, or is open already, or the pool keeps a message.
+/// The pool, stream or capture isn't open, or is open already, or the pool keeps a message.
 pub const WRONG_STATE: u32 = 4;
 
 /// A message is complete.

@@ -1,5 +1,5 @@
 //! The extension headers of a packet to build.
-ghost use Rattle.std.specs.Prelude.{◌≡◌, IsTrue, Some};
+ghost use Rattle.std.specs.Prelude.{◌≡◌, ◌↔◌, IsTrue, Some};
 ghost use Rattle.std.specs.Option.{option_map};
 ghost use Rattle.etherparse_structs.specs.Wrong.{unless};
 ghost use Rattle.etherparse_structs.specs.PlannedExtensions.{HasNone, auth_in, final_options_in, fragment_in, ipv4_exts_in};
@@ -73,7 +73,7 @@ impl EpPlannedExtensions {
 
     /// Whether it describes no extension header.
     pub(crate) fn is_empty(&self) -> bool
-        ensures { IsTrue result → HasNone self.now }
+        ensures { IsTrue result ↔ HasNone self.now }
     {
         if self.hop_by_hop_options.len != 0 || self.destination_options.len != 0 {
             return false;

@@ -1,5 +1,5 @@
 //! The headers of the network layer that a plan describes.
-ghost use Rattle.std.specs.Prelude.{◌≡◌, IsTrue};
+ghost use Rattle.std.specs.Prelude.{◌≡◌, ◌↔◌, IsTrue};
 ghost use Rattle.etherparse.specs.base.IpEcn.{ecn_of};
 ghost use Rattle.etherparse_structs.specs.Wrong.{unless, wrong_above};
 ghost use Rattle.etherparse_structs.specs.PlannedIp.{ip_in, ipv4_in, ipv4_options_in, ipv6_in, wrong_ip, wrong_ipv4};
@@ -40,7 +40,7 @@ pub(crate) fn ip_headers(
 
 /// Whether they are those of IPv4 that addresses and hops determine.
 pub(crate) fn is_plain_ipv4(plan: &EpPlan, extensions: &EpPlannedExtensions) -> bool
-    ensures { IsTrue result → IsPlainIpv4 plan.now extensions.now }
+    ensures { IsTrue result ↔ IsPlainIpv4 plan.now extensions.now }
 {
     if plan.ip_version != 4 || plan.ipv4_options_len != 0 {
         return false;
@@ -59,7 +59,7 @@ pub(crate) fn is_plain_ipv4(plan: &EpPlan, extensions: &EpPlannedExtensions) -> 
 
 /// Whether they are those of IPv6 that addresses and hops determine.
 pub(crate) fn is_plain_ipv6(plan: &EpPlan, extensions: &EpPlannedExtensions) -> bool
-    ensures { IsTrue result → IsPlainIpv6 plan.now extensions.now }
+    ensures { IsTrue result ↔ IsPlainIpv6 plan.now extensions.now }
 {
     if plan.ip_version != 6 || plan.traffic_class != 0 || plan.flow_label != 0 {
         return false;

@@ -146,6 +146,7 @@ impl EpPool {
     pub fn free(&mut self, alloc: Global)
         requires { IsPool self.old }
         ensures closed { self.new.is_open ≡ false }
+        ensures freed { self.old.is_open ≡ true → self.new.held.value ≡ None }
         ensures unchanged { self.old.is_open ≡ false → self.new ≡ self.old }
     {
         if self.is_open {
@@ -174,6 +175,7 @@ fn taken(alloc: Global, pool: &mut EpPool) -> Box<FramePool>
     requires { IsSome pool.old.held.value }
     ensures frames { pool.old.held.value ≡ Some result.value }
     ensures closed { pool.new.is_open ≡ false }
+    ensures none { pool.new.held.value ≡ None }
 {
     pool.is_open = false;
     replace(&mut pool.held, Held::none())

@@ -1,5 +1,5 @@
 //! One direction of a TCP connection, put together from its segments.
-ghost use Rattle.std.specs.Prelude.{◌≡◌, ◌<◌, ◌⊎◌, true, false, Some, IfOk, IsSome};
+ghost use Rattle.std.specs.Prelude.{◌≡◌, ◌<◌, ◌⊎◌, true, false, Some, None, IfOk, IsSome};
 ghost use Rattle.etherparse_structs.specs.Stream.{HasSegments, IsProgress, IsRead, IsSegmentAnswered, IsStream};
 ghost use Rattle.etherparse_structs.specs.Stream.{ShowsStream, Stream, new_stream, segment_with};
 ghost use Rattle.etherparse_structs.specs.StreamAdded.{no_progress, segment_status};
@@ -110,6 +110,7 @@ impl EpStream {
     pub fn free(&mut self, alloc: Global)
         requires { IsStream self.old }
         ensures closed { self.new.is_open ≡ false }
+        ensures freed { self.old.is_open ≡ true → self.new.held.value ≡ None }
         ensures unchanged { self.old.is_open ≡ false → self.new ≡ self.old }
     {
         if self.is_open {
@@ -135,6 +136,7 @@ fn taken(alloc: Global, stream: &mut EpStream) -> Box<StreamBox>
     requires { IsSome stream.old.held.value }
     ensures opened { stream.old.held.value ≡ Some result.value }
     ensures closed { stream.new.is_open ≡ false }
+    ensures none { stream.new.held.value ≡ None }
 {
     stream.is_open = false;
     replace(&mut stream.held, HeldStream::none())

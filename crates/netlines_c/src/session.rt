@@ -1,6 +1,6 @@
 //! Lines that come in chunks.
-ghost use Rattle.std.specs.Prelude.{◌≡◌, ◌≤◌, ◌<◌, ◌+◌, ◌++◌, ◌⊎◌, ℕ, Bool, List, [], true, false, Some, drop, length};
-ghost use Rattle.std.specs.Prelude.{take, IfOk, IsSome};
+ghost use Rattle.std.specs.Prelude.{◌≡◌, ◌≤◌, ◌<◌, ◌+◌, ◌++◌, ◌⊎◌, ℕ, Bool, List, [], true, false, Some, None, length};
+ghost use Rattle.std.specs.Prelude.{drop, take, IfOk, IsSome};
 ghost use Rattle.netlines.specs.Answers.{answers_of, ended_answers_of, frame_meaning};
 ghost use Rattle.netlines_c.specs.FrameSessions.{IsSession, TookText, shows_lines};
 ghost use Rattle.lines.specs.Sessions.{IsWrittenOut, Took, answers};
@@ -148,6 +148,7 @@ pub extern "C" fn netlines_finish(
 pub extern "C" fn netlines_close(alloc: Global, session: &mut NetlinesSession)
     requires { IsSession session.old }
     ensures closed { session.new.is_open ≡ false }
+    ensures freed { session.old.is_open ≡ true → session.new.held.value ≡ None }
     ensures unchanged { session.old.is_open ≡ false → session.new ≡ session.old }
 {
     if session.is_open {
@@ -174,6 +175,7 @@ fn taken(alloc: Global, session: &mut NetlinesSession) -> Box<FrameSession>
     requires { IsSome session.old.held.value }
     ensures frame_session { session.old.held.value ≡ Some result.value }
     ensures closed { session.new.is_open ≡ false }
+    ensures none { session.new.held.value ≡ None }
 {
     session.is_open = false;
     replace(&mut session.held, Held::none())

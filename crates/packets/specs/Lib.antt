@@ -9,6 +9,7 @@ pub mod Dissected
 pub mod Escaped
 pub mod Examples
 pub mod Flows
+pub mod Followed
 pub mod Forgetting
 pub mod HeaderVerdict
 pub mod Headers

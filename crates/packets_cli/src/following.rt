@@ -40,7 +40,8 @@ struct FollowTask<'a, W> {
 impl<W: Write> FollowTask<'_, W> {
     // Writes how the last connection ends. The status is that of the first file that failed, if any did.
     fn end(&mut self, failed: Option<ExitCode>) -> ExitCode {
-        if self.is_stopped {
+        // That no segment came is said only if nothing failed.
+        if self.is_stopped || failed.is_some() && self.following.is_empty() {
             return failed.unwrap_or(ExitCode::SUCCESS);
         }
         let written = write_follow_end(self.rt.alloc(), &self.following, self.output);

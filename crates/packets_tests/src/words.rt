@@ -106,7 +106,7 @@ const FOLLOWED: &[(&[&str], &str)] = &[
     (&["packets", "follow", "10.0.0.1:5-10.0.0.2:80", "x.pcap"], "Follow(FollowOptions { id: ConnectionId { conversation: Conversation { addresses: V4 { source: [10, 0, 0, 1], destination: [10, 0, 0, 2] }, ports: Some(Ports { source: 5, destination: 80 }), protocol: IpNumber(6) } }, direction: None, form: Text, window: 1048576 })"),
     (&["packets", "follow", "--raw", "--direction", "2", "10.0.0.1:5-10.0.0.2:80"], "Follow(FollowOptions { id: ConnectionId { conversation: Conversation { addresses: V4 { source: [10, 0, 0, 1], destination: [10, 0, 0, 2] }, ports: Some(Ports { source: 5, destination: 80 }), protocol: IpNumber(6) } }, direction: Some(FromSecond), form: Raw, window: 1048576 })"),
     (&["packets", "follow", "--hex", "--window", "4095M", "10.0.0.1:5-10.0.0.2:80", "-"], "Follow(FollowOptions { id: ConnectionId { conversation: Conversation { addresses: V4 { source: [10, 0, 0, 1], destination: [10, 0, 0, 2] }, ports: Some(Ports { source: 5, destination: 80 }), protocol: IpNumber(6) } }, direction: None, form: Hex, window: 4293918720 })"),
-    (&["packets", "follow", "10.0.0.1:5-10.0.0.2:80", "--direction", "1", "--json", "--window", "0"], "Follow(FollowOptions { id: ConnectionId { conversation: Conversation { addresses: V4 { source: [10, 0, 0, 1], destination: [10, 0, 0, 2] }, ports: Some(Ports { source: 5, destination: 80 }), protocol: IpNumber(6) } }, direction: Some(FromFirst), form: Json, window: 0 })"),
+    (&["packets", "follow", "10.0.0.1:5-10.0.0.2:80", "--direction", "1", "--json", "--window", "1"], "Follow(FollowOptions { id: ConnectionId { conversation: Conversation { addresses: V4 { source: [10, 0, 0, 1], destination: [10, 0, 0, 2] }, ports: Some(Ports { source: 5, destination: 80 }), protocol: IpNumber(6) } }, direction: Some(FromFirst), form: Json, window: 1 })"),
     (&["packets", "follow"], ""),
     (&["packets", "follow", "x.pcap"], ""),
     (&["packets", "follow", "10.0.0.1:5-10.0.0.2"], ""),
@@ -116,6 +116,7 @@ const FOLLOWED: &[(&[&str], &str)] = &[
     (&["packets", "follow", "--direction", "3", "10.0.0.1:5-10.0.0.2:80"], ""),
     (&["packets", "follow", "--window", "4G", "10.0.0.1:5-10.0.0.2:80"], ""),
     (&["packets", "follow", "--window", "1T", "10.0.0.1:5-10.0.0.2:80"], ""),
+    (&["packets", "follow", "--window", "0", "10.0.0.1:5-10.0.0.2:80"], ""),
 ];
 
 #[test]

@@ -39,10 +39,10 @@ none_at_gap taken bytes [] o = byte_from-none taken bytes (taken + length bytes)
 none_at_gap taken bytes (g ∷ gaps) o = rw (first_gap-missing taken (taken + length bytes) g gaps o)
 
 module _ (held : Sparse) (sound : IsSparse held) where
-  available_size : length (available_in held) ≡ available_end held - held.taken
+  pub available_size : length (available_in held) ≡ available_end held - held.taken
   available_size = simp length-take (omega (arith, (available_bounds held sound).0, (available_bounds held sound).1))
 
-  byte_available : (i : ℕ) → i < length (available_in held)
+  pub byte_available : (i : ℕ) → i < length (available_in held)
       → byte_in held (held.taken + i) ≡ Some (get_or (available_in held) i 0)
   byte_available i h =
       let size = available_size in
@@ -110,7 +110,7 @@ pub not_refused : (e last : ℕ) (fin : Option ℕ) (reset : Bool) (s : Placed) 
     → (end_of s ≤ e) × (fin_refusal fin last s ≡ None) × (reset ≡ false)
 not_refused e last fin reset s h = grind (arith, nat_tests)
 
-some_or : {X : Type 0} (o q : Option X) → IsSome o → IsSome (option_or o q)
+pub some_or : {X : Type 0} (o q : Option X) → IsSome o → IsSome (option_or o q)
 some_or None q h = cc
 some_or (Some x) q h = h
 
@@ -155,6 +155,13 @@ shows_consume old new ss count sound few is shows = rw is record {
   reset = shows.reset;
   conflicts = shows.conflicts;
 }
+
+-- what is taken is a prefix of the text
+pub taken_in_text : (buf : Contents) (ss : List Placed) → Shows buf ss → buf.held.taken ≤ length (text_of ss)
+taken_in_text buf ss shows =
+    let all = length-bytes_from (byte_at ss) 0 buf.held.taken (length buf.held.bytes)
+    (λ i h. shows.before (0 + i) (omega arith)) in
+    rw shows.last (omega (arith, all))
 
 -- ---- the first gap
 
@@ -229,7 +236,7 @@ shows_no_gap_result buf ss sound shows (Some g) is = tt
 
 -- ---- a segment is added
 
-placed_after : (d : Distance) (next taken : ℕ) (a : Segment) → taken ≤ next
+pub placed_after : (d : Distance) (next taken : ℕ) (a : Segment) → taken ≤ next
     → taken ≤ (placed_at d next taken a).position
 placed_after (After n) next taken a h = omega arith
 placed_after (Before n) next taken a h = omega arith

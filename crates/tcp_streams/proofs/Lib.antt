@@ -5,6 +5,7 @@ mod FlowLemmas
 mod FollowLemmas
 mod GapLemmas
 mod LawLemmas
+mod LossLemmas
 mod NumberLaws
 mod NumberLemmas
 mod QueueLemmas
@@ -12,3 +13,4 @@ mod SegmentLemmas
 mod SparseLemmas
 mod StateLemmas
 mod StayLemmas
+mod StayingLemmas

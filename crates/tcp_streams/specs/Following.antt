@@ -1,5 +1,5 @@
 -- A connection that is followed: its state, and the segments of both directions that were accepted.
-use Rattle.std.specs.Prelude.{◌≡◌, ℕ, ◌-◌, ◌*◌, ◌≤◌, ◌==◌, Bool, true, false, not, if◌then◌else◌, is_some, IfSome, IfNone}
+use Rattle.std.specs.Prelude.{◌≡◌, ℕ, ◌-◌, ◌*◌, ◌≤◌, ◌==◌, ◌+◌, ◌%◌, ◌^◌, Bool, true, false, not, ◌&&◌, ◌||◌, if◌then◌else◌, is_some, max}
 use Rattle.std.specs.Prelude.{List, [], ◌∷◌, ◌++◌, fold, length, Option, Some, None}
 use Rattle.tcp_streams.specs.declared.connection_state.ConnectionState.{ConnectionState}
 use Rattle.tcp_streams.specs.declared.connection_state.ConnectionState.TheVariants.{Unseen, SynSent, SynReceived}
@@ -14,28 +14,31 @@ use Rattle.tcp_streams.specs.declared.gaps.Gap.{Gap}
 use Rattle.tcp_streams.specs.declared.refusal.Refused.{Refused}
 use Rattle.tcp_streams.specs.declared.refusal.Refused.TheVariants.{OutsideWindow, AfterFin, AfterReset, OutOfMemory}
 use Rattle.tcp_streams.specs.declared.segment_flags.SegmentFlags.{SegmentFlags}
-use Rattle.tcp_streams.specs.ConnectionStates.{by_direction, control_in, state_after}
+use Rattle.tcp_streams.specs.ConnectionStates.{control_in, state_after}
+use Rattle.tcp_streams.specs.Losses.{given_up, lost_of}
 use Rattle.tcp_streams.specs.Placing.{Segment, placed, segment, start_number}
 use Rattle.tcp_streams.specs.Refusals.{refusal_of}
-use Rattle.tcp_streams.specs.Segments.{Placed, byte_at, conflicts_with, text_of}
+use Rattle.tcp_streams.specs.Segments.{Placed, conflicts_with, text_of}
 use Rattle.tcp_streams.specs.SparseBytes.{counted}
-use Rattle.tcp_streams.specs.StreamBuf.{Contents, Shows, IsFirstGap}
+use Rattle.tcp_streams.specs.StreamBuf.{Contents, Shows, IsGapIn}
 
 -- ---- one direction
 
--- the number of position 0, once a segment was accepted; whether the first one that was had no SYN; and
--- all of them, the oldest first
+-- the number of position 0, once a segment was accepted; whether the first of them had no SYN; those that were, the
+-- oldest first; and the end of the last bytes that were given up
 pub record Side : Type 0 where
   pub start : Option ℕ
   pub joined_late : Bool
   pub segments : List Placed
+  pub given_up : ℕ
 
 abbrev pub no_side : Side
-no_side = record { start = None; joined_late = false; segments = [] }
+no_side = record { start = None; joined_late = false; segments = []; given_up = 0 }
 
--- of the bytes up to the first gap the last ones are kept, so many at most; those before them aren't
+-- of the bytes up to the first gap the last ones are kept, so many at most, and only those after bytes that were given up;
+-- those before them aren't
 abbrev pub taken_of : (kept : ℕ) → Side → ℕ
-taken_of kept side = length (text_of side.segments) - kept
+taken_of kept side = max (length (text_of side.segments) - kept) side.given_up
 
 -- a segment at its place
 abbrev pub placed_on : (kept : ℕ) → Side → Segment → Placed
@@ -52,7 +55,18 @@ side_with kept side s = if is_some (refusal_on kept side s) then side else recor
   start = Some (start_number side.start s.number s.flags);
   joined_late = if is_some side.start then side.joined_late else not s.flags.syn;
   segments = side.segments ++ placed_on kept side s ∷ [];
+  given_up = side.given_up;
 }
+
+-- the bytes that are lost, by a number of the other endpoint that acknowledges, where this is the first gap
+abbrev pub lost_on : (kept : ℕ) → Side → (first : Option Gap) → (number : ℕ) → Option Gap
+lost_on kept side first number = lost_of (2 * kept) (taken_of kept side) side.start side.segments first number
+
+-- the side with bytes given up: a segment that has bytes at their positions comes too late, and changes nothing
+abbrev pub side_without : Side → Option Gap → Side
+side_without side None = side
+side_without side (Some gap) =
+    record side { segments = side.segments ++ given_up gap ∷ []; given_up = gap.end }
 
 -- ---- both
 
@@ -81,30 +95,35 @@ pub record Connection : Type 0 where
 abbrev pub no_connection : Connection
 no_connection = record { state = Unseen; from_lower = no_side; from_higher = no_side }
 
--- SYN without ACK begins a new connection after the end of one
-abbrev pub begins_anew : ConnectionState → Control → Bool
-begins_anew Closed Syn = true
-begins_anew Closed Rst = false
-begins_anew Closed SynAck = false
-begins_anew Closed Fin = false
-begins_anew Closed Ack = false
-begins_anew Closed Nothing = false
-begins_anew Reset Syn = true
-begins_anew Reset Rst = false
-begins_anew Reset SynAck = false
-begins_anew Reset Fin = false
-begins_anew Reset Ack = false
-begins_anew Reset Nothing = false
-begins_anew Unseen control = false
-begins_anew (SynSent opener) control = false
-begins_anew (SynReceived opener) control = false
-begins_anew Established control = false
-begins_anew (Closing closer) control = false
+-- SYN without ACK
+abbrev pub opens : Control → Bool
+opens Rst = false
+opens Syn = true
+opens SynAck = false
+opens Fin = false
+opens Ack = false
+opens Nothing = false
 
--- the connection that a segment is one of
-abbrev pub connection_for : Connection → Control → Connection
-connection_for connection control =
-    if begins_anew connection.state control then no_connection else connection
+-- FIN of both endpoints came, or RST
+abbrev pub is_ended : ConnectionState → Bool
+is_ended Unseen = false
+is_ended (SynSent opener) = false
+is_ended (SynReceived opener) = false
+is_ended Established = false
+is_ended (Closing closer) = false
+is_ended Closed = true
+is_ended Reset = true
+
+-- position 0 has another number than this one
+abbrev pub begins_elsewhere : (start : Option ℕ) → (number : ℕ) → Bool
+begins_elsewhere None number = false
+begins_elsewhere (Some start) number = not (start == number)
+
+-- SYN without ACK begins a new connection after the end of one, and also before it, where position 0 of its direction
+-- hasn't the number after that of SYN: an endpoint uses its port again (RFC 9293, section 3.6.1). The same number is a repeat
+abbrev pub begins_anew_by : ConnectionState → (start : Option ℕ) → (number : ℕ) → Control → Bool
+begins_anew_by state start number control =
+    opens control && (is_ended state || begins_elsewhere start ((number + 1) % 2 ^ 32))
 
 abbrev pub side_in : Direction → Connection → Side
 side_in FromLower connection = connection.from_lower
@@ -114,26 +133,60 @@ abbrev pub with_side : Direction → Connection → Side → Connection
 with_side FromLower connection side = record connection { from_lower = side }
 with_side FromHigher connection side = record connection { from_higher = side }
 
+abbrev pub begins_anew : Connection → Direction → (number : ℕ) → Control → Bool
+begins_anew connection direction number control =
+    begins_anew_by connection.state (side_in direction connection).start number control
+
+-- the connection that a segment is one of
+abbrev pub connection_for : Connection → Direction → (number : ℕ) → Control → Connection
+connection_for connection direction number control =
+    if begins_anew connection direction number control then no_connection else connection
+
+abbrev pub connection_of : Connection → ConnectionSegment → Connection
+connection_of connection s = connection_for connection s.direction s.segment.number (control_on s)
+
 -- that connection with the segment
 abbrev pub with_state : ConnectionState → Connection → Connection
 with_state state connection = record connection { state = state }
 
-abbrev pub connection_with : (kept : ℕ) → Connection → ConnectionSegment → Connection
-connection_with kept earlier s =
-    let connection = connection_for earlier (control_on s) in
+abbrev pub connection_with_counted : (kept : ℕ) → Connection → ConnectionSegment → Connection
+connection_with_counted kept earlier s =
+    let connection = connection_of earlier s in
     with_state (state_after connection.state s.direction (control_on s))
     (with_side s.direction connection (side_with kept (side_in s.direction connection) s.segment))
 
--- the connection after segments, the oldest first
-abbrev pub connection_after : (kept : ℕ) → List ConnectionSegment → Connection
-connection_after kept ss = fold (connection_with kept) no_connection ss
+-- one with neither SYN, ACK nor RST changes nothing: in each state endpoints drop it (RFC 9293, section 3.10.7)
+abbrev pub counts : Control → Bool
+counts Rst = true
+counts Syn = true
+counts SynAck = true
+counts Fin = true
+counts Ack = true
+counts Nothing = false
+
+abbrev pub connection_with : (kept : ℕ) → Connection → ConnectionSegment → Connection
+connection_with kept earlier s =
+    if counts (control_on s) then connection_with_counted kept earlier s else earlier
+
+-- the connection with bytes of a direction given up
+abbrev pub connection_without : Connection → Direction → Option Gap → Connection
+connection_without connection direction lost =
+    with_side direction connection (side_without (side_in direction connection) lost)
+
+-- what happens to a follower: a segment comes, or bytes that are lost are given up
+pub data Step : Type 0 where
+  Comes : (segment : ConnectionSegment) → Step
+  GivesUp : (direction : Direction) → (lost : Option Gap) → Step
+
+abbrev pub connection_with_step : (kept : ℕ) → Connection → Step → Connection
+connection_with_step kept connection (Comes s) = connection_with kept connection s
+connection_with_step kept connection (GivesUp direction lost) = connection_without connection direction lost
+
+-- the connection after these, the oldest first
+abbrev pub connection_after : (kept : ℕ) → List Step → Connection
+connection_after kept steps = fold (connection_with_step kept) no_connection steps
 
 -- ---- what a segment does
-
--- the first gap, if bytes are held after one
-pub record IsGapIn (ss : List Placed) (gap : Option Gap) : Type 0 where
-  pub some : IfSome gap (IsFirstGap ss)
-  pub none : IfNone gap ((p : ℕ) → length (text_of ss) ≤ p → byte_at ss p ≡ None)
 
 -- a gap that begins elsewhere than the one before, or where there was none
 abbrev pub new_gap : (before after : Option Gap) → Option Gap
@@ -159,10 +212,23 @@ pub record IsTaken (kept : ℕ) (side : Side) (s : Segment) (taken : FollowedSeg
   pub refused : taken.refused ≡ refusal_on kept side s
 
 -- and whether it begins a new connection
+pub record IsCounted (kept : ℕ) (earlier : Connection) (s : ConnectionSegment) (followed : FollowedSegment)
+    : Type 0 where
+  pub anew : followed.begins_anew ≡ begins_anew earlier s.direction s.segment.number (control_on s)
+  pub taken : IsTaken kept (side_in s.direction (connection_of earlier s)) s.segment followed
+
+-- one that changes nothing does nothing
+pub record DoesNothing (side : Side) (followed : FollowedSegment) : Type 0 where
+  pub anew : followed.begins_anew ≡ false
+  pub position : followed.position ≡ length (text_of side.segments)
+  pub gap : followed.gap ≡ None
+  pub conflicts : followed.conflicts ≡ counted []
+  pub refused : followed.refused ≡ None
+
 pub record IsFollowed (kept : ℕ) (earlier : Connection) (s : ConnectionSegment) (followed : FollowedSegment)
     : Type 0 where
-  pub anew : followed.begins_anew ≡ begins_anew earlier.state (control_on s)
-  pub taken : IsTaken kept (side_in s.direction (connection_for earlier (control_on s))) s.segment followed
+  pub counted : counts (control_on s) ≡ true → IsCounted kept earlier s followed
+  pub left_out : counts (control_on s) ≡ false → DoesNothing (side_in s.direction earlier) followed
 
 -- ---- what a follower holds
 
@@ -173,18 +239,15 @@ pub record ShowsSide (kept : ℕ) (buf : Contents) (side : Side) : Type 0 where
   pub joined_late : buf.joined_late ≡ side.joined_late
   pub window : buf.window ≡ 2 * kept
   pub taken : buf.held.taken ≤ taken_of kept side
-
--- both buffers show those of a connection
-pub record Follows (follower : Follower) (connection : Connection) : Type 0 where
-  pub state : follower.state ≡ connection.state
-  pub from_lower : ShowsSide follower.window follower.from_lower connection.from_lower
-  pub from_higher : ShowsSide follower.window follower.from_higher connection.from_higher
+  pub given_up : side.given_up ≤ buf.held.taken
 
 -- the buffer of a direction
 abbrev pub buf_in : Direction → Follower → Contents
 buf_in FromLower follower = follower.from_lower
 buf_in FromHigher follower = follower.from_higher
 
--- the bytes that a segment makes available are kept, those of the direction from there on
-abbrev pub keeps : Contents → FollowedSegment → Type 0
-keeps buf followed = buf.held.taken ≤ followed.position
+-- both buffers show those of a connection
+pub record Follows (follower : Follower) (connection : Connection) : Type 0 where
+  pub state : follower.state ≡ connection.state
+  pub from_lower : ShowsSide follower.window follower.from_lower connection.from_lower
+  pub from_higher : ShowsSide follower.window follower.from_higher connection.from_higher

@@ -1,12 +1,15 @@
 -- What holds of all lists of segments.
 use Rattle.std.specs.Prelude.{◌≡◌, ℕ, ◌+◌, ◌%◌, ◌^◌, ◌<◌, ◌≤◌, ◌↔◌, nat_lt, nat_le, Bool, false, ◌&&◌, IsTrue}
 use Rattle.std.specs.Prelude.{Option, Some, is_some, if◌then◌else◌, List, [], ◌∷◌, ◌++◌, length, take, drop}
-use Rattle.std.specs.Prelude.{slice_index, map, Contains}
+use Rattle.std.specs.Prelude.{IsSome, slice_index, map, Contains}
 use Rattle.std.specs.List.{list_any, AllByRecursion}
 use Rattle.std.specs.Option.{option_map}
+use Rattle.tcp_streams.specs.declared.gaps.Gap.{Gap}
+use Rattle.tcp_streams.specs.Following.{Side, placed_on, side_without}
+use Rattle.tcp_streams.specs.Losses.{given_up}
 use Rattle.tcp_streams.specs.Placing.{Segment, first_number, placed, next_position, start_number}
 use Rattle.tcp_streams.specs.Refusals.{refusal_of}
-use Rattle.tcp_streams.specs.Segments.{Placed, end_of, text_of, conflicts_of}
+use Rattle.tcp_streams.specs.Segments.{Placed, byte_at, end_of, text_of, conflicts_of}
 
 -- ---- segments of one text
 
@@ -64,6 +67,17 @@ TextStays = (ss ts : List Placed) → take (length (text_of ss)) (text_of (ss ++
 abbrev pub OrderDoesNotMatter : Type 0
 OrderDoesNotMatter = (ss ts : List Placed) → conflicts_of ss ≡ []
     → ((s : Placed) → Contains ss s ↔ Contains ts s) → (conflicts_of ts ≡ []) × (text_of ts ≡ text_of ss)
+
+-- a byte that came stays at its position where others are given up
+abbrev pub BytesStay : Type 0
+BytesStay = (ss : List Placed) (gap : Gap) (p : ℕ) → IsSome (byte_at ss p)
+    → byte_at (ss ++ given_up gap ∷ []) p ≡ byte_at ss p
+
+-- of a segment that comes after the first missing bytes of a side were given up, those at their positions and before them
+-- are left out
+abbrev pub LateBytesAreLeftOut : Type 0
+LateBytesAreLeftOut = (kept : ℕ) (side : Side) (gap : Gap) (s : Segment) → gap.start ≡ length (text_of side.segments)
+    → gap.start < gap.end → gap.end ≤ (placed_on kept (side_without side (Some gap)) s).position
 
 -- ---- the number of the first byte
 

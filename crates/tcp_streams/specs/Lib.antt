@@ -4,6 +4,7 @@ pub mod Flows
 pub mod Following
 pub mod Gaps
 pub mod Laws
+pub mod Losses
 pub mod PacketKeys
 pub mod Placing
 pub mod Refusals

@@ -1,6 +1,6 @@
 -- Bytes of a stream, of which some are missing.
 use Rattle.std.specs.Prelude.{◌≡◌, ℕ, ◌+◌, ◌-◌, ◌^◌, ◌<◌, ◌≤◌, ◌==◌, if◌then◌else◌, max, min}
-use Rattle.std.specs.Prelude.{Option, None, List, drop, length, slice_index, slice_get, take}
+use Rattle.std.specs.Prelude.{Option, None, List, [], ◌∷◌, drop, length, slice_index, slice_get, take}
 use Rattle.std.specs.Option.{option_or}
 use Rattle.tcp_streams.specs.declared.gaps.Gap.{Gap}
 use Rattle.tcp_streams.specs.declared.conflicts.Conflicts.{Conflicts}
@@ -48,6 +48,17 @@ pub record AddsBytes (old new : Sparse) (position : ℕ) (bytes : List ℕ) : Ty
   pub taken : new.taken ≡ old.taken
   pub last : held_end new ≡ max (held_end old) (end_with position bytes)
   pub held : (p : ℕ) → old.taken ≤ p → byte_in new p ≡ option_or (byte_in old p) (byte_from position bytes p)
+
+-- where bytes may be left out up to: the end of the first gap; where there is none, the end of the bytes or a position after it
+abbrev pub CanSkipTo : List Gap → (end position : ℕ) → Type 0
+CanSkipTo [] end position = (end ≤ position) × (position ≤ 2 ^ 63)
+CanSkipTo (gap ∷ gaps) end position = position ≡ gap.end
+
+-- no byte before a position is held any more, and none of them is missing
+pub record Skips (old new : Sparse) (position : ℕ) : Type 0 where
+  pub taken : new.taken ≡ position
+  pub last : held_end new ≡ max (held_end old) position
+  pub held : (p : ℕ) → position ≤ p → byte_in new p ≡ byte_in old p
 
 -- each byte that is missing is written, and no other
 pub record Fills (gaps : List Gap) (position : ℕ) (old new bytes : List ℕ) : Type 0 where

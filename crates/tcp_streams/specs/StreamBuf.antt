@@ -1,6 +1,6 @@
 -- What a buffer of one direction of a TCP connection holds, and which segments it shows.
 use Rattle.std.specs.Prelude.{◌≡◌, ◌*◌, ℕ, ◌<◌, ◌≤◌, ◌⊎◌, Bool, not, ◌||◌, if◌then◌else◌, Option, Some, None}
-use Rattle.std.specs.Prelude.{IsSome}
+use Rattle.std.specs.Prelude.{IsSome, IfSome, IfNone}
 use Rattle.std.specs.Prelude.{is_some, unwrap_or, Result, MatchResult, List, ◌+◌, ◌++◌, ◌-◌, length, slice_index, take, drop}
 use Rattle.tcp_streams.specs.declared.conflicts.Conflicts.{Conflicts}
 use Rattle.tcp_streams.specs.declared.gaps.Gap.{Gap}
@@ -54,6 +54,11 @@ pub record IsFirstGap (ss : List Placed) (gap : Gap) : Type 0 where
   pub order : gap.start < gap.end
   pub missing : (p : ℕ) → gap.start ≤ p → p < gap.end → byte_at ss p ≡ None
   pub end_held : IsSome (byte_at ss gap.end)
+
+-- the first gap, if bytes are held after one
+pub record IsGapIn (ss : List Placed) (gap : Option Gap) : Type 0 where
+  pub some : IfSome gap (IsFirstGap ss)
+  pub none : IfNone gap ((p : ℕ) → length (text_of ss) ≤ p → byte_at ss p ≡ None)
 
 -- the bytes after a gap: no segment has one in the gap, and none has the one after them
 pub record IsAfterGap (ss : List Placed) (gap : Gap) (bytes : List ℕ) : Type 0 where

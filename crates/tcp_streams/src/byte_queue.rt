@@ -78,7 +78,10 @@ impl ByteQueue {
         ensures { self.new ≡ drop count self.old }
     {
         self.dropped += count;
-        if self.bytes.len() - self.dropped <= self.dropped {
+        if self.dropped == self.bytes.len() {
+            self.bytes.clear();
+            self.dropped = 0;
+        } else if self.bytes.len() - self.dropped <= self.dropped {
             self.bytes.drain(..self.dropped);
             self.dropped = 0;
         }

@@ -1,6 +1,6 @@
 //! Connections by their keys.
 
-ghost use Rattle.std.specs.Prelude.{◌≡◌, ◌-◌, ◌<◌, ◌≤◌, ◌↔◌, [], IfOk, IsOk, IsSome, IsTrue, OnErr, OnOk, length};
+ghost use Rattle.std.specs.Prelude.{◌≡◌, ◌-◌, ◌<◌, ◌≤◌, ◌↔◌, [], IfOk, IsOk, IsSome, IsTrue, MatchOption, OnErr, OnOk, length};
 ghost use Rattle.std.specs.Prelude.{option_copied, option_map, slice_get, take};
 ghost use Rattle.std.specs.List.{IsDistinct};
 ghost use Rattle.std.specs.NonZero.{non_zero_usize_get};
@@ -86,6 +86,22 @@ impl<T: Drop, K: Eq + Hash + Drop, S: BuildHasher + Drop> Flows<T, K, S> {
             Ok(dropped) => Ok(dropped),
             Err(_) => Err(AllocError),
         }
+    }
+
+    /// Counts a packet of the connection with this key, and returns its value. Where there is none,
+    /// nothing changes.
+    pub fn count(&mut self, key: &K, packet: FlowPacket) -> Option<T>
+    where
+        T: Copy,
+        ensures value { result ≡ option_map (λ flow. flow.value) (flow_at K.eq self.old key.now) }
+        ensures table { MatchOption result (self.new ≡ self.old)
+            (λ value. self.new ≡ table_with K.eq self.old key.now packet value) }
+    {
+        if let Some(flow) = self.flows.get_mut(key) {
+            flow.count(packet);
+            return Some(flow.value);
+        }
+        None
     }
 
     /// The flow of a key.

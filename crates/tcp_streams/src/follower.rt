@@ -1,12 +1,16 @@
 //! A TCP connection, followed.
 
-ghost use Rattle.std.specs.Prelude.{◌≡◌, ◌++◌, ◌∷◌, ◌*◌, [], List, IfOk, MatchResult, OnErr, OnOk, Option};
-ghost use Rattle.tcp_streams.specs.Following.{Connection, ConnectionSegment, Follows, IsFollowed, IsGapIn, IsTaken};
-ghost use Rattle.tcp_streams.specs.Following.{ShowsSide, Side, begins_anew, buf_in, connection_after, connection_for};
-ghost use Rattle.tcp_streams.specs.Following.{connection_segment, control_with, is_of_segment, keeps, new_gap, no_connection};
-ghost use Rattle.tcp_streams.specs.Following.{no_side, side_in, side_with, taken_of, with_side};
+ghost use Rattle.std.specs.Prelude.{◌≡◌, ◌≤◌, ◌++◌, ◌∷◌, ◌*◌, ℕ, [], List, IfOk, IfSome, MatchResult, OnErr, OnOk};
+ghost use Rattle.std.specs.Prelude.{Bool, Option};
+ghost use Rattle.tcp_streams.specs.declared.gaps.Gap.{Gap};
+ghost use Rattle.tcp_streams.specs.Following.{Connection, DoesNothing, Follows, IsCounted, IsFollowed, IsTaken, ShowsSide, Side, Step};
+ghost use Rattle.tcp_streams.specs.Following.{begins_anew, begins_anew_by, begins_elsewhere, buf_in, connection_after, connection_for};
+ghost use Rattle.tcp_streams.specs.Following.{connection_of, connection_with_counted, connection_without, counts, is_ended, opens};
+ghost use Rattle.tcp_streams.specs.Following.{connection_segment, connection_with, control_with, is_of_segment, new_gap, no_connection};
+ghost use Rattle.tcp_streams.specs.Following.{lost_on, no_side, side_in, side_with, side_without, taken_of, with_side};
+ghost use Rattle.tcp_streams.specs.Following.Step.{Comes, GivesUp};
 ghost use Rattle.tcp_streams.specs.Placing.{Segment, segment};
-ghost use Rattle.tcp_streams.specs.StreamBuf.{Contents, IsBounded};
+ghost use Rattle.tcp_streams.specs.StreamBuf.{Contents, IsBounded, IsGapIn};
 
 use super::conflicts::Conflicts;
 use super::connection_state::{ConnectionState, Control};
@@ -35,7 +39,7 @@ pub struct Follower {
 #[derive(Clone, Copy, Debug, PartialEq, Eq)]
 pub struct FollowedSegment {
     /// It begins a new connection: it has SYN without ACK, and the one before ended by FIN of both
-    /// endpoints or by RST. All of that one is gone.
+    /// endpoints or by RST, or began with another number. All of that one is gone.
     pub begins_anew: bool,
     /// Where the bytes of its direction begin that it makes available:
     /// [`StreamBuf::available_from`] returns them.
@@ -74,9 +78,9 @@ impl Follower {
 
     /// The bytes of a direction.
     pub fn buf(&self, direction: Direction) -> &StreamBuf
+        ensures buf { result.now ≡ buf_in direction self.now }
         ensures shows { (connection : Connection) → Follows self.now connection
             → ShowsSide self.now.window result.now (side_in direction connection) }
-        ensures buf { result.now ≡ buf_in direction self.now }
     {
         match direction {
             Direction::FromLower => &self.from_lower,
@@ -84,16 +88,22 @@ impl Follower {
         }
     }
 
-    /// Whether a segment with this control begins a new connection: SYN without ACK after FIN of both
-    /// endpoints or RST.
-    pub fn begins_anew(&self, control: Control) -> bool
+    /// Whether a segment with this number and control begins a new connection: SYN without ACK after FIN of
+    /// both endpoints or RST, or with another number than the one that its direction began with.
+    pub fn begins_anew(&self, direction: Direction, sequence_number: u32, control: Control) -> bool
         ensures { (connection : Connection) → Follows self.now connection
-            → result ≡ begins_anew connection.state control }
+            → result ≡ begins_anew connection direction sequence_number control }
     {
-        is_ended(self.state) && control == Control::Syn
+        begins_anew(
+            self.state,
+            self.buf(direction).start(),
+            sequence_number,
+            control,
+        )
     }
 
-    /// Takes a segment. If it begins a new connection, nothing of the one before is left.
+    /// Takes a segment. If it begins a new connection, nothing of the one before is left. One with
+    /// neither SYN, ACK nor RST changes nothing.
     ///
     /// Where there is no memory for it, it isn't taken; a new connection begins then too.
     pub fn add(
@@ -104,24 +114,71 @@ impl Follower {
         ack: bool,
         payload: &[u8],
     ) -> Result<FollowedSegment, AllocError>
-        ensures follows { (earlier : List ConnectionSegment)
+        ensures follows { (earlier : List Step)
             → Follows self.old (connection_after self.old.window earlier) →
             let s = connection_segment direction sequence_number flags ack payload.now in
-            OnOk result (Follows self.new (connection_after self.old.window (earlier ++ s ∷ []))) }
-        ensures followed { (earlier : List ConnectionSegment)
+            OnOk result (Follows self.new (connection_after self.old.window (earlier ++ Comes s ∷ []))) }
+        ensures followed { (earlier : List Step)
             → Follows self.old (connection_after self.old.window earlier) →
             let s = connection_segment direction sequence_number flags ack payload.now in
             IfOk result (IsFollowed self.old.window (connection_after self.old.window earlier) s) }
-        ensures kept { (earlier : List ConnectionSegment)
-            → Follows self.old (connection_after self.old.window earlier)
-            → IfOk result (keeps (buf_in direction self.new)) }
-        ensures err { (earlier : List ConnectionSegment)
+        // The bytes that it makes available are there.
+        ensures kept { (earlier : List Step) → Follows self.old (connection_after self.old.window earlier)
+            → IfOk result (λ followed. (buf_in direction self.new).held.taken ≤ followed.position) }
+        ensures err { (earlier : List Step)
             → Follows self.old (connection_after self.old.window earlier) → OnErr result (Follows self.new
-            (connection_for (connection_after self.old.window earlier) (control_with flags ack))) }
+            (connection_for (connection_after self.old.window earlier) direction sequence_number
+            (control_with flags ack))) }
         ensures window { self.new.window ≡ self.old.window }
     {
         let control = Control::of_flags(flags.syn, ack, flags.fin, flags.rst);
-        let begins_anew = self.begin(control);
+        if counts(control) {
+            self.take_counted(direction, sequence_number, flags, control, payload)
+        } else {
+            Ok(self.left_out(direction))
+        }
+    }
+
+    // What a segment does that changes nothing.
+    fn left_out(&self, direction: Direction) -> FollowedSegment
+        ensures nothing { (connection : Connection) → Follows self.now connection
+            → DoesNothing (side_in direction connection) result }
+        ensures kept { (connection : Connection) → Follows self.now connection
+            → (buf_in direction self.now).held.taken ≤ result.position }
+    {
+        FollowedSegment {
+            begins_anew: false,
+            position: self.buf(direction).available_end(),
+            gap: None,
+            conflicts: Conflicts::none(),
+            refused: None,
+        }
+    }
+
+    // Takes a segment that counts, with this control.
+    fn take_counted(
+        &mut self,
+        direction: Direction,
+        sequence_number: u32,
+        flags: SegmentFlags,
+        control: Control,
+        payload: &[u8],
+    ) -> Result<FollowedSegment, AllocError>
+        ensures follows { (earlier : Connection) → Follows self.old earlier
+            → (ack : Bool) → control ≡ control_with flags ack →
+            let s = connection_segment direction sequence_number flags ack payload.now in
+            OnOk result (Follows self.new (connection_with_counted self.old.window earlier s)) }
+        ensures followed { (earlier : Connection) → Follows self.old earlier
+            → (ack : Bool) → control ≡ control_with flags ack →
+            let s = connection_segment direction sequence_number flags ack payload.now in
+            IfOk result (IsCounted self.old.window earlier s) }
+        ensures kept { (earlier : Connection) → Follows self.old earlier
+            → IfOk result (λ followed. (buf_in direction self.new).held.taken ≤ followed.position) }
+        ensures err { (earlier : Connection) → Follows self.old earlier
+            → OnErr result (Follows self.new (connection_for earlier direction sequence_number control)) }
+        ensures window { self.new.window ≡ self.old.window }
+    {
+        let begins_anew = self.begin(direction, sequence_number, control);
         let state = self.state.after(direction, control);
         match self.take(direction, sequence_number, flags, payload) {
             Ok(taken) => {
@@ -135,16 +192,55 @@ impl Follower {
         }
     }
 
-    // Forgets the connection where a segment with this control begins a new one, and returns whether
-    // it does.
-    fn begin(&mut self, control: Control) -> bool
-        ensures follows { (connection : Connection) → Follows self.old connection
-            → Follows self.new (connection_for connection control) }
-        ensures anew { (connection : Connection) → Follows self.old connection
-            → result ≡ begins_anew connection.state control }
+    /// Gives up the first bytes of a direction that are lost: they are missing, and the other endpoint
+    /// acknowledges them by this number. It returns their positions. The bytes after them become
+    /// available: [`StreamBuf::available_from`] returns them from the end of the gap on.
+    ///
+    /// Lost are the bytes of the first gap, if all of them are acknowledged. Where there is no gap the
+    /// bytes before FIN are lost and, where FIN didn't come, those before the number, if that stands after
+    /// the window. More may be lost, until it returns `None`.
+    ///
+    /// What comes later at their positions changes nothing, and bytes before them are compared no more.
+    pub fn give_up(&mut self, direction: Direction, acknowledgment_number: u32) -> Option<Gap>
+        ensures lost { (earlier : List Step) → Follows self.old (connection_after self.old.window earlier) →
+            let side = side_in direction (connection_after self.old.window earlier) in
+            (first : Option Gap) × IsGapIn side.segments first
+            × (result ≡ lost_on self.old.window side first acknowledgment_number) }
+        ensures follows { (earlier : List Step) → Follows self.old (connection_after self.old.window earlier)
+            → Follows self.new (connection_after self.old.window (earlier ++ GivesUp direction result ∷ [])) }
+        // The bytes after them are there.
+        ensures kept { IfSome result (λ gap. (buf_in direction self.new).held.taken ≤ gap.end) }
         ensures window { self.new.window ≡ self.old.window }
     {
-        let begins_anew = self.begins_anew(control);
+        self.give_up_in(direction, acknowledgment_number)
+    }
+
+    // The same, of any connection.
+    fn give_up_in(&mut self, direction: Direction, number: u32) -> Option<Gap>
+        ensures lost { (connection : Connection) → Follows self.old connection →
+            let side = side_in direction connection in (first : Option Gap) × IsGapIn side.segments first
+            × (result ≡ lost_on self.old.window side first number) }
+        ensures follows { (connection : Connection) → Follows self.old connection
+            → Follows self.new (connection_without connection direction result) }
+        ensures kept { IfSome result (λ gap. (buf_in direction self.new).held.taken ≤ gap.end) }
+        ensures window { self.new.window ≡ self.old.window }
+    {
+        match direction {
+            Direction::FromLower => give_up(&mut self.from_lower, self.window, number),
+            Direction::FromHigher => give_up(&mut self.from_higher, self.window, number),
+        }
+    }
+
+    // Forgets the connection where a segment with this number and control begins a new one, and returns
+    // whether it does.
+    fn begin(&mut self, direction: Direction, sequence_number: u32, control: Control) -> bool
+        ensures follows { (connection : Connection) → Follows self.old connection
+            → Follows self.new (connection_for connection direction sequence_number control) }
+        ensures anew { (connection : Connection) → Follows self.old connection
+            → result ≡ begins_anew connection direction sequence_number control }
+        ensures window { self.new.window ≡ self.old.window }
+    {
+        let begins_anew = self.begins_anew(direction, sequence_number, control);
         if begins_anew {
             *self = Follower::new(self.alloc, self.window);
         }
@@ -163,10 +259,8 @@ impl Follower {
             let s = segment sequence_number flags payload.now in
             let side = side_in direction connection in MatchResult result
             (λ taken. Follows self.new (with_side direction connection (side_with self.old.window side s))
-            × IsTaken self.old.window side s taken)
+            × IsTaken self.old.window side s taken × ((buf_in direction self.new).held.taken ≤ taken.position))
             (λ _. Follows self.new connection) }
-        ensures kept { (connection : Connection) → Follows self.old connection
-            → IfOk result (keeps (buf_in direction self.new)) }
         ensures window { self.new.window ≡ self.old.window }
         ensures state { self.new.state ≡ self.old.state }
     {
@@ -190,9 +284,44 @@ impl Follower {
 }
 
 fn is_ended(state: ConnectionState) -> bool
-    ensures { result ≡ begins_anew state Control.Syn }
+    ensures { result ≡ is_ended state }
 {
     matches!(state, ConnectionState::Closed | ConnectionState::Reset)
+}
+
+fn opens(control: Control) -> bool
+    ensures { result ≡ opens control }
+{
+    matches!(control, Control::Syn)
+}
+
+// Whether a segment has SYN, ACK or RST.
+fn counts(control: Control) -> bool
+    ensures { result ≡ counts control }
+{
+    !matches!(control, Control::Nothing)
+}
+
+// Whether position 0 has another number than this one.
+fn begins_elsewhere(start: Option<u32>, number: u32) -> bool
+    ensures { result ≡ begins_elsewhere start number }
+{
+    match start {
+        Some(start) => start != number,
+        None => false,
+    }
+}
+
+// Whether SYN with this number begins a new connection, where position 0 of its direction has that one.
+fn begins_anew(
+    state: ConnectionState,
+    start: Option<u32>,
+    sequence_number: u32,
+    control: Control,
+) -> bool
+    ensures { result ≡ begins_anew_by state start sequence_number control }
+{
+    opens(control) && (is_ended(state) || begins_elsewhere(start, sequence_number.wrapping_add(1)))
 }
 
 // Takes a segment of one direction, of which so many bytes are kept.
@@ -203,12 +332,11 @@ fn take(
     flags: SegmentFlags,
     payload: &[u8],
 ) -> Result<FollowedSegment, AllocError>
-    ensures taken { (earlier : Side) → ShowsSide kept buf.old earlier →
+    ensures { (earlier : Side) → ShowsSide kept buf.old earlier →
         let s = segment sequence_number flags payload.now in MatchResult result
-        (λ taken. ShowsSide kept buf.new (side_with kept earlier s) × IsTaken kept earlier s taken)
+        (λ taken. ShowsSide kept buf.new (side_with kept earlier s) × IsTaken kept earlier s taken
+        × (buf.new.held.taken ≤ taken.position))
         (λ _. ShowsSide kept buf.new earlier) }
-    ensures kept { (earlier : Side) → ShowsSide kept buf.old earlier
-        → IfOk result (keeps buf.new) }
 {
     forget(buf, kept);
     let position = buf.available_end();
@@ -240,6 +368,18 @@ fn is_of_segment(refused: Refused) -> bool
         Refused::OutsideWindow { .. } | Refused::AfterFin { .. } | Refused::AfterReset => true,
         Refused::OutOfMemory => false,
     }
+}
+
+// Gives up bytes of one direction, of which so many bytes are kept.
+fn give_up(buf: &mut StreamBuf, kept: u32, number: u32) -> Option<Gap>
+    ensures lost { (earlier : Side) → ShowsSide kept buf.old earlier → (first : Option Gap)
+        × IsGapIn earlier.segments first × (result ≡ lost_on kept earlier first number) }
+    ensures shows { (earlier : Side) → ShowsSide kept buf.old earlier
+        → ShowsSide kept buf.new (side_without earlier result) }
+    ensures kept { IfSome result (λ gap. buf.new.held.taken ≤ gap.end) }
+{
+    forget(buf, kept);
+    buf.give_up(number)
 }
 
 // Forgets the available bytes but the last ones, which are kept.

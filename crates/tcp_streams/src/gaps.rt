@@ -1,7 +1,7 @@
 //! Positions of a stream whose bytes are missing.
 
 ghost use Rattle.std.specs.Prelude.{◌≡◌, ◌+◌, ◌<◌, ◌≤◌, ◌^◌, ◌++◌, ◌∷◌, [], length, nat_lt, vec_len, vec_capacity};
-ghost use Rattle.std.specs.Prelude.{if◌then◌else◌};
+ghost use Rattle.std.specs.Prelude.{if◌then◌else◌, drop};
 ghost use Rattle.std.specs.List.{insert, remove_range};
 ghost use Rattle.tcp_streams.specs.Gaps.{AreGapsIn, EndBy, StartBefore, without};
 
@@ -59,6 +59,16 @@ pub(crate) fn push_gap(gaps: &mut Vec<Gap>, start: u64, end: u64)
     if start < end {
         gaps.push(Gap { start, end }).unwrap();
     }
+}
+
+// Removes the first gap, if there is one.
+pub(crate) fn remove_first(gaps: &mut Vec<Gap>)
+    ensures { gaps.new.items ≡ drop 1 gaps.old.items }
+{
+    if gaps.is_empty() {
+        return;
+    }
+    gaps.drain(..1);
 }
 
 // Removes the gaps from one index on, up to another.

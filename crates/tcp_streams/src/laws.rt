@@ -1,6 +1,7 @@
 //! Laws of the definitions: the contract of each function is the law.
 
 ghost use Rattle.tcp_streams.specs.Laws.{CutsArePlaced, NumbersAreRelative, OneTextGivesAll, OneTextGivesPrefix};
+ghost use Rattle.tcp_streams.specs.Laws.{BytesStay, LateBytesAreLeftOut};
 ghost use Rattle.tcp_streams.specs.Laws.{OneTextHasNoConflict, OrderDoesNotMatter, TextStays};
 
 pub mod examples;
@@ -27,6 +28,13 @@ pub fn cuts_are_placed()
 /// What a stream has shown never changes, whatever comes.
 pub fn text_stays()
     ensures { TextStays }
+{}
+
+/// A byte that came stays at its position where others are given up. What comes later at their positions
+/// is left out.
+pub fn given_up_bytes_stay()
+    ensures stay { BytesStay }
+    ensures late { LateBytesAreLeftOut }
 {}
 
 /// Where there is no conflict, neither the order of segments matters nor how often each came.

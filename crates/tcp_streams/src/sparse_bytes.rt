@@ -8,11 +8,11 @@ ghost use Rattle.std.specs.List.{AllWithin};
 ghost use Rattle.tcp_streams.specs.Gaps.{AreGapsIn, Reaches, first_gap, without};
 ghost use Rattle.tcp_streams.specs.Segments.{byte_from, clashes};
 ghost use Rattle.tcp_streams.specs.SparseBytes.{Sparse, sparse, IsSparse, held_end, available_end, byte_in};
-ghost use Rattle.tcp_streams.specs.SparseBytes.{AddsBytes, Fills, bytes_after_gap, counted};
+ghost use Rattle.tcp_streams.specs.SparseBytes.{AddsBytes, CanSkipTo, Fills, Skips, bytes_after_gap, counted};
 
 use super::byte_queue::ByteQueue;
 use super::conflicts::{Conflicts, differences};
-use super::gaps::{Gap, close, push_gap, touched};
+use super::gaps::{Gap, close, push_gap, remove_first, touched};
 use std::alloc::{AllocError, Global};
 use std::marker::Model;
 
@@ -129,6 +129,19 @@ impl SparseBytes {
     {
         self.bytes.drop_prefix(count);
         self.taken += count as u64;
+    }
+
+    /// Takes all bytes before a position, those that are missing too. It is the end of the first gap;
+    /// where there is none, it isn't before the end of the bytes.
+    pub(crate) fn skip_to(&mut self, position: u64)
+        requires { CanSkipTo self.old.gaps (held_end self.old) position }
+        ensures skips { Skips self.old self.new position }
+        ensures sound { IsSparse self.new }
+    {
+        let count = ((position - self.taken) as usize).min(self.bytes.len());
+        self.bytes.drop_prefix(count);
+        remove_first(&mut self.gaps);
+        self.taken = position;
     }
 
     /// Adds bytes from a position on. Those that are held stay, and the positions at which they

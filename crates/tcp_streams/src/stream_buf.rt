@@ -3,7 +3,11 @@
 ghost use Rattle.std.specs.Prelude.{◌≡◌, ℕ, ◌+◌, ◌<◌, ◌≤◌, ◌↔◌, ◌^◌, ◌++◌, ◌∷◌, ◌==◌, [], if◌then◌else◌, List};
 ghost use Rattle.std.specs.Prelude.{None, Some, false};
 ghost use Rattle.std.specs.Prelude.{IsTrue, IfOk, IfErr, IsOk, OnOk, OnErr, IfSome, IfNone, not, is_some, length, drop};
-ghost use Rattle.std.specs.Prelude.{◌-◌, min, slice_get};
+ghost use Rattle.std.specs.Prelude.{◌-◌, min, slice_get, Option};
+ghost use Rattle.std.specs.Option.{option_map_or};
+ghost use Rattle.tcp_streams.specs.declared.gaps.Gap.{Gap};
+ghost use Rattle.tcp_streams.specs.Losses.{acknowledged, acknowledged_at, gap_between, lost_after, lost_by, lost_in, lost_of};
+ghost use Rattle.tcp_streams.specs.Losses.{with_given_up};
 ghost use Rattle.tcp_streams.specs.Placing.{Segment, segment, bytes_of, first_number, start_number, placed_at};
 ghost use Rattle.tcp_streams.specs.Placing.{placed};
 ghost use Rattle.tcp_streams.specs.Refusals.{window_end, fin_refusal, refusal_of};
@@ -11,7 +15,7 @@ ghost use Rattle.tcp_streams.specs.Segments.{Placed, byte_at, text_of, fin_of, i
 ghost use Rattle.tcp_streams.specs.Segments.{conflicts_of};
 ghost use Rattle.tcp_streams.specs.SparseBytes.{byte_in, counted};
 ghost use Rattle.tcp_streams.specs.StreamBuf.{Contents, Shows, IsSound, IsBounded, IsLocation, IsLocated};
-ghost use Rattle.tcp_streams.specs.StreamBuf.{IsAfterGap, IsFirstGap, AnswersAdd, IsAdded};
+ghost use Rattle.tcp_streams.specs.StreamBuf.{IsAfterGap, IsFirstGap, IsGapIn, AnswersAdd, IsAdded};
 ghost use Rattle.tcp_streams.specs.StreamBuf.{available_in, next_in, placed_in, refusal_in};
 
 use super::conflicts::Conflicts;
@@ -167,6 +171,54 @@ fn fin_refusal(
     None
 }
 
+// The position before which a number acknowledges all bytes, by how far it lies from what is expected next.
+fn acknowledged_at(distance: Distance, next: u64) -> u64
+    ensures { result ≡ acknowledged_at distance next }
+{
+    match distance {
+        Distance::After(count) => next.saturating_add(u64::from(count)).min(1 << 63),
+        Distance::Before(count) => next.saturating_sub(u64::from(count)).min(1 << 63),
+    }
+}
+
+fn gap_between(start: u64, end: u64) -> Option<Gap>
+    ensures { result ≡ gap_between start end }
+{
+    if start < end {
+        Some(Gap { start, end })
+    } else {
+        None
+    }
+}
+
+// Which bytes are lost after the available ones, which end here, where none is held after them.
+fn lost_after(end: u64, fin: Option<u64>, window_end: u64, acknowledged: u64) -> Option<Gap>
+    ensures { result ≡ lost_after end fin window_end acknowledged }
+{
+    match fin {
+        Some(fin) if fin <= acknowledged => gap_between(end, fin),
+        None if window_end < acknowledged => gap_between(end, acknowledged),
+        _ => None,
+    }
+}
+
+// Which bytes are lost, by the first gap.
+fn lost_by(
+    first: Option<Gap>,
+    end: u64,
+    fin: Option<u64>,
+    window_end: u64,
+    acknowledged: u64,
+) -> Option<Gap>
+    ensures { result ≡ lost_by first end fin window_end acknowledged }
+{
+    match first {
+        Some(gap) if gap.end <= acknowledged => Some(gap),
+        Some(_) => None,
+        None => lost_after(end, fin, window_end, acknowledged),
+    }
+}
+
 impl StreamBuf {
     /// A buffer of so many bytes for a stream of which no segment came.
     pub fn new(alloc: Global, window: usize) -> StreamBuf
@@ -193,6 +245,37 @@ impl StreamBuf {
     {
         let end = self.held.available_end();
         if self.fin == Some(end) { end + 1 } else { end }
+    }
+
+    /// The number of position 0, once a segment came.
+    pub(crate) fn start(&self) -> Option<u32>
+        ensures { result ≡ self.now.start }
+    {
+        self.start
+    }
+
+    // The position before which a number acknowledges all bytes.
+    fn acknowledged(&self, number: u32) -> u64
+        ensures { result ≡ acknowledged self.now.start (next_in self.now) number }
+    {
+        let Some(start) = self.start else {
+            return 0;
+        };
+        let next = self.next();
+        let expected = start.wrapping_add((next % (1 << 32)) as u32);
+        acknowledged_at(distance_between(expected, number), next)
+    }
+
+    // Which bytes are lost, by a number that acknowledges.
+    fn lost(&self, number: u32) -> Option<Gap>
+        ensures lost { result ≡ lost_in self.now number }
+        ensures sound { IsSound self.now }
+    {
+        let gaps = self.held.gaps();
+        let end = self.held.available_end();
+        let last = window_end(self.window, self.held.taken());
+        let acknowledged = self.acknowledged(number);
+        lost_by(gaps.first().copied(), end, self.fin, last, acknowledged)
     }
 
     // Where a segment of so many bytes stands, the first of which has this number.
@@ -367,6 +450,29 @@ impl StreamBuf {
         self.held.consume(count);
     }
 
+    /// Gives up bytes that are missing, where this number of the other endpoint acknowledges them: those
+    /// of the first gap. Where there is no gap it gives up the bytes before FIN and, where FIN didn't
+    /// come, those before the number, if that stands after the window.
+    ///
+    /// What comes later at their positions changes nothing. Bytes before them are taken away.
+    pub(crate) fn give_up(&mut self, number: u32) -> Option<Gap>
+        ensures lost { (ss : List Placed) → Shows self.old ss → (first : Option Gap) × IsGapIn ss first
+            × (result ≡ lost_of self.old.window self.old.held.taken self.old.start ss first number) }
+        ensures shows { (ss : List Placed) → Shows self.old ss → Shows self.new (with_given_up ss result) }
+        ensures taken { self.new.held.taken ≡ option_map_or (λ gap. gap.end) result self.old.held.taken }
+        ensures start { self.new.start ≡ self.old.start }
+        ensures joined_late { self.new.joined_late ≡ self.old.joined_late }
+        ensures window { self.new.window ≡ self.old.window }
+    {
+        match self.lost(number) {
+            Some(gap) => {
+                self.held.skip_to(gap.end);
+                Some(gap)
+            }
+            None => None,
+        }
+    }
+
     /// The first positions whose bytes are missing, if bytes after them are held.
     pub fn gap(&self) -> Option<Gap>
         ensures gap { (ss : List Placed) → Shows self.now ss → IfSome result (IsFirstGap ss) }
@@ -393,6 +499,13 @@ impl StreamBuf {
             → IsTrue result ↔ (fin_of ss ≡ Some (length (text_of ss))) }
     {
         self.fin == Some(self.held.available_end())
+    }
+
+    /// The position of FIN, if it came: bytes before it may be missing.
+    pub fn fin(&self) -> Option<u64>
+        ensures { (ss : List Placed) → Shows self.now ss → result ≡ fin_of ss }
+    {
+        self.fin
     }
 
     /// The conflicts of all segments.

@@ -1,4 +1,5 @@
 //! What is at the start of what a reader holds, without a borrow of it.
+ghost use Rattle.std.specs.Prelude.{◌≡◌, None};
 ghost use Rattle.captures.specs.Readers.{IsAhead};
 
 use crate::CaptureError;
@@ -31,6 +32,21 @@ pub(crate) struct Ahead {
     pub left: usize,
     /// Why no unit can follow.
     pub refusal: Option<CaptureError>,
+}
+
+impl Ahead {
+    /// No packet: this many bytes are left, and this is refused, if anything is.
+    pub(crate) fn none(left: usize, refusal: Option<CaptureError>) -> Ahead
+        ensures { result ≡ record { found = None; from = 0; len = 0; left = left; refusal = refusal } }
+    {
+        Ahead {
+            found: None,
+            from: 0,
+            len: 0,
+            left,
+            refusal,
+        }
+    }
 }
 
 /// Takes the units of some bytes up to the first that holds a packet.

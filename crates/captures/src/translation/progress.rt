@@ -159,7 +159,8 @@ fn take_after<'a>(
     }
 }
 
-fn last(bytes: &[u8], left: usize) -> &[u8]
+/// The last `left` of some bytes.
+pub(crate) fn last(bytes: &[u8], left: usize) -> &[u8]
     requires { left ≤ length bytes.now }
     ensures last { result.now ≡ last_of left bytes.now }
     ensures parts { (prefix : List ℕ) × (bytes.now ≡ prefix ++ result.now) }

@@ -20,6 +20,12 @@ const SYN: SegmentFlags = SegmentFlags {
     rst: false,
 };
 
+const FIN: SegmentFlags = SegmentFlags {
+    syn: false,
+    fin: true,
+    rst: false,
+};
+
 const RST: SegmentFlags = SegmentFlags {
     syn: false,
     fin: false,
@@ -172,6 +178,37 @@ const STEPS: &[Step] = &[
         NOTHING_AT_0,
         b"new",
     ),
+    Step("SYN repeated", true, 77, SYN, false, b"", NOTHING_AT_0, b""),
+    Step(
+        "without ACK",
+        true,
+        78,
+        NONE,
+        false,
+        b"no",
+        NOTHING_AT_0,
+        b"",
+    ),
+    Step(
+        "SYN with another number",
+        true,
+        700,
+        SYN,
+        false,
+        b"",
+        ANEW,
+        b"",
+    ),
+    Step(
+        "without SYN",
+        false,
+        1001,
+        NONE,
+        true,
+        b"more",
+        NOTHING_AT_0,
+        b"more",
+    ),
 ];
 
 fn direction(from_lower: bool) -> Direction {
@@ -195,7 +232,7 @@ fn segments_in_both_directions(rt: HostRuntime) {
         holds_in(
             &rt,
             name,
-            follower.begins_anew(control) == wanted.begins_anew,
+            follower.begins_anew(way, *number, control) == wanted.begins_anew,
         );
         match follower.add(way, *number, *flags, *ack, payload) {
             Ok(followed) => equal_in(&rt, name, &followed, wanted),
@@ -213,6 +250,56 @@ fn segments_in_both_directions(rt: HostRuntime) {
     );
     let late = follower.buf(Direction::FromHigher).joined_late();
     equal_in(&rt, "joined late", &late, &true);
+}
+
+// A direction of which the first segment has this number, and bytes are missing after it.
+fn with_gaps(rt: impl Abort + Copy, follower: &mut Follower) {
+    for (number, payload) in [(7, b"ab"), (12, b"fg"), (16, b"jk")] {
+        let added = follower.add(Direction::FromLower, number, NONE, true, payload);
+        holds_in(rt, "added", added.is_ok());
+    }
+}
+
+#[test]
+fn bytes_that_are_lost(rt: HostRuntime) {
+    let mut follower = Follower::new(rt.alloc(), 64);
+    with_gaps(&rt, &mut follower);
+    // Of the gap from 2 to 5 the first two, then all; of that from 7 to 9 one.
+    let way = Direction::FromLower;
+    equal_in(&rt, "two of three", &follower.give_up(way, 11), &None);
+    let first = Some(Gap { start: 2, end: 5 });
+    equal_in(&rt, "three", &follower.give_up(way, 15), &first);
+    holds_in(
+        &rt,
+        "bytes",
+        is_same(follower.buf(way).available_from(5), b"fg"),
+    );
+    equal_in(&rt, "one of two", &follower.give_up(way, 15), &None);
+    holds_in(
+        &rt,
+        "late",
+        follower.add(way, 9, NONE, true, b"cde").is_ok(),
+    );
+    equal_in(
+        &rt,
+        "conflicts",
+        &follower.buf(way).conflicts(),
+        &Conflicts::default(),
+    );
+    // Nothing is held after 11, and the window ends at 137, 128 after the last gap.
+    let second = Some(Gap { start: 7, end: 9 });
+    equal_in(&rt, "two", &follower.give_up(way, 140), &second);
+    equal_in(&rt, "in the window", &follower.give_up(way, 7 + 137), &None);
+    let far = Some(Gap {
+        start: 11,
+        end: 138,
+    });
+    equal_in(
+        &rt,
+        "after the window",
+        &follower.give_up(way, 7 + 138),
+        &far,
+    );
 }
 
 fn is_after(rt: impl Abort + Copy, buf: &StreamBuf, index: usize, gap: Gap, bytes: &[u8]) {
@@ -235,6 +322,10 @@ fn bytes_after_gaps(rt: HostRuntime) {
     is_after(&rt, &buf, 1, Gap { start: 7, end: 9 }, b"jk");
     holds_in(&rt, "no more", buf.after_gap(2).is_none());
     equal_in(&rt, "end", &buf.available_end(), &2);
+    equal_in(&rt, "no FIN", &buf.fin(), &None);
+    holds_in(&rt, "added", buf.add(20, FIN, b"").is_ok());
+    equal_in(&rt, "FIN", &buf.fin(), &Some(13));
+    holds_in(&rt, "not finished", !buf.is_finished());
     holds_in(&rt, "from 1", is_same(buf.available_from(1), b"b"));
     holds_in(&rt, "from 9", buf.available_from(9).is_empty());
 }

@@ -121,7 +121,8 @@ fn letter(byte: u8) -> u8
     }
 }
 
-fn digits(byte: u8) -> [u8; 2]
+/// A byte in hex, the higher digit first, with lower-case letters.
+pub fn digits(byte: u8) -> [u8; 2]
     ensures { result ≡ digits_of byte }
 {
     [digit(usize::from(byte / 16)), digit(usize::from(byte))]

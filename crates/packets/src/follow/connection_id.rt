@@ -15,7 +15,7 @@ pub struct ConnectionId {
 
 impl ConnectionId {
     /// The endpoints that a text names: `HOST:PORT-HOST:PORT`, where an IPv6 address has brackets
-    /// around it. There are none where it is no such text, and where the addresses have different
+    /// around it, or `HOST.PORT-HOST.PORT`, as tcpdump prints them. There are none where it is no such text, and where the addresses have different
     /// versions. It has no contract: tests compare what texts name.
     pub fn of(text: &str) -> Option<ConnectionId> {
         let Some((first, second)) = text.split_once('-') else {
@@ -59,6 +59,39 @@ fn between(first: IpAddr, second: IpAddr, ports: Ports) -> Option<ConnectionId> 
 }
 
 fn endpoint(text: &str) -> Option<(IpAddr, u16)> {
+    match after_colon(text) {
+        Some(endpoint) => Some(endpoint),
+        None => after_dot(text),
+    }
+}
+
+// With the port after the last dot.
+fn after_dot(text: &str) -> Option<(IpAddr, u16)> {
+    let bytes = text.as_bytes();
+    let mut last = None;
+    for (index, byte) in bytes.iter().enumerate() {
+        if *byte == b'.' {
+            last = Some(index);
+        }
+    }
+    let at = last?;
+    let address = text_of(bytes.get(..at));
+    let port = text_of(bytes.get(at.saturating_add(1)..));
+    match ipv4(address) {
+        Some(address) => with_port(Some(address), port),
+        None => with_port(ipv6(address), port),
+    }
+}
+
+fn text_of(bytes: Option<&[u8]>) -> &str {
+    match bytes {
+        Some(bytes) => str::from_utf8(bytes).unwrap_or(""),
+        None => "",
+    }
+}
+
+// With the port after a colon, and brackets around an IPv6 address.
+fn after_colon(text: &str) -> Option<(IpAddr, u16)> {
     match text.strip_prefix("[") {
         Some(text) => match text.split_once("]:") {
             Some((address, port)) => with_port(ipv6(address), port),

@@ -32,7 +32,9 @@ impl Described for EventObject<'_, '_> {}
 impl Serialize for EventObject<'_, '_> {
     fn serialize<S: Serializer>(&self, out: &mut S) -> Result<(), S::Error> {
         out.begin_map(None)?;
-        number(out, "connection", self.event.connection)?;
+        if !matches!(self.event.kind, EventKind::NoSegments) {
+            number(out, "connection", self.event.connection)?;
+        }
         if let Some(packet) = self.event.packet {
             number(out, "packet", packet)?;
         }
@@ -49,12 +51,20 @@ impl Serialize for EventObject<'_, '_> {
 impl EventObject<'_, '_> {
     fn kind<S: Serializer>(&self, out: &mut S) -> Result<(), S::Error> {
         match self.event.kind {
+            EventKind::NoSegments => text(out, "event", "NoSegments"),
             EventKind::Begin => text(out, "event", "Begin"),
+            EventKind::JoinedLate => text(out, "event", "JoinedLate"),
             EventKind::Bytes { position, bytes } => self.bytes(out, position, bytes),
             EventKind::Gap(Gap { start, end }) => {
                 begin_variant(out, "Gap")?;
                 number(out, "start", start)?;
                 number(out, "end", end)?;
+                end_variant(out)
+            }
+            EventKind::Missing(Gap { start, end }) => {
+                begin_variant(out, "Missing")?;
+                number(out, "position", start)?;
+                number(out, "count", end.saturating_sub(start))?;
                 end_variant(out)
             }
             EventKind::Conflicts(conflicts) => {
@@ -127,7 +137,11 @@ fn direction_end<S: Serializer>(out: &mut S, end: DirectionEnd) -> Result<(), S:
     begin_variant(out, "DirectionEnd")?;
     number(out, "len", end.len)?;
     flag(out, "is_finished", end.is_finished)?;
+    if let Some(fin) = end.fin {
+        number(out, "fin", fin)?;
+    }
     flag(out, "joined_late", end.joined_late)?;
+    number(out, "missing", end.missing)?;
     number(out, "conflicts", end.conflicts.count)?;
     end_variant(out)
 }

@@ -1,9 +1,7 @@
 //! Events as text. The functions have no contracts: tests compare the texts.
 
-ghost use Rattle.std.specs.Prelude.{◌<◌};
-
 use crate::follow::event::{DirectionEnd, Event, EventKind, Way};
-use header_descriptions::show::byte_lines::append_byte_lines;
+use header_descriptions::show::byte_lines::{append_byte_lines, digits};
 use header_descriptions::show::{Line, Style};
 use std::alloc::AllocError;
 use tcp_streams::{Conflicts, ConnectionState, Gap, Refused};
@@ -15,7 +13,10 @@ pub(crate) fn append_event(
     in_hex: bool,
     out: &mut Vec<u8>,
 ) -> Result<(), AllocError> {
-    append_line(event, out)?;
+    match event.kind {
+        EventKind::NoSegments => return out.extend_from_slice(b"no segments\n"),
+        _ => append_line(event, out)?,
+    }
     match event.kind {
         EventKind::Bytes { bytes, .. } if in_hex => append_byte_lines(bytes, out),
         EventKind::Bytes { bytes, .. } => append_escaped_lines(bytes, out),
@@ -41,7 +42,9 @@ fn append_line(event: &Event<'_>, out: &mut Vec<u8>) -> Result<(), AllocError> {
 
 fn kind(line: &mut Line<'_>, event: &Event<'_>) -> Result<(), AllocError> {
     match event.kind {
+        EventKind::NoSegments => Ok(()),
         EventKind::Begin => line.text(": begins"),
+        EventKind::JoinedLate => line.text(": joined late"),
         EventKind::Bytes { position, bytes } => {
             line.counted(": bytes ", position)?;
             line.counted("..", position.saturating_add(bytes.len() as u64))
@@ -49,6 +52,11 @@ fn kind(line: &mut Line<'_>, event: &Event<'_>) -> Result<(), AllocError> {
         EventKind::Gap(Gap { start, end }) => {
             line.counted(": gap ", start)?;
             line.counted("..", end)
+        }
+        EventKind::Missing(Gap { start, end }) => {
+            line.text(": ")?;
+            count_of_missing(line, end.saturating_sub(start))?;
+            line.counted(" from ", start)
         }
         EventKind::Conflicts(conflicts) => {
             line.text(": ")?;
@@ -64,6 +72,15 @@ fn kind(line: &mut Line<'_>, event: &Event<'_>) -> Result<(), AllocError> {
             line.text(state_text(state))
         }
     }
+}
+
+fn count_of_missing(line: &mut Line<'_>, count: u64) -> Result<(), AllocError> {
+    line.number(count)?;
+    line.text(if count == 1 {
+        " byte missing"
+    } else {
+        " bytes missing"
+    })
 }
 
 fn count_of_conflicts(line: &mut Line<'_>, conflicts: Conflicts) -> Result<(), AllocError> {
@@ -92,15 +109,30 @@ fn reason(line: &mut Line<'_>, refused: Refused) -> Result<(), AllocError> {
 
 fn direction_end(line: &mut Line<'_>, end: DirectionEnd) -> Result<(), AllocError> {
     line.counted(" ends: bytes 0..", end.len)?;
-    line.text(if end.is_finished { ", FIN" } else { ", no FIN" })?;
+    fin(line, end)?;
     if end.joined_late {
         line.text(", SYN not seen")?;
+    }
+    if end.missing > 0 {
+        line.text(", ")?;
+        count_of_missing(line, end.missing)?;
     }
     if end.conflicts.count == 0 {
         return Ok(());
     }
     line.text(", ")?;
     count_of_conflicts(line, end.conflicts)
+}
+
+fn fin(line: &mut Line<'_>, end: DirectionEnd) -> Result<(), AllocError> {
+    match end.fin {
+        Some(_) if end.is_finished => line.text(", FIN"),
+        Some(fin) => {
+            line.counted(", FIN at ", fin)?;
+            line.text(" after missing bytes")
+        }
+        None => line.text(", no FIN"),
+    }
 }
 
 fn state_text(state: ConnectionState) -> &'static str {
@@ -144,17 +176,7 @@ fn append_escaped(byte: u8, out: &mut Vec<u8>) -> Result<(), AllocError> {
         32..=126 => out.extend_from_slice(&[byte]),
         _ => {
             out.extend_from_slice(b"\\x")?;
-            out.extend_from_slice(&[digit(byte / 16), digit(byte % 16)])
+            out.extend_from_slice(&digits(byte))
         }
-    }
-}
-
-fn digit(value: u8) -> u8
-    requires { value < 16 }
-{
-    if value < 10 {
-        b'0' + value
-    } else {
-        b'a' - 10 + value
     }
 }

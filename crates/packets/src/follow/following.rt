@@ -1,5 +1,6 @@
 //! Follows a TCP connection through the packets of captures.
-ghost use Rattle.std.specs.Prelude.{ℕ, List};
+ghost use Rattle.std.specs.Prelude.{◌≡◌, ℕ, List};
+ghost use Rattle.packets.specs.Followed.{is_whole, states_length};
 ghost use Rattle.packets.specs.Written.{AreTexts, Writes};
 ghost use Rattle.packets.specs.declared.dissection.Dissection.{Dissection};
 
@@ -13,13 +14,13 @@ use crate::run::output::{PacketWriter, write_packets};
 use crate::run::rules::Rules;
 use crate::{Dissection, Fragment};
 use captures::RunError;
-use ep_packet::{Message, TransportSlice, read_message};
+use ep_packet::{Message, NetSlice, TransportSlice, read_message};
 use ep_tcpudp::TcpSlice;
 use std::alloc::{AllocError, Global};
 use std::cell::RefCell;
 use std::hash::BuildHasher;
 use std::io::{Read, Write};
-use tcp_streams::{Control, Direction, FollowedSegment, Follower, SegmentFlags};
+use tcp_streams::{Control, Direction, FollowedSegment, Follower, Gap, SegmentFlags};
 
 /// Which connection is followed, and how it is written.
 #[derive(Clone, Copy, Debug)]
@@ -49,7 +50,7 @@ pub enum FollowForm {
 }
 
 /// Writes what goes over the TCP connections between two endpoints, of packets that aren't refused and
-/// weren't cut.
+/// whose IP packet is whole.
 #[derive(Drop)]
 pub struct Following {
     alloc: Global,
@@ -64,6 +65,9 @@ struct Connections {
     count: u64,
     // Whether the last one ended.
     is_over: bool,
+    // How many bytes of the last one were given up.
+    missing_from_lower: u64,
+    missing_from_higher: u64,
 }
 
 impl Following {
@@ -76,12 +80,22 @@ impl Following {
                 follower: Follower::new(alloc, options.window),
                 count: 0,
                 is_over: true,
+                missing_from_lower: 0,
+                missing_from_higher: 0,
             }),
         }
     }
 
-    /// Appends how the last connection ends, if there is one. It has no contract: tests compare the
-    /// texts.
+    /// Whether no segment came. It has no contract: tests compare the texts.
+    pub fn is_empty(&self) -> bool {
+        match self.connections.try_borrow_mut() {
+            Ok(connections) => connections.count == 0,
+            Err(_) => false,
+        }
+    }
+
+    /// Appends how the last connection ends, or that there is none. It has no contract: tests compare
+    /// the texts.
     pub(crate) fn append_end(&self, out: &mut Vec<u8>) -> Result<(), AllocError> {
         match self.connections.try_borrow_mut() {
             Ok(mut connections) => {
@@ -89,6 +103,9 @@ impl Following {
                     alloc: self.alloc,
                     options: &self.options,
                 };
+                if connections.count == 0 {
+                    return writing.append(0, None, None, EventKind::NoSegments, out);
+                }
                 connections.end(&writing, out)
             }
             Err(_) => Ok(()),
@@ -96,7 +113,7 @@ impl Following {
     }
 
     fn take(&self, packet: &Dissection<'_>, out: &mut Vec<u8>) -> Result<(), AllocError> {
-        if packet.is_cut() {
+        if !is_whole(packet) {
             return Ok(());
         }
         match &packet.fragment {
@@ -142,6 +159,30 @@ impl Following {
     }
 }
 
+// Whether all bytes of its IP packet were captured.
+fn is_whole(packet: &Dissection<'_>) -> bool
+    ensures { result ≡ is_whole packet.now.captured_len packet.now.wire_len packet.now.layers }
+{
+    if !packet.is_cut() {
+        return true;
+    }
+    match &packet.layers {
+        Ok(layers) => states_length(&layers.net),
+        Err(_) => false,
+    }
+}
+
+// Whether an IP header states the length of its packet.
+fn states_length(net: &Option<NetSlice<'_>>) -> bool
+    ensures { result ≡ states_length net.now }
+{
+    match net {
+        Some(NetSlice::Ipv4(_)) => true,
+        Some(NetSlice::Ipv6(packet)) => packet.header().payload_length() != 0,
+        _ => false,
+    }
+}
+
 // The direction of a packet in a conversation that is given in one direction, if it is one of it.
 fn direction_in(packet: &Dissection<'_>, conversation: &Conversation) -> Option<Direction> {
     let transfer = Transfer::of(packet);
@@ -166,22 +207,32 @@ impl Connections {
         segment: &TcpSlice<'_>,
         out: &mut Vec<u8>,
     ) -> Result<(), AllocError> {
-        if self.follower.begins_anew(Control::of(segment)) {
+        let control = Control::of(segment);
+        if control == Control::Nothing {
+            return Ok(());
+        }
+        let number = segment.sequence_number();
+        if self.follower.begins_anew(direction, number, control) {
             self.end(writing, out)?;
         }
         self.begin(writing, packet, out)?;
+        if segment.ack() && !segment.rst() {
+            let number = segment.acknowledgment_number();
+            self.give_up(writing, packet, direction.other(), number, out)?;
+        }
+        let was_late = self.follower.buf(direction).joined_late();
         let flags = SegmentFlags {
             syn: segment.syn(),
             fin: segment.fin(),
             rst: segment.rst(),
         };
-        let followed = self.follower.add(
-            direction,
-            segment.sequence_number(),
-            flags,
-            segment.ack(),
-            segment.payload(),
-        )?;
+        let followed = self
+            .follower
+            .add(direction, number, flags, segment.ack(), segment.payload())?;
+        if !was_late && self.follower.buf(direction).joined_late() {
+            let kind = EventKind::JoinedLate;
+            writing.append(self.count, Some(packet), Some(direction), kind, out)?;
+        }
         self.append_followed(writing, packet, direction, followed, out)
     }
 
@@ -196,7 +247,69 @@ impl Connections {
         }
         self.is_over = false;
         self.count = self.count.saturating_add(1);
+        self.missing_from_lower = 0;
+        self.missing_from_higher = 0;
         writing.append(self.count, Some(packet), None, EventKind::Begin, out)
+    }
+
+    // Gives up the bytes of a direction that are missing, though this number acknowledges them, and
+    // appends those after them.
+    fn give_up(
+        &mut self,
+        writing: &Writing<'_>,
+        packet: u64,
+        direction: Direction,
+        number: u32,
+        out: &mut Vec<u8>,
+    ) -> Result<(), AllocError> {
+        let mut is_new = false;
+        'gaps: for _ in 0..u64::MAX {
+            let Some(gap) = self.follower.give_up(direction, number) else {
+                break 'gaps;
+            };
+            is_new = true;
+            self.count_missing(direction, gap);
+            self.append_missing(writing, packet, direction, gap, out)?;
+        }
+        match self.follower.buf(direction).gap() {
+            Some(gap) if is_new => {
+                let kind = EventKind::Gap(gap);
+                writing.append(self.count, Some(packet), Some(direction), kind, out)
+            }
+            _ => Ok(()),
+        }
+    }
+
+    fn count_missing(&mut self, direction: Direction, gap: Gap) {
+        let count = gap.end.saturating_sub(gap.start);
+        match direction {
+            Direction::FromLower => {
+                self.missing_from_lower = self.missing_from_lower.saturating_add(count);
+            }
+            Direction::FromHigher => {
+                self.missing_from_higher = self.missing_from_higher.saturating_add(count);
+            }
+        }
+    }
+
+    // What is missing, and the bytes after it.
+    fn append_missing(
+        &self,
+        writing: &Writing<'_>,
+        packet: u64,
+        direction: Direction,
+        gap: Gap,
+        out: &mut Vec<u8>,
+    ) -> Result<(), AllocError> {
+        let (count, packet, direction_of) = (self.count, Some(packet), Some(direction));
+        writing.append(count, packet, direction_of, EventKind::Missing(gap), out)?;
+        let position = gap.end;
+        let bytes = self.follower.buf(direction).available_from(position);
+        if bytes.is_empty() {
+            return Ok(());
+        }
+        let kind = EventKind::Bytes { position, bytes };
+        writing.append(count, packet, direction_of, kind, out)
     }
 
     fn append_followed(
@@ -266,7 +379,12 @@ impl Connections {
         let end = DirectionEnd {
             len: buf.available_end(),
             is_finished: buf.is_finished(),
+            fin: buf.fin(),
             joined_late: buf.joined_late(),
+            missing: match direction {
+                Direction::FromLower => self.missing_from_lower,
+                Direction::FromHigher => self.missing_from_higher,
+            },
             conflicts: buf.conflicts(),
         };
         writing.append(

@@ -53,6 +53,9 @@ pub enum SizeError {
     /// It is 2^64 bytes or more.
     #[error("too large")]
     TooLarge,
+    /// It is 0, where it has to be more.
+    #[error("too small")]
+    TooSmall,
 }
 
 /// What is written of a capture.
@@ -222,6 +225,7 @@ fn window(alloc: Global, words: &ArgMatches) -> Result<u32, RequestError> {
     let word = words.get_str("window").unwrap_or("1M");
     let error = match size_of(word) {
         Ok(size) => match u32::try_from(size) {
+            Ok(0) => SizeError::TooSmall,
             Ok(size) => return Ok(size),
             Err(_) => SizeError::TooLarge,
         },

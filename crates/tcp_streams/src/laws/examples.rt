@@ -1,9 +1,14 @@
 //! The definitions at literal segments.
 
 ghost use Rattle.std.specs.Prelude.{◌≡◌, [], ◌∷◌, true, false, None, Some, codes};
+ghost use Rattle.tcp_streams.specs.declared.connection_state.ConnectionState.TheVariants.{Closed, Established, SynSent};
+ghost use Rattle.tcp_streams.specs.declared.connection_state.Control.TheVariants.{Syn, SynAck};
+ghost use Rattle.tcp_streams.specs.declared.direction.Direction.TheVariants.{FromLower};
 ghost use Rattle.tcp_streams.specs.declared.refusal.Refused.TheVariants.{OutsideWindow, AfterFin, AfterReset};
 ghost use Rattle.tcp_streams.specs.declared.sequence_numbers.Distance.TheVariants.{After, Before};
+ghost use Rattle.tcp_streams.specs.Following.{begins_anew_by};
 ghost use Rattle.tcp_streams.specs.Laws.{IsCutOf, IsNear};
+ghost use Rattle.tcp_streams.specs.Losses.{lost_of};
 ghost use Rattle.tcp_streams.specs.Placing.{next_position, placed, segment, start_number};
 ghost use Rattle.tcp_streams.specs.Refusals.{refusal_of};
 ghost use Rattle.tcp_streams.specs.Segments.{conflicts_of, fin_of, placed_segment, text_of};
@@ -107,4 +112,37 @@ pub fn refusals()
         (placed_segment 3 [] true false) ≡ Some (AfterFin 3) }
     ensures after_reset { refusal_of 9 0 (placed_segment 0 [] false true ∷ [])
         (placed_segment 0 (codes "a") false false) ≡ Some AfterReset }
+{}
+
+/// `ab`, whose first byte has number 7, and `fg` after three missing bytes: these are lost where all of
+/// them are acknowledged. Where no byte is held after `ab`, those before FIN are lost; and where FIN
+/// didn't come, all before a number that stands after the window, of 16 bytes.
+pub fn bytes_that_are_lost()
+    ensures gap { lost_of 16 0 (Some 7) (placed_segment 0 (codes "ab") false false ∷
+        placed_segment 5 (codes "fg") false false ∷ []) (Some (record { start = 2; end = 5 })) 12
+        ≡ Some (record { start = 2; end = 5 }) }
+    ensures part { lost_of 16 0 (Some 7) (placed_segment 0 (codes "ab") false false ∷
+        placed_segment 5 (codes "fg") false false ∷ []) (Some (record { start = 2; end = 5 })) 11 ≡ None }
+    ensures wrapped { lost_of 16 0 (Some 4294967294) (placed_segment 0 (codes "ab") false false ∷
+        placed_segment 5 (codes "fg") false false ∷ []) (Some (record { start = 2; end = 5 })) 3
+        ≡ Some (record { start = 2; end = 5 }) }
+    ensures before { lost_of 16 0 (Some 7) (placed_segment 0 (codes "ab") false false ∷
+        placed_segment 5 (codes "fg") false false ∷ []) (Some (record { start = 2; end = 5 })) 8 ≡ None }
+    ensures fin { lost_of 16 0 (Some 7) (placed_segment 0 (codes "ab") false false ∷
+        placed_segment 5 [] true false ∷ []) None 13 ≡ Some (record { start = 2; end = 5 }) }
+    ensures within { lost_of 16 0 (Some 7) (placed_segment 0 (codes "ab") false false ∷ []) None 23 ≡ None }
+    ensures far { lost_of 16 0 (Some 7) (placed_segment 0 (codes "ab") false false ∷ []) None 24
+        ≡ Some (record { start = 2; end = 17 }) }
+    ensures nothing { lost_of 16 0 None [] None 24 ≡ None }
+{}
+
+/// SYN begins a new connection after the end of one, and with another number also before it. The same
+/// number, SYN with ACK, and the first segment of a direction begin none.
+pub fn connections_that_begin()
+    ensures ended { begins_anew_by Closed (Some 8) 7 Syn ≡ true }
+    ensures other { begins_anew_by Established (Some 8) 9 Syn ≡ true }
+    ensures repeated { begins_anew_by (SynSent FromLower) (Some 8) 7 Syn ≡ false }
+    ensures wrapped { begins_anew_by Established (Some 0) 4294967295 Syn ≡ false }
+    ensures answer { begins_anew_by Established (Some 8) 9 SynAck ≡ false }
+    ensures first { begins_anew_by (SynSent FromLower) None 9 Syn ≡ false }
 {}

@@ -8,7 +8,7 @@ returns-then-is_plain_ipv4 g c =
     let plan = c.args.plan.now in
     let extensions = c.args.extensions.now in
     let bytes = c.args.bytes.now in
-    let plain = c.is_plain_ipv4.ensures c.if-is_plain_ipv4.true in
+    let plain = c.is_plain_ipv4.ensures.0 c.if-is_plain_ipv4.true in
     chosen_step (wrong_ip plan extensions bytes) (ip_in plan extensions bytes)
     (ipv4_between plan.ipv4_source plan.ipv4_destination plan.hops) c.ipv4.result c.args.step
     (ipv4_right plan extensions bytes plain) (ipv4_same plan extensions bytes plain) c.ipv4.ensures
@@ -18,7 +18,7 @@ returns-then-is_plain_ipv6 g c =
     let plan = c.args.plan.now in
     let extensions = c.args.extensions.now in
     let bytes = c.args.bytes.now in
-    let plain = c.is_plain_ipv6.ensures c.if-is_plain_ipv6.true in
+    let plain = c.is_plain_ipv6.ensures.0 c.if-is_plain_ipv6.true in
     chosen_step (wrong_ip plan extensions bytes) (ip_in plan extensions bytes)
     (ipv6_between plan.ipv6_source plan.ipv6_destination plan.hops) c.ipv6.result c.args.step
     (ipv6_right plan extensions bytes plain) (ipv6_same plan extensions bytes plain) c.ipv6.ensures

@@ -1,10 +1,10 @@
-use Rattle.std.proofs.Common.{◌∙◌, arith, sym}
+use Rattle.std.proofs.Common.{◌∙◌, sym}
 use Rattle.tcp_streams.specs.Placing.{segment}
-use Rattle.tcp_streams.proofs.FollowLemmas.{of_segment, shows_with, shows_without, taken_with, taken_without}
+use Rattle.tcp_streams.proofs.FollowLemmas.{kept_with, of_segment, shows_with, shows_without, taken_with, taken_without}
 use Rattle.tcp_streams.proofs.follower.take.Goals as goal
 
-pub returns-in-Ok-clause-taken : goal.returns-in-Ok-clause-taken
-returns-in-Ok-clause-taken c earlier was =
+pub returns-in-Ok : goal.returns-in-Ok
+returns-in-Ok c earlier was =
     let mid = c.forget.ensures.shows earlier was in
     let at = c.forget.ensures.taken earlier was in
     let s = segment c.args.sequence_number c.args.flags c.args.payload.now in
@@ -21,10 +21,12 @@ returns-in-Ok-clause-taken c earlier was =
           })
           (record { some = c.gap.ensures.gap _ accepted; none = c.gap.ensures.none _ accepted })
           (c.in-Ok.ensures.conflicts earlier.segments mid.shows)),
+      kept_with c.args.kept c.forget.new.buf earlier mid at c.add.new.self c.available_end-position.result
+          c.add.ensures.taken (c.available_end-position.ensures earlier.segments mid.shows),
     )
 
-pub returns-in-Err-clause-taken : goal.returns-in-Err-clause-taken
-returns-in-Err-clause-taken c earlier was =
+pub returns-in-Err : goal.returns-in-Err
+returns-in-Err c earlier was =
     let mid = c.forget.ensures.shows earlier was in
     let at = c.forget.ensures.taken earlier was in
     let s = segment c.args.sequence_number c.args.flags c.args.payload.now in
@@ -37,24 +39,6 @@ returns-in-Err-clause-taken c earlier was =
             some = c.gap-before.ensures.gap earlier.segments mid.shows;
             none = c.gap-before.ensures.none earlier.segments mid.shows;
           })),
-    )
-
-pub returns-in-Ok-clause-kept : goal.returns-in-Ok-clause-kept
-returns-in-Ok-clause-kept c earlier was =
-    let mid = c.forget.ensures.shows earlier was in
-    omega (
-      arith,
-      c.forget.ensures.taken earlier was,
-      c.add.ensures.taken,
-      c.available_end-position.ensures earlier.segments mid.shows,
-    )
-
-pub returns-in-Err-clause-kept : goal.returns-in-Err-clause-kept
-returns-in-Err-clause-kept c earlier was =
-    let mid = c.forget.ensures.shows earlier was in
-    omega (
-      arith,
-      c.forget.ensures.taken earlier was,
-      c.add.ensures.taken,
-      c.available_end-position.ensures earlier.segments mid.shows,
+      kept_with c.args.kept c.forget.new.buf earlier mid at c.add.new.self c.available_end-position.result
+          c.add.ensures.taken (c.available_end-position.ensures earlier.segments mid.shows),
     )
