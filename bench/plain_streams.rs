@@ -172,11 +172,23 @@ impl Stream {
     }
 }
 
-/// Both endpoints, the lower one first.
-#[derive(PartialEq, Eq, Hash)]
+/// The greatest number of connections that are held.
+const MOST: usize = 4096;
+
+#[derive(Clone, Copy, PartialEq, Eq, PartialOrd, Ord, Hash)]
+#[allow(dead_code)]
+enum Endpoint {
+    V4 { address: [u8; 4], port: u16 },
+    V6 { address: [u8; 16], port: u16 },
+}
+
+/// Both endpoints, the lower one first, and the identifiers of VLAN tags.
+#[derive(Clone, PartialEq, Eq, Hash)]
 struct Key {
-    lower: ([u8; 4], u16),
-    higher: ([u8; 4], u16),
+    vlan_count: u8,
+    vlan_ids: [u16; 3],
+    lower: Endpoint,
+    higher: Endpoint,
 }
 
 #[derive(Default)]
@@ -189,7 +201,77 @@ struct Connection {
     stream: Stream,
 }
 
-type Connections = HashMap<Key, Connection, BuildHasherDefault<FoldHasher>>;
+/// A connection in the order of use: the indexes of those that were used before and after it.
+struct Entry {
+    key: Key,
+    connection: Connection,
+    older: usize,
+    newer: usize,
+}
+
+/// No entry.
+const NONE: usize = usize::MAX;
+
+/// As many connections as there may be: one more takes the place of the one that wasn't used for longest.
+struct Connections {
+    indexes: HashMap<Key, usize, BuildHasherDefault<FoldHasher>>,
+    entries: Vec<Entry>,
+    oldest: usize,
+    newest: usize,
+}
+
+impl Connections {
+    fn new() -> Connections {
+        Connections { indexes: HashMap::default(), entries: Vec::new(), oldest: NONE, newest: NONE }
+    }
+
+    fn unlink(&mut self, index: usize) {
+        let (older, newer) = (self.entries[index].older, self.entries[index].newer);
+        match self.entries.get_mut(older) {
+            Some(entry) => entry.newer = newer,
+            None => self.oldest = newer,
+        }
+        match self.entries.get_mut(newer) {
+            Some(entry) => entry.older = older,
+            None => self.newest = older,
+        }
+    }
+
+    fn link_newest(&mut self, index: usize) {
+        (self.entries[index].older, self.entries[index].newer) = (self.newest, NONE);
+        match self.entries.get_mut(self.newest) {
+            Some(entry) => entry.newer = index,
+            None => self.oldest = index,
+        }
+        self.newest = index;
+    }
+
+    /// The connection of this key, which becomes the newest one.
+    fn of(&mut self, key: Key, time: u64) -> &mut Connection {
+        if let Some(&index) = self.indexes.get(&key) {
+            if index != self.newest {
+                self.unlink(index);
+                self.link_newest(index);
+            }
+            return &mut self.entries[index].connection;
+        }
+        let connection = Connection { first: time, ..Connection::default() };
+        let entry = Entry { key: key.clone(), connection, older: NONE, newer: NONE };
+        let index = if self.entries.len() < MOST {
+            self.entries.push(entry);
+            self.entries.len() - 1
+        } else {
+            let oldest = self.oldest;
+            self.unlink(oldest);
+            self.indexes.remove(&self.entries[oldest].key);
+            self.entries[oldest] = entry;
+            oldest
+        };
+        self.indexes.insert(key, index);
+        self.link_newest(index);
+        &mut self.entries[index].connection
+    }
+}
 
 /// A sum with what becomes available with a segment.
 fn sum_with(
@@ -202,17 +284,15 @@ fn sum_with(
     payload: &[u8],
 ) -> u64 {
     let [_, high, low, _] = client.to_be_bytes();
-    let source = ([10, 0, high, low], (1024 + client % 50_000) as u16);
-    let destination = ([10, 1, 0, 1], 80);
-    let (key, direction) = if source <= destination {
-        (Key { lower: source, higher: destination }, 0)
+    let source = Endpoint::V4 { address: [10, 0, high, low], port: (1024 + client % 50_000) as u16 };
+    let destination = Endpoint::V4 { address: [10, 1, 0, 1], port: 80 };
+    let (lower, higher, direction) = if source <= destination {
+        (source, destination, 0)
     } else {
-        (Key { lower: destination, higher: source }, 1)
+        (destination, source, 1)
     };
-    let connection = connections.entry(key).or_insert_with(|| Connection {
-        first: time,
-        ..Connection::default()
-    });
+    let key = Key { vlan_count: 0, vlan_ids: [0; 3], lower, higher };
+    let connection = connections.of(key, time);
     connection.packets[direction] += 1;
     connection.bytes[direction] += payload.len() as u64;
     connection.last = connection.last.max(time);
@@ -241,7 +321,7 @@ fn initial_number(client: u32) -> u32 {
 
 /// All connections side by side: the SYN of each, then a segment of each, and so on.
 fn put_together(arrival: Arrival) -> u64 {
-    let mut connections = Connections::default();
+    let mut connections = Connections::new();
     let mut payload = [0; SEGMENT_LEN];
     let mut sum = 0;
     let mut time = 0;
@@ -269,7 +349,7 @@ fn put_together(arrival: Arrival) -> u64 {
         sum = sum_with(sum, &mut connections, time, client, fin, number, &[]);
         time += 1;
     }
-    for connection in connections.values() {
+    for Entry { connection, .. } in &connections.entries {
         let counted = connection.packets[0] + connection.packets[1] + connection.bytes[0] + connection.bytes[1];
         sum = sum
             .wrapping_add(counted)

@@ -12,8 +12,6 @@ from . import _raw
 Reader = Callable[[bytes, bytes, int], Any]
 _Own = TypeVar("_Own", bound="Lazy")
 _Class = TypeVar("_Class", bound="Type[Lazy]")
-# Few addresses have most packets, and making one costs more than all else that is read of a packet.
-_ADDRESSES: Dict[object, Callable[[bytes], Any]] = {kind: lru_cache(4096)(kind) for kind in (IPv4Address, IPv6Address)}
 _part_of = struct.Struct("NN").unpack_from
 
 
@@ -21,6 +19,33 @@ def part(frame: bytes, raw: bytes, at: int) -> bytes:
     """The bytes of an `EpPart`."""
     start, length = _part_of(raw, at)
     return frame[start : start + length]
+
+
+def _keeping_text(kind: Any) -> Callable[[bytes], Any]:
+    """Makes an address of this kind that keeps its text: few addresses have most packets, and both cost more than all else that is
+    read of one. Copied or pickled it is a plain one."""
+
+    class Address(kind):  # type: ignore[misc]
+        __slots__ = ("_text",)
+        _text: str
+
+        def __init__(self, data: bytes) -> None:
+            super().__init__(data)
+            self._text = super().__str__()
+
+        def __str__(self) -> str:
+            return self._text
+
+        def __repr__(self) -> str:
+            return f"{kind.__name__}({self._text!r})"
+
+        def __reduce__(self) -> Tuple[Any, Tuple[str]]:
+            return kind, (self._text,)
+
+    return lru_cache(4096)(Address)
+
+
+_ADDRESSES: Dict[object, Callable[[bytes], Any]] = {kind: _keeping_text(kind) for kind in (IPv4Address, IPv6Address)}
 
 
 def _reader(kind: Any, annotation: object) -> Reader:

@@ -20,6 +20,7 @@ TOP = Path(__file__).resolve().parents[2]
 TAGGED = bytes.fromhex(
     "0200000000020200000000018100000508004500002400070000401166c00a0000010a000002000100020010dbb40102030405060708"
 )
+ADDRESSES = (ipaddress.IPv4Address, ipaddress.IPv6Address)
 LAYERS = (ep.Link, ep.Tag, ep.Arp, ep.Ipv4, ep.Ipv6, ep.Udp, ep.Tcp, ep.Icmp)
 # Two fragments of an IPv4 datagram of 16 bytes of protocol 253, at times that a test chooses.
 PARTS = [
@@ -56,9 +57,29 @@ class Values(unittest.TestCase):
                 value = getattr(layer, name)
                 wanted = tuple(typing.get_origin(it) or it for it in typing.get_args(kind)) or (kind,)
                 wanted = (tuple,) if typing.get_origin(kind) is tuple else wanted
-                self.assertIn(type(value), wanted, f"{type(layer).__name__}.{name}")
+                exact = next((it for it in ADDRESSES if isinstance(value, it)), type(value))
+                self.assertIn(exact, wanted, f"{type(layer).__name__}.{name}")
             met.add(type(layer))
         self.assertEqual(met, {ep.Packet, *LAYERS})
+
+    def test_addresses(self):
+        v6 = bytes(12) + bytes.fromhex("86dd6000000000083bff") + bytes(15) + b"\1" + bytes(15) + b"\2" + b"\x3b\0" + bytes(6)
+        for packet, text, other in (
+            (ep.slice_ethernet(TAGGED).ipv4, "10.0.0.1", "10.0.0.2"),
+            (ep.slice_ethernet(v6).ipv6, "::1", "::2"),
+        ):
+            plain = ipaddress.ip_address(text)
+            for address in (packet.source, copy.copy(packet.source), pickle.loads(pickle.dumps(packet.source))):
+                self.assertEqual(str(address), text)
+                self.assertEqual(f"{address}", text)
+                self.assertEqual(repr(address), repr(plain))
+                self.assertIsInstance(address, type(plain))
+                self.assertEqual(address, plain)
+                self.assertEqual(plain, address)
+                self.assertEqual({address: 1}[plain], 1)
+                self.assertLess(address, ipaddress.ip_address(other))
+                self.assertEqual(address + 1, packet.destination)
+                self.assertIn(address, ipaddress.ip_network(f"{text}/{plain.max_prefixlen}"))
 
     def test_equal_packets(self):
         packet, same = ep.slice_ethernet(TAGGED), ep.slice_ethernet(TAGGED)
