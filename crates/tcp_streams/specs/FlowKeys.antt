@@ -1,7 +1,8 @@
 -- What the segments of a TCP connection have in common, whichever way they go: a pair of endpoints
 -- identifies a connection (RFC 9293, section 4, "connection").
-use Rattle.std.specs.Prelude.{◌≡◌, ◌≢◌, ◌⊎◌, ℕ, if◌then◌else◌, List}
+use Rattle.std.specs.Prelude.{◌≡◌, ◌≢◌, ◌⊎◌, ◌∷◌, ℕ, if◌then◌else◌, List}
 use Rattle.std.specs.Cmp.Lexicographic.{slice_cmp}
+use Rattle.std.specs.Hash as fed
 use Rattle.std.specs.Ordering.{is_gt, nat_cmp, ordering_then}
 use Rattle.std.specs.declared.cmp.Ordering.{Ordering}
 use Rattle.std.specs.declared.cmp.Ordering.TheVariants.{Less, Greater}
@@ -15,6 +16,11 @@ use Rattle.tcp_streams.specs.declared.flow_key.FlowKey.{FlowKey}
 abbrev pub other_direction : Direction → Direction
 other_direction FromLower = FromHigher
 other_direction FromHigher = FromLower
+
+-- what a hasher is given of an endpoint: the address in one write, and the port
+abbrev pub hashed_as : Endpoint → fed.HashWrites
+hashed_as (V4 address port) = address ∷ fed.u16 port
+hashed_as (V6 address port) = address ∷ fed.u16 port
 
 abbrev pub flow_key : {C : Type 0} → List ℕ → (lower higher : Endpoint) → C → FlowKey C
 flow_key vlan_ids lower higher channel = record {

@@ -1,10 +1,16 @@
 //! One end of a TCP connection.
 
+ghost use Rattle.std.specs.Cmp.Rules.{hashing};
+ghost use Rattle.std.proofs.Common.{rules};
+ghost use Rattle.tcp_streams.specs.FlowKeys.{hashed_as};
+
+use std::hash::{Hash, Hasher};
+
 /// One end of a TCP connection: its IP address and its port (RFC 9293, section 4, "socket").
 ///
 /// Endpoints are ordered by the version of their addresses, then by the bytes of these, then by
 /// ports.
-#[derive(Clone, Copy, Debug, PartialEq, Eq, PartialOrd, Ord, Hash)]
+#[derive(Clone, Copy, Debug, PartialEq, Eq, PartialOrd, Ord)]
 pub enum Endpoint {
     /// Over IPv4.
     V4 {
@@ -20,4 +26,24 @@ pub enum Endpoint {
         /// The port.
         port: u16,
     },
+}
+
+// A derived `Hash` writes an array byte by byte.
+impl Hash for Endpoint {
+    ghost hash_input = { hashed_as };
+
+    ghost respects_eq = { Prim.search (hashing, rules) };
+
+    fn hash<H: Hasher>(&self, state: &mut H) {
+        match self {
+            Endpoint::V4 { address, port } => {
+                state.write(address);
+                state.write_u16(*port);
+            }
+            Endpoint::V6 { address, port } => {
+                state.write(address);
+                state.write_u16(*port);
+            }
+        }
+    }
 }

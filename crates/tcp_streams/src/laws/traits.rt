@@ -1,7 +1,7 @@
 //! What `Clone`, `PartialEq` and `Default` of the types here mean, each clause about the relation that
 //! the type's own impl names.
 
-ghost use Rattle.std.specs.Prelude.{◌≡◌, ◌++◌, ℕ, List, false, None, pos};
+ghost use Rattle.std.specs.Prelude.{◌≡◌, ◌++◌, ◌∷◌, ℕ, List, false, None};
 ghost use Rattle.std.specs.Hash as fed;
 ghost use Rattle.ep_base.specs.Traits.{CopyIsValue, CopyNeverFails, DefaultIs, EqualIsSame, HashIsOf, HashIsOfIndex};
 ghost use Rattle.ep_base.specs.Traits.{IsPlainData};
@@ -61,15 +61,15 @@ pub fn flows_are_plain_data<T: Clone + PartialEq>()
     types_are_plain_data();
 }
 
-/// A hasher is fed the index of a variant, and the bytes of an address and the port of an endpoint; of a
+/// A hasher is fed the index of a direction, of an endpoint the address in one write and the port; of a
 /// key the identifiers of its VLAN tags, both endpoints and the channel.
 pub fn keys_are_hashed_by_all_fields<C: Hash>()
     ensures direction { HashIsOfIndex (λ d. by_direction d FromLower 0 1)
         ⟦<Direction as Hash>⟧.hash_input }
     ensures v4 { (address : List ℕ) (port : ℕ) → ⟦<Endpoint as Hash>⟧.hash_input (V4 address port)
-        ≡ fed.isize (pos 0) ++ fed.slice fed.u8 address ++ fed.u16 port }
+        ≡ address ∷ fed.u16 port }
     ensures v6 { (address : List ℕ) (port : ℕ) → ⟦<Endpoint as Hash>⟧.hash_input (V6 address port)
-        ≡ fed.isize (pos 1) ++ fed.slice fed.u8 address ++ fed.u16 port }
+        ≡ address ∷ fed.u16 port }
     ensures key { HashIsOf (λ (k : Key C). fed.slice fed.u16 k.vlan_ids.items
         ++ ⟦<Endpoint as Hash>⟧.hash_input k.lower ++ ⟦<Endpoint as Hash>⟧.hash_input k.higher
         ++ C.hash_input k.channel_id) ⟦<FlowKey<C> as Hash>⟧.hash_input }
