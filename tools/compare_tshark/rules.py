@@ -116,6 +116,18 @@ def of_contradicting_fragments(d):
     return "fragment" in d.it and contradicts(d.packet) and is_of_fragments(d)
 
 
+def of_long_fraction(d):
+    return d.field == "time" and "long fraction" in d.packet.traits
+
+
+def of_gre_in_a_cooked_capture(d):
+    return d.field == "sll.etype" and d.packet.link == 113 and d.packet.data[2:4] == b"\x03\x0a" and d.theirs is None
+
+
+def of_inter_switch_link(d):
+    return d.field == "link header" and d.packet.link == 1 and d.packet.data[:5] in (b"\x01\0\x0c\0\0", b"\x03\0\x0c\0\0")
+
+
 def of_empty_fragment(d):
     return d.field == "message" and d.ours is None and "fragment" in d.it and d.it["payload_len"] == 0
 
@@ -179,6 +191,9 @@ RULES = (
     Rule("message of a first fragment", "read when its fragments are put together, which those of cut packets aren't (docs/PACKETS.md); tshark reads it in the first one", of_first_fragment),
     Rule("ICMP timestamps of other lengths", "RFC 792: such a message has 20 bytes; tshark shows longer ones", of_timestamp),
     Rule("fragments on two interfaces", "kept apart (docs/LINES.md); tshark joins them", of_two_interfaces),
+    Rule("fraction of a second or more", "added to the seconds; tshark shows its digits after theirs", of_long_fraction),
+    Rule("GRE in a cooked capture", "its protocol is read as an ether type (docs/CAPTURES.md); tshark has another field for it", of_gre_in_a_cooked_capture),
+    Rule("destination of Inter-Switch Link", "a frame of Ethernet II as any other; tshark reads Cisco's header", of_inter_switch_link),
     Rule("tshark: malformed", "tshark ends where options or what they hold break their format; here options are bytes", of_malformed),
 )
 
