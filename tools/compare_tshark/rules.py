@@ -128,6 +128,10 @@ def of_inter_switch_link(d):
     return d.field == "link header" and d.packet.link == 1 and d.packet.data[:5] in (b"\x01\0\x0c\0\0", b"\x03\0\x0c\0\0")
 
 
+def of_reverse_arp(d):
+    return d.field in ("network layer", "message") and d.packet.frame()[12:14] == b"\x80\x35" and d.ours is None
+
+
 def of_empty_fragment(d):
     return d.field == "message" and d.ours is None and "fragment" in d.it and d.it["payload_len"] == 0
 
@@ -194,6 +198,7 @@ RULES = (
     Rule("fraction of a second or more", "added to the seconds; tshark shows its digits after theirs", of_long_fraction),
     Rule("GRE in a cooked capture", "its protocol is read as an ether type (docs/CAPTURES.md); tshark has another field for it", of_gre_in_a_cooked_capture),
     Rule("destination of Inter-Switch Link", "a frame of Ethernet II as any other; tshark reads Cisco's header", of_inter_switch_link),
+    Rule("RARP", "RFC 903: it has an ether type of its own, which is not read; tshark shows it as ARP", of_reverse_arp),
     Rule("tshark: malformed", "tshark ends where options or what they hold break their format; here options are bytes", of_malformed),
 )
 
