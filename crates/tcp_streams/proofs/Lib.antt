@@ -1,5 +1,6 @@
 mod AfterGapLemmas
 mod BufLemmas
+mod CountLemmas
 mod FlowKeyLemmas
 mod FlowLemmas
 mod FollowLemmas
