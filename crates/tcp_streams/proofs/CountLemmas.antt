@@ -21,6 +21,9 @@ pub count_from-most : (has : ℕ → Bool) (p n : ℕ) → count_from has p n �
 count_from-most has p zero = omega arith
 count_from-most has p (suc n) = one_most (has p) (count_from has (p + 1) n) n (count_from-most has (p + 1) n)
 
+pub counted_most_of : (has : ℕ → Bool) (p n count : ℕ) → count ≡ count_from has p n → count ≤ n
+counted_most_of has p n count is = omega (arith, is, count_from-most has p n)
+
 pub count_from-same : (f g : ℕ → Bool) (p n : ℕ) → ((q : ℕ) → p ≤ q → q < p + n → f q ≡ g q)
     → count_from f p n ≡ count_from g p n
 count_from-same f g p zero same = refl

@@ -304,6 +304,7 @@ impl StreamBuf {
             (placed_in self.now (segment sequence_number flags payload.now)) }
         ensures skipped { result.0.skipped + length result.1.now
             ≡ length (bytes_of (segment sequence_number flags payload.now)) }
+        ensures fits { result.0.skipped + length result.1.now < 2 ^ 64 }
         ensures sound { IsSound self.now }
     {
         let bytes = bytes_of(flags, payload);

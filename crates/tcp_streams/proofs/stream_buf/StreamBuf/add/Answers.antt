@@ -75,7 +75,7 @@ returns-in-None-clause-conflicts c ss shows =
     (low c) (added_is c)
 
 pub accept-requires-clause-fits : goal.accept-requires-clause-fits
-accept-requires-clause-fits c = ?
+accept-requires-clause-fits c = c.locate.ensures.fits
 
 pub returns-in-None-clause-repeated : goal.returns-in-None-clause-repeated
 returns-in-None-clause-repeated c ss shows =
