@@ -105,8 +105,7 @@ module _ (kept : ℕ) (connection : Connection) (direction : Direction) (number 
       let low = given_up_in_text direction now mid given.follows in
       let bounds = lost_bounds _ _ side.start side.segments is.0 number gap is.1 (sym is.2) in
       let now_is = given_up_now direction mid gap in
-      let push = without_all-push connection direction gaps gap in
-      (
+      let push = without_all-push connection direction gaps gap in (
         gaps ++ gap ∷ [],
         record {
           lost = are_lost_push kept connection direction number gaps gap given.lost is;
@@ -230,8 +229,7 @@ counts_followed kept old now arrivals a was followed missing some window does co
     let at = rw some at c.up_to in
     let here = rw (at.0) at (does (connection_in kept course) at.1) in
     let outcome : Outcome = record { lost = here.0; followed = followed } in
-    let same : arrivals ≡ arrivals_in course = counted.2 ∙ rw at.2 (simp append-nil) in
-    (
+    let same : arrivals ≡ arrivals_in course = counted.2 ∙ rw at.2 (simp append-nil) in (
       course ++ (a, outcome) ∷ [],
       [],
       rw (same, arrivals-push course a outcome, append-nil),
@@ -248,8 +246,7 @@ pub counts_stopped : (kept : ℕ) (old new : StreamCounter) (arrivals rest : Lis
     → new.from_lower ≡ old.from_lower → new.from_higher ≡ old.from_higher → Counts kept old arrivals
     → Counts kept new (arrivals ++ rest)
 counts_stopped kept old new arrivals rest none lower higher counted =
-    let c = counted.3 in
-    (
+    let c = counted.3 in (
       counted.0,
       counted.1 ++ rest,
       rw counted.2 (simp append_assoc),

@@ -14,8 +14,11 @@ count_missing-requires-clause-gaps c = rw c.deref.ensures.value (sparse_gaps _ c
 
 pub overflow_sub-result-2 : goal.overflow_sub-result-2
 overflow_sub-result-2 c =
-    omega (arith, c.count_missing.ensures,
-    count_from-most (is_missing c.deref.result.now) c.args.position (c.min-end.result - c.args.position))
+    omega (
+      arith,
+      c.count_missing.ensures,
+      count_from-most (is_missing c.deref.result.now) c.args.position (c.min-end.result - c.args.position),
+    )
 
 pub returns : goal.returns
 returns c =

@@ -24,5 +24,10 @@ pub returns-clause-skipped : goal.returns-clause-skipped
 returns-clause-skipped c =
     let is = c.location-location.ensures.location (segment c.args.sequence_number c.args.flags c.args.payload.now)
     c.first_number-number.ensures refl (sym (ap length c.bytes_of-bytes.ensures)) in
-    omega (arith, is.skipped, ap length c.without_prefix.ensures, ap length c.bytes_of-bytes.ensures,
-    length-drop c.location-location.result.skipped c.bytes_of-bytes.result.now)
+    omega (
+      arith,
+      is.skipped,
+      ap length c.without_prefix.ensures,
+      ap length c.bytes_of-bytes.ensures,
+      length-drop c.location-location.result.skipped c.bytes_of-bytes.result.now,
+    )

@@ -1,0 +1,155 @@
+-- What is counted of the streams of conversations, with one packet more.
+use Rattle.std.proofs.Common.{◌≡◌, ◌∙◌, ℕ, ◌<◌, ◌≤◌, Bool, true, false, cond, List, [], ◌∷◌, ◌++◌, Option, Some, None, refl, ap, arith, subst}
+use Rattle.std.proofs.lemmas.List.{append-nil, append_assoc}
+use Rattle.std.specs.Option.{option_map}
+use Rattle.tcp_streams.specs.ConnectionStates.{Signal}
+use Rattle.tcp_streams.specs.Counting.{Arrival, Counts}
+use Rattle.tcp_streams.specs.declared.stream_counter.StreamCounter.{StreamCounter}
+use Rattle.packets.specs.Streams.{CountsStream, IsStreamOf, arrival_by, arrival_in, arrivals_in, is_of, option_list, picked}
+use Rattle.packets.specs.Streams.{signal_by, signals_in, tcp_packet_of, whole_segment}
+use Rattle.packets.specs.Table.{is_key}
+use Rattle.packets.specs.declared.dissection.Dissection.{Dissection}
+use Rattle.packets.specs.declared.flows.conversation.Conversation.{Conversation}
+use Rattle.packets.specs.declared.flows.stream.Stream.{Stream}
+use Rattle.packets.specs.declared.flows.streams.TheConstants.{STREAM_COUNT}
+use Rattle.packets.specs.declared.flows.tcp_packet.TcpPacket.{TcpPacket}
+
+-- where no segment is followed
+pub counts_nothing : (kept : ℕ) (counter : StreamCounter) (arrivals : List Arrival) → Counts kept counter arrivals
+    → Counts kept counter (arrivals ++ [])
+counts_nothing kept counter arrivals counted = rw (append-nil arrivals) counted
+
+picked-push : {X : Type 0} (of : Dissection → Option X) (packets : List Dissection) (packet : Dissection)
+    → picked of (packets ++ packet ∷ []) ≡ picked of packets ++ option_list (of packet)
+picked-push of [] packet = simp append-nil
+picked-push of (p ∷ packets) packet = simp (picked-push of packets packet, append_assoc)
+
+chosen : {X : Type 0} (b : Bool) (o p : Option X) → b ≡ true → o ≡ p → option_list (cond b o None) ≡ option_list p
+chosen true o p yes same = ap option_list same
+chosen false o p yes same = cc
+
+not_chosen : {X : Type 0} (b : Bool) (o : Option X) → b ≡ false → option_list (cond b o None) ≡ []
+not_chosen true o no = cc
+not_chosen false o no = refl
+
+push_chosen : {X : Type 0} (is : Dissection → Bool) (of : Dissection → Option X) (packets : List Dissection)
+    (packet : Dissection) (p : Option X) → is packet ≡ true → of packet ≡ p
+    → picked (λ q. cond (is q) (of q) None) (packets ++ packet ∷ [])
+    ≡ picked (λ q. cond (is q) (of q) None) packets ++ option_list p
+push_chosen {X} is of packets packet p yes same =
+    picked-push (λ q. cond (is q) (of q) None) packets packet
+    ∙ ap (λ (xs : List X). picked (λ q. cond (is q) (of q) None) packets ++ xs) (chosen (is packet) (of packet) p yes same)
+
+push_not_chosen : {X : Type 0} (is : Dissection → Bool) (of : Dissection → Option X) (packets : List Dissection)
+    (packet : Dissection) → is packet ≡ false
+    → picked (λ q. cond (is q) (of q) None) (packets ++ packet ∷ []) ≡ picked (λ q. cond (is q) (of q) None) packets
+push_not_chosen {X} is of packets packet no =
+    picked-push (λ q. cond (is q) (of q) None) packets packet
+    ∙ ap (λ (xs : List X). picked (λ q. cond (is q) (of q) None) packets ++ xs) (not_chosen (is packet) (of packet) no)
+    ∙ append-nil (picked (λ q. cond (is q) (of q) None) packets)
+
+by_stream : (n : ℕ) (o p : Option Stream) (signals signals' : List Signal) (arrivals arrivals' : List Arrival) → o ≡ p
+    → signals ≡ signals' → arrivals ≡ arrivals' → IsStreamOf n p signals' arrivals' → IsStreamOf n o signals arrivals
+by_stream n o p signals signals' arrivals arrivals' a b c is = rw (a, b, c) is
+
+-- there are more streams
+longer : (n n' : ℕ) (o : Option Stream) (signals : List Signal) (arrivals : List Arrival) → n ≤ n'
+    → IsStreamOf n o signals arrivals → IsStreamOf n' o signals arrivals
+longer n n' None signals arrivals more is = λ few. is (omega arith)
+longer n n' (Some stream) signals arrivals more is = is
+
+module _ (same : Conversation → Conversation → Bool) (packets : List Dissection) (packet : Dissection) where
+  -- a packet of no conversation over TCP
+  pub streams_same : (n : ℕ) (streams : Conversation → Option Stream) → tcp_packet_of packet ≡ None
+      → ((q : Conversation) → IsStreamOf n (streams q) (signals_in same q packets) (arrivals_in same q packets))
+      → (q : Conversation) → IsStreamOf n (streams q) (signals_in same q (packets ++ packet ∷ []))
+      (arrivals_in same q (packets ++ packet ∷ []))
+  streams_same n streams none was q =
+      let no : is_of same q packet ≡ false =
+      ap (λ (o : Option TcpPacket). is_key same q (option_map (λ (p : TcpPacket). p.conversation) o)) none in
+      by_stream n (streams q) (streams q) _ (signals_in same q packets) _ (arrivals_in same q packets) refl
+      (push_not_chosen (is_of same q) (λ p. signal_by (tcp_packet_of p)) packets packet no)
+      (push_not_chosen (is_of same q) (λ p. arrival_by (tcp_packet_of p) p) packets packet no) (was q)
+
+  module _ (tcp_packet : TcpPacket) (is : tcp_packet_of packet ≡ Some tcp_packet)
+      (exact : (a b : Conversation) → same a b ≡ true → a ≡ b) where
+    its_own : (q : Conversation) → is_of same q packet ≡ same tcp_packet.conversation q
+    its_own q = ap (λ (o : Option TcpPacket). is_key same q (option_map (λ (p : TcpPacket). p.conversation) o)) is
+
+    signals_more : (q : Conversation) → same tcp_packet.conversation q ≡ true
+        → signals_in same q (packets ++ packet ∷ [])
+        ≡ signals_in same q packets ++ (tcp_packet.way, tcp_packet.control) ∷ []
+    signals_more q yes = push_chosen (is_of same q) (λ p. signal_by (tcp_packet_of p)) packets packet
+        (Some (tcp_packet.way, tcp_packet.control)) (its_own q ∙ yes) (ap signal_by is)
+
+    arrivals_more : (q : Conversation) → same tcp_packet.conversation q ≡ true
+        → arrivals_in same q (packets ++ packet ∷ []) ≡ arrivals_in same q packets
+        ++ option_list (option_map (arrival_in tcp_packet.way) (whole_segment packet))
+    arrivals_more q yes = push_chosen (is_of same q) (λ p. arrival_by (tcp_packet_of p) p) packets packet
+        (option_map (arrival_in tcp_packet.way) (whole_segment packet)) (its_own q ∙ yes)
+        (ap (λ (o : Option TcpPacket). arrival_by o packet) is)
+
+    others : (n : ℕ) (o : Option Stream) (q : Conversation) → same tcp_packet.conversation q ≡ false
+        → IsStreamOf n o (signals_in same q packets) (arrivals_in same q packets)
+        → IsStreamOf n o (signals_in same q (packets ++ packet ∷ [])) (arrivals_in same q (packets ++ packet ∷ []))
+    others n o q no was =
+        by_stream n o o _ (signals_in same q packets) _ (arrivals_in same q packets) refl
+        (push_not_chosen (is_of same q) (λ p. signal_by (tcp_packet_of p)) packets packet (its_own q ∙ no))
+        (push_not_chosen (is_of same q) (λ p. arrival_by (tcp_packet_of p) p) packets packet (its_own q ∙ no)) was
+
+    -- the stream of its conversation takes it
+    pub streams_taken : (n n' : ℕ) (old new : Conversation → Option Stream) (stream : Stream) → n ≤ n'
+        → ((q : Conversation) → new q ≡ cond (same tcp_packet.conversation q) (Some stream) (old q))
+        → CountsStream stream
+        (signals_in same tcp_packet.conversation packets ++ (tcp_packet.way, tcp_packet.control) ∷ [])
+        (arrivals_in same tcp_packet.conversation packets
+        ++ option_list (option_map (arrival_in tcp_packet.way) (whole_segment packet)))
+        → ((q : Conversation) → IsStreamOf n (old q) (signals_in same q packets) (arrivals_in same q packets))
+        → (q : Conversation) → IsStreamOf n' (new q) (signals_in same q (packets ++ packet ∷ []))
+        (arrivals_in same q (packets ++ packet ∷ []))
+    streams_taken n n' old new stream more written counted was q =
+        elim (same tcp_packet.conversation q) as (λ b. same tcp_packet.conversation q ≡ b
+        → IsStreamOf n' (new q) (signals_in same q (packets ++ packet ∷ [])) (arrivals_in same q (packets ++ packet ∷ []))) [
+          | true ↦ λ yes.
+              let key = exact tcp_packet.conversation q yes in
+              let here : new q ≡ Some stream = written q ∙ ap (λ (b : Bool). cond b (Some stream) (old q)) yes in
+              let counted = subst (λ (c : Conversation). CountsStream stream
+              (signals_in same c packets ++ (tcp_packet.way, tcp_packet.control) ∷ [])
+              (arrivals_in same c packets ++ option_list (option_map (arrival_in tcp_packet.way) (whole_segment packet)))) key counted in
+              by_stream n' (new q) (Some stream) _ _ _ _ here (signals_more q yes) (arrivals_more q yes) counted
+          | false ↦ λ no.
+              let here : new q ≡ old q = written q ∙ ap (λ (b : Bool). cond b (Some stream) (old q)) no in
+              by_stream n' (new q) (old q) _ _ _ _ here refl refl
+              (others n' (old q) q no (longer n n' (old q) _ _ more (was q)))
+        ] refl
+
+    -- there are as many streams as may be, and its conversation has none
+    pub streams_full : (n : ℕ) (streams : Conversation → Option Stream) → STREAM_COUNT ≤ n
+        → streams tcp_packet.conversation ≡ None
+        → ((q : Conversation) → IsStreamOf n (streams q) (signals_in same q packets) (arrivals_in same q packets))
+        → (q : Conversation) → IsStreamOf n (streams q) (signals_in same q (packets ++ packet ∷ []))
+        (arrivals_in same q (packets ++ packet ∷ []))
+    streams_full n streams full none was q =
+        elim (same tcp_packet.conversation q) as (λ b. same tcp_packet.conversation q ≡ b
+        → IsStreamOf n (streams q) (signals_in same q (packets ++ packet ∷ [])) (arrivals_in same q (packets ++ packet ∷ []))) [
+          | true ↦ λ yes.
+              let key = exact tcp_packet.conversation q yes in
+              let here = subst (λ (c : Conversation). streams c ≡ None) key none in
+              by_stream n (streams q) None _ _ _ _ here refl refl (λ few. absurd (omega (arith, few, full)))
+          | false ↦ λ no. others n (streams q) q no (was q)
+        ] refl
+
+    -- what its stream shows
+    pub stream_there : (n : ℕ) (o : Option Stream) (stream : Stream) → o ≡ Some stream
+        → IsStreamOf n o (signals_in same tcp_packet.conversation packets) (arrivals_in same tcp_packet.conversation packets)
+        → CountsStream stream (signals_in same tcp_packet.conversation packets)
+        (arrivals_in same tcp_packet.conversation packets)
+    stream_there n o stream there was = rw there at was
+
+    pub stream_new : (n : ℕ) (o : Option Stream) (stream : Stream) → o ≡ None → n < STREAM_COUNT
+        → IsStreamOf n o (signals_in same tcp_packet.conversation packets) (arrivals_in same tcp_packet.conversation packets)
+        → CountsStream stream [] []
+        → CountsStream stream (signals_in same tcp_packet.conversation packets)
+        (arrivals_in same tcp_packet.conversation packets)
+    stream_new n o stream none few was counted =
+        let empty = (rw none at was) few in rw (empty.0, empty.1) counted
