@@ -52,6 +52,10 @@ by_stream : (n : ℕ) (o p : Option Stream) (signals signals' : List Signal) (ar
     → signals ≡ signals' → arrivals ≡ arrivals' → IsStreamOf n p signals' arrivals' → IsStreamOf n o signals arrivals
 by_stream n o p signals signals' arrivals arrivals' a b c is = rw (a, b, c) is
 
+pub stream_moved : (n n' : ℕ) (o p : Option Stream) (signals : List Signal) (arrivals : List Arrival) → n' ≡ n → p ≡ o
+    → IsStreamOf n o signals arrivals → IsStreamOf n' p signals arrivals
+stream_moved n n' o p signals arrivals a b is = rw (a, b) is
+
 -- there are more streams
 longer : (n n' : ℕ) (o : Option Stream) (signals : List Signal) (arrivals : List Arrival) → n ≤ n'
     → IsStreamOf n o signals arrivals → IsStreamOf n' o signals arrivals

@@ -144,7 +144,7 @@ IsStreamOf count None signals arrivals = count < STREAM_COUNT → (signals ≡ [
 IsStreamOf count (Some stream) signals arrivals = CountsStream stream signals arrivals
 
 -- the streams of the conversations of these packets
-pub record FollowsStreams {S : Type 0} (same : Conversation → Conversation → Bool) (streams : Streams S)
+pub record FollowsStreams {S H : Type 0} (same : Conversation → Conversation → Bool) (streams : Streams S H)
     (packets : List Dissection) : Type 0 where
   pub each : (conversation : Conversation) → IsStreamOf (hash_map_len streams.streams)
       (get same streams.streams conversation) (signals_in same conversation packets)

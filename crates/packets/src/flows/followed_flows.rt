@@ -40,20 +40,20 @@ impl<S: BuildHasher> FollowedFlows<S> {
 
     /// Takes one packet more. Where there is no memory for its conversation, nothing changes.
     pub fn add(&mut self, dissection: &Dissection<'_>) -> Result<(), AllocError>
-        ensures flows { OnOk result ((packets : List Transfer)
+        ensures ok { OnOk result (((packets : List Transfer)
             → CountsFlows ⟦<Conversation as PartialEq>⟧.eq self.old.flows packets
             → CountsFlows ⟦<Conversation as PartialEq>⟧.eq self.new.flows
-            (packets ++ transfer_of dissection.now ∷ [])) }
-        ensures streams { OnOk result ((packets : List Dissection)
+            (packets ++ transfer_of dissection.now ∷ []))
+            × ((packets : List Dissection)
             → FollowsStreams ⟦<Conversation as PartialEq>⟧.eq self.old.streams packets
             → FollowsStreams ⟦<Conversation as PartialEq>⟧.eq self.new.streams
-            (packets ++ dissection.now ∷ [])) }
-        ensures flows_err { OnErr result ((packets : List Transfer)
+            (packets ++ dissection.now ∷ []))) }
+        ensures err { OnErr result (((packets : List Transfer)
             → CountsFlows ⟦<Conversation as PartialEq>⟧.eq self.old.flows packets
-            → CountsFlows ⟦<Conversation as PartialEq>⟧.eq self.new.flows packets) }
-        ensures streams_err { OnErr result ((packets : List Dissection)
+            → CountsFlows ⟦<Conversation as PartialEq>⟧.eq self.new.flows packets)
+            × ((packets : List Dissection)
             → FollowsStreams ⟦<Conversation as PartialEq>⟧.eq self.old.streams packets
-            → FollowsStreams ⟦<Conversation as PartialEq>⟧.eq self.new.streams packets) }
+            → FollowsStreams ⟦<Conversation as PartialEq>⟧.eq self.new.streams packets)) }
     {
         let header = MessageHeader::of(dissection);
         let transfer = transfer_with(Outline::of(dissection), header);

@@ -1,5 +1,5 @@
 //! What is counted of the bytes that go over the connections of a conversation.
-ghost use Rattle.std.specs.Prelude.{◌≡◌, ◌++◌, ◌∷◌, [], List};
+ghost use Rattle.std.specs.Prelude.{◌≡◌, ◌++◌, ◌∷◌, ℕ, [], List};
 ghost use Rattle.std.specs.Option.{option_map};
 ghost use Rattle.ep_packet.specs.Readable.{message_at};
 ghost use Rattle.tcp_streams.specs.ConnectionStates.{Signal};

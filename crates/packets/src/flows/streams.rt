@@ -89,7 +89,8 @@ impl<S: BuildHasher> Streams<S> {
             let mut stream = Stream::new(self.alloc);
             self.held = stream.take_within(HELD_SIZE, self.held, packet, tcp_packet);
             // The capacity is reserved.
-            self.streams.insert(tcp_packet.conversation, stream).unwrap();
+            let inserted: Result<_, _> = self.streams.insert(tcp_packet.conversation, stream);
+            inserted.unwrap();
         }
     }
 }
