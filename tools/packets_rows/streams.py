@@ -1,5 +1,5 @@
 """What is counted of the bytes of TCP conversations, by hand: segments that come again, whole and in part, other bytes, gaps that are
-filled and gaps whose bytes never come, connections that are reset, ended, not answered, seen late and begun again."""
+filled and gaps whose bytes never come, connections that are reset, ended, not answered, seen late and started again."""
 
 import json
 

@@ -5,7 +5,7 @@ ghost use Rattle.ep_packet.specs.Readable.{message_at};
 ghost use Rattle.tcp_streams.specs.ConnectionStates.{Signal};
 ghost use Rattle.tcp_streams.specs.Counting.{Arrival, Counts};
 ghost use Rattle.packets.specs.Streams.{CountsStream, acknowledgment_in, arrival_in, completed_segment, flags_in};
-ghost use Rattle.packets.specs.Streams.{layers_segment, option_list, whole_segment};
+ghost use Rattle.packets.specs.Streams.{layers_segment, option_list, segment_in, whole_segment};
 
 use crate::flows::tcp_packet::TcpPacket;
 use crate::follow::following::is_whole;
@@ -94,9 +94,24 @@ fn count_packet(counter: &mut StreamCounter, way: Direction, packet: &Dissection
     if !is_whole(packet) {
         return;
     }
-    match &packet.fragment {
+    count_whole(counter, way, &packet.layers, &packet.fragment);
+}
+
+fn count_whole(
+    counter: &mut StreamCounter,
+    way: Direction,
+    layers: &Result<SlicedPacket<'_>, SliceError>,
+    fragment: &Option<Fragment>,
+)
+    ensures { (kept : ℕ) (arrivals : List Arrival) → Counts kept counter.old arrivals
+        → Counts kept counter.new (arrivals ++ option_list (option_map (arrival_in way)
+        (segment_in layers.now fragment.now))) }
+{
+    match fragment {
         Some(Fragment::Completes { message, .. }) => count_message(counter, way, message),
-        _ => count_layers(counter, way, &packet.layers),
+        Some(Fragment::Waits { .. }) => count_layers(counter, way, layers),
+        Some(Fragment::Refused { .. }) => count_layers(counter, way, layers),
+        None => count_layers(counter, way, layers),
     }
 }
 
