@@ -1,11 +1,11 @@
 //! What is counted of the bytes that go over the connections of a conversation.
-ghost use Rattle.std.specs.Prelude.{◌≡◌, ◌++◌, ◌∷◌, ℕ, [], List};
+ghost use Rattle.std.specs.Prelude.{◌≡◌, ◌++◌, ◌∷◌, ℕ, [], List, Some};
 ghost use Rattle.std.specs.Option.{option_map};
 ghost use Rattle.ep_packet.specs.Readable.{message_at};
 ghost use Rattle.tcp_streams.specs.ConnectionStates.{Signal};
 ghost use Rattle.tcp_streams.specs.Counting.{Arrival, Counts};
 ghost use Rattle.packets.specs.Streams.{CountsStream, acknowledgment_in, arrival_in, completed_segment, flags_in};
-ghost use Rattle.packets.specs.Streams.{layers_segment, option_list, segment_in, whole_segment};
+ghost use Rattle.packets.specs.Streams.{layers_segment, option_list, segment_in, transport_segment, whole_segment};
 
 use crate::flows::tcp_packet::TcpPacket;
 use crate::follow::following::is_whole;
@@ -108,10 +108,25 @@ fn count_whole(
         (segment_in layers.now fragment.now))) }
 {
     match fragment {
-        Some(Fragment::Completes { message, .. }) => count_message(counter, way, message),
-        Some(Fragment::Waits { .. }) => count_layers(counter, way, layers),
-        Some(Fragment::Refused { .. }) => count_layers(counter, way, layers),
+        Some(fragment) => count_fragment(counter, way, layers, fragment),
         None => count_layers(counter, way, layers),
+    }
+}
+
+fn count_fragment(
+    counter: &mut StreamCounter,
+    way: Direction,
+    layers: &Result<SlicedPacket<'_>, SliceError>,
+    fragment: &Fragment,
+)
+    ensures { (kept : ℕ) (arrivals : List Arrival) → Counts kept counter.old arrivals
+        → Counts kept counter.new (arrivals ++ option_list (option_map (arrival_in way)
+        (segment_in layers.now (Some fragment.now)))) }
+{
+    match fragment {
+        Fragment::Completes { message, .. } => count_message(counter, way, message),
+        Fragment::Waits { .. } => count_layers(counter, way, layers),
+        Fragment::Refused { .. } => count_layers(counter, way, layers),
     }
 }
 
@@ -136,10 +151,21 @@ fn count_layers(
 {
     match layers {
         Ok(packet) => match &packet.transport {
-            Some(TransportSlice::Tcp(segment)) => count_segment(counter, way, segment),
-            _ => {}
+            Some(transport) => count_transport(counter, way, transport),
+            None => {}
         },
         Err(_) => {}
+    }
+}
+
+fn count_transport(counter: &mut StreamCounter, way: Direction, transport: &TransportSlice<'_>)
+    ensures { (kept : ℕ) (arrivals : List Arrival) → Counts kept counter.old arrivals
+        → Counts kept counter.new (arrivals ++ option_list (option_map (arrival_in way)
+        (transport_segment (Some transport.now)))) }
+{
+    match transport {
+        TransportSlice::Tcp(segment) => count_segment(counter, way, segment),
+        _ => {}
     }
 }
 
