@@ -21,8 +21,8 @@ use packets::program::{
     report_dropped, requested_by, write_capture_flushed, write_flushed, write_records_flushed,
 };
 use packets::{
-    Connections, FollowedFlows, JsonLines, LineWriter, Omitted, Overview, ShowLines, ShowOptions, Style,
-    Summary, TimeForm,
+    Connections, FollowedFlows, JsonLines, LineWriter, Omitted, Overview, ShowLines, ShowOptions,
+    Style, Summary, TimeForm,
 };
 use std::env::{self, VarError};
 use std::fs::{self, File, Metadata};

@@ -55,11 +55,7 @@ fn counted(rt: impl Abort + Copy, alloc: Global) -> FollowedFlows<BuildHasherDef
 }
 
 fn none_followed(alloc: Global) -> FollowedFlows<BuildHasherDefault<FoldHasher>> {
-    FollowedFlows::with_hashers(
-        alloc,
-        BuildHasherDefault::new(),
-        BuildHasherDefault::new(),
-    )
+    FollowedFlows::with_hashers(alloc, BuildHasherDefault::new(), BuildHasherDefault::new())
 }
 
 #[test]
