@@ -105,7 +105,7 @@ def member(row, found):
 def tables():
     yield TITLES
     yield from (line(row) for row, _ in ROWS)
-    yield from ("", "first and last are seconds since 2023-11-14T22:13:20.250000Z", "", STREAM_TITLES)
+    yield from ("", "first and last are seconds since 2023-11-14T22:13:20.000000Z", "", STREAM_TITLES)
     yield from (stream(row, found) for row, found in ROWS if found)
 
 

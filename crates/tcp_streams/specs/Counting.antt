@@ -109,9 +109,6 @@ arrivals_in course = map (λ e. e.0) course
 
 -- ---- what is counted
 
-abbrev pub no_counts : StreamCounts
-no_counts = record { repeated = 0; gaps = 0; missing = 0; conflicts = 0 }
-
 -- of a direction: what its segments do, and the bytes that segments of the other one give up
 abbrev pub counts_of : Direction → Course → StreamCounts
 counts_of own course = record {
