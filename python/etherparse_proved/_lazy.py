@@ -22,8 +22,8 @@ def part(frame: bytes, raw: bytes, at: int) -> bytes:
 
 
 def _keeping_text(kind: Any) -> Callable[[bytes], Any]:
-    """Makes an address of this kind that keeps its text: few addresses have most packets, and both cost more than all else that is
-    read of one. Copied or pickled it is a plain one."""
+    """Makes an address of this kind that keeps its text: few addresses have most packets, and making both takes long beside what
+    else is read of one. Copied or pickled it is a plain one."""
 
     class Address(kind):  # type: ignore[misc]
         __slots__ = ("_text",)
