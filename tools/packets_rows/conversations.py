@@ -75,6 +75,16 @@ NAMES = {6: "TCP", 17: "UDP", 253: "IP protocol 253"}
 TITLES = (
     " packets>        bytes>  <packets        <bytes       first        last    duration  TCP   conversation"
 )
+# Of those over TCP: the state as text and in JSON, and in each direction the bytes that are repeated, gaps, missing bytes and conflicts.
+# All numbers are 1, so that the first byte after SYN stands before the first position; FIN of frame 5 stands before bytes that came.
+NONE = (0, 0, 0, 0)
+STREAMS = {
+    0: ("closed", "Closed", (1, 0, 0, 0), (1, 0, 0, 0)),
+    1: ("SYN not answered", "SynSent", NONE, NONE),
+    2: ("reset", "Reset", NONE, NONE),
+    3: ("half closed", "Closing", NONE, NONE),
+}
+STREAM_TITLES = " repeated>   gaps>    missing>  conflicts>   <repeated   <gaps    <missing  <conflicts  state                 conversation"
 NOTES = ["", "first and last are seconds since 2023-11-14T22:13:20.500000Z"]
 LEFT_OUT = "packets in no conversation: 1 refused, 0 without an IP header"
 # In which order they are listed, by their places in ROWS.
@@ -94,32 +104,60 @@ def line(row):
     return f"{counts} {times}  {tcp or '':<4}  {ends[0]} > {ends[1]} {NAMES[protocol]}"
 
 
+def counts(found):
+    repeated, gaps, missing, conflicts = found
+    return f"{repeated:>10} {gaps:>7} {missing:>11} {conflicts:>11} "
+
+
+def stream(row, found):
+    """Of a stream that is followed to its end."""
+    text, _, forward, backward = found
+    source, destination, ports, protocol = row[7:]
+    ends = f"{source}.{ports[0]} > {destination}.{ports[1]} {NAMES[protocol]}"
+    return f"{counts(forward)}{counts(backward)} {text:<20}  {ends}"
+
+
+def streams(listed):
+    """The second table, if there are any."""
+    found = [stream(ROWS[at], STREAMS[at]) for at in listed if at in STREAMS]
+    return ["", STREAM_TITLES, *found] if found else []
+
+
+def counted(ways, found):
+    """The members of both directions, with what is counted of their bytes."""
+    names = ("repeated", "gaps", "missing", "conflicts")
+    return [way | dict(zip(names, it)) for way, it in zip(ways, found[2:])] if found else ways
+
+
 def time(seconds):
     return expected.BEGIN + int(seconds * 10**9)
 
 
-def member(row):
+def member(at):
+    row, found = ROWS[at], STREAMS.get(at)
     packets, size, back, back_size, first, last, tcp, source, destination, ports, protocol = row
     named = {"source": source, "destination": destination}
     named |= {"source_port": ports[0], "destination_port": ports[1]} if ports else {}
-    named |= {"ip_number": protocol, "forward": {"packets": packets, "bytes": size}, "backward": {"packets": back, "bytes": back_size}}
+    ways = counted(({"packets": packets, "bytes": size}, {"packets": back, "bytes": back_size}), found)
+    named |= {"ip_number": protocol, "forward": ways[0], "backward": ways[1]}
     named |= {"first": time(first), "last": time(last), "duration": time(last) - time(first)}
-    return named | ({"tcp": tcp} if tcp else {})
+    return named | ({"tcp": tcp} if tcp else {}) | ({"state": found[1], "followed": True} if found else {})
 
 
 def whole(listed):
     found = {"packets": 18, "refused": 1, "without_ip": 0, "conversation_count": 9}
-    return json.dumps(found | {"conversations": [member(ROWS[at]) for at in listed]}, separators=(",", ":"))
+    return json.dumps(found | {"conversations": [member(at) for at in listed]}, separators=(",", ":"))
 
 
 def rows():
     for by, order in BY.items():
-        yield ["flows", "--by", by], [TITLES, *(line(ROWS[at]) for at in order), *NOTES, LEFT_OUT]
-    yield ["flows", "--top", "2"], [TITLES, *(line(ROWS[at]) for at in BY["bytes"][:2]), "and 7 more", *NOTES, LEFT_OUT]
+        yield ["flows", "--by", by], [TITLES, *(line(ROWS[at]) for at in order), *NOTES, LEFT_OUT, *streams(order)]
+    first = BY["bytes"][:2]
+    yield ["flows", "--top", "2"], [TITLES, *(line(ROWS[at]) for at in first), "and 7 more", *NOTES, LEFT_OUT, *streams(first)]
     yield ["flows", "--json"], [whole(BY["bytes"])]
     yield ["flows", "--json", "--top", "3", "--by", "first"], [whole(BY["first"][:3])]
     ports = [TITLES, line(ROWS[1]).replace(" 6.500000 ", " 0.000000 ").replace(" 7.500000 ", " 1.000000 ")]
-    yield ["flows", "--only", "port=81"], [*ports, "", "first and last are seconds since 2023-11-14T22:13:27.000000Z"]
+    yield ["flows", "--only", "port=81"], [*ports, "", "first and last are seconds since 2023-11-14T22:13:27.000000Z", *streams((1,))]
     yield ["flows", "--only", "arp"], ["no conversations"]
 
 

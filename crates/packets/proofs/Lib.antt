@@ -1,4 +1,5 @@
 mod StartedLemmas
+mod StreamLemmas
 mod BucketLemmas
 mod ConnectionLemmas
 mod ConversationLemmas

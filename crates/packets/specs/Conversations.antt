@@ -1,6 +1,7 @@
 -- Conversations: the packets that go between two ends over a protocol, both ways.
-use Rattle.std.specs.Prelude.{◌&&◌, not, if◌then◌else◌, Bool, true, false, Option, Some, None, is_none, is_some}
+use Rattle.std.specs.Prelude.{◌&&◌, ◌++◌, ◌∷◌, [], not, if◌then◌else◌, Bool, true, false, Option, Some, None, is_none, is_some}
 use Rattle.std.specs.Cmp.Lexicographic.{slice_cmp}
+use Rattle.std.specs.Hash as fed
 use Rattle.std.specs.Ordering.{nat_cmp}
 use Rattle.std.specs.declared.cmp.Ordering.{Ordering}
 use Rattle.std.specs.declared.cmp.Ordering.TheVariants.{Less, Equal, Greater}
@@ -36,6 +37,20 @@ conversation_over (Some (net.Ip addresses number)) ports = Some (record {
 abbrev pub conversation_between : Outline → Option Ports → Option Conversation
 conversation_between packet ports =
     if is_left_out packet then None else conversation_over packet.headers.net ports
+
+-- what a hasher is given of a conversation: each address in one write, the ports if there are any, and
+-- the protocol
+abbrev pub hashed_addresses : Addresses → fed.HashWrites
+hashed_addresses (V4 source destination) = source ∷ destination ∷ []
+hashed_addresses (V6 source destination) = source ∷ destination ∷ []
+
+abbrev pub hashed_ports : Option Ports → fed.HashWrites
+hashed_ports None = []
+hashed_ports (Some ports) = fed.u16 ports.source ++ fed.u16 ports.destination
+
+abbrev pub hashed_as : Conversation → fed.HashWrites
+hashed_as conversation = hashed_addresses conversation.addresses ++ hashed_ports conversation.ports
+    ++ fed.u8 conversation.protocol.0
 
 -- ---- its two directions
 

@@ -1,5 +1,6 @@
 pub mod SourceRoute
 pub mod Started
+pub mod Streams
 pub mod Conditions
 pub mod Conversations
 pub mod Expressions

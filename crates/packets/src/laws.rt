@@ -10,6 +10,7 @@ ghost use Rattle.etherparse.specs.PoolCalls.{Lists};
 ghost use Rattle.etherparse.specs.Fragments.{Fragment};
 ghost use Rattle.ep_packet.specs.Class.{FragmentName};
 ghost use Rattle.ep_packet.specs.LaxWhole.{whole_packet};
+ghost use Rattle.ep_packet.specs.declared.addresses.Addresses.TheVariants as addresses;
 ghost use Rattle.ep_packet.specs.declared.sliced_packet.SlicedPacket.{SlicedPacket};
 ghost use Rattle.packets.specs.Conditions.{has_vlan_id, ipv4_numbers, ipv6_numbers, lax_has_vlan_id, lax_ipv4_numbers};
 ghost use Rattle.packets.specs.Conditions.{lax_ipv6_numbers};
@@ -145,13 +146,21 @@ pub fn senders_hash_all_fields()
         ≡ fed.isize (pos 1) ++ fed.slice fed.u8 source ++ fed.bool is_bad }
 {}
 
-/// A conversation feeds a hasher its addresses, its ports and its protocol, ports their numbers.
+/// A hasher is fed both addresses of a conversation, each in one write, its ports, if there are any, by
+/// their numbers, and its protocol.
 pub fn conversations_hash_all_fields()
-    ensures conversation { (conversation : Conversation)
+    ensures v4 { (conversation : Conversation) (source destination : List ℕ) (ports : Ports)
+        → conversation.addresses ≡ addresses.V4 source destination → conversation.ports ≡ Some ports
+        → ⟦<Conversation as Hash>⟧.hash_input conversation ≡ source ∷ destination
+        ∷ (fed.u16 ports.source ++ fed.u16 ports.destination ++ fed.u8 conversation.protocol.0) }
+    ensures v6 { (conversation : Conversation) (source destination : List ℕ) (ports : Ports)
+        → conversation.addresses ≡ addresses.V6 source destination → conversation.ports ≡ Some ports
+        → ⟦<Conversation as Hash>⟧.hash_input conversation ≡ source ∷ destination
+        ∷ (fed.u16 ports.source ++ fed.u16 ports.destination ++ fed.u8 conversation.protocol.0) }
+    ensures without_ports { (conversation : Conversation) (source destination : List ℕ)
+        → conversation.addresses ≡ addresses.V6 source destination → conversation.ports ≡ None
         → ⟦<Conversation as Hash>⟧.hash_input conversation
-        ≡ ⟦<Addresses as Hash>⟧.hash_input conversation.addresses
-        ++ ⟦<Option<Ports> as Hash>⟧.hash_input conversation.ports
-        ++ ⟦<IpNumber as Hash>⟧.hash_input conversation.protocol }
+        ≡ source ∷ destination ∷ fed.u8 conversation.protocol.0 }
     ensures ports { (ports : Ports) → ⟦<Ports as Hash>⟧.hash_input ports
         ≡ fed.u16 ports.source ++ fed.u16 ports.destination }
 {}

@@ -5,7 +5,7 @@ use capture_programs::{ClosableWriter, Input, Look, ProgressLine, ProgressReader
 use captures::RunError;
 use packets::program::{Requested, exit_code, goes_on, write_flows, write_page, write_report};
 use packets::{
-    Ending, Flows, Listing, NoProgress, Omitted, Overview, Report, Rules, Summary, WebPage,
+    Ending, FollowedFlows, Listing, NoProgress, Omitted, Overview, Report, Rules, Summary, WebPage,
     count_flows, count_overview, summarize,
 };
 use std::hash::RandomState;
@@ -82,7 +82,7 @@ impl Counts for SummaryCounts {
 #[derive(Drop)]
 pub struct FlowCounts {
     /// What is counted.
-    pub flows: Flows<RandomState>,
+    pub flows: FollowedFlows<RandomState>,
     /// What is listed.
     pub listing: Listing,
 }
@@ -100,7 +100,7 @@ impl Counts for FlowCounts {
     }
 
     fn packets(&self) -> u64 {
-        self.flows.all.packets
+        self.flows.flows.all.packets
     }
 
     fn write<W: Write>(

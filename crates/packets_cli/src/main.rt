@@ -21,8 +21,8 @@ use packets::program::{
     report_dropped, requested_by, write_capture_flushed, write_flushed, write_records_flushed,
 };
 use packets::{
-    Connections, Flows, JsonLines, LineWriter, Omitted, Overview, ShowLines, ShowOptions, Style,
-    Summary, TimeForm,
+    Connections, FollowedFlows, JsonLines, LineWriter, Omitted, Overview, ShowLines, ShowOptions,
+    Style, Summary, TimeForm,
 };
 use std::env::{self, VarError};
 use std::fs::{self, File, Metadata};
@@ -91,7 +91,11 @@ fn run_on_files(
         }
         Output::Flows(listing) => {
             let counts = FlowCounts {
-                flows: Flows::with_hasher(rt.alloc(), RandomState::new(rt)?),
+                flows: FollowedFlows::with_hashers(
+                    rt.alloc(),
+                    RandomState::new(rt)?,
+                    RandomState::new(rt)?,
+                ),
                 listing: *listing,
             };
             count_files(rt, requested, counts, &mut output)

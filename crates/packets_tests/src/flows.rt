@@ -9,11 +9,11 @@ use etherparse::{Addresses, IpNumber};
 use fault_devices::UnflushableWriter;
 use packets::program::write_flows;
 use packets::{
-    By, Connection, Conversation, Direction, Dissector, Flags, Flow, Flows, Listing, NoProgress,
-    Period, Ports, Row, Transfer, count_flows,
+    By, Connection, Conversation, Direction, Dissector, Flags, Flow, FollowedFlows, Listing,
+    NoProgress, Period, Ports, Row, Transfer, count_flows,
 };
 use std::alloc::Global;
-use std::hash::RandomState;
+use std::hash::{BuildHasherDefault, FoldHasher};
 use std::process::Abort;
 
 const ENDS: Addresses = Addresses::V4 {
@@ -42,28 +42,26 @@ const DATAGRAMS: Direction = Direction {
     },
 };
 
-// The conversations of all frames, under these hashers.
-fn counted(
-    rt: impl Abort + Copy,
-    alloc: Global,
-    names: RandomState,
-    state: RandomState,
-) -> Flows<RandomState> {
+// The conversations of all frames.
+fn counted(rt: impl Abort + Copy, alloc: Global) -> FollowedFlows<BuildHasherDefault<FoldHasher>> {
     let capture = captured(rt, alloc, 1, FRAMES);
-    let mut flows = Flows::with_hasher(alloc, state);
+    let mut flows = none_followed(alloc);
     let (rules, reader) = (every_packet(alloc), capture.as_slice());
+    let names = BuildHasherDefault::new();
     let ending = count_flows(alloc, names, &rules, &mut flows, reader, &mut NoProgress);
     holds(rt, ending.result.is_ok());
     equal(rt, ending.open, 1);
     flows
 }
 
+fn none_followed(alloc: Global) -> FollowedFlows<BuildHasherDefault<FoldHasher>> {
+    FollowedFlows::with_hashers(alloc, BuildHasherDefault::new(), BuildHasherDefault::new())
+}
+
 #[test]
 fn conversations(rt: HostRuntime) {
-    let (Ok(names), Ok(state)) = (RandomState::new(&rt), RandomState::new(&rt)) else {
-        fail(rt, "no random numbers");
-    };
-    let flows = counted(rt, rt.alloc(), names, state);
+    let followed = counted(rt, rt.alloc());
+    let flows = &followed.flows;
     let left_out = (flows.refused.packets, flows.without_ip.packets);
     equal(rt, (flows.all.packets, left_out), (10, (2, 1)));
     equal(rt, (flows.len(), flows.is_empty()), (5, false));
@@ -157,7 +155,7 @@ fn directions(rt: HostRuntime) {
 }
 
 fn written(alloc: Global, listing: &Listing, capacity: usize) -> Result<(), RunError> {
-    let flows = Flows::new(alloc);
+    let flows = none_followed(alloc);
     let mut writer = UnflushableWriter::new(alloc, capacity);
     write_flows(alloc, &flows, listing, Skipped::NONE, &mut writer)
 }

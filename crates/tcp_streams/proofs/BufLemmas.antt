@@ -16,10 +16,10 @@ use Rattle.tcp_streams.specs.declared.sequence_numbers.Distance.TheVariants.{Aft
 use Rattle.tcp_streams.specs.declared.stream_buf.Added.{Added}
 use Rattle.tcp_streams.specs.declared.stream_buf.Location.{Location}
 use Rattle.tcp_streams.specs.Gaps.{AreGapsIn, first_gap, is_missing}
-use Rattle.tcp_streams.specs.Placing.{Segment, next_position, placed, placed_at, distance_from, start_number}
+use Rattle.tcp_streams.specs.Placing.{Segment, bytes_of, next_position, placed, placed_at, distance_from, repeated_of, start_number}
 use Rattle.tcp_streams.specs.Refusals.{fin_refusal, refusal_by, refusal_of, window_end}
 use Rattle.tcp_streams.specs.Segments.{Placed, end_of, byte_at, bytes_from, text_of, fin_of}
-use Rattle.tcp_streams.specs.Segments.{clashes, conflicts_with, conflicts_of, differs}
+use Rattle.tcp_streams.specs.Segments.{clashes, conflicts_with, conflicts_of, count_from, differs}
 use Rattle.tcp_streams.specs.SparseBytes.{Sparse, sparse, IsSparse, byte_in, held_end, available_end, counted}
 use Rattle.tcp_streams.specs.StreamBuf.{Contents, Shows, IsSound, IsBounded, IsFirstGap, IsLocated, IsAdded}
 use Rattle.tcp_streams.specs.StreamBuf.{AnswersAdd, Accepts, available_in, next_in, placed_in, refusal_in}
@@ -27,6 +27,7 @@ use Rattle.tcp_streams.proofs.SegmentLemmas.{byte_at-push, last_end-push, fin_of
 use Rattle.tcp_streams.proofs.SegmentLemmas.{conflicts_after-push}
 use Rattle.tcp_streams.proofs.SegmentLemmas.{byte_from-is, byte_from-none, bytes_from-is, drop-bytes_from}
 use Rattle.tcp_streams.proofs.SegmentLemmas.{length-bytes_from, byte_at-past, clashes_same}
+use Rattle.tcp_streams.proofs.CountLemmas.{count_from-same}
 use Rattle.tcp_streams.proofs.GapLemmas.{gap_count, gaps_end}
 use Rattle.tcp_streams.proofs.SparseLemmas.{available_bounds, consumed_byte, consumed_end, not_missing_before}
 use Rattle.tcp_streams.proofs.SparseLemmas.{first_missing, first_gap-missing}
@@ -304,6 +305,24 @@ module _ (old new : Contents) (ss : List Placed) (a : Segment) (number : ℕ) (s
       rw (shows_placed old ss sound.sparse shows a)
       (is.conflicts ∙ ap counted (shows_conflicts old ss sound.sparse shows (placed_in old a) after))
   add_conflicts (Err e) after is = tt
+
+-- what it repeats
+pub add_repeated : (buf : Contents) (ss : List Placed) (a : Segment) (p : Location) (rest : List ℕ) → IsSound buf
+    → Shows buf ss → IsLocated p rest (placed_in buf a) → p.skipped + length rest ≡ length (bytes_of a)
+    → (r : Result Added Refused)
+    → IfOk r (λ added. added.repeated ≡ p.skipped
+    + count_from (λ q. is_some (byte_in buf.held q)) p.position (length rest))
+    → IfOk r (λ added. added.repeated ≡ repeated_of ss a (placed buf.start buf.held.taken ss a))
+add_repeated buf ss a p rest sound shows located skipped (Err e) is = tt
+add_repeated buf ss a p rest sound shows located skipped (Ok added) is =
+    let s = placed_in buf a in
+    let low = placed_low buf a sound in
+    let is = rw (located.position, located.bytes) at is in
+    let skipped = rw located.bytes at skipped in
+    let first : length (bytes_of a) - length s.bytes ≡ p.skipped = omega (arith, skipped) in
+    let same = count_from-same (λ q. is_some (byte_in buf.held q)) (λ q. is_some (byte_at ss q)) s.position (length s.bytes)
+    (λ q from below. ap is_some (shows.held q (omega (arith, low)))) in
+    rw (shows_placed buf ss sound.sparse shows a) (rw (first, ← same) is)
 
 module _ (old new : Contents) (s : Placed) (number : ℕ) (syn : Bool) where
   pub add_start : (r : Result Added Refused) → IfOk r (IsAdded old new s number syn)

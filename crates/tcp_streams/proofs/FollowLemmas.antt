@@ -17,7 +17,7 @@ use Rattle.tcp_streams.specs.declared.refusal.Refused.TheVariants.{OutOfMemory}
 use Rattle.tcp_streams.specs.ConnectionStates.{state_after}
 use Rattle.tcp_streams.specs.Following.Step.{Comes, GivesUp}
 use Rattle.tcp_streams.specs.Losses.{lost_of, with_given_up}
-use Rattle.tcp_streams.specs.Placing.{Segment, placed, start_number}
+use Rattle.tcp_streams.specs.Placing.{Segment, placed, repeated_of, start_number}
 use Rattle.tcp_streams.specs.Refusals.{refusal_of}
 use Rattle.tcp_streams.specs.Segments.{Placed, conflicts_with, text_of}
 use Rattle.tcp_streams.specs.SparseBytes.{counted}
@@ -28,13 +28,17 @@ use Rattle.std.specs.Prelude.{Err, IfOk, IfSome, MatchResult, Ok, OnOk, Result, 
 use Rattle.tcp_streams.specs.declared.connection_state.Control.{Control}
 use Rattle.tcp_streams.specs.Following.{Connection, ConnectionSegment, DoesNothing, Follows, IsCounted, IsFollowed, IsTaken}
 use Rattle.tcp_streams.specs.Following.{ShowsSide, Side, Step, begins_anew_by, buf_in, connection_after, connection_of}
-use Rattle.tcp_streams.specs.Following.{connection_with_counted, connection_with_step, connection_without, control_on, counts}
-use Rattle.tcp_streams.specs.Following.{is_of_segment, lost_on, new_gap, no_connection, placed_on, refusal_on, side_in}
+use Rattle.tcp_streams.specs.Following.{connection_with, connection_with_counted, connection_with_step, connection_without, control_on, counts}
+use Rattle.tcp_streams.specs.Following.{gap_begins, is_of_segment, lost_on, new_gap, no_connection, placed_on, refusal_on, side_in}
 use Rattle.tcp_streams.specs.Following.{side_with, side_without, taken_of, with_side}
 
 grows : (ss ts : List Placed) → length (text_of ss) ≤ length (text_of (ss ++ ts))
 grows ss ts =
     omega (arith, length-take (length (text_of ss)) (text_of (ss ++ ts)), ap length (text_stays ss ts))
+
+no_begin : (gap : Option Gap) → false ≡ gap_begins gap gap
+no_begin None = refl
+no_begin (Some gap) = refl
 
 same_gap : (gap : Option Gap) → None ≡ new_gap gap gap
 same_gap None = refl
@@ -104,21 +108,25 @@ module _ (kept : ℕ) (mid : Contents) (side : Side) (s : Segment) (was : ShowsS
       given_up = omega (arith, taken, was.given_up);
     }
 
-    pub taken_with : (position : ℕ) (before after : Option Gap) (conflicts : Conflicts)
+    pub taken_with : (position : ℕ) (before after : Option Gap) (conflicts : Conflicts) (repeated : ℕ)
         → position ≡ length (text_of side.segments) → IsGapIn side.segments before
         → IsGapIn (side.segments ++ placed mid.start mid.held.taken side.segments s ∷ []) after
         → conflicts ≡ counted (conflicts_with side.segments (placed mid.start mid.held.taken side.segments s))
+        → repeated ≡ repeated_of side.segments s (placed mid.start mid.held.taken side.segments s)
         → IsTaken kept side s record {
           begins_anew = false;
           position = position;
           gap = new_gap before after;
+          begins_gap = gap_begins before after;
           conflicts = conflicts;
+          repeated = repeated;
           refused = None;
         }
-    taken_with position before after conflicts position_is before_is after_is conflicts_are = record {
+    taken_with position before after conflicts repeated position_is before_is after_is conflicts_are repeated_is = record {
       position = position_is;
-      gap = (before, after, before_is, rw (not_refused, ← placed_same) after_is, refl);
+      gap = (before, after, before_is, rw (not_refused, ← placed_same) after_is, refl, refl);
       conflicts = rw (not_refused, ← placed_same) conflicts_are;
+      repeated = rw (not_refused, ← placed_same) repeated_is;
       refused = sym not_refused;
     }
 
@@ -137,13 +145,16 @@ module _ (kept : ℕ) (mid : Contents) (side : Side) (s : Segment) (was : ShowsS
           begins_anew = false;
           position = position;
           gap = None;
+          begins_gap = false;
           conflicts = counted [];
+          repeated = 0;
           refused = Some refused;
         }
     taken_without position before position_is before_is = record {
       position = position_is;
-      gap = (before, before, before_is, rw is_refused before_is, same_gap before);
+      gap = (before, before, before_is, rw is_refused before_is, same_gap before, no_begin before);
       conflicts = rw is_refused refl;
+      repeated = rw is_refused refl;
       refused = sym is_refused;
     }
 
@@ -175,24 +186,21 @@ follows_with window mid new earlier s state same since taken is =
     }
 
 -- a segment comes
-module _ (window : ℕ) (new : Follower) (earlier : List Step) (s : ConnectionSegment) where
-  pub follows_counted : counts (control_on s) ≡ true
-      → Follows new (connection_with_counted window (connection_after window earlier) s)
-      → Follows new (connection_after window (earlier ++ Comes s ∷ []))
-  follows_counted does follows =
-      rw (fold-append (connection_with_step window) no_connection earlier (Comes s ∷ []), does) follows
+pub follows_left_out : (window : ℕ) (new : Follower) (earlier : Connection) (s : ConnectionSegment)
+    → counts (control_on s) ≡ false → Follows new earlier → Follows new (connection_with window earlier s)
+follows_left_out window new earlier s does follows = rw does follows
 
-  pub follows_left_out : counts (control_on s) ≡ false → Follows new (connection_after window earlier)
-      → Follows new (connection_after window (earlier ++ Comes s ∷ []))
-  follows_left_out does follows =
-      rw (fold-append (connection_with_step window) no_connection earlier (Comes s ∷ []), does) follows
-
-pub follows_if_ok : {X E : Type 0} (r : Result X E) (window : ℕ) (new : Follower) (earlier : List Step)
+pub follows_if_ok : {X E : Type 0} (r : Result X E) (window : ℕ) (new : Follower) (earlier : Connection)
     (s : ConnectionSegment) → counts (control_on s) ≡ true
-    → OnOk r (Follows new (connection_with_counted window (connection_after window earlier) s))
+    → OnOk r (Follows new (connection_with_counted window earlier s))
+    → OnOk r (Follows new (connection_with window earlier s))
+follows_if_ok r window new earlier s does follows = rw does follows
+
+pub follows_after : {X E : Type 0} (r : Result X E) (window : ℕ) (new : Follower) (earlier : List Step)
+    (s : ConnectionSegment) → OnOk r (Follows new (connection_with window (connection_after window earlier) s))
     → OnOk r (Follows new (connection_after window (earlier ++ Comes s ∷ [])))
-follows_if_ok (Ok x) window new earlier s does follows = follows_counted window new earlier s does follows
-follows_if_ok (Err e) window new earlier s does follows = tt
+follows_after r window new earlier s follows =
+    rw (fold-append (connection_with_step window) no_connection earlier (Comes s ∷ [])) follows
 
 pub followed_if_ok : {E : Type 0} (r : Result FollowedSegment E) (kept : ℕ) (earlier : Connection) (s : ConnectionSegment)
     → counts (control_on s) ≡ true → IfOk r (IsCounted kept earlier s) → IfOk r (IsFollowed kept earlier s)

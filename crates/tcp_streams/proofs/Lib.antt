@@ -1,5 +1,7 @@
 mod AfterGapLemmas
 mod BufLemmas
+mod CountLemmas
+mod CountingLemmas
 mod FlowKeyLemmas
 mod FlowLemmas
 mod FollowLemmas

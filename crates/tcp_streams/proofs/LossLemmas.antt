@@ -10,8 +10,9 @@ use Rattle.tcp_streams.specs.declared.sequence_numbers.Distance.{Distance}
 use Rattle.tcp_streams.specs.declared.sequence_numbers.Distance.TheVariants.{After, Before}
 use Rattle.tcp_streams.specs.Gaps.{AreGapsIn, first_gap, is_missing}
 use Rattle.tcp_streams.specs.Losses.{acknowledged, acknowledged_at, gap_between, given_up, lost_after, lost_by, lost_in, lost_of}
+use Rattle.tcp_streams.specs.Placing.{next_position}
 use Rattle.tcp_streams.specs.Refusals.{window_end}
-use Rattle.tcp_streams.specs.Segments.{Placed, byte_at, byte_from, clashes, fin_of}
+use Rattle.tcp_streams.specs.Segments.{Placed, byte_at, byte_from, clashes, fin_of, text_of}
 use Rattle.tcp_streams.specs.SequenceNumbers.{distance}
 use Rattle.tcp_streams.specs.SparseBytes.{CanSkipTo, IsSparse, Skips, Sparse, available_end, held_end, sparse}
 use Rattle.tcp_streams.specs.StreamBuf.{Contents, IsGapIn, IsSound, Shows, next_in}
@@ -151,6 +152,23 @@ pub lost_position : (buf : Contents) (number : ℕ) (gap : Gap) → IsSparse buf
 lost_position buf number gap sound lost =
     lost_where buf.held.gaps buf.held.taken (held_end buf.held) buf.fin (window_end buf.window buf.held.taken)
     (acknowledged buf.start (next_in buf) number) gap sound.gaps (acknowledged-most buf.start (next_in buf) number) lost
+
+-- they begin where the text ends
+pub lost_bounds : (window taken : ℕ) (start : Option ℕ) (ss : List Placed) (first : Option Gap) (number : ℕ) (gap : Gap)
+    → IsGapIn ss first → lost_of window taken start ss first number ≡ Some gap
+    → (length (text_of ss) < gap.end) × (gap.end ≤ 2 ^ 63)
+lost_bounds window taken start ss None number gap is lost =
+    let last = lost_last (length (text_of ss)) (fin_of ss) (window_end window taken)
+    (acknowledged start (next_position ss) number) gap (acknowledged-most start (next_position ss) number) lost in
+    (last.1, last.2)
+lost_bounds window taken start ss (Some g) number gap is lost =
+    let a = acknowledged start (next_position ss) number in
+    let found = tested (leb g.end a) (Some g) gap lost in
+    let low = is_le g.end a found.0 in
+    let same = same_gap g gap found.1 in
+    let first = rw same at is.some in
+    let low = rw same at low in
+    (omega (arith, first.start, first.order), omega (arith, low, acknowledged-most start (next_position ss) number))
 
 -- ---- a buffer that gives bytes up
 

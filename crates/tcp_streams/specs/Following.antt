@@ -1,5 +1,5 @@
 -- A connection that is followed: its state, and the segments of both directions that were accepted.
-use Rattle.std.specs.Prelude.{◌≡◌, ℕ, ◌-◌, ◌*◌, ◌≤◌, ◌==◌, ◌+◌, ◌%◌, ◌^◌, Bool, true, false, not, ◌&&◌, ◌||◌, if◌then◌else◌, is_some, max}
+use Rattle.std.specs.Prelude.{◌≡◌, ℕ, ◌-◌, ◌*◌, ◌≤◌, ◌==◌, ◌+◌, ◌%◌, ◌^◌, Bool, true, false, not, ◌&&◌, ◌||◌, if◌then◌else◌, is_some, max, min}
 use Rattle.std.specs.Prelude.{List, [], ◌∷◌, ◌++◌, fold, length, Option, Some, None}
 use Rattle.tcp_streams.specs.declared.connection_state.ConnectionState.{ConnectionState}
 use Rattle.tcp_streams.specs.declared.connection_state.ConnectionState.TheVariants.{Unseen, SynSent, SynReceived}
@@ -16,10 +16,10 @@ use Rattle.tcp_streams.specs.declared.refusal.Refused.TheVariants.{OutsideWindow
 use Rattle.tcp_streams.specs.declared.segment_flags.SegmentFlags.{SegmentFlags}
 use Rattle.tcp_streams.specs.ConnectionStates.{control_in, state_after}
 use Rattle.tcp_streams.specs.Losses.{given_up, lost_of}
-use Rattle.tcp_streams.specs.Placing.{Segment, placed, segment, start_number}
+use Rattle.tcp_streams.specs.Placing.{Segment, placed, repeated_of, segment, start_number}
 use Rattle.tcp_streams.specs.Refusals.{refusal_of}
 use Rattle.tcp_streams.specs.Segments.{Placed, conflicts_with, text_of}
-use Rattle.tcp_streams.specs.SparseBytes.{counted}
+use Rattle.tcp_streams.specs.SparseBytes.{counted, size_of}
 use Rattle.tcp_streams.specs.StreamBuf.{Contents, Shows, IsGapIn}
 
 -- ---- one direction
@@ -194,6 +194,10 @@ new_gap None after = after
 new_gap (Some before) None = None
 new_gap (Some before) (Some after) = if before.start == after.start then None else Some after
 
+-- bytes begin to be missing: there is a first gap, and there was none
+abbrev pub gap_begins : (before after : Option Gap) → Bool
+gap_begins before after = not (is_some before) && is_some after
+
 -- a segment is refused for what it is, and not since there is no memory
 abbrev pub is_of_segment : Refused → Bool
 is_of_segment (OutsideWindow window_end) = true
@@ -202,13 +206,16 @@ is_of_segment AfterReset = true
 is_of_segment OutOfMemory = false
 
 -- the bytes that it makes available begin where those ended that were available; which gap begins, at
--- how many positions it differs, and why it is refused
+-- how many positions it differs, how many of its bytes it repeats, and why it is refused
 pub record IsTaken (kept : ℕ) (side : Side) (s : Segment) (taken : FollowedSegment) : Type 0 where
   pub position : taken.position ≡ length (text_of side.segments)
   pub gap : (before : Option Gap) × (after : Option Gap) × IsGapIn side.segments before
       × IsGapIn (side_with kept side s).segments after × (taken.gap ≡ new_gap before after)
+      × (taken.begins_gap ≡ gap_begins before after)
   pub conflicts : taken.conflicts ≡ counted (if is_some (refusal_on kept side s) then []
       else conflicts_with side.segments (placed_on kept side s))
+  pub repeated : taken.repeated ≡ (if is_some (refusal_on kept side s) then 0
+      else repeated_of side.segments s (placed_on kept side s))
   pub refused : taken.refused ≡ refusal_on kept side s
 
 -- and whether it begins a new connection
@@ -222,7 +229,9 @@ pub record DoesNothing (side : Side) (followed : FollowedSegment) : Type 0 where
   pub anew : followed.begins_anew ≡ false
   pub position : followed.position ≡ length (text_of side.segments)
   pub gap : followed.gap ≡ None
+  pub begins_gap : followed.begins_gap ≡ false
   pub conflicts : followed.conflicts ≡ counted []
+  pub repeated : followed.repeated ≡ 0
   pub refused : followed.refused ≡ None
 
 pub record IsFollowed (kept : ℕ) (earlier : Connection) (s : ConnectionSegment) (followed : FollowedSegment)
@@ -245,6 +254,10 @@ pub record ShowsSide (kept : ℕ) (buf : Contents) (side : Side) : Type 0 where
 abbrev pub buf_in : Direction → Follower → Contents
 buf_in FromLower follower = follower.from_lower
 buf_in FromHigher follower = follower.from_higher
+
+-- how much both hold
+abbrev pub held_size : Follower → ℕ
+held_size follower = min (size_of follower.from_lower.held + size_of follower.from_higher.held) (2 ^ 64 - 1)
 
 -- both buffers show those of a connection
 pub record Follows (follower : Follower) (connection : Connection) : Type 0 where

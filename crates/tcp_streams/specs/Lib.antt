@@ -1,4 +1,5 @@
 pub mod ConnectionStates
+pub mod Counting
 pub mod FlowKeys
 pub mod Flows
 pub mod Following

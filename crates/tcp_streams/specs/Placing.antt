@@ -7,7 +7,7 @@ use Rattle.tcp_streams.specs.declared.segment_flags.SegmentFlags.{SegmentFlags}
 use Rattle.tcp_streams.specs.declared.sequence_numbers.Distance.{Distance}
 use Rattle.tcp_streams.specs.declared.sequence_numbers.Distance.TheVariants.{After, Before}
 use Rattle.tcp_streams.specs.SequenceNumbers.{distance}
-use Rattle.tcp_streams.specs.Segments.{Placed, fin_of, text_of}
+use Rattle.tcp_streams.specs.Segments.{Placed, fin_of, repeats_with, text_of}
 
 -- its sequence number, flags and payload
 pub record Segment : Type 0 where
@@ -66,3 +66,8 @@ abbrev pub placed : (start : Option ℕ) → (taken : ℕ) → List Placed → S
 placed start taken ss s =
     let next = next_position ss in
     placed_at (distance_from next (start_number start s.number s.flags) s) next taken s
+
+-- how many of its bytes it repeats, after those that were accepted: bytes that stand before those that aren't taken, and so
+-- are left out at its place, and bytes at positions at which one came
+abbrev pub repeated_of : List Placed → Segment → Placed → ℕ
+repeated_of ss s at = (length (bytes_of s) - length at.bytes) + repeats_with ss at

@@ -1,7 +1,7 @@
 -- One direction of a TCP connection, by its segments that were accepted, the oldest first (RFC 9293,
 -- sections 3.4 and 3.10.7.4). Positions count bytes: the first byte of the stream has position 0.
 use Rattle.std.specs.Prelude.{ℕ, zero, suc, ◌+◌, ◌-◌, ◌==◌, nat_lt, nat_le, Bool, false, not, ◌&&◌, if◌then◌else◌}
-use Rattle.std.specs.Prelude.{max, Option, Some, None, List, [], ◌∷◌, ◌++◌, length, slice_index}
+use Rattle.std.specs.Prelude.{max, is_some, Option, Some, None, List, [], ◌∷◌, ◌++◌, length, slice_index}
 use Rattle.std.specs.List.{list_any}
 use Rattle.std.specs.Option.{option_or}
 
@@ -87,3 +87,14 @@ conflicts_after before (s ∷ ss) = conflicts_with before s ++ conflicts_after (
 
 abbrev pub conflicts_of : List Placed → List ℕ
 conflicts_of ss = conflicts_after [] ss
+
+-- ---- repeats
+
+-- of so many positions from one on, how many have this
+abbrev pub count_from : (ℕ → Bool) → (position count : ℕ) → ℕ
+count_from has p zero = 0
+count_from has p (suc n) = (if has p then 1 else 0) + count_from has (p + 1) n
+
+-- at how many of its positions a segment repeats bytes of those before it
+abbrev pub repeats_with : List Placed → Placed → ℕ
+repeats_with ss s = count_from (λ p. is_some (byte_at ss p)) s.position (length s.bytes)

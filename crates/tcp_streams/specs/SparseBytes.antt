@@ -1,5 +1,5 @@
 -- Bytes of a stream, of which some are missing.
-use Rattle.std.specs.Prelude.{◌≡◌, ℕ, ◌+◌, ◌-◌, ◌^◌, ◌<◌, ◌≤◌, ◌==◌, if◌then◌else◌, max, min}
+use Rattle.std.specs.Prelude.{◌≡◌, ℕ, ◌+◌, ◌-◌, ◌*◌, ◌^◌, ◌<◌, ◌≤◌, ◌==◌, if◌then◌else◌, max, min}
 use Rattle.std.specs.Prelude.{Option, None, List, [], ◌∷◌, drop, length, slice_index, slice_get, take}
 use Rattle.std.specs.Option.{option_or}
 use Rattle.tcp_streams.specs.declared.gaps.Gap.{Gap}
@@ -69,3 +69,7 @@ pub record Fills (gaps : List Gap) (position : ℕ) (old new bytes : List ℕ) :
 -- how many positions there are, and the first one
 abbrev pub counted : List ℕ → Conflicts
 counted ps = record { count = min (length ps) (2 ^ 64 - 1); first = slice_get ps 0 }
+
+-- how much is held: bytes, also those between them that are missing, and 16 for each gap
+abbrev pub size_of : Sparse → ℕ
+size_of held = min (length held.bytes + 16 * length held.gaps) (2 ^ 64 - 1)

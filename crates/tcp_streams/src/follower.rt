@@ -7,7 +7,7 @@ ghost use Rattle.tcp_streams.specs.Following.{Connection, DoesNothing, Follows, 
 ghost use Rattle.tcp_streams.specs.Following.{begins_anew, begins_anew_by, begins_elsewhere, buf_in, connection_after, connection_for};
 ghost use Rattle.tcp_streams.specs.Following.{connection_of, connection_with_counted, connection_without, counts, is_ended, opens};
 ghost use Rattle.tcp_streams.specs.Following.{connection_segment, connection_with, control_with, is_of_segment, new_gap, no_connection};
-ghost use Rattle.tcp_streams.specs.Following.{lost_on, no_side, side_in, side_with, side_without, taken_of, with_side};
+ghost use Rattle.tcp_streams.specs.Following.{gap_begins, held_size, lost_on, no_side, side_in, side_with, side_without, taken_of, with_side};
 ghost use Rattle.tcp_streams.specs.Following.Step.{Comes, GivesUp};
 ghost use Rattle.tcp_streams.specs.Placing.{Segment, segment};
 ghost use Rattle.tcp_streams.specs.StreamBuf.{Contents, IsBounded, IsGapIn};
@@ -47,8 +47,12 @@ pub struct FollowedSegment {
     /// The first gap after it, if that begins elsewhere than the first gap before, or if there was
     /// none.
     pub gap: Option<Gap>,
+    /// It begins a gap where there was none.
+    pub begins_gap: bool,
     /// The positions of its bytes that differ from those that are kept.
     pub conflicts: Conflicts,
+    /// How many of its bytes stand where a byte came already, or before all that are kept.
+    pub repeated: u64,
     /// Why it is refused. It does nothing then, but that its flags change the state.
     pub refused: Option<Refused>,
 }
@@ -74,6 +78,15 @@ impl Follower {
         ensures { (connection : Connection) → Follows self.now connection → result ≡ connection.state }
     {
         self.state
+    }
+
+    /// How much it holds of both directions, as [`StreamBuf::size`] counts it.
+    pub fn size(&self) -> u64
+        ensures { result ≡ held_size self.now }
+    {
+        self.from_lower
+            .size()
+            .saturating_add(self.from_higher.size())
     }
 
     /// The bytes of a direction.
@@ -131,6 +144,30 @@ impl Follower {
             (control_with flags ack))) }
         ensures window { self.new.window ≡ self.old.window }
     {
+        self.add_in(direction, sequence_number, flags, ack, payload)
+    }
+
+    // The same, in any connection.
+    pub(crate) fn add_in(
+        &mut self,
+        direction: Direction,
+        sequence_number: u32,
+        flags: SegmentFlags,
+        ack: bool,
+        payload: &[u8],
+    ) -> Result<FollowedSegment, AllocError>
+        ensures follows { (earlier : Connection) → Follows self.old earlier →
+            let s = connection_segment direction sequence_number flags ack payload.now in
+            OnOk result (Follows self.new (connection_with self.old.window earlier s)) }
+        ensures followed { (earlier : Connection) → Follows self.old earlier →
+            let s = connection_segment direction sequence_number flags ack payload.now in
+            IfOk result (IsFollowed self.old.window earlier s) }
+        ensures kept { (earlier : Connection) → Follows self.old earlier
+            → IfOk result (λ followed. (buf_in direction self.new).held.taken ≤ followed.position) }
+        ensures err { (earlier : Connection) → Follows self.old earlier → OnErr result (Follows self.new
+            (connection_for earlier direction sequence_number (control_with flags ack))) }
+        ensures window { self.new.window ≡ self.old.window }
+    {
         let control = Control::of_flags(flags.syn, ack, flags.fin, flags.rst);
         if counts(control) {
             self.take_counted(direction, sequence_number, flags, control, payload)
@@ -150,7 +187,9 @@ impl Follower {
             begins_anew: false,
             position: self.buf(direction).available_end(),
             gap: None,
+            begins_gap: false,
             conflicts: Conflicts::none(),
+            repeated: 0,
             refused: None,
         }
     }
@@ -216,7 +255,7 @@ impl Follower {
     }
 
     // The same, of any connection.
-    fn give_up_in(&mut self, direction: Direction, number: u32) -> Option<Gap>
+    pub(crate) fn give_up_in(&mut self, direction: Direction, number: u32) -> Option<Gap>
         ensures lost { (connection : Connection) → Follows self.old connection →
             let side = side_in direction connection in (first : Option Gap) × IsGapIn side.segments first
             × (result ≡ lost_on self.old.window side first number) }
@@ -342,18 +381,25 @@ fn take(
     let position = buf.available_end();
     let before = buf.gap();
     match buf.add(sequence_number, flags, payload) {
-        Ok(added) => Ok(FollowedSegment {
-            begins_anew: false,
-            position,
-            gap: new_gap(before, buf.gap()),
-            conflicts: added.conflicts,
-            refused: None,
-        }),
+        Ok(added) => {
+            let after = buf.gap();
+            Ok(FollowedSegment {
+                begins_anew: false,
+                position,
+                gap: new_gap(before, after),
+                begins_gap: gap_begins(before, after),
+                conflicts: added.conflicts,
+                repeated: added.repeated,
+                refused: None,
+            })
+        }
         Err(refused) if is_of_segment(refused) => Ok(FollowedSegment {
             begins_anew: false,
             position,
             gap: None,
+            begins_gap: false,
             conflicts: Conflicts::none(),
+            repeated: 0,
             refused: Some(refused),
         }),
         Err(_) => Err(AllocError),
@@ -401,4 +447,11 @@ fn new_gap(before: Option<Gap>, after: Option<Gap>) -> Option<Gap>
         (Some(before), Some(after)) if before.start == after.start => None,
         (_, after) => after,
     }
+}
+
+// Whether there is a gap, and there was none.
+fn gap_begins(before: Option<Gap>, after: Option<Gap>) -> bool
+    ensures { result ≡ gap_begins before after }
+{
+    before.is_none() && after.is_some()
 }

@@ -1,9 +1,10 @@
 //! Positions of a stream whose bytes are missing.
 
-ghost use Rattle.std.specs.Prelude.{◌≡◌, ◌+◌, ◌<◌, ◌≤◌, ◌^◌, ◌++◌, ◌∷◌, [], length, nat_lt, vec_len, vec_capacity};
+ghost use Rattle.std.specs.Prelude.{◌≡◌, ◌+◌, ◌-◌, ◌<◌, ◌≤◌, ◌^◌, ◌++◌, ◌∷◌, [], length, nat_lt, vec_len, vec_capacity};
 ghost use Rattle.std.specs.Prelude.{if◌then◌else◌, drop};
-ghost use Rattle.std.specs.List.{insert, remove_range};
-ghost use Rattle.tcp_streams.specs.Gaps.{AreGapsIn, EndBy, StartBefore, without};
+ghost use Rattle.std.specs.List.{AllWithin, insert, remove_range};
+ghost use Rattle.tcp_streams.specs.Gaps.{AreGapsIn, EndBy, Reaches, StartBefore, is_missing, without};
+ghost use Rattle.tcp_streams.specs.Segments.{count_from};
 
 /// Positions whose bytes are missing.
 #[derive(Clone, Copy, Debug, PartialEq, Eq)]
@@ -45,6 +46,30 @@ pub(crate) fn touched(gaps: &[Gap], start: u64, end: u64) -> (usize, usize)
     let first = count_ended(gaps, start);
     let last = count_started(gaps, end);
     (first, last)
+}
+
+// How many of the positions from `start` up to `end` are missing.
+pub(crate) fn count_missing(gaps: &[Gap], start: u64, end: u64) -> u64
+    requires some { start < end }
+    requires gaps { AreGapsIn 0 (2 ^ 64) gaps.now }
+    ensures { result ≡ count_from (is_missing gaps.now) start (end - start) }
+{
+    let (first, last) = touched(gaps, start, end);
+    count_reached(&gaps[first..last], start, end)
+}
+
+// The same of gaps that have some of them each.
+fn count_reached(gaps: &[Gap], start: u64, end: u64) -> u64
+    requires some { start < end }
+    requires gaps { AreGapsIn 0 (2 ^ 64) gaps.now }
+    requires reach { AllWithin (Reaches start end) gaps.now 0 (length gaps.now) }
+    ensures { result ≡ count_from (is_missing gaps.now) start (end - start) }
+{
+    let mut count = 0;
+    for gap in gaps {
+        count += gap.end.min(end) - gap.start.max(start);
+    }
+    count
 }
 
 // Adds a gap after all others unless it is empty.

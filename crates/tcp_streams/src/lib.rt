@@ -18,6 +18,7 @@ mod segment_flags;
 mod sequence_numbers;
 mod sparse_bytes;
 mod stream_buf;
+mod stream_counter;
 
 pub use conflicts::Conflicts;
 pub use connection_state::{ConnectionState, Control};
@@ -32,3 +33,4 @@ pub use refusal::Refused;
 pub use segment_flags::SegmentFlags;
 pub use sequence_numbers::{Distance, distance_between};
 pub use stream_buf::{Added, StreamBuf};
+pub use stream_counter::{StreamCounter, StreamCounts};

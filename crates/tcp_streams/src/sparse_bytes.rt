@@ -3,16 +3,16 @@
 ghost use Rattle.std.specs.Prelude.{◌≡◌, ◌+◌, ◌-◌, ◌<◌, ◌≤◌, ◌^◌, [], ◌∷◌, ◌++◌, if◌then◌else◌, nat_lt, length};
 ghost use Rattle.std.specs.Prelude.{take, drop};
 ghost use Rattle.std.specs.Prelude.{replicate, slice_get, vec_len, vec_capacity, IfOk, IfNone, IfSome, IsOk, OnOk, OnErr};
-ghost use Rattle.std.specs.Prelude.{Some};
+ghost use Rattle.std.specs.Prelude.{Some, is_some};
 ghost use Rattle.std.specs.List.{AllWithin};
 ghost use Rattle.tcp_streams.specs.Gaps.{AreGapsIn, Reaches, first_gap, without};
-ghost use Rattle.tcp_streams.specs.Segments.{byte_from, clashes};
+ghost use Rattle.tcp_streams.specs.Segments.{byte_from, clashes, count_from};
 ghost use Rattle.tcp_streams.specs.SparseBytes.{Sparse, sparse, IsSparse, held_end, available_end, byte_in};
-ghost use Rattle.tcp_streams.specs.SparseBytes.{AddsBytes, CanSkipTo, Fills, Skips, bytes_after_gap, counted};
+ghost use Rattle.tcp_streams.specs.SparseBytes.{AddsBytes, CanSkipTo, Fills, Skips, bytes_after_gap, counted, size_of};
 
 use super::byte_queue::ByteQueue;
 use super::conflicts::{Conflicts, differences};
-use super::gaps::{Gap, close, push_gap, remove_first, touched};
+use super::gaps::{Gap, close, count_missing, push_gap, remove_first, touched};
 use std::alloc::{AllocError, Global};
 use std::marker::Model;
 
@@ -58,6 +58,28 @@ impl SparseBytes {
         ensures { result ≡ held_end self.now }
     {
         self.taken + self.bytes.len() as u64
+    }
+
+    /// How much is held: the bytes up to the last one, with those between them that are missing, and 16
+    /// for each gap.
+    pub(crate) fn size(&self) -> u64
+        ensures { result ≡ size_of self.now }
+    {
+        let gaps = (self.gaps.len() as u64).saturating_mul(16);
+        (self.bytes.len() as u64).saturating_add(gaps)
+    }
+
+    /// At how many of so many positions from one on a byte is held.
+    pub(crate) fn count_held(&self, position: u64, count: usize) -> u64
+        requires after { self.now.taken ≤ position }
+        requires short { position + count ≤ 2 ^ 63 }
+        ensures { result ≡ count_from (λ p. is_some (byte_in self.now p)) position count }
+    {
+        let end = (position + count as u64).min(self.end());
+        if end <= position {
+            return 0;
+        }
+        end - position - count_missing(&self.gaps, position, end)
     }
 
     /// Where bytes are missing.

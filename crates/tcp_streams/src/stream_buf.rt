@@ -9,11 +9,11 @@ ghost use Rattle.tcp_streams.specs.declared.gaps.Gap.{Gap};
 ghost use Rattle.tcp_streams.specs.Losses.{acknowledged, acknowledged_at, gap_between, lost_after, lost_by, lost_in, lost_of};
 ghost use Rattle.tcp_streams.specs.Losses.{with_given_up};
 ghost use Rattle.tcp_streams.specs.Placing.{Segment, segment, bytes_of, first_number, start_number, placed_at};
-ghost use Rattle.tcp_streams.specs.Placing.{placed};
+ghost use Rattle.tcp_streams.specs.Placing.{placed, repeated_of};
 ghost use Rattle.tcp_streams.specs.Refusals.{window_end, fin_refusal, refusal_of};
 ghost use Rattle.tcp_streams.specs.Segments.{Placed, byte_at, text_of, fin_of, is_reset, clashes, conflicts_with};
-ghost use Rattle.tcp_streams.specs.Segments.{conflicts_of};
-ghost use Rattle.tcp_streams.specs.SparseBytes.{byte_in, counted};
+ghost use Rattle.tcp_streams.specs.Segments.{conflicts_of, count_from};
+ghost use Rattle.tcp_streams.specs.SparseBytes.{byte_in, counted, size_of};
 ghost use Rattle.tcp_streams.specs.StreamBuf.{Contents, Shows, IsSound, IsBounded, IsLocation, IsLocated};
 ghost use Rattle.tcp_streams.specs.StreamBuf.{IsAfterGap, IsFirstGap, IsGapIn, AnswersAdd, IsAdded};
 ghost use Rattle.tcp_streams.specs.StreamBuf.{available_in, next_in, placed_in, refusal_in};
@@ -74,6 +74,8 @@ pub struct Added {
     pub position: u64,
     /// The positions of its bytes that differ from those that are held.
     pub conflicts: Conflicts,
+    /// How many of its bytes stand where a byte came already, or before all that are held.
+    pub repeated: u64,
 }
 
 // Where a segment stands in the stream.
@@ -300,6 +302,9 @@ impl StreamBuf {
     ) -> (Location, &'a [u8])
         ensures located { IsLocated result.0 result.1.now
             (placed_in self.now (segment sequence_number flags payload.now)) }
+        ensures skipped { result.0.skipped + length result.1.now
+            ≡ length (bytes_of (segment sequence_number flags payload.now)) }
+        ensures fits { result.0.skipped + length result.1.now < 2 ^ 64 }
         ensures sound { IsSound self.now }
     {
         let bytes = bytes_of(flags, payload);
@@ -337,13 +342,17 @@ impl StreamBuf {
     ) -> Result<Added, Refused>
         requires after { self.old.held.taken ≤ location.position }
         requires within { location.position + length bytes.now ≤ window_end self.old.window self.old.held.taken }
+        requires fits { location.skipped + length bytes.now < 2 ^ 64 }
         ensures added { (s : Placed) → IsLocated location bytes.now s
             → IfOk result (IsAdded self.old self.new s number syn) }
+        ensures repeated { IfOk result (λ added. added.repeated ≡ location.skipped
+            + count_from (λ p. is_some (byte_in self.old.held p)) location.position (length bytes.now)) }
         ensures memory { IfErr result (λ e. e ≡ Refused.OutOfMemory) }
         ensures succeeds { length bytes.now ≡ 0 → IsOk result }
         ensures err { OnErr result (self.new ≡ self.old) }
         ensures sound { IsSound self.new }
     {
+        let repeated = self.held.count_held(location.position, bytes.len());
         let Ok(conflicts) = self.held.add(location.position, bytes) else {
             return Err(Refused::OutOfMemory);
         };
@@ -359,6 +368,7 @@ impl StreamBuf {
         Ok(Added {
             position: location.position,
             conflicts,
+            repeated: location.skipped as u64 + repeated,
         })
     }
 
@@ -391,6 +401,10 @@ impl StreamBuf {
         ensures conflicts { (ss : List Placed) → Shows self.old ss →
             let s = placed self.old.start self.old.held.taken ss (segment sequence_number flags payload.now) in
             IfOk result (λ added. added.conflicts ≡ counted (conflicts_with ss s)) }
+        ensures repeated { (ss : List Placed) → Shows self.old ss →
+            let a = segment sequence_number flags payload.now in
+            let s = placed self.old.start self.old.held.taken ss a in
+            IfOk result (λ added. added.repeated ≡ repeated_of ss a s) }
         ensures start { OnOk result (self.new.start ≡ Some (start_number self.old.start sequence_number flags)) }
         ensures joined_late { OnOk result (self.new.joined_late
             ≡ (if is_some self.old.start then self.old.joined_late else not flags.syn)) }
@@ -527,6 +541,14 @@ impl StreamBuf {
         ensures { (ss : List Placed) → Shows self.now ss → result ≡ is_reset ss }
     {
         self.is_reset
+    }
+
+    /// How much it holds: the bytes from the first one that wasn't consumed up to the last one that came, also
+    /// where they are missing, and 16 for each gap. Its memory is a small multiple of the greatest of all times.
+    pub fn size(&self) -> u64
+        ensures { result ≡ size_of self.now.held }
+    {
+        self.held.size()
     }
 
     /// How many bytes were consumed.

@@ -49,10 +49,12 @@ const NOTHING_AT_0: FollowedSegment = FollowedSegment {
     begins_anew: false,
     position: 0,
     gap: None,
+    begins_gap: false,
     conflicts: Conflicts {
         count: 0,
         first: None,
     },
+    repeated: 0,
     refused: None,
 };
 
@@ -60,10 +62,25 @@ const NOTHING_AT_7: FollowedSegment = FollowedSegment {
     begins_anew: false,
     position: 7,
     gap: None,
+    begins_gap: false,
     conflicts: Conflicts {
         count: 0,
         first: None,
     },
+    repeated: 0,
+    refused: None,
+};
+
+const BEFORE_THE_KEPT: FollowedSegment = FollowedSegment {
+    begins_anew: false,
+    position: 7,
+    gap: None,
+    begins_gap: false,
+    conflicts: Conflicts {
+        count: 0,
+        first: None,
+    },
+    repeated: 3,
     refused: None,
 };
 
@@ -71,10 +88,12 @@ const OUTSIDE: FollowedSegment = FollowedSegment {
     begins_anew: false,
     position: 4,
     gap: None,
+    begins_gap: false,
     conflicts: Conflicts {
         count: 0,
         first: None,
     },
+    repeated: 0,
     refused: Some(Refused::OutsideWindow { window_end: 8 }),
 };
 
@@ -82,10 +101,12 @@ const CONFLICT: FollowedSegment = FollowedSegment {
     begins_anew: false,
     position: 7,
     gap: None,
+    begins_gap: false,
     conflicts: Conflicts {
         count: 1,
         first: Some(6),
     },
+    repeated: 2,
     refused: None,
 };
 
@@ -93,10 +114,12 @@ const AFTER_A_GAP: FollowedSegment = FollowedSegment {
     begins_anew: false,
     position: 0,
     gap: Some(Gap { start: 0, end: 2 }),
+    begins_gap: true,
     conflicts: Conflicts {
         count: 0,
         first: None,
     },
+    repeated: 0,
     refused: None,
 };
 
@@ -104,10 +127,12 @@ const ANEW: FollowedSegment = FollowedSegment {
     begins_anew: true,
     position: 0,
     gap: None,
+    begins_gap: false,
     conflicts: Conflicts {
         count: 0,
         first: None,
     },
+    repeated: 0,
     refused: None,
 };
 
@@ -132,7 +157,7 @@ const STEPS: &[Step] = &[
         NONE,
         true,
         b"PUT",
-        NOTHING_AT_7,
+        BEFORE_THE_KEPT,
         b"",
     ),
     Step(

@@ -1,16 +1,19 @@
 //! What goes between two ends over a protocol.
+ghost use Rattle.std.proofs.Common.{rules};
+ghost use Rattle.std.specs.Cmp.Rules.{hashing};
 ghost use Rattle.std.specs.Prelude.{◌≡◌};
 ghost use Rattle.packets.specs.Conversations.{address_order, ascends, conversation_between, from_lower, order_of_ports};
-ghost use Rattle.packets.specs.Conversations.{turned, turned_addresses, turned_ports};
+ghost use Rattle.packets.specs.Conversations.{hashed_as, turned, turned_addresses, turned_ports};
 
 use crate::show::endpoints::Ports;
 use crate::{Net, Outline};
 use ep_base::IpNumber;
 use ep_packet::Addresses;
 use std::cmp::Ordering;
+use std::hash::{Hash, Hasher};
 
 /// The ends of packets and the protocol that IP carries between them, in one direction.
-#[derive(Clone, Copy, Debug, PartialEq, Eq, Hash)]
+#[derive(Clone, Copy, Debug, PartialEq, Eq)]
 pub struct Conversation {
     /// The addresses.
     pub addresses: Addresses,
@@ -67,6 +70,37 @@ impl Conversation {
         ensures { result ≡ from_lower self.now }
     {
         if self.ascends() { *self } else { self.turned() }
+    }
+}
+
+// A derived `Hash` writes an array byte by byte.
+impl Hash for Conversation {
+    ghost hash_input = { hashed_as };
+
+    ghost respects_eq = { Prim.search (hashing, rules) };
+
+    fn hash<H: Hasher>(&self, state: &mut H) {
+        match &self.addresses {
+            Addresses::V4 {
+                source,
+                destination,
+            } => {
+                state.write(source);
+                state.write(destination);
+            }
+            Addresses::V6 {
+                source,
+                destination,
+            } => {
+                state.write(source);
+                state.write(destination);
+            }
+        }
+        if let Some(ports) = self.ports {
+            state.write_u16(ports.source);
+            state.write_u16(ports.destination);
+        }
+        state.write_u8(self.protocol.0);
     }
 }
 

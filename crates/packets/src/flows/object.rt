@@ -1,19 +1,24 @@
 //! Conversations as a JSON object. The functions have no contracts: tests compare the texts.
 
 use crate::flows::flow::Direction;
-use crate::flows::flows::Flows;
+use crate::flows::followed_flows::FollowedFlows;
 use crate::flows::row::Row;
+use crate::flows::stream_row::StreamRow;
+use crate::follow::event_object::state_name;
 use ep_packet::Addresses;
-use header_descriptions::json::fields::{begin, ipv4_address, number, numbers, printed, text};
+use header_descriptions::json::fields::{
+    begin, flag, ipv4_address, number, numbers, printed, text,
+};
 use serde::{Described, Serialize, Serializer};
 use std::hash::BuildHasher;
 use std::net::Ipv6Addr;
+use tcp_streams::StreamCounts;
 
 /// The conversations of captures as an object. It has no contract: tests compare the texts.
 #[derive(Drop)]
 pub struct FlowObject<'f, S: BuildHasher> {
-    /// The conversations.
-    pub flows: &'f Flows<S>,
+    /// The conversations, followed.
+    pub followed: &'f FollowedFlows<S>,
     /// The indices of those that are listed.
     pub indices: &'f [usize],
 }
@@ -23,15 +28,16 @@ impl<S: BuildHasher> Described for FlowObject<'_, S> {}
 impl<H: BuildHasher> Serialize for FlowObject<'_, H> {
     fn serialize<S: Serializer>(&self, out: &mut S) -> Result<(), S::Error> {
         out.begin_map(None)?;
-        number(out, "packets", self.flows.all.packets)?;
-        number(out, "refused", self.flows.refused.packets)?;
-        number(out, "without_ip", self.flows.without_ip.packets)?;
-        number(out, "conversation_count", self.flows.len() as u64)?;
+        let flows = &self.followed.flows;
+        number(out, "packets", flows.all.packets)?;
+        number(out, "refused", flows.refused.packets)?;
+        number(out, "without_ip", flows.without_ip.packets)?;
+        number(out, "conversation_count", flows.len() as u64)?;
         out.key("conversations")?;
         out.begin_seq(None)?;
         for index in self.indices {
-            if let Some(row) = self.flows.row(*index) {
-                object(out, &row)?;
+            if let Some(row) = flows.row(*index) {
+                object(out, &row, StreamRow::of(&row, &self.followed.streams))?;
             }
         }
         out.end_seq()?;
@@ -39,16 +45,34 @@ impl<H: BuildHasher> Serialize for FlowObject<'_, H> {
     }
 }
 
-fn object<S: Serializer>(out: &mut S, row: &Row) -> Result<(), S::Error> {
+fn object<S: Serializer>(
+    out: &mut S,
+    row: &Row,
+    stream: Option<StreamRow>,
+) -> Result<(), S::Error> {
     out.begin_map(None)?;
     ends(out, row)?;
-    direction(out, "forward", &row.forward)?;
-    direction(out, "backward", &row.backward)?;
+    match stream {
+        Some(stream) => {
+            direction(out, "forward", &row.forward, Some(stream.forward))?;
+            direction(out, "backward", &row.backward, Some(stream.backward))?;
+        }
+        None => {
+            direction(out, "forward", &row.forward, None)?;
+            direction(out, "backward", &row.backward, None)?;
+        }
+    }
     number(out, "first", row.period.earliest.unwrap_or(0))?;
     number(out, "last", row.period.latest.unwrap_or(0))?;
     number(out, "duration", row.duration())?;
     if let Some(connection) = row.connection() {
         text(out, "tcp", connection.name())?;
+    }
+    if let Some(stream) = stream {
+        if let Some(state) = stream.state {
+            text(out, "state", state_name(state))?;
+        }
+        flag(out, "followed", stream.is_followed)?;
     }
     out.end_map()
 }
@@ -82,9 +106,19 @@ fn direction<S: Serializer>(
     out: &mut S,
     name: &str,
     direction: &Direction,
+    counts: Option<StreamCounts>,
 ) -> Result<(), S::Error> {
     begin(out, name)?;
     let members = [("packets", direction.packets), ("bytes", direction.bytes)];
     numbers(out, &members)?;
+    if let Some(counts) = counts {
+        let members = [
+            ("repeated", counts.repeated),
+            ("gaps", counts.gaps),
+            ("missing", counts.missing),
+            ("conflicts", counts.conflicts),
+        ];
+        numbers(out, &members)?;
+    }
     out.end_map()
 }

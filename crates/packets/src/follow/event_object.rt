@@ -146,7 +146,8 @@ fn direction_end<S: Serializer>(out: &mut S, end: DirectionEnd) -> Result<(), S:
     end_variant(out)
 }
 
-fn state_name(state: ConnectionState) -> &'static str {
+/// The name of a state.
+pub(crate) fn state_name(state: ConnectionState) -> &'static str {
     match state {
         ConnectionState::Unseen => "Unseen",
         ConnectionState::SynSent { .. } => "SynSent",

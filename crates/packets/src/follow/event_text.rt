@@ -135,7 +135,8 @@ fn fin(line: &mut Line<'_>, end: DirectionEnd) -> Result<(), AllocError> {
     }
 }
 
-fn state_text(state: ConnectionState) -> &'static str {
+/// How a state is written.
+pub(crate) fn state_text(state: ConnectionState) -> &'static str {
     match state {
         ConnectionState::Unseen => "not opened",
         ConnectionState::SynSent { .. } => "SYN not answered",

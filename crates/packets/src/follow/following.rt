@@ -159,8 +159,8 @@ impl Following {
     }
 }
 
-// Whether all bytes of its IP packet were captured.
-fn is_whole(packet: &Dissection<'_>) -> bool
+/// Whether all bytes of its IP packet were captured.
+pub(crate) fn is_whole(packet: &Dissection<'_>) -> bool
     ensures { result ≡ is_whole packet.now.captured_len packet.now.wire_len packet.now.layers }
 {
     if !packet.is_cut() {

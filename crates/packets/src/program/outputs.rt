@@ -7,8 +7,8 @@ ghost use Rattle.packets.specs.WrittenCaptures.{WritesCapture, WritesRecords};
 ghost use Rattle.packets.specs.declared.dissection.Dissection.{Dissection};
 
 use crate::{
-    FlowObject, FlowTable, Flows, Following, LineWriter, Listing, Omitted, Report, Rules, WebPage,
-    write_capture, write_followed, write_lines, write_records,
+    FlowObject, FlowTable, FollowedFlows, Following, LineWriter, Listing, Omitted, Report, Rules,
+    StreamTable, WebPage, write_capture, write_followed, write_lines, write_records,
 };
 use captures::{RunError, Skipped};
 use device_runs::flush_after;
@@ -112,28 +112,29 @@ pub fn write_report<S: BuildHasher, W: Write>(
     write_whole_flushed(text.as_bytes(), writer)
 }
 
-/// Writes the conversations that are listed, as a table or as a JSON object in one line. It has no
+/// Writes the conversations that are listed, as tables or as a JSON object in one line. It has no
 /// contract: tests compare the texts.
 pub fn write_flows<S: BuildHasher, W: Write>(
     alloc: Global,
-    flows: &Flows<S>,
+    followed: &FollowedFlows<S>,
     listing: &Listing,
     skipped: Skipped,
     writer: &mut W,
 ) -> Result<(), RunError> {
-    let Ok(indices) = listing.indices(alloc, flows) else {
+    let Ok(indices) = listing.indices(alloc, &followed.flows) else {
         return Err(RunError::Memory);
     };
     let indices = indices.as_slice();
     if listing.json {
-        return write_object(alloc, &FlowObject { flows, indices }, writer);
+        return write_object(alloc, &FlowObject { followed, indices }, writer);
     }
     let table = FlowTable {
-        flows,
+        flows: &followed.flows,
         indices,
         skipped,
     };
-    let Ok(text) = format!(in alloc; "{table}") else {
+    let streams = StreamTable { followed, indices };
+    let Ok(text) = format!(in alloc; "{table}{streams}") else {
         return Err(RunError::Memory);
     };
     write_whole_flushed(text.as_bytes(), writer)

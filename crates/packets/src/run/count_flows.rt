@@ -1,8 +1,9 @@
-//! Counts the conversations of a capture.
+//! Counts the conversations of a capture, and follows those over TCP.
 ghost use Rattle.std.specs.Prelude.{◌≡◌, ◌++◌, false, List, map};
 ghost use Rattle.packets.specs.Courses.{shown};
 ghost use Rattle.packets.specs.Flows.{CountsFlows};
 ghost use Rattle.packets.specs.Reported.{Reports};
+ghost use Rattle.packets.specs.Streams.{FollowsStreams};
 ghost use Rattle.packets.specs.Transfers.{transfer_of};
 ghost use Rattle.packets.specs.declared.dissection.Dissection.{Dissection};
 ghost use Rattle.packets.specs.declared.flows.transfer.Transfer.{Transfer};
@@ -11,42 +12,50 @@ use crate::run::progress::Progress;
 use crate::run::rules::Rules;
 use crate::run::visit_all::{Ending, visit_all};
 use crate::run::walk::Visitor;
-use crate::{Conversation, Dissection, Flows};
+use crate::{Conversation, Dissection, FollowedFlows};
 use captures::RunError;
 use std::alloc::{AllocError, Global};
 use std::hash::BuildHasher;
 use std::io::Read;
 
 /// Counts the conversations of the packets that the filter lets through, as
-/// [`summarize`](crate::summarize) counts these packets.
+/// [`summarize`](crate::summarize) counts these packets, and follows those over TCP.
 pub fn count_flows<R: Read + Drop, S: BuildHasher + Drop, P: Progress>(
     alloc: Global,
     state: S,
     rules: &Rules,
-    flows: &mut Flows<S>,
+    flows: &mut FollowedFlows<S>,
     reader: R,
     progress: &mut P,
 ) -> Ending
     ensures { (reported : List Dissection)
         × Reports false rules.now (R.remaining reader) result reported
         × ((counted : List Transfer)
-        → CountsFlows ⟦<Conversation as PartialEq>⟧.eq flows.old counted
-        → CountsFlows ⟦<Conversation as PartialEq>⟧.eq flows.new
-        (counted ++ map transfer_of (shown rules.now.filter reported))) }
+        → CountsFlows ⟦<Conversation as PartialEq>⟧.eq flows.old.flows counted
+        → CountsFlows ⟦<Conversation as PartialEq>⟧.eq flows.new.flows
+        (counted ++ map transfer_of (shown rules.now.filter reported)))
+        × ((followed : List Dissection)
+        → FollowsStreams ⟦<Conversation as PartialEq>⟧.eq flows.old.streams followed
+        → FollowsStreams ⟦<Conversation as PartialEq>⟧.eq flows.new.streams
+        (followed ++ shown rules.now.filter reported)) }
 {
     visit_all(alloc, state, rules, flows, reader, progress)
 }
 
-impl<S: BuildHasher> Visitor for Flows<S> {
+impl<S: BuildHasher> Visitor for FollowedFlows<S> {
     ghost use Rattle.packets.specs.Flows.{CountsFlows};
+    ghost use Rattle.packets.specs.Streams.{FollowsStreams};
     ghost use Rattle.packets.specs.Transfers.{transfer_of};
 
     ghost writes = { false };
 
-    // All packets that are seen are counted beside those that were.
-    ghost goes = { λ start now seen. (counted : List Transfer)
-        → CountsFlows ⟦<Conversation as PartialEq>⟧.eq start counted
-        → CountsFlows ⟦<Conversation as PartialEq>⟧.eq now (counted ++ map transfer_of seen) };
+    // All packets that are seen are counted and followed beside those that were.
+    ghost goes = { λ start now seen. ((counted : List Transfer)
+        → CountsFlows ⟦<Conversation as PartialEq>⟧.eq start.flows counted
+        → CountsFlows ⟦<Conversation as PartialEq>⟧.eq now.flows (counted ++ map transfer_of seen))
+        × ((followed : List Dissection)
+        → FollowsStreams ⟦<Conversation as PartialEq>⟧.eq start.streams followed
+        → FollowsStreams ⟦<Conversation as PartialEq>⟧.eq now.streams (followed ++ seen)) };
 
     ghost breaks = { λ start now seen. ⊥ };
 

@@ -12,7 +12,7 @@ ghost use Rattle.tcp_streams.specs.declared.flow_key.FlowKey.{FlowKey as Key};
 
 use crate::{
     Added, Conflicts, ConnectionState, Control, Direction, Distance, Endpoint, Flow, FlowKey,
-    FlowPacket, FollowedSegment, Gap, Refused, SegmentFlags, Traffic,
+    FlowPacket, FollowedSegment, Gap, Refused, SegmentFlags, StreamCounts, Traffic,
 };
 use ep_base::laws::traits::Value;
 use std::hash::Hash;
@@ -30,6 +30,7 @@ pub fn types_are_plain_data()
     ensures gap { IsPlainData ⟦<Gap as Value>⟧ }
     ensures refused { IsPlainData ⟦<Refused as Value>⟧ }
     ensures segment_flags { IsPlainData ⟦<SegmentFlags as Value>⟧ }
+    ensures stream_counts { IsPlainData ⟦<StreamCounts as Value>⟧ }
     ensures traffic { IsPlainData ⟦<Traffic as Value>⟧ }
 {}
 

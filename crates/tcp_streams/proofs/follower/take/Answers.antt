@@ -12,15 +12,15 @@ returns-in-Ok c earlier was =
     let accepted = c.in-Ok.ensures.accepted earlier.segments mid.shows in (
       shows_with c.args.kept c.forget.new.buf earlier s mid at c.add.new.self accepted none c.in-Ok.ensures.start
           c.in-Ok.ensures.joined_late c.add.ensures.taken c.add.ensures.window,
-      rw c.new_gap.ensures (taken_with c.args.kept c.forget.new.buf earlier s mid at c.add.new.self accepted none
-          c.available_end-position.result c.gap-before.result c.gap.result c.in-Ok.added.conflicts
-          (c.available_end-position.ensures earlier.segments mid.shows)
+      rw (c.new_gap.ensures, c.gap_begins.ensures) (taken_with c.args.kept c.forget.new.buf earlier s mid at c.add.new.self
+          accepted none c.available_end-position.result c.gap-before.result c.gap-after.result c.in-Ok.added.conflicts
+          c.in-Ok.added.repeated (c.available_end-position.ensures earlier.segments mid.shows)
           (record {
             some = c.gap-before.ensures.gap earlier.segments mid.shows;
             none = c.gap-before.ensures.none earlier.segments mid.shows;
           })
-          (record { some = c.gap.ensures.gap _ accepted; none = c.gap.ensures.none _ accepted })
-          (c.in-Ok.ensures.conflicts earlier.segments mid.shows)),
+          (record { some = c.gap-after.ensures.gap _ accepted; none = c.gap-after.ensures.none _ accepted })
+          (c.in-Ok.ensures.conflicts earlier.segments mid.shows) (c.in-Ok.ensures.repeated earlier.segments mid.shows)),
       kept_with c.args.kept c.forget.new.buf earlier mid at c.add.new.self c.available_end-position.result
           c.add.ensures.taken (c.available_end-position.ensures earlier.segments mid.shows),
     )

@@ -20,6 +20,7 @@ returns-in-Ok-clause-followed c earlier was ack is =
         position = taken.position;
         gap = taken.gap;
         conflicts = taken.conflicts;
+        repeated = taken.repeated;
         refused = taken.refused;
       };
     }

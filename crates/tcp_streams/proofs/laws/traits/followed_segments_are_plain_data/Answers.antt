@@ -14,14 +14,18 @@ returns c = record {
       (field Decides-eqb (λ followed. followed.position)
       (field (options_same c.types_are_plain_data.ensures.gap.equals)
       (λ followed. followed.gap)
+      (field booleans_Decides (λ followed. followed.begins_gap)
       (field c.types_are_plain_data.ensures.conflicts.equals (λ followed. followed.conflicts)
+      (field Decides-eqb (λ followed. followed.repeated)
       (last_field (options_same c.types_are_plain_data.ensures.refused.equals)
-      (λ followed. followed.refused))))))
-      (λ begins_anew position gap conflicts refused i. record {
+      (λ followed. followed.refused))))))))
+      (λ begins_anew position gap begins_gap conflicts repeated refused i. record {
         begins_anew = begins_anew i;
         position = position i;
         gap = gap i;
+        begins_gap = begins_gap i;
         conflicts = conflicts i;
+        repeated = repeated i;
         refused = refused i;
       });
 }

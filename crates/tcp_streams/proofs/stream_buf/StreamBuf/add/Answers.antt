@@ -6,7 +6,7 @@ use Rattle.tcp_streams.specs.StreamBuf.{IsAdded, placed_in, refusal_in}
 use Rattle.tcp_streams.proofs.BufLemmas.{bounded, answers_refusal, answers_none, located_after, located_within}
 use Rattle.tcp_streams.proofs.BufLemmas.{no_byte_left, placed_low, refused_not}
 use Rattle.tcp_streams.proofs.BufLemmas.{add_shows, add_position, add_conflicts, add_start, add_joined_late}
-use Rattle.tcp_streams.proofs.BufLemmas.{add_same}
+use Rattle.tcp_streams.proofs.BufLemmas.{add_repeated, add_same}
 use Rattle.tcp_streams.proofs.stream_buf.StreamBuf.add.Goals as goal
 
 pub returns-in-Some-clause-refused : goal.returns-in-Some-clause-refused
@@ -73,6 +73,15 @@ returns-in-None-clause-conflicts c ss shows =
     add_conflicts c.args.self.now c.accept.new.self ss
     (segment c.args.sequence_number c.args.flags c.args.payload.now) _ _ c.locate.ensures.sound shows c.accept.result
     (low c) (added_is c)
+
+pub accept-requires-clause-fits : goal.accept-requires-clause-fits
+accept-requires-clause-fits c = c.locate.ensures.fits
+
+pub returns-in-None-clause-repeated : goal.returns-in-None-clause-repeated
+returns-in-None-clause-repeated c ss shows =
+    add_repeated c.args.self.now ss (segment c.args.sequence_number c.args.flags c.args.payload.now)
+    c.locate.result.0 c.locate.result.1.now c.locate.ensures.sound shows c.locate.ensures.located c.locate.ensures.skipped
+    c.accept.result c.accept.ensures.repeated
 
 pub returns-in-None-clause-start : goal.returns-in-None-clause-start
 returns-in-None-clause-start c =

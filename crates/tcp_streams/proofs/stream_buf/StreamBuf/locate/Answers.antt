@@ -1,4 +1,5 @@
-use Rattle.std.proofs.Common.{◌∙◌, ap, length, refl, sym}
+use Rattle.std.proofs.Common.{◌∙◌, ap, arith, length, refl, sym}
+use Rattle.std.proofs.lemmas.List.{length-drop}
 use Rattle.tcp_streams.specs.Placing.{segment}
 use Rattle.tcp_streams.proofs.stream_buf.StreamBuf.locate.Goals as goal
 
@@ -18,3 +19,15 @@ returns-clause-located c =
       fin = is.fin;
       reset = is.reset;
     }
+
+pub returns-clause-skipped : goal.returns-clause-skipped
+returns-clause-skipped c =
+    let is = c.location-location.ensures.location (segment c.args.sequence_number c.args.flags c.args.payload.now)
+    c.first_number-number.ensures refl (sym (ap length c.bytes_of-bytes.ensures)) in
+    omega (
+      arith,
+      is.skipped,
+      ap length c.without_prefix.ensures,
+      ap length c.bytes_of-bytes.ensures,
+      length-drop c.location-location.result.skipped c.bytes_of-bytes.result.now,
+    )

@@ -1,0 +1,151 @@
+-- What is counted of the bytes that go over the connections of TCP conversations.
+use Rattle.std.specs.Prelude.{◌≡◌, ℕ, ◌<◌, ◌==◌, ◌&&◌, if◌then◌else◌, Bool, true, false, Option, Some, None, Result, Ok, Err}
+use Rattle.std.specs.Prelude.{List, [], ◌∷◌, ◌++◌}
+use Rattle.std.specs.HashMap.{get, hash_map_len}
+use Rattle.std.specs.Option.{option_map}
+use Rattle.ep_packet.specs.Readable.{ReadMessage, message_at}
+use Rattle.ep_packet.specs.Readable.ReadMessage.{Icmpv4, Icmpv6, Raw, Tcp, Udp}
+use Rattle.ep_packet.specs.declared.err.packet.slice_error.SliceError.{SliceError}
+use Rattle.ep_packet.specs.declared.sliced_packet.SlicedPacket.{SlicedPacket}
+use Rattle.ep_packet.specs.declared.transport.transport_slice.TransportSlice.{TransportSlice}
+use Rattle.ep_packet.specs.declared.transport.transport_slice.TransportSlice.TheVariants as transport
+use Rattle.ep_tcpudp.specs.Tcp as tcp
+use Rattle.tcp_streams.specs.ConnectionStates.{Signal, control_in, state_of}
+use Rattle.tcp_streams.specs.Counting.{Arrival, Counts, arrival}
+use Rattle.tcp_streams.specs.declared.connection_state.Control.{Control}
+use Rattle.tcp_streams.specs.declared.direction.Direction.{Direction}
+use Rattle.tcp_streams.specs.declared.direction.Direction.TheVariants.{FromLower, FromHigher}
+use Rattle.tcp_streams.specs.declared.segment_flags.SegmentFlags.{SegmentFlags}
+use Rattle.packets.specs.Followed.{is_whole}
+use Rattle.packets.specs.LaxLayers.{lax_layers_of}
+use Rattle.packets.specs.MessageHeaders.{message_header}
+use Rattle.packets.specs.Table.{is_key}
+use Rattle.packets.specs.Transfers.{transfer_of}
+use Rattle.packets.specs.declared.dissection.Dissection.{Dissection}
+use Rattle.packets.specs.declared.dissection.Fragment.{Fragment}
+use Rattle.packets.specs.declared.dissection.Fragment.TheVariants as fragment
+use Rattle.packets.specs.declared.flows.conversation.Conversation.{Conversation}
+use Rattle.packets.specs.declared.flows.stream.Stream.{Stream}
+use Rattle.packets.specs.declared.flows.stream.TheConstants.{STREAM_WINDOW}
+use Rattle.packets.specs.declared.flows.streams.Streams.{Streams}
+use Rattle.packets.specs.declared.flows.streams.TheConstants.{STREAM_COUNT}
+use Rattle.packets.specs.declared.flows.tcp_packet.TcpPacket.{TcpPacket}
+use Rattle.packets.specs.declared.flows.transfer.Transfer.{Transfer}
+use Rattle.packets.specs.declared.message_header.MessageHeader.{MessageHeader}
+
+-- ---- a packet of TCP
+
+abbrev pub way_of : (ascends : Bool) → Direction
+way_of true = FromLower
+way_of false = FromHigher
+
+abbrev pub control_by : MessageHeader → Control
+control_by header = control_in header.syn header.ack header.fin header.rst
+
+abbrev pub tcp_packet_in : (ascends : Bool) → Option Conversation → Option MessageHeader → Option TcpPacket
+tcp_packet_in ascends None header = None
+tcp_packet_in ascends (Some conversation) None = None
+tcp_packet_in ascends (Some conversation) (Some header) = if conversation.protocol.0 == 6
+    then Some (record { conversation = conversation; way = way_of ascends; control = control_by header }) else None
+
+-- the conversation of a packet with a TCP header, its direction and what its flags do; the protocol number of TCP is 6
+abbrev pub tcp_packet : Transfer → Option MessageHeader → Option TcpPacket
+tcp_packet transfer header = tcp_packet_in transfer.ascends transfer.conversation header
+
+abbrev pub tcp_packet_of : Dissection → Option TcpPacket
+tcp_packet_of packet = tcp_packet (transfer_of packet)
+    (message_header packet.layers (lax_layers_of packet.header packet.bytes) packet.fragment)
+
+-- ---- the segment that is followed
+
+abbrev pub transport_segment : Option TransportSlice → Option (List ℕ)
+transport_segment None = None
+transport_segment (Some (transport.Udp datagram)) = None
+transport_segment (Some (transport.Tcp segment)) = Some segment
+transport_segment (Some (transport.Icmpv4 message)) = None
+transport_segment (Some (transport.Icmpv6 message)) = None
+
+abbrev pub layers_segment : Result SlicedPacket SliceError → Option (List ℕ)
+layers_segment (Ok packet) = transport_segment packet.transport
+layers_segment (Err e) = None
+
+abbrev pub completed_segment : Result ReadMessage SliceError → Option (List ℕ)
+completed_segment (Ok (Icmpv4 message)) = None
+completed_segment (Ok (Tcp segment)) = Some segment
+completed_segment (Ok (Udp datagram)) = None
+completed_segment (Ok (Icmpv6 message)) = None
+completed_segment (Ok (Raw bytes)) = None
+completed_segment (Err e) = None
+
+abbrev pub segment_in : Result SlicedPacket SliceError → Option Fragment → Option (List ℕ)
+segment_in layers None = layers_segment layers
+segment_in layers (Some (fragment.Waits started)) = layers_segment layers
+segment_in layers (Some (fragment.Completes started message)) =
+    completed_segment (message_at message.ip_number.0 message.payload.items)
+segment_in layers (Some (fragment.Refused started error)) = layers_segment layers
+
+-- the segment of a packet, or of the message that it completes, if its IP packet is whole
+abbrev pub whole_segment : Dissection → Option (List ℕ)
+whole_segment packet = if is_whole packet.captured_len packet.wire_len packet.layers
+    then segment_in packet.layers packet.fragment else None
+
+abbrev pub flags_in : List ℕ → SegmentFlags
+flags_in segment = record { syn = tcp.syn_of segment; fin = tcp.fin_of segment; rst = tcp.rst_of segment }
+
+abbrev pub acknowledgment_in : List ℕ → Option ℕ
+acknowledgment_in segment = if tcp.ack_of segment then Some (tcp.acknowledgment_number_of segment) else None
+
+-- as it is followed
+abbrev pub arrival_in : Direction → (segment : List ℕ) → Arrival
+arrival_in way segment = arrival way (tcp.sequence_number_of segment) (acknowledgment_in segment) (flags_in segment)
+    (tcp.payload_of segment)
+
+-- ---- those of a conversation
+
+abbrev pub option_list : {X : Type 0} → Option X → List X
+option_list None = []
+option_list (Some x) = x ∷ []
+
+-- what packets have of something, each at most one, in their order
+abbrev pub picked : {X : Type 0} → (Dissection → Option X) → List Dissection → List X
+picked of [] = []
+picked of (packet ∷ packets) = option_list (of packet) ++ picked of packets
+
+abbrev pub signal_by : Option TcpPacket → Option Signal
+signal_by None = None
+signal_by (Some packet) = Some (packet.way, packet.control)
+
+abbrev pub arrival_by : Option TcpPacket → Dissection → Option Arrival
+arrival_by None packet = None
+arrival_by (Some tcp_packet) packet = option_map (arrival_in tcp_packet.way) (whole_segment packet)
+
+-- a packet with a TCP header is one of a conversation
+abbrev pub is_of : (Conversation → Conversation → Bool) → Conversation → Dissection → Bool
+is_of same conversation packet = is_key same conversation (option_map (λ p. p.conversation) (tcp_packet_of packet))
+
+abbrev pub signals_in : (Conversation → Conversation → Bool) → Conversation → List Dissection → List Signal
+signals_in same conversation packets =
+    picked (λ p. if is_of same conversation p then signal_by (tcp_packet_of p) else None) packets
+
+abbrev pub arrivals_in : (Conversation → Conversation → Bool) → Conversation → List Dissection → List Arrival
+arrivals_in same conversation packets =
+    picked (λ p. if is_of same conversation p then arrival_by (tcp_packet_of p) p else None) packets
+
+-- ---- what is counted
+
+-- the state after these, and what is counted of these segments
+pub record CountsStream (stream : Stream) (signals : List Signal) (arrivals : List Arrival) : Type 0 where
+  pub state : stream.state ≡ state_of signals
+  pub counts : Counts STREAM_WINDOW stream.counter arrivals
+
+-- as long as there are fewer streams than there may be, each conversation has one of which a packet came
+abbrev pub IsStreamOf : (count : ℕ) → Option Stream → List Signal → List Arrival → Type 0
+IsStreamOf count None signals arrivals = count < STREAM_COUNT → (signals ≡ []) × (arrivals ≡ [])
+IsStreamOf count (Some stream) signals arrivals = CountsStream stream signals arrivals
+
+-- the streams of the conversations of these packets
+pub record FollowsStreams {S H : Type 0} (same : Conversation → Conversation → Bool) (streams : Streams S H)
+    (packets : List Dissection) : Type 0 where
+  pub each : (conversation : Conversation) → IsStreamOf (hash_map_len streams.streams)
+      (get same streams.streams conversation) (signals_in same conversation packets)
+      (arrivals_in same conversation packets)
