@@ -1,34 +1,147 @@
 -- What is counted of the streams of conversations, with one packet more.
-use Rattle.std.proofs.Common.{◌≡◌, ◌∙◌, ℕ, ◌+◌, ◌<◌, ◌≤◌, Bool, true, false, cond, List, [], ◌∷◌, ◌++◌, Option, Some, None, refl, ap, arith, subst, sym}
+use Rattle.std.proofs.Common.{◌≡◌, ◌∙◌, ℕ, ◌+◌, ◌-◌, ◌^◌, ◌<◌, ◌≤◌, Bool, true, false, cond, List, [], ◌∷◌, ◌++◌, Option, Some, None, Result, Ok, Err}
+use Rattle.std.proofs.Common.{IsPermutation, OnOk, is_some, min, nat_le, refl, ap, arith, subst, sum_by, sym}
 use Rattle.std.proofs.lemmas.List.{append-nil, append_assoc}
+use Rattle.std.proofs.lemmas.List.Sorted.{sum_by-IsPermutation}
+use Rattle.std.proofs.lemmas.List.Sums.{fold-append, sum_by-cons}
 use Rattle.std.specs.HashMap.{HashMap, get, hash_map_len}
-use Rattle.std.specs.Option.{option_map}
-use Rattle.tcp_streams.specs.ConnectionStates.{Signal}
-use Rattle.tcp_streams.specs.Counting.{Arrival, Counts}
+use Rattle.std.specs.Map.{lookup, set_value}
+use Rattle.tcp_streams.specs.ConnectionStates.{Signal, state_after}
+use Rattle.tcp_streams.specs.Counting.{Arrival, Counts, size_in}
+use Rattle.tcp_streams.specs.declared.connection_state.ConnectionState.{ConnectionState}
+use Rattle.tcp_streams.specs.declared.connection_state.ConnectionState.TheVariants.{Unseen}
+use Rattle.tcp_streams.specs.declared.direction.Direction.{Direction}
 use Rattle.tcp_streams.specs.declared.stream_counter.StreamCounter.{StreamCounter}
-use Rattle.packets.specs.Streams.{CountsStream, IsStreamOf, arrival_by, arrival_in, arrivals_in, is_of, option_list, picked}
-use Rattle.packets.specs.Streams.{signal_by, signals_in, tcp_packet_of, whole_segment}
+use Rattle.packets.specs.Streams.{AreSame, CountsSegment, CountsStream, FollowsStreams, IsFresh, IsStreamOf, StreamTakes}
+use Rattle.packets.specs.Streams.{StreamsTake, TakePacket, arrival_by, arrival_in, arrivals_in, arrivals_of, counter_within}
+use Rattle.packets.specs.Streams.{held_in, is_of, option_list, picked, signal_by, signals_in, stopped, stopped_stream}
+use Rattle.packets.specs.Streams.{stream_size, tcp_packet_of, whole_segment}
 use Rattle.packets.specs.Table.{is_key}
 use Rattle.packets.specs.declared.dissection.Dissection.{Dissection}
 use Rattle.packets.specs.declared.flows.conversation.Conversation.{Conversation}
 use Rattle.packets.specs.declared.flows.stream.Stream.{Stream}
-use Rattle.packets.specs.declared.flows.streams.TheConstants.{STREAM_COUNT}
+use Rattle.packets.specs.declared.flows.stream.TheConstants.{STREAM_WINDOW}
+use Rattle.packets.specs.declared.flows.streams.Streams.{Streams}
+use Rattle.packets.specs.declared.flows.streams.TheConstants.{HELD_SIZE, STREAM_COUNT}
 use Rattle.packets.specs.declared.flows.tcp_packet.TcpPacket.{TcpPacket}
 
--- where no segment is followed
-pub counts_nothing : (kept : ℕ) (counter : StreamCounter) (arrivals : List Arrival) → Counts kept counter arrivals
-    → Counts kept counter (arrivals ++ [])
-counts_nothing kept counter arrivals counted = rw (append-nil arrivals) counted
+-- ---- a counter with a segment more
 
-pub counts_as : (kept : ℕ) (counter : StreamCounter) (arrivals : List Arrival) (a b : Arrival) → a ≡ b
-    → Counts kept counter (arrivals ++ a ∷ []) → Counts kept counter (arrivals ++ b ∷ [])
-counts_as kept counter arrivals a b same counted =
-    subst (λ (x : Arrival). Counts kept counter (arrivals ++ x ∷ [])) same counted
+pub no_segment : (counter : StreamCounter) (way : Direction) (segment : Option (List ℕ)) → segment ≡ None
+    → CountsSegment counter way segment counter
+no_segment counter way segment none = rw none (record {
+  counts = λ kept arrivals counted. rw (append-nil arrivals) counted;
+  followed = refl;
+})
 
-pub counts_by : (kept : ℕ) (counter : StreamCounter) (arrivals : List Arrival) (o p : Option Arrival) → o ≡ p
-    → Counts kept counter (arrivals ++ option_list p) → Counts kept counter (arrivals ++ option_list o)
-counts_by kept counter arrivals o p same counted =
-    subst (λ (x : Option Arrival). Counts kept counter (arrivals ++ option_list x)) (sym same) counted
+pub segment_as : {E : Type 0} (result : Result Unit E) (was now : StreamCounter) (way : Direction) (segment : List ℕ)
+    (a : Arrival) → a ≡ arrival_in way segment
+    → ((kept : ℕ) (arrivals : List Arrival) → Counts kept was arrivals → Counts kept now (arrivals ++ a ∷ []))
+    → OnOk result (is_some now.follower ≡ is_some was.follower)
+    → OnOk result (CountsSegment was way (Some segment) now)
+segment_as (Ok done) was now way segment a same counts followed = record {
+  counts = λ kept arrivals counted. subst (λ (x : Arrival). Counts kept now (arrivals ++ x ∷ [])) same (counts kept arrivals counted);
+  followed = followed;
+}
+segment_as (Err error) was now way segment a same counts followed = tt
+
+pub segment_by : {E : Type 0} (result : Result Unit E) (was now : StreamCounter) (way : Direction) (o p : Option (List ℕ))
+    → o ≡ p → OnOk result (CountsSegment was way p now) → OnOk result (CountsSegment was way o now)
+segment_by result was now way o p same counted = rw same counted
+
+-- ---- a stream with a packet more
+
+stopped_counts : (kept : ℕ) (counter : StreamCounter) (arrivals : List Arrival) → Counts kept counter arrivals
+    → Counts kept (stopped counter) arrivals
+stopped_counts kept counter arrivals counted =
+    let course = counted.3 in (
+      counted.0,
+      counted.1,
+      counted.2,
+      record {
+        outcomes = course.outcomes;
+        up_to = tt;
+        from_lower = course.from_lower;
+        from_higher = course.from_higher;
+      },
+    )
+
+within_counts : (b : Bool) (kept : ℕ) (counter : StreamCounter) (arrivals : List Arrival) → Counts kept counter arrivals
+    → Counts kept (cond b counter (stopped counter)) arrivals
+within_counts true kept counter arrivals counted = counted
+within_counts false kept counter arrivals counted = stopped_counts kept counter arrivals counted
+
+takes_counts : (others : ℕ) (was : Stream) (tcp_packet : TcpPacket) (packet : Dissection) (now : Stream)
+    (signals : List Signal) (arrivals : List Arrival) → StreamTakes others was tcp_packet packet now
+    → CountsStream was signals arrivals
+    → CountsStream now (signals ++ (tcp_packet.way, tcp_packet.control) ∷ [])
+    (arrivals ++ arrivals_of tcp_packet.way (whole_segment packet))
+takes_counts others was tcp_packet packet now signals arrivals takes counted = record {
+  state = takes.state ∙ ap (λ (s : ConnectionState). state_after s tcp_packet.way tcp_packet.control) counted.state
+      ∙ sym (fold-append (λ (s : ConnectionState) (signal : Signal). state_after s signal.0 signal.1) Unseen signals
+      ((tcp_packet.way, tcp_packet.control) ∷ []));
+  counts = rw takes.within (within_counts (nat_le (others + size_in takes.reached.follower) HELD_SIZE) STREAM_WINDOW
+      takes.reached _ (takes.counts.counts STREAM_WINDOW arrivals counted.counts));
+}
+
+stopped_stream_counts : (stream : Stream) (signals : List Signal) (arrivals : List Arrival)
+    → CountsStream stream signals arrivals → CountsStream (stopped_stream stream) signals arrivals
+stopped_stream_counts stream signals arrivals counted = record {
+  state = counted.state;
+  counts = stopped_counts STREAM_WINDOW stream.counter arrivals counted.counts;
+}
+
+-- ---- how much is held
+
+within_bounded : (others : ℕ) (counter : StreamCounter) (b : Bool)
+    → nat_le (others + size_in counter.follower) HELD_SIZE ≡ b → others ≤ HELD_SIZE
+    → others + size_in (cond b counter (stopped counter)).follower ≤ HELD_SIZE
+within_bounded others counter true is few = omega (arith, is)
+within_bounded others counter false is few = omega (arith, few)
+
+takes_bounded : (others : ℕ) (was : Stream) (tcp_packet : TcpPacket) (packet : Dissection) (now : Stream)
+    → StreamTakes others was tcp_packet packet now → others ≤ HELD_SIZE → others + stream_size now ≤ HELD_SIZE
+takes_bounded others was tcp_packet packet now takes few =
+    rw takes.within (within_bounded others takes.reached _ refl few)
+
+held_within : (others : ℕ) (counter : StreamCounter) (b : Bool)
+    → nat_le (others + size_in counter.follower) HELD_SIZE ≡ b → others < 2 ^ 64
+    → min (others + size_in (cond b counter (stopped counter)).follower) (2 ^ 64 - 1)
+    ≡ others + size_in (cond b counter (stopped counter)).follower
+held_within others counter true is few = omega (arith, is)
+held_within others counter false is few = omega (arith, few)
+
+pub taken_held : (others : ℕ) (was : Stream) (tcp_packet : TcpPacket) (packet : Dissection) (now : Stream)
+    → StreamTakes others was tcp_packet packet now → others < 2 ^ 64
+    → min (others + stream_size now) (2 ^ 64 - 1) ≡ others + stream_size now
+taken_held others was tcp_packet packet now takes few =
+    rw takes.within (held_within others takes.reached _ refl few)
+
+-- where a value changes, what is held of the others stays
+held_beside : {K : Type 0} (test : K → Bool) (es : List (K × Stream)) (was : Stream) → lookup test es ≡ Some was
+    → (others : ℕ) × (sum_by (λ (e : K × Stream). stream_size e.1) es ≡ others + stream_size was)
+    × ((now : Stream) → sum_by (λ (e : K × Stream). stream_size e.1) (set_value test es now) ≡ others + stream_size now)
+held_beside test [] was there = cc
+held_beside {K} test (e ∷ es) was there =
+    elim (test e.0) as (λ b. test e.0 ≡ b → cond b (Some e.1) (lookup test es) ≡ Some was
+    → (others : ℕ) × (sum_by (λ (e : K × Stream). stream_size e.1) (e ∷ es) ≡ others + stream_size was)
+    × ((now : Stream) → sum_by (λ (e : K × Stream). stream_size e.1) (cond b ((e.0, now) ∷ es) (e ∷ set_value test es now))
+    ≡ others + stream_size now)) [
+      | true ↦ λ passes there. (
+          sum_by (λ (e : K × Stream). stream_size e.1) es,
+          (let same : e.1 ≡ was = cc in
+          omega (arith, sum_by-cons (λ (e : K × Stream). stream_size e.1) e es, ap stream_size same)),
+          (λ now. omega (arith, sum_by-cons (λ (e : K × Stream). stream_size e.1) (e.0, now) es)),
+        )
+      | false ↦ λ passes there.
+          let rest = held_beside test es was there in (
+            stream_size e.1 + rest.0,
+            omega (arith, rest.1, sum_by-cons (λ (e : K × Stream). stream_size e.1) e es),
+            (λ now. omega (arith, rest.2 now, sum_by-cons (λ (e : K × Stream). stream_size e.1) e (set_value test es now))),
+          )
+    ] refl there
+
+-- ---- the streams of conversations
 
 picked-push : {X : Type 0} (of : Dissection → Option X) (packets : List Dissection) (packet : Dissection)
     → picked of (packets ++ packet ∷ []) ≡ picked of packets ++ option_list (of packet)
@@ -63,7 +176,7 @@ by_stream : (n : ℕ) (o p : Option Stream) (signals signals' : List Signal) (ar
     → signals ≡ signals' → arrivals ≡ arrivals' → IsStreamOf n p signals' arrivals' → IsStreamOf n o signals arrivals
 by_stream n o p signals signals' arrivals arrivals' a b c is = rw (a, b, c) is
 
-pub stream_moved : (n n' : ℕ) (o p : Option Stream) (signals : List Signal) (arrivals : List Arrival) → n' ≡ n → p ≡ o
+stream_moved : (n n' : ℕ) (o p : Option Stream) (signals : List Signal) (arrivals : List Arrival) → n' ≡ n → p ≡ o
     → IsStreamOf n o signals arrivals → IsStreamOf n' p signals arrivals
 stream_moved n n' o p signals arrivals a b is = rw (a, b) is
 
@@ -76,6 +189,18 @@ longer : (n n' : ℕ) (o : Option Stream) (signals : List Signal) (arrivals : Li
     → IsStreamOf n o signals arrivals → IsStreamOf n' o signals arrivals
 longer n n' None signals arrivals more is = λ few. is (omega arith)
 longer n n' (Some stream) signals arrivals more is = is
+
+module _ {S H : Type 0} (same : Conversation → Conversation → Bool) where
+  -- the same streams, whose entries may stand in another order
+  pub follows_same : (was now : Streams S H) (packets : List Dissection) → AreSame same was now
+      → IsPermutation was.streams.entries now.streams.entries → FollowsStreams same was packets
+      → FollowsStreams same now packets
+  follows_same was now packets are order follows = record {
+    each = λ q. stream_moved _ _ _ _ _ _ are.len (are.streams q) (follows.each q);
+    held = are.held ∙ follows.held
+        ∙ sum_by-IsPermutation (λ (e : Conversation × Stream). stream_size e.1) _ _ order;
+    bounded = rw are.held follows.bounded;
+  }
 
 module _ (same : Conversation → Conversation → Bool) (packets : List Dissection) (packet : Dissection) where
   -- a packet of no conversation over TCP
@@ -103,7 +228,7 @@ module _ (same : Conversation → Conversation → Bool) (packets : List Dissect
 
     arrivals_more : (q : Conversation) → same tcp_packet.conversation q ≡ true
         → arrivals_in same q (packets ++ packet ∷ []) ≡ arrivals_in same q packets
-        ++ option_list (option_map (arrival_in tcp_packet.way) (whole_segment packet))
+        ++ arrivals_of tcp_packet.way (whole_segment packet)
     arrivals_more q passes = push_chosen (is_of same q) (λ p. arrival_by (tcp_packet_of p) p) packets packet
         (option_map (arrival_in tcp_packet.way) (whole_segment packet)) (its_own q ∙ passes)
         (ap (λ (o : Option TcpPacket). arrival_by o packet) is)
@@ -116,34 +241,37 @@ module _ (same : Conversation → Conversation → Bool) (packets : List Dissect
         (push_not_chosen (is_of same q) (λ p. signal_by (tcp_packet_of p)) packets packet (its_own q ∙ other))
         (push_not_chosen (is_of same q) (λ p. arrival_by (tcp_packet_of p) p) packets packet (its_own q ∙ other)) was
 
-    -- the stream of its conversation takes it
-    pub streams_taken : (n n' : ℕ) (old new : Conversation → Option Stream) (stream : Stream) → n ≤ n'
+    -- what its stream counts with the packet
+    with_packet : (others_held : ℕ) (was now : Stream) → StreamTakes others_held was tcp_packet packet now
+        → CountsStream was (signals_in same tcp_packet.conversation packets)
+        (arrivals_in same tcp_packet.conversation packets) → (q : Conversation) → same tcp_packet.conversation q ≡ true
+        → CountsStream now (signals_in same q (packets ++ packet ∷ [])) (arrivals_in same q (packets ++ packet ∷ []))
+    with_packet others_held was now takes counted q passes =
+        let counted = subst (λ (c : Conversation). CountsStream was (signals_in same c packets) (arrivals_in same c packets))
+        (exact tcp_packet.conversation q passes) counted in
+        rw (signals_more q passes, arrivals_more q passes) (takes_counts others_held was tcp_packet packet now _ _ takes counted)
+
+    -- the stream of its conversation becomes this one, of these packets, and those of others stay
+    put : (n n' : ℕ) (old new : Conversation → Option Stream) (stream : Stream) (all : List Dissection) → n ≤ n'
         → ((q : Conversation) → new q ≡ cond (same tcp_packet.conversation q) (Some stream) (old q))
-        → CountsStream stream
-        (signals_in same tcp_packet.conversation packets ++ (tcp_packet.way, tcp_packet.control) ∷ [])
-        (arrivals_in same tcp_packet.conversation packets
-        ++ option_list (option_map (arrival_in tcp_packet.way) (whole_segment packet)))
-        → ((q : Conversation) → IsStreamOf n (old q) (signals_in same q packets) (arrivals_in same q packets))
-        → (q : Conversation) → IsStreamOf n' (new q) (signals_in same q (packets ++ packet ∷ []))
-        (arrivals_in same q (packets ++ packet ∷ []))
-    streams_taken n n' old new stream more written counted was q =
+        → ((q : Conversation) → same tcp_packet.conversation q ≡ true
+        → CountsStream stream (signals_in same q all) (arrivals_in same q all))
+        → ((q : Conversation) → same tcp_packet.conversation q ≡ false
+        → IsStreamOf n (old q) (signals_in same q all) (arrivals_in same q all))
+        → (q : Conversation) → IsStreamOf n' (new q) (signals_in same q all) (arrivals_in same q all)
+    put n n' old new stream all more written counted beside q =
         elim (same tcp_packet.conversation q) as (λ b. same tcp_packet.conversation q ≡ b
-        → IsStreamOf n' (new q) (signals_in same q (packets ++ packet ∷ [])) (arrivals_in same q (packets ++ packet ∷ []))) [
+        → IsStreamOf n' (new q) (signals_in same q all) (arrivals_in same q all)) [
           | true ↦ λ passes.
-              let key = exact tcp_packet.conversation q passes in
-              let here : new q ≡ Some stream = written q ∙ ap (λ (b : Bool). cond b (Some stream) (old q)) passes in
-              let counted = subst (λ (c : Conversation). CountsStream stream
-              (signals_in same c packets ++ (tcp_packet.way, tcp_packet.control) ∷ [])
-              (arrivals_in same c packets ++ option_list (option_map (arrival_in tcp_packet.way) (whole_segment packet)))) key counted in
-              by_stream n' (new q) (Some stream) _ _ _ _ here (signals_more q passes) (arrivals_more q passes) counted
+              by_stream n' (new q) (Some stream) _ _ _ _
+              (written q ∙ ap (λ (b : Bool). cond b (Some stream) (old q)) passes) refl refl (counted q passes)
           | false ↦ λ other.
-              let here : new q ≡ old q = written q ∙ ap (λ (b : Bool). cond b (Some stream) (old q)) other in
-              by_stream n' (new q) (old q) _ _ _ _ here refl refl
-              (others n' (old q) q other (longer n n' (old q) _ _ more (was q)))
+              by_stream n' (new q) (old q) _ _ _ _ (written q ∙ ap (λ (b : Bool). cond b (Some stream) (old q)) other) refl refl
+              (longer n n' (old q) _ _ more (beside q other))
         ] refl
 
     -- there are as many streams as may be, and its conversation has none
-    pub streams_full : (n : ℕ) (streams : Conversation → Option Stream) → STREAM_COUNT ≤ n
+    streams_full : (n : ℕ) (streams : Conversation → Option Stream) → STREAM_COUNT ≤ n
         → streams tcp_packet.conversation ≡ None
         → ((q : Conversation) → IsStreamOf n (streams q) (signals_in same q packets) (arrivals_in same q packets))
         → (q : Conversation) → IsStreamOf n (streams q) (signals_in same q (packets ++ packet ∷ []))
@@ -158,7 +286,7 @@ module _ (same : Conversation → Conversation → Bool) (packets : List Dissect
           | false ↦ λ other. others n (streams q) q other (was q)
         ] refl
 
-    -- what its stream shows
+    -- what its stream counts
     stream_there : (n : ℕ) (o : Option Stream) (stream : Stream) → o ≡ Some stream
         → IsStreamOf n o (signals_in same tcp_packet.conversation packets) (arrivals_in same tcp_packet.conversation packets)
         → CountsStream stream (signals_in same tcp_packet.conversation packets)
@@ -173,50 +301,99 @@ module _ (same : Conversation → Conversation → Bool) (packets : List Dissect
     stream_new n o stream none few was counted =
         let empty = (rw none at was) few in rw (empty.0, empty.1) counted
 
-    -- a stream with the packet
-    abbrev pub Takes : (was now : Stream) → Type 0
-    Takes was now = (signals : List Signal) (arrivals : List Arrival) → CountsStream was signals arrivals
-        → CountsStream now (signals ++ (tcp_packet.way, tcp_packet.control) ∷ [])
-        (arrivals ++ option_list (option_map (arrival_in tcp_packet.way) (whole_segment packet)))
+    module _ {S H : Type 0} where
+      -- what is held where a stream changes
+      beside_stream : (old : Streams S H) (was : Stream) → FollowsStreams same old packets
+          → get same old.streams tcp_packet.conversation ≡ Some was
+          → (others_held : ℕ) × (others_held ≡ old.held - stream_size was) × (others_held ≤ HELD_SIZE)
+          × ((now : Stream) → sum_by (λ (e : Conversation × Stream). stream_size e.1)
+          (set_value (same tcp_packet.conversation) old.streams.entries now) ≡ others_held + stream_size now)
+      beside_stream old was follows there =
+          let held = held_beside (same tcp_packet.conversation) old.streams.entries was there in (
+            held.0,
+            omega (arith, held.1, follows.held),
+            omega (arith, held.1, follows.held, follows.bounded),
+            held.2,
+          )
 
-    module _ {S : Type 0} where
-      abbrev pub AreStreams : HashMap Conversation Stream S → List Dissection → Type 0
-      AreStreams streams all = (q : Conversation)
-          → IsStreamOf (hash_map_len streams) (get same streams q) (signals_in same q all) (arrivals_in same q all)
+      -- its stream takes it
+      pub follows_taken : (old new : Streams S H) (was : Stream)
+          → get same old.streams tcp_packet.conversation ≡ Some was
+          → (stream : Stream) → StreamTakes (old.held - stream_size was) was tcp_packet packet stream
+          → new.held ≡ (old.held - stream_size was) + stream_size stream
+          → hash_map_len new.streams ≡ hash_map_len old.streams
+          → new.streams.entries ≡ set_value (same tcp_packet.conversation) old.streams.entries stream
+          → ((q : Conversation) → get same new.streams q
+          ≡ cond (same tcp_packet.conversation q) (Some stream) (get same old.streams q))
+          → FollowsStreams same old packets → FollowsStreams same new (packets ++ packet ∷ [])
+      follows_taken old new was there stream takes held size entries written follows =
+          let beside = beside_stream old was follows there in
+          let few : old.held - stream_size was ≤ HELD_SIZE = omega (arith, beside.1, beside.2) in
+          let within = takes_bounded (old.held - stream_size was) was tcp_packet packet stream takes few in
+          record {
+            each = put (hash_map_len old.streams) (hash_map_len new.streams) (get same old.streams) (get same new.streams)
+                stream (packets ++ packet ∷ []) (omega (arith, size)) written
+                (with_packet (old.held - stream_size was) was stream takes
+                (stream_there (hash_map_len old.streams) (get same old.streams tcp_packet.conversation) was there
+                (follows.each tcp_packet.conversation)))
+                (λ q other. others (hash_map_len old.streams) (get same old.streams q) q other (follows.each q));
+            held = held ∙ omega (arith, beside.1, beside.3 stream)
+                ∙ ap (λ (es : List (Conversation × Stream)). sum_by (λ (e : Conversation × Stream). stream_size e.1) es) (sym entries);
+            bounded = omega (arith, held, within);
+          }
 
-      pub map_taken : (old new : HashMap Conversation Stream S) (was stream : Stream)
-          → get same old tcp_packet.conversation ≡ Some was → hash_map_len new ≡ hash_map_len old
-          → ((q : Conversation) → get same new q ≡ cond (same tcp_packet.conversation q) (Some stream) (get same old q))
-          → Takes was stream → AreStreams old packets → AreStreams new (packets ++ packet ∷ [])
-      map_taken old new was stream there size written takes are =
-          let counted = takes _ _ (stream_there (hash_map_len old) (get same old tcp_packet.conversation) was there
-          (are tcp_packet.conversation)) in
-          streams_taken (hash_map_len old) (hash_map_len new) (get same old) (get same new) stream (omega (arith, size))
-          written counted are
+      -- there is no memory for what its stream would hold
+      pub follows_stopped : (old new : Streams S H) (was : Stream)
+          → get same old.streams tcp_packet.conversation ≡ Some was
+          → new.held ≡ old.held - stream_size was
+          → hash_map_len new.streams ≡ hash_map_len old.streams
+          → new.streams.entries ≡ set_value (same tcp_packet.conversation) old.streams.entries (stopped_stream was)
+          → ((q : Conversation) → get same new.streams q
+          ≡ cond (same tcp_packet.conversation q) (Some (stopped_stream was)) (get same old.streams q))
+          → FollowsStreams same old packets → FollowsStreams same new packets
+      follows_stopped old new was there held size entries written follows =
+          let beside = beside_stream old was follows there in
+          let counted = stopped_stream_counts was _ _ (stream_there (hash_map_len old.streams)
+          (get same old.streams tcp_packet.conversation) was there (follows.each tcp_packet.conversation)) in
+          record {
+            each = put (hash_map_len old.streams) (hash_map_len new.streams) (get same old.streams) (get same new.streams)
+                (stopped_stream was) packets (omega (arith, size)) written
+                (λ q passes. subst (λ (c : Conversation). CountsStream (stopped_stream was) (signals_in same c packets)
+                (arrivals_in same c packets)) (exact tcp_packet.conversation q passes) counted)
+                (λ q other. follows.each q);
+            held = held ∙ omega (arith, beside.1, beside.3 (stopped_stream was))
+                ∙ ap (λ (es : List (Conversation × Stream)). sum_by (λ (e : Conversation × Stream). stream_size e.1) es) (sym entries);
+            bounded = omega (arith, held, beside.1, beside.2);
+          }
 
-      moved : (first old : HashMap Conversation Stream S) → old ≡ first → AreStreams first packets → AreStreams old packets
-      moved first old is_first are =
-          subst (λ (m : HashMap Conversation Stream S). AreStreams m packets) (sym is_first) are
+      -- its stream is new
+      pub follows_started : (old new : Streams S H) (fresh stream : Stream) (b : Bool)
+          → get same old.streams tcp_packet.conversation ≡ None → hash_map_len old.streams < STREAM_COUNT → IsFresh fresh
+          → StreamTakes old.held fresh tcp_packet packet stream → new.held ≡ old.held + stream_size stream
+          → hash_map_len new.streams ≡ hash_map_len old.streams + cond b 0 1
+          → IsPermutation ((tcp_packet.conversation, stream) ∷ old.streams.entries) new.streams.entries
+          → ((q : Conversation) → get same new.streams q
+          ≡ cond (same tcp_packet.conversation q) (Some stream) (get same old.streams q))
+          → FollowsStreams same old packets → FollowsStreams same new (packets ++ packet ∷ [])
+      follows_started old new fresh stream b none few is_fresh takes held size order written follows = record {
+        each = put (hash_map_len old.streams) (hash_map_len new.streams) (get same old.streams) (get same new.streams)
+            stream (packets ++ packet ∷ []) (one_more b (hash_map_len old.streams) (hash_map_len new.streams) size) written
+            (with_packet old.held fresh stream takes
+            (stream_new (hash_map_len old.streams) (get same old.streams tcp_packet.conversation) fresh none few
+            (follows.each tcp_packet.conversation) is_fresh.counts))
+            (λ q other. others (hash_map_len old.streams) (get same old.streams q) q other (follows.each q));
+        held = omega (arith, held, follows.held,
+            sum_by-cons (λ (e : Conversation × Stream). stream_size e.1) (tcp_packet.conversation, stream) old.streams.entries,
+            sum_by-IsPermutation (λ (e : Conversation × Stream). stream_size e.1) _ _ order);
+        bounded = omega (arith, held, takes_bounded old.held fresh tcp_packet packet stream takes follows.bounded);
+      }
 
-      pub map_started : (first old new : HashMap Conversation Stream S) (fresh stream : Stream) (count : ℕ) (b : Bool)
-          → old ≡ first → get same first tcp_packet.conversation ≡ None → count ≡ hash_map_len old → count < STREAM_COUNT
-          → hash_map_len new ≡ hash_map_len old + cond b 0 1
-          → ((q : Conversation) → get same new q ≡ cond (same tcp_packet.conversation q) (Some stream) (get same old q))
-          → CountsStream fresh [] [] → Takes fresh stream → AreStreams first packets
-          → AreStreams new (packets ++ packet ∷ [])
-      map_started first old new fresh stream count b is_first none count_is few size written nothing takes were =
-          let are = moved first old is_first were in
-          let none = subst (λ (m : HashMap Conversation Stream S). get same m tcp_packet.conversation ≡ None)
-          (sym is_first) none in
-          let counted = takes _ _ (stream_new (hash_map_len old) (get same old tcp_packet.conversation) fresh none
-          (omega (arith, count_is, few)) (are tcp_packet.conversation) nothing) in
-          streams_taken (hash_map_len old) (hash_map_len new) (get same old) (get same new) stream
-          (one_more b (hash_map_len old) (hash_map_len new) size) written counted are
-
-      pub map_full : (first old : HashMap Conversation Stream S) (count : ℕ) → old ≡ first
-          → get same first tcp_packet.conversation ≡ None → count ≡ hash_map_len old → STREAM_COUNT ≤ count
-          → AreStreams first packets → AreStreams old (packets ++ packet ∷ [])
-      map_full first old count is_first none count_is full were =
-          let none = subst (λ (m : HashMap Conversation Stream S). get same m tcp_packet.conversation ≡ None)
-          (sym is_first) none in
-          streams_full (hash_map_len old) (get same old) (omega (arith, count_is, full)) none (moved first old is_first were)
+      -- there are as many streams as may be
+      pub follows_full : (old new : Streams S H) → get same old.streams tcp_packet.conversation ≡ None
+          → STREAM_COUNT ≤ hash_map_len old.streams → new ≡ old → FollowsStreams same old packets
+          → FollowsStreams same new (packets ++ packet ∷ [])
+      follows_full old new none full is_old follows = rw is_old (record {
+        each = streams_full (hash_map_len old.streams) (get same old.streams) full none follows.each;
+        held = follows.held;
+        bounded = follows.bounded;
+      })

@@ -1,7 +1,7 @@
 -- What is counted of the bytes that go over the connections of TCP conversations.
-use Rattle.std.specs.Prelude.{◌≡◌, ℕ, ◌<◌, ◌==◌, ◌&&◌, if◌then◌else◌, Bool, true, false, Option, Some, None, Result, Ok, Err}
-use Rattle.std.specs.Prelude.{List, [], ◌∷◌, ◌++◌}
-use Rattle.std.specs.HashMap.{get, hash_map_len}
+use Rattle.std.specs.Prelude.{◌≡◌, ℕ, ◌<◌, ◌≤◌, ◌+◌, ◌-◌, ◌==◌, ◌&&◌, if◌then◌else◌, nat_le, Bool, true, false, Option, Some, None, Result, Ok, Err}
+use Rattle.std.specs.Prelude.{List, [], ◌∷◌, ◌++◌, is_some, sum_by}
+use Rattle.std.specs.HashMap.{HashMap, get, hash_map_len}
 use Rattle.std.specs.Option.{option_map}
 use Rattle.ep_packet.specs.Readable.{ReadMessage, message_at}
 use Rattle.ep_packet.specs.Readable.ReadMessage.{Icmpv4, Icmpv6, Raw, Tcp, Udp}
@@ -10,12 +10,13 @@ use Rattle.ep_packet.specs.declared.sliced_packet.SlicedPacket.{SlicedPacket}
 use Rattle.ep_packet.specs.declared.transport.transport_slice.TransportSlice.{TransportSlice}
 use Rattle.ep_packet.specs.declared.transport.transport_slice.TransportSlice.TheVariants as transport
 use Rattle.ep_tcpudp.specs.Tcp as tcp
-use Rattle.tcp_streams.specs.ConnectionStates.{Signal, control_in, state_of}
-use Rattle.tcp_streams.specs.Counting.{Arrival, Counts, arrival}
+use Rattle.tcp_streams.specs.ConnectionStates.{Signal, control_in, state_after, state_of}
+use Rattle.tcp_streams.specs.Counting.{Arrival, Counts, arrival, size_in}
 use Rattle.tcp_streams.specs.declared.connection_state.Control.{Control}
 use Rattle.tcp_streams.specs.declared.direction.Direction.{Direction}
 use Rattle.tcp_streams.specs.declared.direction.Direction.TheVariants.{FromLower, FromHigher}
 use Rattle.tcp_streams.specs.declared.segment_flags.SegmentFlags.{SegmentFlags}
+use Rattle.tcp_streams.specs.declared.stream_counter.StreamCounter.{StreamCounter}
 use Rattle.packets.specs.Followed.{is_whole}
 use Rattle.packets.specs.LaxLayers.{lax_layers_of}
 use Rattle.packets.specs.MessageHeaders.{message_header}
@@ -28,7 +29,7 @@ use Rattle.packets.specs.declared.flows.conversation.Conversation.{Conversation}
 use Rattle.packets.specs.declared.flows.stream.Stream.{Stream}
 use Rattle.packets.specs.declared.flows.stream.TheConstants.{STREAM_WINDOW}
 use Rattle.packets.specs.declared.flows.streams.Streams.{Streams}
-use Rattle.packets.specs.declared.flows.streams.TheConstants.{STREAM_COUNT}
+use Rattle.packets.specs.declared.flows.streams.TheConstants.{HELD_SIZE, STREAM_COUNT}
 use Rattle.packets.specs.declared.flows.tcp_packet.TcpPacket.{TcpPacket}
 use Rattle.packets.specs.declared.flows.transfer.Transfer.{Transfer}
 use Rattle.packets.specs.declared.message_header.MessageHeader.{MessageHeader}
@@ -138,14 +139,99 @@ pub record CountsStream (stream : Stream) (signals : List Signal) (arrivals : Li
   pub state : stream.state ≡ state_of signals
   pub counts : Counts STREAM_WINDOW stream.counter arrivals
 
+-- of no packet, and followed
+pub record IsFresh (stream : Stream) : Type 0 where
+  pub counts : CountsStream stream [] []
+  pub followed : is_some stream.counter.follower ≡ true
+
+-- ---- a stream with a packet more
+
+abbrev pub arrivals_of : Direction → (segment : Option (List ℕ)) → List Arrival
+arrivals_of way segment = option_list (option_map (arrival_in way) segment)
+
+-- a counter counts this segment after others, if there is one; whether it follows them stays
+pub record CountsSegment (was : StreamCounter) (way : Direction) (segment : Option (List ℕ)) (now : StreamCounter)
+    : Type 0 where
+  pub counts : (kept : ℕ) (arrivals : List Arrival) → Counts kept was arrivals
+      → Counts kept now (arrivals ++ arrivals_of way segment)
+  pub followed : is_some now.follower ≡ is_some was.follower
+
+abbrev pub stopped : StreamCounter → StreamCounter
+stopped counter = record counter { follower = None }
+
+abbrev pub stopped_stream : Stream → Stream
+stopped_stream stream = record stream { counter = stopped stream.counter }
+
+-- a counter is stopped where more would be held than may be, with what is held of other streams
+abbrev pub counter_within : (others : ℕ) → StreamCounter → StreamCounter
+counter_within others counter =
+    if nat_le (others + size_in counter.follower) HELD_SIZE then counter else stopped counter
+
+-- a stream takes a packet while so much is held of others
+pub record StreamTakes (others : ℕ) (was : Stream) (tcp_packet : TcpPacket) (packet : Dissection) (now : Stream)
+    : Type 0 where
+  pub state : now.state ≡ state_after was.state tcp_packet.way tcp_packet.control
+  pub reached : StreamCounter
+  pub counts : CountsSegment was.counter tcp_packet.way (whole_segment packet) reached
+  pub within : now.counter ≡ counter_within others reached
+
+-- how much is held of a stream
+abbrev pub stream_size : Stream → ℕ
+stream_size stream = size_in stream.counter.follower
+
+-- how much is held of all
+abbrev pub held_in : {S : Type 0} → HashMap Conversation Stream S → ℕ
+held_in streams = sum_by (λ e. stream_size e.1) streams.entries
+
+module _ {S H : Type 0} (same : Conversation → Conversation → Bool) where
+  -- the stream of the packet's conversation takes it: it was this one, beside which so much was held
+  pub record StreamsTake (was : Streams S H) (packet : Dissection) (now : Streams S H) (tcp_packet : TcpPacket)
+      (stream : Stream) (others : ℕ) : Type 0 where
+    pub stream_now : Stream
+    pub takes : StreamTakes others stream tcp_packet packet stream_now
+    pub held : now.held ≡ others + stream_size stream_now
+    pub written : (conversation : Conversation) → get same now.streams conversation
+        ≡ (if same tcp_packet.conversation conversation then Some stream_now else get same was.streams conversation)
+
+  -- nothing changes
+  pub record AreSame (was now : Streams S H) : Type 0 where
+    pub held : now.held ≡ was.held
+    pub len : hash_map_len now.streams ≡ hash_map_len was.streams
+    pub streams : (conversation : Conversation) → get same now.streams conversation ≡ get same was.streams conversation
+
+  -- a conversation begins with a stream of no packet, if there are fewer streams than there may be
+  abbrev pub TakeFirst : (was : Streams S H) (packet : Dissection) (now : Streams S H) → TcpPacket → Type 0
+  TakeFirst was packet now tcp_packet =
+      (hash_map_len was.streams < STREAM_COUNT → (stream : Stream) × IsFresh stream
+          × StreamsTake was packet now tcp_packet stream was.held)
+      × (STREAM_COUNT ≤ hash_map_len was.streams → AreSame was now)
+
+  abbrev pub TakeIn : (was : Streams S H) (packet : Dissection) (now : Streams S H) → TcpPacket → Option Stream → Type 0
+  TakeIn was packet now tcp_packet None = TakeFirst was packet now tcp_packet
+  TakeIn was packet now tcp_packet (Some stream) =
+      StreamsTake was packet now tcp_packet stream (was.held - stream_size stream)
+
+  abbrev pub TakeBy : (was : Streams S H) (packet : Dissection) (now : Streams S H) → Option TcpPacket → Type 0
+  TakeBy was packet now None = AreSame was now
+  TakeBy was packet now (Some tcp_packet) =
+      TakeIn was packet now tcp_packet (get same was.streams tcp_packet.conversation)
+
+  -- streams after a packet
+  abbrev pub TakePacket : (was : Streams S H) (packet : Dissection) (now : Streams S H) → Type 0
+  TakePacket was packet now = TakeBy was packet now (tcp_packet_of packet)
+
+-- ---- what they show of packets
+
 -- as long as there are fewer streams than there may be, each conversation has one of which a packet came
 abbrev pub IsStreamOf : (count : ℕ) → Option Stream → List Signal → List Arrival → Type 0
 IsStreamOf count None signals arrivals = count < STREAM_COUNT → (signals ≡ []) × (arrivals ≡ [])
 IsStreamOf count (Some stream) signals arrivals = CountsStream stream signals arrivals
 
--- the streams of the conversations of these packets
+-- the streams of the conversations of these packets, and how much is held of all
 pub record FollowsStreams {S H : Type 0} (same : Conversation → Conversation → Bool) (streams : Streams S H)
     (packets : List Dissection) : Type 0 where
   pub each : (conversation : Conversation) → IsStreamOf (hash_map_len streams.streams)
       (get same streams.streams conversation) (signals_in same conversation packets)
       (arrivals_in same conversation packets)
+  pub held : streams.held ≡ held_in streams.streams
+  pub bounded : streams.held ≤ HELD_SIZE

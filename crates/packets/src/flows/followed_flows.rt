@@ -24,7 +24,7 @@ pub struct FollowedFlows<S: BuildHasher> {
 
 impl<S: BuildHasher> FollowedFlows<S> {
     ghost use Rattle.packets.specs.Flows.{CountsFlows};
-    ghost use Rattle.packets.specs.Streams.{FollowsStreams};
+    ghost use Rattle.packets.specs.Streams.{FollowsStreams, TakePacket};
     ghost use Rattle.packets.specs.Transfers.{transfer_of};
 
     /// No packet. Conversations and streams are hashed by a state each. It takes no memory.
@@ -38,16 +38,19 @@ impl<S: BuildHasher> FollowedFlows<S> {
         }
     }
 
-    /// Takes one packet more. Where there is no memory for its conversation, nothing changes.
+    /// Takes one packet more. Where there is no memory for its conversation or for what its stream would
+    /// hold, it isn't counted; in the second case the stream isn't followed any more.
     pub fn add(&mut self, dissection: &Dissection<'_>) -> Result<(), AllocError>
-        ensures ok { OnOk result (((packets : List Transfer)
+        ensures flows { OnOk result ((packets : List Transfer)
             → CountsFlows ⟦<Conversation as PartialEq>⟧.eq self.old.flows packets
             → CountsFlows ⟦<Conversation as PartialEq>⟧.eq self.new.flows
-            (packets ++ transfer_of dissection.now ∷ []))
-            × ((packets : List Dissection)
+            (packets ++ transfer_of dissection.now ∷ [])) }
+        ensures streams { OnOk result ((packets : List Dissection)
             → FollowsStreams ⟦<Conversation as PartialEq>⟧.eq self.old.streams packets
             → FollowsStreams ⟦<Conversation as PartialEq>⟧.eq self.new.streams
-            (packets ++ dissection.now ∷ []))) }
+            (packets ++ dissection.now ∷ [])) }
+        ensures takes { OnOk result (TakePacket ⟦<Conversation as PartialEq>⟧.eq self.old.streams dissection.now
+            self.new.streams) }
         ensures err { OnErr result (((packets : List Transfer)
             → CountsFlows ⟦<Conversation as PartialEq>⟧.eq self.old.flows packets
             → CountsFlows ⟦<Conversation as PartialEq>⟧.eq self.new.flows packets)
@@ -59,8 +62,9 @@ impl<S: BuildHasher> FollowedFlows<S> {
         let transfer = transfer_with(Outline::of(dissection), header);
         self.flows.reserve()?;
         self.streams.reserve()?;
+        self.streams
+            .add(dissection, tcp_packet(&transfer, header))?;
         self.flows.count(&transfer);
-        self.streams.add(dissection, tcp_packet(&transfer, header));
         Ok(())
     }
 }

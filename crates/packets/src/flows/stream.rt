@@ -1,12 +1,12 @@
 //! What is counted of the bytes that go over the connections of a conversation.
-ghost use Rattle.std.specs.Prelude.{◌≡◌, ◌++◌, ◌∷◌, ℕ, [], List, Some};
-ghost use Rattle.std.specs.Option.{option_map};
+ghost use Rattle.std.specs.Prelude.{◌≡◌, OnErr, OnOk, Some};
 ghost use Rattle.ep_packet.specs.Readable.{message_at};
-ghost use Rattle.tcp_streams.specs.ConnectionStates.{Signal};
-ghost use Rattle.tcp_streams.specs.Counting.{Arrival, Counts};
-ghost use Rattle.packets.specs.Streams.{CountsStream, acknowledgment_in, arrival_in, completed_segment, flags_in};
-ghost use Rattle.packets.specs.Streams.{layers_segment, option_list, segment_in, transport_segment, whole_segment};
+ghost use Rattle.packets.specs.Streams.{CountsSegment, IsFresh, StreamTakes, acknowledgment_in, completed_segment};
+ghost use Rattle.packets.specs.Streams.{counter_within};
+ghost use Rattle.packets.specs.Streams.{flags_in, layers_segment, segment_in, stopped, stopped_stream, stream_size};
+ghost use Rattle.packets.specs.Streams.{transport_segment, whole_segment};
 
+use crate::flows::streams::HELD_SIZE;
 use crate::flows::tcp_packet::TcpPacket;
 use crate::follow::following::is_whole;
 use crate::{Dissection, Fragment};
@@ -14,7 +14,7 @@ use ep_packet::err::packet::SliceError;
 use ep_packet::{Message, SlicedPacket, TransportSlice, read_message};
 use ep_tcpudp::TcpSlice;
 use etherparse::defrag::IpDefragPayloadVec;
-use std::alloc::Global;
+use std::alloc::{AllocError, Global};
 use tcp_streams::{ConnectionState, Direction, SegmentFlags, StreamCounter, StreamCounts};
 
 /// How many bytes of each direction of a stream are kept, and how many are taken after them.
@@ -30,7 +30,7 @@ pub struct Stream {
 impl Stream {
     /// No packet came.
     pub(crate) fn new(alloc: Global) -> Stream
-        ensures { CountsStream result [] [] }
+        ensures { IsFresh result }
     {
         Stream {
             state: ConnectionState::Unseen,
@@ -52,49 +52,51 @@ impl Stream {
         &self.counter
     }
 
-    /// Takes a packet, and returns how much is held in all, where so much was held before. If that is more
-    /// than may be, it isn't followed any more.
-    pub(crate) fn take_within(
-        &mut self,
-        most: u64,
-        held: u64,
-        packet: &Dissection<'_>,
-        tcp_packet: TcpPacket,
-    ) -> u64
-        ensures { (signals : List Signal) (arrivals : List Arrival) → CountsStream self.old signals arrivals
-            → CountsStream self.new (signals ++ (tcp_packet.way, tcp_packet.control) ∷ [])
-            (arrivals ++ option_list (option_map (arrival_in tcp_packet.way) (whole_segment packet.now))) }
+    /// How much is held of it, in bytes; 16 more for each gap.
+    pub(crate) fn size(&self) -> u64
+        ensures { result ≡ stream_size self.now }
     {
-        let others = held.saturating_sub(self.counter.size());
-        self.take(packet, tcp_packet);
-        let held = others.saturating_add(self.counter.size());
-        if held <= most {
-            return held;
-        }
-        self.counter.stop();
-        others
+        self.counter.size()
     }
 
-    // Takes a packet.
-    fn take(&mut self, packet: &Dissection<'_>, tcp_packet: TcpPacket)
-        ensures { (signals : List Signal) (arrivals : List Arrival) → CountsStream self.old signals arrivals
-            → CountsStream self.new (signals ++ (tcp_packet.way, tcp_packet.control) ∷ [])
-            (arrivals ++ option_list (option_map (arrival_in tcp_packet.way) (whole_segment packet.now))) }
+    /// Takes a packet while so much is held of others. If more would be held than may be, it isn't
+    /// followed any more.
+    ///
+    /// Where there is no memory for it, it isn't followed any more either, and the rest stays.
+    pub(crate) fn take(
+        &mut self,
+        others: u64,
+        packet: &Dissection<'_>,
+        tcp_packet: TcpPacket,
+    ) -> Result<(), AllocError>
+        ensures ok { OnOk result (StreamTakes others self.old tcp_packet packet.now self.new) }
+        ensures err { OnErr result (self.new ≡ stopped_stream self.old) }
     {
+        count_packet(&mut self.counter, tcp_packet.way, packet)?;
+        stop_beyond(&mut self.counter, others);
         self.state = self.state.after(tcp_packet.way, tcp_packet.control);
-        count_packet(&mut self.counter, tcp_packet.way, packet);
+        Ok(())
+    }
+}
+
+// Stops a counter where more would be held than may be, with what is held of others.
+fn stop_beyond(counter: &mut StreamCounter, others: u64)
+    ensures { counter.new ≡ counter_within others counter.old }
+{
+    if others.saturating_add(counter.size()) > HELD_SIZE {
+        counter.stop();
     }
 }
 
 // Counts the segment of a packet, or of the message that it completes, if its IP packet is whole.
-fn count_packet(counter: &mut StreamCounter, way: Direction, packet: &Dissection<'_>)
-    ensures { (kept : ℕ) (arrivals : List Arrival) → Counts kept counter.old arrivals
-        → Counts kept counter.new (arrivals ++ option_list (option_map (arrival_in way) (whole_segment packet.now))) }
+fn count_packet(counter: &mut StreamCounter, way: Direction, packet: &Dissection<'_>) -> Result<(), AllocError>
+    ensures ok { OnOk result (CountsSegment counter.old way (whole_segment packet.now) counter.new) }
+    ensures err { OnErr result (counter.new ≡ stopped counter.old) }
 {
     if !is_whole(packet) {
-        return;
+        return Ok(());
     }
-    count_whole(counter, way, &packet.layers, &packet.fragment);
+    count_whole(counter, way, &packet.layers, &packet.fragment)
 }
 
 fn count_whole(
@@ -102,10 +104,9 @@ fn count_whole(
     way: Direction,
     layers: &Result<SlicedPacket<'_>, SliceError>,
     fragment: &Option<Fragment>,
-)
-    ensures { (kept : ℕ) (arrivals : List Arrival) → Counts kept counter.old arrivals
-        → Counts kept counter.new (arrivals ++ option_list (option_map (arrival_in way)
-        (segment_in layers.now fragment.now))) }
+) -> Result<(), AllocError>
+    ensures ok { OnOk result (CountsSegment counter.old way (segment_in layers.now fragment.now) counter.new) }
+    ensures err { OnErr result (counter.new ≡ stopped counter.old) }
 {
     match fragment {
         Some(fragment) => count_fragment(counter, way, layers, fragment),
@@ -118,10 +119,9 @@ fn count_fragment(
     way: Direction,
     layers: &Result<SlicedPacket<'_>, SliceError>,
     fragment: &Fragment,
-)
-    ensures { (kept : ℕ) (arrivals : List Arrival) → Counts kept counter.old arrivals
-        → Counts kept counter.new (arrivals ++ option_list (option_map (arrival_in way)
-        (segment_in layers.now (Some fragment.now)))) }
+) -> Result<(), AllocError>
+    ensures ok { OnOk result (CountsSegment counter.old way (segment_in layers.now (Some fragment.now)) counter.new) }
+    ensures err { OnErr result (counter.new ≡ stopped counter.old) }
 {
     match fragment {
         Fragment::Completes { message, .. } => count_message(counter, way, message),
@@ -130,14 +130,13 @@ fn count_fragment(
     }
 }
 
-fn count_message(counter: &mut StreamCounter, way: Direction, message: &IpDefragPayloadVec)
-    ensures { (kept : ℕ) (arrivals : List Arrival) → Counts kept counter.old arrivals
-        → Counts kept counter.new (arrivals ++ option_list (option_map (arrival_in way)
-        (completed_segment (message_at message.now.ip_number.0 message.now.payload.items)))) }
+fn count_message(counter: &mut StreamCounter, way: Direction, message: &IpDefragPayloadVec) -> Result<(), AllocError>
+    ensures ok { OnOk result (CountsSegment counter.old way (completed_segment (message_at message.now.ip_number.0 message.now.payload.items)) counter.new) }
+    ensures err { OnErr result (counter.new ≡ stopped counter.old) }
 {
     match read_message(message.ip_number, message.payload.as_slice()) {
         Ok(Message::Tcp(segment)) => count_segment(counter, way, &segment),
-        _ => {}
+        _ => Ok(())
     }
 }
 
@@ -145,42 +144,41 @@ fn count_layers(
     counter: &mut StreamCounter,
     way: Direction,
     layers: &Result<SlicedPacket<'_>, SliceError>,
-)
-    ensures { (kept : ℕ) (arrivals : List Arrival) → Counts kept counter.old arrivals
-        → Counts kept counter.new (arrivals ++ option_list (option_map (arrival_in way) (layers_segment layers.now))) }
+) -> Result<(), AllocError>
+    ensures ok { OnOk result (CountsSegment counter.old way (layers_segment layers.now) counter.new) }
+    ensures err { OnErr result (counter.new ≡ stopped counter.old) }
 {
     match layers {
         Ok(packet) => match &packet.transport {
             Some(transport) => count_transport(counter, way, transport),
-            None => {}
+            None => Ok(())
         },
-        Err(_) => {}
+        Err(_) => Ok(())
     }
 }
 
-fn count_transport(counter: &mut StreamCounter, way: Direction, transport: &TransportSlice<'_>)
-    ensures { (kept : ℕ) (arrivals : List Arrival) → Counts kept counter.old arrivals
-        → Counts kept counter.new (arrivals ++ option_list (option_map (arrival_in way)
-        (transport_segment (Some transport.now)))) }
+fn count_transport(counter: &mut StreamCounter, way: Direction, transport: &TransportSlice<'_>) -> Result<(), AllocError>
+    ensures ok { OnOk result (CountsSegment counter.old way (transport_segment (Some transport.now)) counter.new) }
+    ensures err { OnErr result (counter.new ≡ stopped counter.old) }
 {
     match transport {
         TransportSlice::Tcp(segment) => count_segment(counter, way, segment),
-        _ => {}
+        _ => Ok(())
     }
 }
 
-fn count_segment(counter: &mut StreamCounter, way: Direction, segment: &TcpSlice<'_>)
-    ensures { (kept : ℕ) (arrivals : List Arrival) → Counts kept counter.old arrivals
-        → Counts kept counter.new (arrivals ++ arrival_in way segment.now ∷ []) }
+fn count_segment(
+    counter: &mut StreamCounter,
+    way: Direction,
+    segment: &TcpSlice<'_>,
+) -> Result<(), AllocError>
+    ensures ok { OnOk result (CountsSegment counter.old way (Some segment.now) counter.new) }
+    ensures err { OnErr result (counter.new ≡ stopped counter.old) }
 {
     let number = segment.sequence_number();
     let acknowledgment = acknowledgment_in(segment);
     let flags = flags_in(segment);
-    // Where there is no memory, it isn't followed any more.
-    match counter.add(way, number, acknowledgment, flags, segment.payload()) {
-        Ok(()) => {}
-        Err(_) => {}
-    }
+    counter.add(way, number, acknowledgment, flags, segment.payload())
 }
 
 fn acknowledgment_in(segment: &TcpSlice<'_>) -> Option<u32>

@@ -1,5 +1,5 @@
 //! The connections of conversations over TCP, followed.
-ghost use Rattle.std.specs.Prelude.{◌≡◌, ◌<◌, ◌++◌, ◌∷◌, [], Bool, List, OnOk, option_copied, true};
+ghost use Rattle.std.specs.Prelude.{◌≡◌, ◌<◌, ◌++◌, ◌∷◌, [], Bool, List, OnErr, OnOk, option_copied, true};
 ghost use Rattle.std.specs.HashMap.{get, spare};
 ghost use Rattle.packets.specs.declared.dissection.Dissection.{Dissection};
 
@@ -28,7 +28,7 @@ pub struct Streams<S: BuildHasher> {
 }
 
 impl<S: BuildHasher> Streams<S> {
-    ghost use Rattle.packets.specs.Streams.{FollowsStreams, tcp_packet_of};
+    ghost use Rattle.packets.specs.Streams.{AreSame, FollowsStreams, TakePacket, tcp_packet_of};
 
     /// No packet. Conversations are hashed by this state. It takes no memory.
     pub fn with_hasher(alloc: Global, state: S) -> Streams<S>
@@ -51,46 +51,64 @@ impl<S: BuildHasher> Streams<S> {
     /// Reserves the capacity for one stream more.
     pub(crate) fn reserve(&mut self) -> Result<(), AllocError>
         ensures capacity { OnOk result (0 < spare self.new.streams) }
-        ensures same { (packets : List Dissection)
+        ensures same { AreSame ⟦<Conversation as PartialEq>⟧.eq self.old self.new }
+        ensures follows { (packets : List Dissection)
             → FollowsStreams ⟦<Conversation as PartialEq>⟧.eq self.old packets
             → FollowsStreams ⟦<Conversation as PartialEq>⟧.eq self.new packets }
     {
         self.streams.try_reserve(1)
     }
 
-    /// Takes a packet for whose stream there is capacity.
-    pub(crate) fn add(&mut self, packet: &Dissection<'_>, tcp_packet: Option<TcpPacket>)
+    /// Takes a packet for whose stream there is capacity. Where there is no memory for what its stream
+    /// would hold, the packet isn't counted, and the stream isn't followed any more.
+    pub(crate) fn add(
+        &mut self,
+        packet: &Dissection<'_>,
+        tcp_packet: Option<TcpPacket>,
+    ) -> Result<(), AllocError>
         requires capacity { 0 < spare self.old.streams }
         requires packet { tcp_packet ≡ tcp_packet_of packet.now }
-        ensures { (packets : List Dissection)
+        ensures takes { OnOk result (TakePacket ⟦<Conversation as PartialEq>⟧.eq self.old packet.now self.new) }
+        ensures ok { OnOk result ((packets : List Dissection)
             → FollowsStreams ⟦<Conversation as PartialEq>⟧.eq self.old packets
-            → FollowsStreams ⟦<Conversation as PartialEq>⟧.eq self.new (packets ++ packet.now ∷ []) }
+            → FollowsStreams ⟦<Conversation as PartialEq>⟧.eq self.new (packets ++ packet.now ∷ [])) }
+        ensures err { OnErr result ((packets : List Dissection)
+            → FollowsStreams ⟦<Conversation as PartialEq>⟧.eq self.old packets
+            → FollowsStreams ⟦<Conversation as PartialEq>⟧.eq self.new packets) }
     {
         match tcp_packet {
             Some(tcp_packet) => self.take(packet, tcp_packet),
-            None => {}
+            None => Ok(()),
         }
     }
 
-    fn take(&mut self, packet: &Dissection<'_>, tcp_packet: TcpPacket)
+    fn take(&mut self, packet: &Dissection<'_>, tcp_packet: TcpPacket) -> Result<(), AllocError>
         requires capacity { 0 < spare self.old.streams }
         requires packet { tcp_packet_of packet.now ≡ Some tcp_packet }
         // Conversations are equal only where they are the same.
         requires exact { (a b : Conversation) → ⟦<Conversation as PartialEq>⟧.eq a b ≡ true → a ≡ b }
-        ensures { (packets : List Dissection)
+        ensures takes { OnOk result (TakePacket ⟦<Conversation as PartialEq>⟧.eq self.old packet.now self.new) }
+        ensures ok { OnOk result ((packets : List Dissection)
             → FollowsStreams ⟦<Conversation as PartialEq>⟧.eq self.old packets
-            → FollowsStreams ⟦<Conversation as PartialEq>⟧.eq self.new (packets ++ packet.now ∷ []) }
+            → FollowsStreams ⟦<Conversation as PartialEq>⟧.eq self.new (packets ++ packet.now ∷ [])) }
+        ensures err { OnErr result ((packets : List Dissection)
+            → FollowsStreams ⟦<Conversation as PartialEq>⟧.eq self.old packets
+            → FollowsStreams ⟦<Conversation as PartialEq>⟧.eq self.new packets) }
     {
         if let Some(stream) = self.streams.get_mut(&tcp_packet.conversation) {
-            self.held = stream.take_within(HELD_SIZE, self.held, packet, tcp_packet);
-            return;
+            let others = self.held.saturating_sub(stream.size());
+            let taken: Result<(), AllocError> = stream.take(others, packet, tcp_packet);
+            self.held = others.saturating_add(stream.size());
+            return taken;
         }
         if self.streams.len() < STREAM_COUNT {
             let mut stream = Stream::new(self.alloc);
-            self.held = stream.take_within(HELD_SIZE, self.held, packet, tcp_packet);
+            stream.take(self.held, packet, tcp_packet)?;
+            self.held = self.held.saturating_add(stream.size());
             // The capacity is reserved.
             let inserted: Result<_, _> = self.streams.insert(tcp_packet.conversation, stream);
             inserted.unwrap();
         }
+        Ok(())
     }
 }

@@ -1,24 +1,20 @@
 use Rattle.std.proofs.Common.{Some, ap}
-use Rattle.std.specs.Option.{option_map}
 use Rattle.packets.specs.declared.dissection.Fragment.{Fragment}
-use Rattle.packets.specs.Streams.{arrival_in, segment_in}
-use Rattle.packets.proofs.StreamLemmas.{counts_by}
+use Rattle.packets.specs.Streams.{segment_in}
+use Rattle.packets.proofs.StreamLemmas.{segment_by}
 use Rattle.packets.proofs.flows.stream.count_fragment.Goals as goal
 
-pub returns-in-Completes : goal.returns-in-Completes
-returns-in-Completes c kept arrivals counted =
-    counts_by kept c.count_message.new.counter arrivals _ _
-    (ap (λ (f : Fragment). option_map (arrival_in c.args.way) (segment_in c.args.layers.now (Some f))) c.in-Completes.is)
-    (c.count_message.ensures kept arrivals counted)
+pub returns-in-Completes-clause-ok : goal.returns-in-Completes-clause-ok
+returns-in-Completes-clause-ok c =
+    segment_by c.count_message.result c.args.counter.now c.count_message.new.counter c.args.way _ _
+    (ap (λ (f : Fragment). segment_in c.args.layers.now (Some f)) c.in-Completes.is) c.count_message.ensures.ok
 
-pub returns-in-Waits : goal.returns-in-Waits
-returns-in-Waits c kept arrivals counted =
-    counts_by kept c.count_layers.new.counter arrivals _ _
-    (ap (λ (f : Fragment). option_map (arrival_in c.args.way) (segment_in c.args.layers.now (Some f))) c.in-Waits.is)
-    (c.count_layers.ensures kept arrivals counted)
+pub returns-in-Waits-clause-ok : goal.returns-in-Waits-clause-ok
+returns-in-Waits-clause-ok c =
+    segment_by c.count_layers.result c.args.counter.now c.count_layers.new.counter c.args.way _ _
+    (ap (λ (f : Fragment). segment_in c.args.layers.now (Some f)) c.in-Waits.is) c.count_layers.ensures.ok
 
-pub returns-in-Refused : goal.returns-in-Refused
-returns-in-Refused c kept arrivals counted =
-    counts_by kept c.count_layers-in-Refused.new.counter arrivals _ _
-    (ap (λ (f : Fragment). option_map (arrival_in c.args.way) (segment_in c.args.layers.now (Some f))) c.in-Refused.is)
-    (c.count_layers-in-Refused.ensures kept arrivals counted)
+pub returns-in-Refused-clause-ok : goal.returns-in-Refused-clause-ok
+returns-in-Refused-clause-ok c =
+    segment_by c.count_layers-in-Refused.result c.args.counter.now c.count_layers-in-Refused.new.counter c.args.way _ _
+    (ap (λ (f : Fragment). segment_in c.args.layers.now (Some f)) c.in-Refused.is) c.count_layers-in-Refused.ensures.ok

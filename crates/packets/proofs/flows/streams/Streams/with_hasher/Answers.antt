@@ -1,5 +1,9 @@
-use Rattle.std.proofs.Common.{refl}
+use Rattle.std.proofs.Common.{arith, refl}
 use Rattle.packets.proofs.flows.streams.Streams.with_hasher.Goals as goal
 
 pub returns : goal.returns
-returns g c = record { each = λ q. rw c.with_hasher.ensures.empty (λ few. (refl, refl)) }
+returns g c = record {
+  each = λ q. rw c.with_hasher.ensures.empty (λ few. (refl, refl));
+  held = rw c.with_hasher.ensures.empty refl;
+  bounded = omega arith;
+}
