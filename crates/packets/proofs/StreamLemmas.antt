@@ -1,10 +1,10 @@
 -- What is counted of the streams of conversations, with one packet more.
 use Rattle.std.proofs.Common.{◌≡◌, ◌∙◌, ℕ, ◌+◌, ◌-◌, ◌^◌, ◌<◌, ◌≤◌, Bool, true, false, cond, List, [], ◌∷◌, ◌++◌, Option, Some, None, Result, Ok, Err}
-use Rattle.std.proofs.Common.{IsPermutation, OnOk, is_some, min, nat_le, refl, ap, arith, subst, sum_by, sym}
+use Rattle.std.proofs.Common.{IsPermutation, OnErr, OnOk, is_some, leb-true, min, nat_le, option_map, refl, ap, arith, subst, sum_by, sym}
 use Rattle.std.proofs.lemmas.List.{append-nil, append_assoc}
 use Rattle.std.proofs.lemmas.List.Sorted.{sum_by-IsPermutation}
 use Rattle.std.proofs.lemmas.List.Sums.{fold-append, sum_by-cons}
-use Rattle.std.specs.HashMap.{HashMap, get, hash_map_len}
+use Rattle.std.specs.HashMap.{HashMap, PutsEntry, get, hash_map_len}
 use Rattle.std.specs.Map.{lookup, set_value}
 use Rattle.tcp_streams.specs.ConnectionStates.{Signal, state_after}
 use Rattle.tcp_streams.specs.Counting.{Arrival, Counts, size_in}
@@ -13,7 +13,7 @@ use Rattle.tcp_streams.specs.declared.connection_state.ConnectionState.TheVarian
 use Rattle.tcp_streams.specs.declared.direction.Direction.{Direction}
 use Rattle.tcp_streams.specs.declared.stream_counter.StreamCounter.{StreamCounter}
 use Rattle.packets.specs.Streams.{AreSame, CountsSegment, CountsStream, FollowsStreams, IsFresh, IsStreamOf, StreamTakes}
-use Rattle.packets.specs.Streams.{StreamsTake, TakePacket, arrival_by, arrival_in, arrivals_in, arrivals_of, counter_within}
+use Rattle.packets.specs.Streams.{StreamsTake, TakeBy, TakeIn, TakePacket, arrival_by, arrival_in, arrivals_in, arrivals_of}
 use Rattle.packets.specs.Streams.{held_in, is_of, option_list, picked, signal_by, signals_in, stopped, stopped_stream}
 use Rattle.packets.specs.Streams.{stream_size, tcp_packet_of, whole_segment}
 use Rattle.packets.specs.Table.{is_key}
@@ -96,26 +96,13 @@ stopped_stream_counts stream signals arrivals counted = record {
 within_bounded : (others : ℕ) (counter : StreamCounter) (b : Bool)
     → nat_le (others + size_in counter.follower) HELD_SIZE ≡ b → others ≤ HELD_SIZE
     → others + size_in (cond b counter (stopped counter)).follower ≤ HELD_SIZE
-within_bounded others counter true is few = omega (arith, is)
+within_bounded others counter true is few = omega (arith, leb-true _ _ is)
 within_bounded others counter false is few = omega (arith, few)
 
 takes_bounded : (others : ℕ) (was : Stream) (tcp_packet : TcpPacket) (packet : Dissection) (now : Stream)
     → StreamTakes others was tcp_packet packet now → others ≤ HELD_SIZE → others + stream_size now ≤ HELD_SIZE
 takes_bounded others was tcp_packet packet now takes few =
     rw takes.within (within_bounded others takes.reached _ refl few)
-
-held_within : (others : ℕ) (counter : StreamCounter) (b : Bool)
-    → nat_le (others + size_in counter.follower) HELD_SIZE ≡ b → others < 2 ^ 64
-    → min (others + size_in (cond b counter (stopped counter)).follower) (2 ^ 64 - 1)
-    ≡ others + size_in (cond b counter (stopped counter)).follower
-held_within others counter true is few = omega (arith, is)
-held_within others counter false is few = omega (arith, few)
-
-pub taken_held : (others : ℕ) (was : Stream) (tcp_packet : TcpPacket) (packet : Dissection) (now : Stream)
-    → StreamTakes others was tcp_packet packet now → others < 2 ^ 64
-    → min (others + stream_size now) (2 ^ 64 - 1) ≡ others + stream_size now
-taken_held others was tcp_packet packet now takes few =
-    rw takes.within (held_within others takes.reached _ refl few)
 
 -- where a value changes, what is held of the others stays
 held_beside : {K : Type 0} (test : K → Bool) (es : List (K × Stream)) (was : Stream) → lookup test es ≡ Some was
@@ -128,11 +115,11 @@ held_beside {K} test (e ∷ es) was there =
     × ((now : Stream) → sum_by (λ (e : K × Stream). stream_size e.1) (cond b ((e.0, now) ∷ es) (e ∷ set_value test es now))
     ≡ others + stream_size now)) [
       | true ↦ λ passes there. (
-          sum_by (λ (e : K × Stream). stream_size e.1) es,
-          (let same : e.1 ≡ was = cc in
-          omega (arith, sum_by-cons (λ (e : K × Stream). stream_size e.1) e es, ap stream_size same)),
-          (λ now. omega (arith, sum_by-cons (λ (e : K × Stream). stream_size e.1) (e.0, now) es)),
-        )
+        sum_by (λ (e : K × Stream). stream_size e.1) es,
+        (let same : e.1 ≡ was = cc in
+            omega (arith, sum_by-cons (λ (e : K × Stream). stream_size e.1) e es, ap stream_size same)),
+        (λ now. omega (arith, sum_by-cons (λ (e : K × Stream). stream_size e.1) (e.0, now) es)),
+      )
       | false ↦ λ passes there.
           let rest = held_beside test es was there in (
             stream_size e.1 + rest.0,
@@ -140,6 +127,21 @@ held_beside {K} test (e ∷ es) was there =
             (λ now. omega (arith, rest.2 now, sum_by-cons (λ (e : K × Stream). stream_size e.1) e (set_value test es now))),
           )
     ] refl there
+
+pub on_ok : {E : Type 0} (result : Result Unit E) (A B : Type 0) → (A → B) → OnOk result A → OnOk result B
+on_ok (Ok done) A B then holds = then holds
+on_ok (Err error) A B then holds = tt
+
+pub on_err : {E : Type 0} (result : Result Unit E) (A B : Type 0) → (A → B) → OnErr result A → OnErr result B
+on_err (Ok done) A B then holds = tt
+on_err (Err error) A B then holds = then holds
+
+pub always_both : {E : Type 0} (result : Result Unit E) (A B : Type 0) → A → B → OnErr result (A × B)
+always_both (Ok done) A B a b = tt
+always_both (Err error) A B a b = (a, b)
+
+pub after : {X : Type 0} (P Q R : X → Type 0) → ((x : X) → P x → Q x) → ((x : X) → Q x → R x) → (x : X) → P x → R x
+after P Q R first second x holds = second x (first x holds)
 
 -- ---- the streams of conversations
 
@@ -198,9 +200,46 @@ module _ {S H : Type 0} (same : Conversation → Conversation → Bool) where
   follows_same was now packets are order follows = record {
     each = λ q. stream_moved _ _ _ _ _ _ are.len (are.streams q) (follows.each q);
     held = are.held ∙ follows.held
-        ∙ sum_by-IsPermutation (λ (e : Conversation × Stream). stream_size e.1) _ _ order;
+        ∙ sym (sum_by-IsPermutation (λ (e : Conversation × Stream). stream_size e.1) _ _ order);
     bounded = rw are.held follows.bounded;
   }
+
+module _ {S H : Type 0} (same : Conversation → Conversation → Bool) (was mid now : Streams S H) (packet : Dissection)
+    (are : AreSame same was mid) where
+  unmoved : AreSame same mid now → AreSame same was now
+  unmoved next = record {
+    held = next.held ∙ are.held;
+    len = next.len ∙ are.len;
+    streams = λ q. next.streams q ∙ are.streams q;
+  }
+
+  take_moved : (tcp_packet : TcpPacket) (stream : Stream) (n m : ℕ) → n ≡ m
+      → StreamsTake same mid packet now tcp_packet stream n → StreamsTake same was packet now tcp_packet stream m
+  take_moved tcp_packet stream n m is takes = record {
+    stream_now = takes.stream_now;
+    takes = subst (λ (others : ℕ). StreamTakes others stream tcp_packet packet takes.stream_now) is takes.takes;
+    held = takes.held ∙ ap (λ (others : ℕ). others + stream_size takes.stream_now) is;
+    written = λ q. takes.written q
+        ∙ ap (λ (o : Option Stream). cond (same tcp_packet.conversation q) (Some takes.stream_now) o) (are.streams q);
+  }
+
+  take_in_moved : (tcp_packet : TcpPacket) (o : Option Stream) → TakeIn same mid packet now tcp_packet o
+      → TakeIn same was packet now tcp_packet o
+  take_in_moved tcp_packet None takes = (
+    (λ few. let started = takes.0 (rw are.len few) in (started.0, started.1, take_moved tcp_packet started.0 _ _ are.held started.2)),
+    (λ full. unmoved (takes.1 (rw are.len full))),
+  )
+  take_in_moved tcp_packet (Some stream) takes =
+      take_moved tcp_packet stream _ _ (ap (λ (n : ℕ). n - stream_size stream) are.held) takes
+
+  take_by_moved : (o : Option TcpPacket) → TakeBy same mid packet now o → TakeBy same was packet now o
+  take_by_moved None takes = unmoved takes
+  take_by_moved (Some tcp_packet) takes = take_in_moved tcp_packet (get same was.streams tcp_packet.conversation)
+      (subst (λ (o : Option Stream). TakeIn same mid packet now tcp_packet o) (are.streams tcp_packet.conversation) takes)
+
+  -- what a packet does to the same streams
+  pub takes_moved : TakePacket same mid packet now → TakePacket same was packet now
+  takes_moved takes = take_by_moved (tcp_packet_of packet) takes
 
 module _ (same : Conversation → Conversation → Bool) (packets : List Dissection) (packet : Dissection) where
   -- a packet of no conversation over TCP
@@ -316,77 +355,109 @@ module _ (same : Conversation → Conversation → Bool) (packets : List Dissect
             held.2,
           )
 
+      by_entries : (old new : Streams S H) (stream : Stream)
+          → new.streams.entries ≡ set_value (same tcp_packet.conversation) old.streams.entries stream
+          → new.held ≡ sum_by (λ (e : Conversation × Stream). stream_size e.1)
+          (set_value (same tcp_packet.conversation) old.streams.entries stream) → new.held ≡ held_in new.streams
+      by_entries old new stream entries held = held
+          ∙ ap (λ (es : List (Conversation × Stream)). sum_by (λ (e : Conversation × Stream). stream_size e.1) es) (sym entries)
+
       -- its stream takes it
-      pub follows_taken : (old new : Streams S H) (was : Stream)
-          → get same old.streams tcp_packet.conversation ≡ Some was
-          → (stream : Stream) → StreamTakes (old.held - stream_size was) was tcp_packet packet stream
-          → new.held ≡ (old.held - stream_size was) + stream_size stream
+      pub follows_taken : (old new : Streams S H) (was stream : Stream) (others_held : ℕ)
+          → get same old.streams tcp_packet.conversation ≡ Some was → others_held ≡ old.held - stream_size was
+          → StreamTakes others_held was tcp_packet packet stream
+          → new.held ≡ min (others_held + stream_size stream) (2 ^ 64 - 1)
           → hash_map_len new.streams ≡ hash_map_len old.streams
           → new.streams.entries ≡ set_value (same tcp_packet.conversation) old.streams.entries stream
           → ((q : Conversation) → get same new.streams q
           ≡ cond (same tcp_packet.conversation q) (Some stream) (get same old.streams q))
           → FollowsStreams same old packets → FollowsStreams same new (packets ++ packet ∷ [])
-      follows_taken old new was there stream takes held size entries written follows =
+      follows_taken old new was stream others_held there beside_is takes held size entries written follows =
           let beside = beside_stream old was follows there in
-          let few : old.held - stream_size was ≤ HELD_SIZE = omega (arith, beside.1, beside.2) in
-          let within = takes_bounded (old.held - stream_size was) was tcp_packet packet stream takes few in
+          let few : others_held ≤ HELD_SIZE = omega (arith, beside.1, beside.2, beside_is) in
+          let within = takes_bounded others_held was tcp_packet packet stream takes few in
+          let held : new.held ≡ others_held + stream_size stream = omega (arith, held, within) in
           record {
             each = put (hash_map_len old.streams) (hash_map_len new.streams) (get same old.streams) (get same new.streams)
                 stream (packets ++ packet ∷ []) (omega (arith, size)) written
-                (with_packet (old.held - stream_size was) was stream takes
+                (with_packet others_held was stream takes
                 (stream_there (hash_map_len old.streams) (get same old.streams tcp_packet.conversation) was there
                 (follows.each tcp_packet.conversation)))
                 (λ q other. others (hash_map_len old.streams) (get same old.streams q) q other (follows.each q));
-            held = held ∙ omega (arith, beside.1, beside.3 stream)
-                ∙ ap (λ (es : List (Conversation × Stream)). sum_by (λ (e : Conversation × Stream). stream_size e.1) es) (sym entries);
+            held = by_entries old new stream entries (omega (arith, held, beside.1, beside_is, beside.3 stream));
             bounded = omega (arith, held, within);
           }
 
       -- there is no memory for what its stream would hold
-      pub follows_stopped : (old new : Streams S H) (was : Stream)
-          → get same old.streams tcp_packet.conversation ≡ Some was
-          → new.held ≡ old.held - stream_size was
+      pub follows_stopped : (old new : Streams S H) (was stream : Stream) (others_held : ℕ)
+          → get same old.streams tcp_packet.conversation ≡ Some was → others_held ≡ old.held - stream_size was
+          → stream ≡ stopped_stream was → new.held ≡ min (others_held + stream_size stream) (2 ^ 64 - 1)
           → hash_map_len new.streams ≡ hash_map_len old.streams
-          → new.streams.entries ≡ set_value (same tcp_packet.conversation) old.streams.entries (stopped_stream was)
+          → new.streams.entries ≡ set_value (same tcp_packet.conversation) old.streams.entries stream
           → ((q : Conversation) → get same new.streams q
-          ≡ cond (same tcp_packet.conversation q) (Some (stopped_stream was)) (get same old.streams q))
+          ≡ cond (same tcp_packet.conversation q) (Some stream) (get same old.streams q))
           → FollowsStreams same old packets → FollowsStreams same new packets
-      follows_stopped old new was there held size entries written follows =
+      follows_stopped old new was stream others_held there beside_is is_stopped held size entries written follows =
           let beside = beside_stream old was follows there in
-          let counted = stopped_stream_counts was _ _ (stream_there (hash_map_len old.streams)
-          (get same old.streams tcp_packet.conversation) was there (follows.each tcp_packet.conversation)) in
+          let nothing : stream_size stream ≡ 0 = ap stream_size is_stopped in
+          let held : new.held ≡ others_held + stream_size stream =
+          omega (arith, held, nothing, beside.1, beside.2, beside_is) in
+          let counted : CountsStream stream (signals_in same tcp_packet.conversation packets)
+          (arrivals_in same tcp_packet.conversation packets) =
+          rw is_stopped (stopped_stream_counts was _ _ (stream_there (hash_map_len old.streams)
+          (get same old.streams tcp_packet.conversation) was there (follows.each tcp_packet.conversation))) in
           record {
             each = put (hash_map_len old.streams) (hash_map_len new.streams) (get same old.streams) (get same new.streams)
-                (stopped_stream was) packets (omega (arith, size)) written
-                (λ q passes. subst (λ (c : Conversation). CountsStream (stopped_stream was) (signals_in same c packets)
+                stream packets (omega (arith, size)) written
+                (λ q passes. subst (λ (c : Conversation). CountsStream stream (signals_in same c packets)
                 (arrivals_in same c packets)) (exact tcp_packet.conversation q passes) counted)
                 (λ q other. follows.each q);
-            held = held ∙ omega (arith, beside.1, beside.3 (stopped_stream was))
-                ∙ ap (λ (es : List (Conversation × Stream)). sum_by (λ (e : Conversation × Stream). stream_size e.1) es) (sym entries);
-            bounded = omega (arith, held, beside.1, beside.2);
+            held = by_entries old new stream entries (omega (arith, held, beside.1, beside_is, beside.3 stream));
+            bounded = omega (arith, held, nothing, beside.1, beside.2, beside_is);
           }
 
       -- its stream is new
-      pub follows_started : (old new : Streams S H) (fresh stream : Stream) (b : Bool)
-          → get same old.streams tcp_packet.conversation ≡ None → hash_map_len old.streams < STREAM_COUNT → IsFresh fresh
-          → StreamTakes old.held fresh tcp_packet packet stream → new.held ≡ old.held + stream_size stream
-          → hash_map_len new.streams ≡ hash_map_len old.streams + cond b 0 1
-          → IsPermutation ((tcp_packet.conversation, stream) ∷ old.streams.entries) new.streams.entries
+      pub follows_started : (old new : Streams S H) (streams : HashMap Conversation Stream S) (fresh stream : Stream)
+          (inserted : Option Stream) → streams ≡ old.streams → get same old.streams tcp_packet.conversation ≡ None
+          → hash_map_len streams < STREAM_COUNT → IsFresh fresh → StreamTakes old.held fresh tcp_packet packet stream
+          → new.held ≡ min (old.held + stream_size stream) (2 ^ 64 - 1)
+          → inserted ≡ get same streams tcp_packet.conversation
+          → hash_map_len new.streams ≡ hash_map_len streams + cond (is_some inserted) 0 1
+          → PutsEntry same streams new.streams tcp_packet.conversation stream inserted
           → ((q : Conversation) → get same new.streams q
-          ≡ cond (same tcp_packet.conversation q) (Some stream) (get same old.streams q))
+          ≡ cond (same tcp_packet.conversation q) (Some stream) (get same streams q))
           → FollowsStreams same old packets → FollowsStreams same new (packets ++ packet ∷ [])
-      follows_started old new fresh stream b none few is_fresh takes held size order written follows = record {
-        each = put (hash_map_len old.streams) (hash_map_len new.streams) (get same old.streams) (get same new.streams)
-            stream (packets ++ packet ∷ []) (one_more b (hash_map_len old.streams) (hash_map_len new.streams) size) written
-            (with_packet old.held fresh stream takes
-            (stream_new (hash_map_len old.streams) (get same old.streams tcp_packet.conversation) fresh none few
-            (follows.each tcp_packet.conversation) is_fresh.counts))
-            (λ q other. others (hash_map_len old.streams) (get same old.streams q) q other (follows.each q));
-        held = omega (arith, held, follows.held,
-            sum_by-cons (λ (e : Conversation × Stream). stream_size e.1) (tcp_packet.conversation, stream) old.streams.entries,
-            sum_by-IsPermutation (λ (e : Conversation × Stream). stream_size e.1) _ _ order);
-        bounded = omega (arith, held, takes_bounded old.held fresh tcp_packet packet stream takes follows.bounded);
-      }
+      follows_started old new streams fresh stream inserted is_old none few is_fresh takes held inserted_is size puts written follows =
+          let nothing : inserted ≡ None = inserted_is
+          ∙ ap (λ (m : HashMap Conversation Stream S). get same m tcp_packet.conversation) is_old ∙ none in
+          let order = rw nothing at puts in
+          let order = rw is_old at order in
+          let size = rw is_old at size in
+          let few = rw is_old at few in
+          let within = takes_bounded old.held fresh tcp_packet packet stream takes follows.bounded in
+          let held : new.held ≡ old.held + stream_size stream = omega (arith, held, within) in
+          let written : (q : Conversation) → get same new.streams q
+          ≡ cond (same tcp_packet.conversation q) (Some stream) (get same old.streams q) =
+          subst (λ (m : HashMap Conversation Stream S). (q : Conversation) → get same new.streams q
+          ≡ cond (same tcp_packet.conversation q) (Some stream) (get same m q)) is_old written in
+          record {
+            each = put (hash_map_len old.streams) (hash_map_len new.streams) (get same old.streams) (get same new.streams)
+                stream (packets ++ packet ∷ [])
+                (one_more (is_some inserted) (hash_map_len old.streams) (hash_map_len new.streams) size) written
+                (with_packet old.held fresh stream takes
+                (stream_new (hash_map_len old.streams) (get same old.streams tcp_packet.conversation) fresh none few
+                (follows.each tcp_packet.conversation) is_fresh.counts))
+                (λ q other. others (hash_map_len old.streams) (get same old.streams q) q other (follows.each q));
+            held = omega (
+              arith,
+              held,
+              follows.held,
+              sum_by-cons (λ (e : Conversation × Stream). stream_size e.1) (tcp_packet.conversation, stream)
+                  old.streams.entries,
+              sum_by-IsPermutation (λ (e : Conversation × Stream). stream_size e.1) _ _ order,
+            );
+            bounded = omega (arith, held, within);
+          }
 
       -- there are as many streams as may be
       pub follows_full : (old new : Streams S H) → get same old.streams tcp_packet.conversation ≡ None

@@ -1,5 +1,5 @@
 -- What is counted of the bytes that go over the connections of TCP conversations.
-use Rattle.std.specs.Prelude.{◌≡◌, ℕ, ◌<◌, ◌≤◌, ◌+◌, ◌-◌, ◌==◌, ◌&&◌, if◌then◌else◌, nat_le, Bool, true, false, Option, Some, None, Result, Ok, Err}
+use Rattle.std.specs.Prelude.{◌≡◌, ℕ, ◌<◌, ◌≤◌, ◌+◌, ◌-◌, ◌==◌, if◌then◌else◌, nat_le, Bool, true, false, Option, Some, None, Result, Ok, Err}
 use Rattle.std.specs.Prelude.{List, [], ◌∷◌, ◌++◌, is_some, sum_by}
 use Rattle.std.specs.HashMap.{HashMap, get, hash_map_len}
 use Rattle.std.specs.Option.{option_map}
@@ -203,7 +203,7 @@ module _ {S H : Type 0} (same : Conversation → Conversation → Bool) where
   abbrev pub TakeFirst : (was : Streams S H) (packet : Dissection) (now : Streams S H) → TcpPacket → Type 0
   TakeFirst was packet now tcp_packet =
       (hash_map_len was.streams < STREAM_COUNT → (stream : Stream) × IsFresh stream
-          × StreamsTake was packet now tcp_packet stream was.held)
+      × StreamsTake was packet now tcp_packet stream was.held)
       × (STREAM_COUNT ≤ hash_map_len was.streams → AreSame was now)
 
   abbrev pub TakeIn : (was : Streams S H) (packet : Dissection) (now : Streams S H) → TcpPacket → Option Stream → Type 0

@@ -41,14 +41,14 @@ impl<S: BuildHasher> FollowedFlows<S> {
     /// Takes one packet more. Where there is no memory for its conversation or for what its stream would
     /// hold, it isn't counted; in the second case the stream isn't followed any more.
     pub fn add(&mut self, dissection: &Dissection<'_>) -> Result<(), AllocError>
-        ensures flows { OnOk result ((packets : List Transfer)
+        ensures ok { OnOk result (((packets : List Transfer)
             → CountsFlows ⟦<Conversation as PartialEq>⟧.eq self.old.flows packets
             → CountsFlows ⟦<Conversation as PartialEq>⟧.eq self.new.flows
-            (packets ++ transfer_of dissection.now ∷ [])) }
-        ensures streams { OnOk result ((packets : List Dissection)
+            (packets ++ transfer_of dissection.now ∷ []))
+            × ((packets : List Dissection)
             → FollowsStreams ⟦<Conversation as PartialEq>⟧.eq self.old.streams packets
             → FollowsStreams ⟦<Conversation as PartialEq>⟧.eq self.new.streams
-            (packets ++ dissection.now ∷ [])) }
+            (packets ++ dissection.now ∷ []))) }
         ensures takes { OnOk result (TakePacket ⟦<Conversation as PartialEq>⟧.eq self.old.streams dissection.now
             self.new.streams) }
         ensures err { OnErr result (((packets : List Transfer)
@@ -62,8 +62,7 @@ impl<S: BuildHasher> FollowedFlows<S> {
         let transfer = transfer_with(Outline::of(dissection), header);
         self.flows.reserve()?;
         self.streams.reserve()?;
-        self.streams
-            .add(dissection, tcp_packet(&transfer, header))?;
+        self.streams.add(dissection, tcp_packet(&transfer, header))?;
         self.flows.count(&transfer);
         Ok(())
     }

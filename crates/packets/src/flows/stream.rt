@@ -89,7 +89,11 @@ fn stop_beyond(counter: &mut StreamCounter, others: u64)
 }
 
 // Counts the segment of a packet, or of the message that it completes, if its IP packet is whole.
-fn count_packet(counter: &mut StreamCounter, way: Direction, packet: &Dissection<'_>) -> Result<(), AllocError>
+fn count_packet(
+    counter: &mut StreamCounter,
+    way: Direction,
+    packet: &Dissection<'_>,
+) -> Result<(), AllocError>
     ensures ok { OnOk result (CountsSegment counter.old way (whole_segment packet.now) counter.new) }
     ensures err { OnErr result (counter.new ≡ stopped counter.old) }
 {
@@ -130,7 +134,11 @@ fn count_fragment(
     }
 }
 
-fn count_message(counter: &mut StreamCounter, way: Direction, message: &IpDefragPayloadVec) -> Result<(), AllocError>
+fn count_message(
+    counter: &mut StreamCounter,
+    way: Direction,
+    message: &IpDefragPayloadVec,
+) -> Result<(), AllocError>
     ensures ok { OnOk result (CountsSegment counter.old way (completed_segment (message_at message.now.ip_number.0 message.now.payload.items)) counter.new) }
     ensures err { OnErr result (counter.new ≡ stopped counter.old) }
 {
@@ -157,7 +165,11 @@ fn count_layers(
     }
 }
 
-fn count_transport(counter: &mut StreamCounter, way: Direction, transport: &TransportSlice<'_>) -> Result<(), AllocError>
+fn count_transport(
+    counter: &mut StreamCounter,
+    way: Direction,
+    transport: &TransportSlice<'_>,
+) -> Result<(), AllocError>
     ensures ok { OnOk result (CountsSegment counter.old way (transport_segment (Some transport.now)) counter.new) }
     ensures err { OnErr result (counter.new ≡ stopped counter.old) }
 {

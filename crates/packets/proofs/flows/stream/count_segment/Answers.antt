@@ -1,4 +1,3 @@
-use Rattle.std.proofs.Common.{sym}
 use Rattle.tcp_streams.specs.Counting.{arrival}
 use Rattle.packets.proofs.StreamLemmas.{segment_as}
 use Rattle.packets.proofs.flows.stream.count_segment.Goals as goal
