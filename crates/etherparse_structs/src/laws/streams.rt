@@ -32,7 +32,7 @@ pub fn numbers_of_states()
 /// A segment that is accepted at position 2 with two conflicts, the first one at 3; each refusal; and
 /// nothing, of a stream that isn't open.
 pub fn segments()
-    ensures accepted { segment_struct (Ok (record { position = 2; conflicts = record { count = 2; first = Some 3 } }))
+    ensures accepted { segment_struct (Ok (record { position = 2; conflicts = record { count = 2; first = Some 3 }; repeated = 2 }))
         ≡ record { status = 0; refusal = 0; refused_at = 0; position = 2; conflicts = record { count = 2; first = 3 } } }
     ensures refused { map segment_refused (OutsideWindow 9 ∷ AfterFin 4 ∷ AfterReset ∷ OutOfMemory ∷ [])
         ≡ record { status = 3; refusal = 1; refused_at = 9; position = 0; conflicts = record { count = 0; first = 0 } }
