@@ -39,6 +39,8 @@ mod refusals;
 #[cfg(test)]
 mod relative;
 #[cfg(test)]
+mod streams;
+#[cfg(test)]
 mod summaries;
 #[cfg(test)]
 mod whole_captures;
