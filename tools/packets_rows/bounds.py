@@ -53,7 +53,7 @@ def long():
 def checked(program):
     found = flows(program, many())
     known = [(it.get("state"), it.get("followed")) for it in found]
-    last = [("Established", True), *[("SynSent", True)] * (COUNT - 1), (None, None)]
+    last = [("Established", True), *[("SynSent", True)] * (COUNT - 1), (None, False)]
     yield "65,536 conversations are followed", known == last
     found = flows(program, long())
     known = [(it["state"], it["followed"], it["forward"]["repeated"], it["forward"]["conflicts"]) for it in found]
