@@ -86,7 +86,9 @@ fn streams_of_conversations(rt: HostRuntime) {
     equal(
         rt,
         stream.state(),
-        ConnectionState::SynSent(Direction::FromLower),
+        ConnectionState::SynSent {
+            opener: Direction::FromLower,
+        },
     );
     holds(rt, stream.counter().is_followed());
     equal(
