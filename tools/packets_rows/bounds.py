@@ -6,10 +6,10 @@ import struct
 import subprocess
 
 from conversations import ONE, packet
-from follow import ACK, SYN, tcp
+from follow import ACK, FIN, SYN, tcp
 
 COUNT = 65_536
-# Of a direction; what is held of all is this 1,024 times.
+# Of a direction.
 KEPT = 65_536
 HELD = 64 << 20
 TO = bytes([10, 0, 0, 9])
@@ -42,12 +42,17 @@ def many():
 
 
 def long():
-    """Two segments of each of one conversation more than can be held, and at last one more byte of the first and of the last one."""
-    half = bytes(KEPT // 2)
-    for number in range(HELD // KEPT + 1):
+    """64 KiB of each conversation, and half of it of the first one. The last one repeats three bytes, one of them as another, has more than
+    the rest that can be held, and then those three again and FIN. At last one byte more of the first one."""
+    half, last = bytes(KEPT // 2), HELD // KEPT
+    yield segment(0, ACK, 100, half)
+    for number in range(1, last):
         yield segment(number, ACK, 100, half)
         yield segment(number, ACK, 100 + len(half), half)
-    yield from (segment(number, ACK, 100, b"a") for number in (0, HELD // KEPT))
+    yield from (segment(last, ACK, 100, text) for text in (b"abc", b"aXc"))
+    yield segment(last, ACK, 103, half)
+    yield segment(last, ACK | FIN, 100, b"abc")
+    yield segment(0, ACK, 100, b"a")
 
 
 def checked(program):
@@ -57,5 +62,5 @@ def checked(program):
     yield "65,536 conversations are followed", known == last
     found = flows(program, long())
     known = [(it["state"], it["followed"], it["forward"]["repeated"], it["forward"]["conflicts"]) for it in found]
-    count = HELD // KEPT
-    yield "64 MiB are held", known == [("Established", True, 1, 1), *[("Established", True, 0, 0)] * (count - 1), ("Established", False, 0, 0)]
+    others = [("Established", True, 0, 0)] * (HELD // KEPT - 1)
+    yield "64 MiB are held", known == [("Established", True, 1, 1), *others, ("Closing", False, 3, 1)]
