@@ -12,7 +12,7 @@ use Rattle.tcp_streams.specs.declared.connection_state.ConnectionState.{Connecti
 use Rattle.tcp_streams.specs.declared.connection_state.ConnectionState.TheVariants.{Unseen}
 use Rattle.tcp_streams.specs.declared.direction.Direction.{Direction}
 use Rattle.tcp_streams.specs.declared.stream_counter.StreamCounter.{StreamCounter}
-use Rattle.packets.specs.Streams.{AreSame, CountsSegment, CountsStream, FollowsStreams, IsFresh, IsStreamOf, StreamTakes}
+use Rattle.packets.specs.Streams.{AreSame, CountsSegment, CountsStream, FollowsStreams, IsFresh, IsStreamOf, StopsOne, StreamTakes}
 use Rattle.packets.specs.Streams.{StreamsTake, TakeBy, TakeIn, TakePacket, arrival_by, arrival_in, arrivals_in, arrivals_of}
 use Rattle.packets.specs.Streams.{held_in, is_of, option_list, picked, signal_by, signals_in, stopped, stopped_stream}
 use Rattle.packets.specs.Streams.{stream_size, tcp_packet_of, whole_segment}
@@ -32,18 +32,20 @@ pub no_segment : (counter : StreamCounter) (way : Direction) (segment : Option (
 no_segment counter way segment none = rw none (record {
   counts = λ kept arrivals counted. rw (append-nil arrivals) counted;
   followed = refl;
+  stopped = λ none. refl;
 })
 
 pub segment_as : {E : Type 0} (result : Result Unit E) (was now : StreamCounter) (way : Direction) (segment : List ℕ)
     (a : Arrival) → a ≡ arrival_in way segment
     → ((kept : ℕ) (arrivals : List Arrival) → Counts kept was arrivals → Counts kept now (arrivals ++ a ∷ []))
-    → OnOk result (is_some now.follower ≡ is_some was.follower)
+    → OnOk result (is_some now.follower ≡ is_some was.follower) → (was.follower ≡ None → now ≡ was)
     → OnOk result (CountsSegment was way (Some segment) now)
-segment_as (Ok done) was now way segment a same counts followed = record {
+segment_as (Ok done) was now way segment a same counts followed stopped = record {
   counts = λ kept arrivals counted. subst (λ (x : Arrival). Counts kept now (arrivals ++ x ∷ [])) same (counts kept arrivals counted);
   followed = followed;
+  stopped = stopped;
 }
-segment_as (Err error) was now way segment a same counts followed = tt
+segment_as (Err error) was now way segment a same counts followed stopped = tt
 
 pub segment_by : {E : Type 0} (result : Result Unit E) (was now : StreamCounter) (way : Direction) (o p : Option (List ℕ))
     → o ≡ p → OnOk result (CountsSegment was way p now) → OnOk result (CountsSegment was way o now)
@@ -135,6 +137,10 @@ on_ok (Err error) A B then holds = tt
 pub on_err : {E : Type 0} (result : Result Unit E) (A B : Type 0) → (A → B) → OnErr result A → OnErr result B
 on_err (Ok done) A B then holds = tt
 on_err (Err error) A B then holds = then holds
+
+pub always : {E : Type 0} (result : Result Unit E) (A : Type 0) → A → OnErr result A
+always (Ok done) A a = tt
+always (Err error) A a = a
 
 pub always_both : {E : Type 0} (result : Result Unit E) (A B : Type 0) → A → B → OnErr result (A × B)
 always_both (Ok done) A B a b = tt
@@ -468,3 +474,41 @@ module _ (same : Conversation → Conversation → Bool) (packets : List Dissect
         held = follows.held;
         bounded = follows.bounded;
       })
+
+      -- what its stream shows where it is stopped
+      kept_of : (old : Streams S H) (o : Option Stream) → get same old.streams tcp_packet.conversation ≡ o
+          → (q : Conversation) → same tcp_packet.conversation q ≡ true → get same old.streams q ≡ o
+      kept_of old o there q passes =
+          subst (λ (c : Conversation). get same old.streams c ≡ o) (exact tcp_packet.conversation q passes) there
+
+      pub stops_there : (old new : Streams S H) (was stream : Stream) (others_held : ℕ)
+          → get same old.streams tcp_packet.conversation ≡ Some was → others_held ≡ old.held - stream_size was
+          → others_held < 2 ^ 64 → stream ≡ stopped_stream was
+          → new.held ≡ min (others_held + stream_size stream) (2 ^ 64 - 1)
+          → ((q : Conversation) → get same new.streams q
+          ≡ cond (same tcp_packet.conversation q) (Some stream) (get same old.streams q))
+          → StopsOne same old tcp_packet new
+      stops_there old new was stream others_held there beside_is fits is_stopped held written = record {
+        streams = λ q. written q ∙ elim (same tcp_packet.conversation q) as (λ b. same tcp_packet.conversation q ≡ b
+            → cond b (Some stream) (get same old.streams q)
+            ≡ cond b (option_map stopped_stream (get same old.streams q)) (get same old.streams q)) [
+              | true ↦ λ passes. rw (kept_of old (Some was) there q passes) (ap Some is_stopped)
+              | false ↦ λ other. refl
+            ] refl;
+        held =
+            let nothing : stream_size stream ≡ 0 = ap stream_size is_stopped in
+            rw there (omega (arith, held, nothing, fits, beside_is));
+      }
+
+      pub stops_new : (old new : Streams S H) → get same old.streams tcp_packet.conversation ≡ None
+          → new.streams ≡ old.streams → new.held ≡ old.held → StopsOne same old tcp_packet new
+      stops_new old new none streams held = record {
+        streams = λ q. ap (λ (m : HashMap Conversation Stream S). get same m q) streams
+            ∙ elim (same tcp_packet.conversation q) as (λ b. same tcp_packet.conversation q ≡ b
+            → get same old.streams q
+            ≡ cond b (option_map stopped_stream (get same old.streams q)) (get same old.streams q)) [
+              | true ↦ λ passes. rw (kept_of old None none q passes) refl
+              | false ↦ λ other. refl
+            ] refl;
+        held = rw none (omega (arith, held));
+      }

@@ -2,7 +2,7 @@
 use Rattle.std.specs.Prelude.{◌≡◌, ℕ, ◌<◌, ◌≤◌, ◌+◌, ◌-◌, ◌==◌, if◌then◌else◌, nat_le, Bool, true, false, Option, Some, None, Result, Ok, Err}
 use Rattle.std.specs.Prelude.{List, [], ◌∷◌, ◌++◌, is_some, sum_by}
 use Rattle.std.specs.HashMap.{HashMap, get, hash_map_len}
-use Rattle.std.specs.Option.{option_map}
+use Rattle.std.specs.Option.{option_map, option_map_or}
 use Rattle.ep_packet.specs.Readable.{ReadMessage, message_at}
 use Rattle.ep_packet.specs.Readable.ReadMessage.{Icmpv4, Icmpv6, Raw, Tcp, Udp}
 use Rattle.ep_packet.specs.declared.err.packet.slice_error.SliceError.{SliceError}
@@ -149,12 +149,13 @@ pub record IsFresh (stream : Stream) : Type 0 where
 abbrev pub arrivals_of : Direction → (segment : Option (List ℕ)) → List Arrival
 arrivals_of way segment = option_list (option_map (arrival_in way) segment)
 
--- a counter counts this segment after others, if there is one; whether it follows them stays
+-- a counter counts this segment after others, if there is one; whether it follows them stays, and all of one that doesn't
 pub record CountsSegment (was : StreamCounter) (way : Direction) (segment : Option (List ℕ)) (now : StreamCounter)
     : Type 0 where
   pub counts : (kept : ℕ) (arrivals : List Arrival) → Counts kept was arrivals
       → Counts kept now (arrivals ++ arrivals_of way segment)
   pub followed : is_some now.follower ≡ is_some was.follower
+  pub stopped : was.follower ≡ None → now ≡ was
 
 abbrev pub stopped : StreamCounter → StreamCounter
 stopped counter = record counter { follower = None }
@@ -215,6 +216,18 @@ module _ {S H : Type 0} (same : Conversation → Conversation → Bool) where
   TakeBy was packet now None = AreSame was now
   TakeBy was packet now (Some tcp_packet) =
       TakeIn was packet now tcp_packet (get same was.streams tcp_packet.conversation)
+
+  -- no memory is left for what the stream of a conversation would hold: it is stopped, and the others stay
+  pub record StopsOne (was : Streams S H) (tcp_packet : TcpPacket) (now : Streams S H) : Type 0 where
+    pub streams : (conversation : Conversation) → get same now.streams conversation
+        ≡ (if same tcp_packet.conversation conversation then option_map stopped_stream (get same was.streams conversation)
+            else get same was.streams conversation)
+    pub held : now.held
+        ≡ was.held - option_map_or stream_size (get same was.streams tcp_packet.conversation) 0
+
+  abbrev pub StopBy : (was now : Streams S H) → Option TcpPacket → Type 0
+  StopBy was now None = ⊥
+  StopBy was now (Some tcp_packet) = StopsOne was tcp_packet now
 
   -- streams after a packet
   abbrev pub TakePacket : (was : Streams S H) (packet : Dissection) (now : Streams S H) → Type 0

@@ -140,6 +140,7 @@ impl StreamCounter {
             → Counts kept self.new (arrivals ++ arrival direction sequence_number acknowledgment flags payload.now ∷ []) }
         ensures ok { OnOk result (is_some self.new.follower ≡ is_some self.old.follower) }
         ensures err { OnErr result (self.new ≡ record self.old { follower = None }) }
+        ensures stopped { self.old.follower ≡ None → self.new ≡ self.old }
     {
         match &mut self.follower {
             None => Ok(()),

@@ -1,5 +1,6 @@
 //! Conversations, counted, with what goes over their connections.
 ghost use Rattle.std.specs.Prelude.{◌≡◌, ◌++◌, ◌∷◌, [], List, OnErr, OnOk};
+ghost use Rattle.std.specs.HashMap.{hash_map_len};
 ghost use Rattle.packets.specs.declared.dissection.Dissection.{Dissection};
 ghost use Rattle.packets.specs.declared.flows.transfer.Transfer.{Transfer};
 
@@ -31,6 +32,7 @@ impl<S: BuildHasher> FollowedFlows<S> {
     pub fn with_hashers(alloc: Global, conversations: S, streams: S) -> FollowedFlows<S>
         ensures flows { CountsFlows ⟦<Conversation as PartialEq>⟧.eq result.flows [] }
         ensures streams { FollowsStreams ⟦<Conversation as PartialEq>⟧.eq result.streams [] }
+        ensures none { hash_map_len result.streams.streams ≡ 0 }
     {
         FollowedFlows {
             flows: Flows::with_hasher(alloc, conversations),
