@@ -12,7 +12,7 @@ use Rattle.captures.specs.declared.translation.skipped.Skipped.{Skipped}
 use Rattle.captures.specs.declared.translation.state.State.{State}
 use Rattle.captures.specs.declared.translation.state.State.TheVariants.{Start}
 use Rattle.captures.specs.declared.unfit.Unfit.{Unfit}
-use Rattle.packets.specs.PacketRuns.{AreButLast, AreTaken, BreaksBy, EndsBy, Unbroken, UnlessOutOfMemory}
+use Rattle.packets.specs.PacketRuns.{AreButLast, AreTaken, BreaksBy, EndsBy, Leaves, Unbroken, UnlessOutOfMemory}
 
 pub weaker_match : {E : Type 0} (result : Result Unit E) (A C : Type 0) (B D : E → Type 0)
     → (A → C) → ((error : E) → B error → D error) → MatchResult result (λ _. A) B
@@ -24,6 +24,16 @@ pub by_result : {E : Type 0} (result : Result Unit E) (A B : Type 0) → OnOk re
     → OnErr result B → MatchResult result (λ _. A) (λ _. B)
 by_result (Ok done) A B ok err = ok
 by_result (Err error) A B ok err = err
+
+pub by_both : {E : Type 0} (result : Result Unit E) (A B C D : Type 0) → OnOk result A → OnOk result B
+    → OnErr result C → OnErr result D → MatchResult result (λ _. A × B) (λ _. C × D)
+by_both (Ok done) A B C D a b c d = (a, b)
+by_both (Err error) A B C D a b c d = (c, d)
+
+-- one of two, by whichever holds of two others
+pub by_either : {A B C D : Type 0} → A ⊎ B → (A → C) → (B → D) → C ⊎ D
+by_either (inl a) first second = inl (first a)
+by_either (inr b) first second = inr (second b)
 
 pub weaker_break : (writes : Bool) (error : RunError) (A B : Type 0) → (A → B)
     → BreaksBy writes error A → BreaksBy writes error B
@@ -64,9 +74,26 @@ pub weaker_unbroken : (result : Result Unit RunError) (A B C D : Type 0) → (A 
 weaker_unbroken result A B C D first second holds = either_way result A B (Unbroken result C D) holds
     (λ a here. here C D (first a)) (λ b here. here C D (second b))
 
+-- memory ran out for a packet
+pub left_by_memory : (Goes Fails Breaks : Type 0) → Goes ⊎ Fails → Leaves (Err Memory) Goes Fails Breaks
+left_by_memory Goes Fails Breaks (inl goes) = inl goes
+left_by_memory Goes Fails Breaks (inr fails) = inr (refl, fails)
+
+-- where the visitor has no other relation for it
+pub always_unbroken : (result : Result Unit RunError) (Goes Breaks : Type 0) → Leaves result Goes ⊥ Breaks
+    → Unbroken result Goes Breaks
+always_unbroken result Goes Breaks (inl holds) = holds
+always_unbroken result Goes Breaks (inr none) = absurd none.1
+
 pub unbroken_always : (result : Result Unit RunError) (A : Type 0) → Unbroken result A ⊥ → A
 unbroken_always result A holds =
     either_way result A ⊥ A holds (λ a here. a) (λ none here. absurd none)
+
+-- no write ends it
+pub left_either : (result : Result Unit RunError) (Goes Fails C : Type 0) → Leaves result Goes Fails ⊥
+    → (Goes → C) → (result ≡ Err Memory → Fails → C) → C
+left_either result Goes Fails C (inl holds) first second = first (unbroken_always result Goes holds)
+left_either result Goes Fails C (inr failed) first second = second failed.0 failed.1
 
 -- the packets that were given are the first ones, and none is left out
 pub all_first : (unfit : Unfit) (skipped : Skipped) (bytes : List ℕ) (given : List Packet)

@@ -1,5 +1,6 @@
 mod StartedLemmas
 mod StreamLemmas
+mod StreamRunLemmas
 mod BucketLemmas
 mod ConnectionLemmas
 mod ConversationLemmas

@@ -12,10 +12,10 @@ use Rattle.tcp_streams.specs.declared.connection_state.ConnectionState.{Connecti
 use Rattle.tcp_streams.specs.declared.connection_state.ConnectionState.TheVariants.{Unseen}
 use Rattle.tcp_streams.specs.declared.direction.Direction.{Direction}
 use Rattle.tcp_streams.specs.declared.stream_counter.StreamCounter.{StreamCounter}
-use Rattle.packets.specs.Streams.{AreSame, CountsSegment, CountsStream, FollowsStreams, IsFresh, IsStreamOf, StreamTakes}
-use Rattle.packets.specs.Streams.{StreamsTake, TakeBy, TakeIn, TakePacket, arrival_by, arrival_in, arrivals_in, arrivals_of}
-use Rattle.packets.specs.Streams.{held_in, is_of, option_list, picked, signal_by, signals_in, stopped, stopped_stream}
-use Rattle.packets.specs.Streams.{stream_size, tcp_packet_of, whole_segment}
+use Rattle.packets.specs.Followed.{whole_segment}
+use Rattle.packets.specs.Streams.{AreSame, CountsSegment, CountsStream, FollowsStreams, IsFresh, IsStreamOf, MissPacket, StopBy, StopsOne}
+use Rattle.packets.specs.Streams.{StreamTakes, StreamsTake, TakeBy, TakeIn, TakePacket, arrival_by, arrival_in, arrivals_in, arrivals_of}
+use Rattle.packets.specs.Streams.{held_in, is_of, signal_by, signals_in, stopped, stopped_stream, stream_size, tcp_packet_of}
 use Rattle.packets.specs.Table.{is_key}
 use Rattle.packets.specs.declared.dissection.Dissection.{Dissection}
 use Rattle.packets.specs.declared.flows.conversation.Conversation.{Conversation}
@@ -27,27 +27,29 @@ use Rattle.packets.specs.declared.flows.tcp_packet.TcpPacket.{TcpPacket}
 
 -- ---- a counter with a segment more
 
-pub no_segment : (counter : StreamCounter) (way : Direction) (segment : Option (List ℕ)) → segment ≡ None
-    → CountsSegment counter way segment counter
-no_segment counter way segment none = rw none (record {
+pub no_segment : (counter : StreamCounter) (direction : Direction) (segment : Option (List ℕ)) → segment ≡ None
+    → CountsSegment counter direction segment counter
+no_segment counter direction segment none = rw none (record {
   counts = λ kept arrivals counted. rw (append-nil arrivals) counted;
   followed = refl;
+  stopped = λ none. refl;
 })
 
-pub segment_as : {E : Type 0} (result : Result Unit E) (was now : StreamCounter) (way : Direction) (segment : List ℕ)
-    (a : Arrival) → a ≡ arrival_in way segment
+pub segment_as : {E : Type 0} (result : Result Unit E) (was now : StreamCounter) (direction : Direction) (segment : List ℕ)
+    (a : Arrival) → a ≡ arrival_in direction segment
     → ((kept : ℕ) (arrivals : List Arrival) → Counts kept was arrivals → Counts kept now (arrivals ++ a ∷ []))
-    → OnOk result (is_some now.follower ≡ is_some was.follower)
-    → OnOk result (CountsSegment was way (Some segment) now)
-segment_as (Ok done) was now way segment a same counts followed = record {
+    → OnOk result (is_some now.follower ≡ is_some was.follower) → (was.follower ≡ None → now ≡ was)
+    → OnOk result (CountsSegment was direction (Some segment) now)
+segment_as (Ok done) was now direction segment a same counts followed stopped = record {
   counts = λ kept arrivals counted. subst (λ (x : Arrival). Counts kept now (arrivals ++ x ∷ [])) same (counts kept arrivals counted);
   followed = followed;
+  stopped = stopped;
 }
-segment_as (Err error) was now way segment a same counts followed = tt
+segment_as (Err error) was now direction segment a same counts followed stopped = tt
 
-pub segment_by : {E : Type 0} (result : Result Unit E) (was now : StreamCounter) (way : Direction) (o p : Option (List ℕ))
-    → o ≡ p → OnOk result (CountsSegment was way p now) → OnOk result (CountsSegment was way o now)
-segment_by result was now way o p same counted = rw same counted
+pub segment_by : {E : Type 0} (result : Result Unit E) (was now : StreamCounter) (direction : Direction) (o p : Option (List ℕ))
+    → o ≡ p → OnOk result (CountsSegment was direction p now) → OnOk result (CountsSegment was direction o now)
+segment_by result was now direction o p same counted = rw same counted
 
 -- ---- a stream with a packet more
 
@@ -74,12 +76,12 @@ within_counts false kept counter arrivals counted = stopped_counts kept counter 
 takes_counts : (others : ℕ) (was : Stream) (tcp_packet : TcpPacket) (packet : Dissection) (now : Stream)
     (signals : List Signal) (arrivals : List Arrival) → StreamTakes others was tcp_packet packet now
     → CountsStream was signals arrivals
-    → CountsStream now (signals ++ (tcp_packet.way, tcp_packet.control) ∷ [])
-    (arrivals ++ arrivals_of tcp_packet.way (whole_segment packet))
+    → CountsStream now (signals ++ (tcp_packet.direction, tcp_packet.control) ∷ [])
+    (arrivals ++ arrivals_of tcp_packet.direction (whole_segment packet))
 takes_counts others was tcp_packet packet now signals arrivals takes counted = record {
-  state = takes.state ∙ ap (λ (s : ConnectionState). state_after s tcp_packet.way tcp_packet.control) counted.state
+  state = takes.state ∙ ap (λ (s : ConnectionState). state_after s tcp_packet.direction tcp_packet.control) counted.state
       ∙ sym (fold-append (λ (s : ConnectionState) (signal : Signal). state_after s signal.0 signal.1) Unseen signals
-      ((tcp_packet.way, tcp_packet.control) ∷ []));
+      ((tcp_packet.direction, tcp_packet.control) ∷ []));
   counts = rw takes.within (within_counts (nat_le (others + size_in takes.reached.follower) HELD_SIZE) STREAM_WINDOW
       takes.reached _ (takes.counts.counts STREAM_WINDOW arrivals counted.counts));
 }
@@ -136,6 +138,10 @@ pub on_err : {E : Type 0} (result : Result Unit E) (A B : Type 0) → (A → B) 
 on_err (Ok done) A B then holds = tt
 on_err (Err error) A B then holds = then holds
 
+pub always : {E : Type 0} (result : Result Unit E) (A : Type 0) → A → OnErr result A
+always (Ok done) A a = tt
+always (Err error) A a = a
+
 pub always_both : {E : Type 0} (result : Result Unit E) (A B : Type 0) → A → B → OnErr result (A × B)
 always_both (Ok done) A B a b = tt
 always_both (Err error) A B a b = (a, b)
@@ -145,34 +151,29 @@ after P Q R first second x holds = second x (first x holds)
 
 -- ---- the streams of conversations
 
-picked-push : {X : Type 0} (of : Dissection → Option X) (packets : List Dissection) (packet : Dissection)
-    → picked of (packets ++ packet ∷ []) ≡ picked of packets ++ option_list (of packet)
-picked-push of [] packet = simp append-nil
-picked-push of (p ∷ packets) packet = simp (picked-push of packets packet, append_assoc)
-
-chosen : {X : Type 0} (b : Bool) (o p : Option X) → b ≡ true → o ≡ p → option_list (cond b o None) ≡ option_list p
-chosen true o p passes same = ap option_list same
+chosen : {X : Type 0} (b : Bool) (o p : Option X) → b ≡ true → o ≡ p → cons_option (cond b o None) [] ≡ cons_option p []
+chosen true o p passes same = ap (λ (o : Option X). cons_option o []) same
 chosen false o p passes same = cc
 
-not_chosen : {X : Type 0} (b : Bool) (o : Option X) → b ≡ false → option_list (cond b o None) ≡ []
+not_chosen : {X : Type 0} (b : Bool) (o : Option X) → b ≡ false → cons_option (cond b o None) [] ≡ []
 not_chosen true o other = cc
 not_chosen false o other = refl
 
 push_chosen : {X : Type 0} (is : Dissection → Bool) (of : Dissection → Option X) (packets : List Dissection)
     (packet : Dissection) (p : Option X) → is packet ≡ true → of packet ≡ p
-    → picked (λ q. cond (is q) (of q) None) (packets ++ packet ∷ [])
-    ≡ picked (λ q. cond (is q) (of q) None) packets ++ option_list p
+    → filter_map (λ q. cond (is q) (of q) None) (packets ++ packet ∷ [])
+    ≡ filter_map (λ q. cond (is q) (of q) None) packets ++ cons_option p []
 push_chosen {X} is of packets packet p passes same =
-    picked-push (λ q. cond (is q) (of q) None) packets packet
-    ∙ ap (λ (xs : List X). picked (λ q. cond (is q) (of q) None) packets ++ xs) (chosen (is packet) (of packet) p passes same)
+    filter_map-append (λ q. cond (is q) (of q) None) packets (packet ∷ [])
+    ∙ ap (λ (xs : List X). filter_map (λ q. cond (is q) (of q) None) packets ++ xs) (chosen (is packet) (of packet) p passes same)
 
 push_not_chosen : {X : Type 0} (is : Dissection → Bool) (of : Dissection → Option X) (packets : List Dissection)
     (packet : Dissection) → is packet ≡ false
-    → picked (λ q. cond (is q) (of q) None) (packets ++ packet ∷ []) ≡ picked (λ q. cond (is q) (of q) None) packets
+    → filter_map (λ q. cond (is q) (of q) None) (packets ++ packet ∷ []) ≡ filter_map (λ q. cond (is q) (of q) None) packets
 push_not_chosen {X} is of packets packet other =
-    picked-push (λ q. cond (is q) (of q) None) packets packet
-    ∙ ap (λ (xs : List X). picked (λ q. cond (is q) (of q) None) packets ++ xs) (not_chosen (is packet) (of packet) other)
-    ∙ append-nil (picked (λ q. cond (is q) (of q) None) packets)
+    filter_map-append (λ q. cond (is q) (of q) None) packets (packet ∷ [])
+    ∙ ap (λ (xs : List X). filter_map (λ q. cond (is q) (of q) None) packets ++ xs) (not_chosen (is packet) (of packet) other)
+    ∙ append-nil (filter_map (λ q. cond (is q) (of q) None) packets)
 
 by_stream : (n : ℕ) (o p : Option Stream) (signals signals' : List Signal) (arrivals arrivals' : List Arrival) → o ≡ p
     → signals ≡ signals' → arrivals ≡ arrivals' → IsStreamOf n p signals' arrivals' → IsStreamOf n o signals arrivals
@@ -204,13 +205,20 @@ module _ {S H : Type 0} (same : Conversation → Conversation → Bool) where
     bounded = rw are.held follows.bounded;
   }
 
-module _ {S H : Type 0} (same : Conversation → Conversation → Bool) (was mid now : Streams S H) (packet : Dissection)
-    (are : AreSame same was mid) where
-  unmoved : AreSame same mid now → AreSame same was now
-  unmoved next = record {
+  pub same_after : (was mid now : Streams S H) → AreSame same was mid → AreSame same mid now → AreSame same was now
+  same_after was mid now are next = record {
     held = next.held ∙ are.held;
     len = next.len ∙ are.len;
     streams = λ q. next.streams q ∙ are.streams q;
+  }
+
+module _ {S H : Type 0} (same : Conversation → Conversation → Bool) (was mid now : Streams S H) (packet : Dissection)
+    (are : AreSame same was mid) where
+  stop_moved : (o : Option TcpPacket) → StopBy same mid now o → StopBy same was now o
+  stop_moved None stops = absurd stops
+  stop_moved (Some tcp_packet) stops = record {
+    streams = λ q. rw (sym (are.streams q)) (stops.streams q);
+    held = rw (sym are.held, sym (are.streams tcp_packet.conversation)) stops.held;
   }
 
   take_moved : (tcp_packet : TcpPacket) (stream : Stream) (n m : ℕ) → n ≡ m
@@ -227,19 +235,23 @@ module _ {S H : Type 0} (same : Conversation → Conversation → Bool) (was mid
       → TakeIn same was packet now tcp_packet o
   take_in_moved tcp_packet None takes = (
     (λ few. let started = takes.0 (rw are.len few) in (started.0, started.1, take_moved tcp_packet started.0 _ _ are.held started.2)),
-    (λ full. unmoved (takes.1 (rw are.len full))),
+    (λ full. same_after same was mid now are (takes.1 (rw are.len full))),
   )
   take_in_moved tcp_packet (Some stream) takes =
       take_moved tcp_packet stream _ _ (ap (λ (n : ℕ). n - stream_size stream) are.held) takes
 
   take_by_moved : (o : Option TcpPacket) → TakeBy same mid packet now o → TakeBy same was packet now o
-  take_by_moved None takes = unmoved takes
+  take_by_moved None takes = same_after same was mid now are takes
   take_by_moved (Some tcp_packet) takes = take_in_moved tcp_packet (get same was.streams tcp_packet.conversation)
       (subst (λ (o : Option Stream). TakeIn same mid packet now tcp_packet o) (are.streams tcp_packet.conversation) takes)
 
   -- what a packet does to the same streams
   pub takes_moved : TakePacket same mid packet now → TakePacket same was packet now
   takes_moved takes = take_by_moved (tcp_packet_of packet) takes
+
+  -- and where there is no memory for it
+  pub miss_moved : StopBy same mid now (tcp_packet_of packet) → MissPacket same was packet now
+  miss_moved stops = inr (stop_moved (tcp_packet_of packet) stops)
 
 module _ (same : Conversation → Conversation → Bool) (packets : List Dissection) (packet : Dissection) where
   -- a packet of no conversation over TCP
@@ -261,15 +273,15 @@ module _ (same : Conversation → Conversation → Bool) (packets : List Dissect
 
     signals_more : (q : Conversation) → same tcp_packet.conversation q ≡ true
         → signals_in same q (packets ++ packet ∷ [])
-        ≡ signals_in same q packets ++ (tcp_packet.way, tcp_packet.control) ∷ []
+        ≡ signals_in same q packets ++ (tcp_packet.direction, tcp_packet.control) ∷ []
     signals_more q passes = push_chosen (is_of same q) (λ p. signal_by (tcp_packet_of p)) packets packet
-        (Some (tcp_packet.way, tcp_packet.control)) (its_own q ∙ passes) (ap signal_by is)
+        (Some (tcp_packet.direction, tcp_packet.control)) (its_own q ∙ passes) (ap signal_by is)
 
     arrivals_more : (q : Conversation) → same tcp_packet.conversation q ≡ true
         → arrivals_in same q (packets ++ packet ∷ []) ≡ arrivals_in same q packets
-        ++ arrivals_of tcp_packet.way (whole_segment packet)
+        ++ arrivals_of tcp_packet.direction (whole_segment packet)
     arrivals_more q passes = push_chosen (is_of same q) (λ p. arrival_by (tcp_packet_of p) p) packets packet
-        (option_map (arrival_in tcp_packet.way) (whole_segment packet)) (its_own q ∙ passes)
+        (option_map (arrival_in tcp_packet.direction) (whole_segment packet)) (its_own q ∙ passes)
         (ap (λ (o : Option TcpPacket). arrival_by o packet) is)
 
     others : (n : ℕ) (o : Option Stream) (q : Conversation) → same tcp_packet.conversation q ≡ false
@@ -468,3 +480,41 @@ module _ (same : Conversation → Conversation → Bool) (packets : List Dissect
         held = follows.held;
         bounded = follows.bounded;
       })
+
+      -- what its stream shows where it is stopped
+      kept_of : (old : Streams S H) (o : Option Stream) → get same old.streams tcp_packet.conversation ≡ o
+          → (q : Conversation) → same tcp_packet.conversation q ≡ true → get same old.streams q ≡ o
+      kept_of old o there q passes =
+          subst (λ (c : Conversation). get same old.streams c ≡ o) (exact tcp_packet.conversation q passes) there
+
+      pub stops_there : (old new : Streams S H) (was stream : Stream) (others_held : ℕ)
+          → get same old.streams tcp_packet.conversation ≡ Some was → others_held ≡ old.held - stream_size was
+          → others_held < 2 ^ 64 → stream ≡ stopped_stream was
+          → new.held ≡ min (others_held + stream_size stream) (2 ^ 64 - 1)
+          → ((q : Conversation) → get same new.streams q
+          ≡ cond (same tcp_packet.conversation q) (Some stream) (get same old.streams q))
+          → StopsOne same old tcp_packet.conversation new
+      stops_there old new was stream others_held there beside_is fits is_stopped held written = record {
+        streams = λ q. written q ∙ elim (same tcp_packet.conversation q) as (λ b. same tcp_packet.conversation q ≡ b
+            → cond b (Some stream) (get same old.streams q)
+            ≡ cond b (option_map stopped_stream (get same old.streams q)) (get same old.streams q)) [
+              | true ↦ λ passes. rw (kept_of old (Some was) there q passes) (ap Some is_stopped)
+              | false ↦ λ other. refl
+            ] refl;
+        held =
+            let nothing : stream_size stream ≡ 0 = ap stream_size is_stopped in
+            rw there (omega (arith, held, nothing, fits, beside_is));
+      }
+
+      pub stops_new : (old new : Streams S H) → get same old.streams tcp_packet.conversation ≡ None
+          → new.streams ≡ old.streams → new.held ≡ old.held → StopsOne same old tcp_packet.conversation new
+      stops_new old new none streams held = record {
+        streams = λ q. ap (λ (m : HashMap Conversation Stream S). get same m q) streams
+            ∙ elim (same tcp_packet.conversation q) as (λ b. same tcp_packet.conversation q ≡ b
+            → get same old.streams q
+            ≡ cond b (option_map stopped_stream (get same old.streams q)) (get same old.streams q)) [
+              | true ↦ λ passes. rw (kept_of old None none q passes) refl
+              | false ↦ λ other. refl
+            ] refl;
+        held = rw none (omega (arith, held));
+      }

@@ -65,6 +65,10 @@ Unbroken (Err TooManyReads) Goes Breaks = Goes
 Unbroken (Err (Capture error position)) Goes Breaks = Goes
 Unbroken (Err (BadLine number)) Goes Breaks = Goes
 
+-- the same, or memory ran out for a packet and the second holds
+abbrev pub Leaves : Result Unit RunError → (Goes Fails Breaks : Type 0) → Type 0
+Leaves result Goes Fails Breaks = Unbroken result Goes Breaks ⊎ ((result ≡ Err Memory) × Fails)
+
 -- of a text this is written: all, or a prefix where a write ended the run
 abbrev pub IsWritten : Result Unit RunError → (text written : List ℕ) → Type 0
 IsWritten result text written =

@@ -1,33 +1,33 @@
 -- What is counted of the bytes that go over the connections of TCP conversations.
-use Rattle.std.specs.Prelude.{◌≡◌, ℕ, ◌<◌, ◌≤◌, ◌+◌, ◌-◌, ◌==◌, if◌then◌else◌, nat_le, Bool, true, false, Option, Some, None, Result, Ok, Err}
-use Rattle.std.specs.Prelude.{List, [], ◌∷◌, ◌++◌, is_some, sum_by}
+use Rattle.std.specs.Prelude.{◌≡◌, ◌⊎◌, ℕ, ◌<◌, ◌≤◌, ◌+◌, ◌-◌, ◌==◌, if◌then◌else◌, nat_le, not, Bool, true, false}
+use Rattle.std.specs.Prelude.{Option, Some, None, Result, Err, List, [], ◌∷◌, ◌++◌, is_some, sum_by}
 use Rattle.std.specs.HashMap.{HashMap, get, hash_map_len}
-use Rattle.std.specs.Option.{option_map}
-use Rattle.ep_packet.specs.Readable.{ReadMessage, message_at}
-use Rattle.ep_packet.specs.Readable.ReadMessage.{Icmpv4, Icmpv6, Raw, Tcp, Udp}
-use Rattle.ep_packet.specs.declared.err.packet.slice_error.SliceError.{SliceError}
-use Rattle.ep_packet.specs.declared.sliced_packet.SlicedPacket.{SlicedPacket}
-use Rattle.ep_packet.specs.declared.transport.transport_slice.TransportSlice.{TransportSlice}
-use Rattle.ep_packet.specs.declared.transport.transport_slice.TransportSlice.TheVariants as transport
+use Rattle.std.specs.List.{cons_option, filter_map}
+use Rattle.std.specs.Option.{option_map, option_map_or}
+use Rattle.captures.specs.declared.translation.run_error.RunError.{RunError}
+use Rattle.captures.specs.declared.translation.run_error.RunError.TheVariants.{Memory}
 use Rattle.ep_tcpudp.specs.Tcp as tcp
 use Rattle.tcp_streams.specs.ConnectionStates.{Signal, control_in, state_after, state_of}
-use Rattle.tcp_streams.specs.Counting.{Arrival, Counts, arrival, size_in}
+use Rattle.tcp_streams.specs.Counting.{Arrival, Counts, arrival, counts_in, size_in}
 use Rattle.tcp_streams.specs.declared.connection_state.Control.{Control}
 use Rattle.tcp_streams.specs.declared.direction.Direction.{Direction}
 use Rattle.tcp_streams.specs.declared.direction.Direction.TheVariants.{FromLower, FromHigher}
 use Rattle.tcp_streams.specs.declared.segment_flags.SegmentFlags.{SegmentFlags}
 use Rattle.tcp_streams.specs.declared.stream_counter.StreamCounter.{StreamCounter}
-use Rattle.packets.specs.Followed.{is_whole}
+use Rattle.tcp_streams.specs.declared.stream_counter.StreamCounts.{StreamCounts}
+use Rattle.packets.specs.Conversations.{ascends, from_lower}
+use Rattle.packets.specs.Flows.{connection_of}
+use Rattle.packets.specs.Followed.{whole_segment}
 use Rattle.packets.specs.LaxLayers.{lax_layers_of}
 use Rattle.packets.specs.MessageHeaders.{message_header}
 use Rattle.packets.specs.Table.{is_key}
 use Rattle.packets.specs.Transfers.{transfer_of}
 use Rattle.packets.specs.declared.dissection.Dissection.{Dissection}
-use Rattle.packets.specs.declared.dissection.Fragment.{Fragment}
-use Rattle.packets.specs.declared.dissection.Fragment.TheVariants as fragment
 use Rattle.packets.specs.declared.flows.conversation.Conversation.{Conversation}
+use Rattle.packets.specs.declared.flows.row.Row.{Row}
 use Rattle.packets.specs.declared.flows.stream.Stream.{Stream}
 use Rattle.packets.specs.declared.flows.stream.TheConstants.{STREAM_WINDOW}
+use Rattle.packets.specs.declared.flows.stream_row.StreamRow.{StreamRow}
 use Rattle.packets.specs.declared.flows.streams.Streams.{Streams}
 use Rattle.packets.specs.declared.flows.streams.TheConstants.{HELD_SIZE, STREAM_COUNT}
 use Rattle.packets.specs.declared.flows.tcp_packet.TcpPacket.{TcpPacket}
@@ -36,9 +36,9 @@ use Rattle.packets.specs.declared.message_header.MessageHeader.{MessageHeader}
 
 -- ---- a packet of TCP
 
-abbrev pub way_of : (ascends : Bool) → Direction
-way_of true = FromLower
-way_of false = FromHigher
+abbrev pub direction_by : (ascends : Bool) → Direction
+direction_by true = FromLower
+direction_by false = FromHigher
 
 abbrev pub control_by : MessageHeader → Control
 control_by header = control_in header.syn header.ack header.fin header.rst
@@ -47,7 +47,7 @@ abbrev pub tcp_packet_in : (ascends : Bool) → Option Conversation → Option M
 tcp_packet_in ascends None header = None
 tcp_packet_in ascends (Some conversation) None = None
 tcp_packet_in ascends (Some conversation) (Some header) = if conversation.protocol.0 == 6
-    then Some (record { conversation = conversation; way = way_of ascends; control = control_by header }) else None
+    then Some (record { conversation = conversation; direction = direction_by ascends; control = control_by header }) else None
 
 -- the conversation of a packet with a TCP header, its direction and what its flags do; the protocol number of TCP is 6
 abbrev pub tcp_packet : Transfer → Option MessageHeader → Option TcpPacket
@@ -59,37 +59,6 @@ tcp_packet_of packet = tcp_packet (transfer_of packet)
 
 -- ---- the segment that is followed
 
-abbrev pub transport_segment : Option TransportSlice → Option (List ℕ)
-transport_segment None = None
-transport_segment (Some (transport.Udp datagram)) = None
-transport_segment (Some (transport.Tcp segment)) = Some segment
-transport_segment (Some (transport.Icmpv4 message)) = None
-transport_segment (Some (transport.Icmpv6 message)) = None
-
-abbrev pub layers_segment : Result SlicedPacket SliceError → Option (List ℕ)
-layers_segment (Ok packet) = transport_segment packet.transport
-layers_segment (Err e) = None
-
-abbrev pub completed_segment : Result ReadMessage SliceError → Option (List ℕ)
-completed_segment (Ok (Icmpv4 message)) = None
-completed_segment (Ok (Tcp segment)) = Some segment
-completed_segment (Ok (Udp datagram)) = None
-completed_segment (Ok (Icmpv6 message)) = None
-completed_segment (Ok (Raw bytes)) = None
-completed_segment (Err e) = None
-
-abbrev pub segment_in : Result SlicedPacket SliceError → Option Fragment → Option (List ℕ)
-segment_in layers None = layers_segment layers
-segment_in layers (Some (fragment.Waits started)) = layers_segment layers
-segment_in layers (Some (fragment.Completes started message)) =
-    completed_segment (message_at message.ip_number.0 message.payload.items)
-segment_in layers (Some (fragment.Refused started error)) = layers_segment layers
-
--- the segment of a packet, or of the message that it completes, if its IP packet is whole
-abbrev pub whole_segment : Dissection → Option (List ℕ)
-whole_segment packet = if is_whole packet.captured_len packet.wire_len packet.layers
-    then segment_in packet.layers packet.fragment else None
-
 abbrev pub flags_in : List ℕ → SegmentFlags
 flags_in segment = record { syn = tcp.syn_of segment; fin = tcp.fin_of segment; rst = tcp.rst_of segment }
 
@@ -98,27 +67,18 @@ acknowledgment_in segment = if tcp.ack_of segment then Some (tcp.acknowledgment_
 
 -- as it is followed
 abbrev pub arrival_in : Direction → (segment : List ℕ) → Arrival
-arrival_in way segment = arrival way (tcp.sequence_number_of segment) (acknowledgment_in segment) (flags_in segment)
+arrival_in direction segment = arrival direction (tcp.sequence_number_of segment) (acknowledgment_in segment) (flags_in segment)
     (tcp.payload_of segment)
 
 -- ---- those of a conversation
 
-abbrev pub option_list : {X : Type 0} → Option X → List X
-option_list None = []
-option_list (Some x) = x ∷ []
-
--- what packets have of something, each at most one, in their order
-abbrev pub picked : {X : Type 0} → (Dissection → Option X) → List Dissection → List X
-picked of [] = []
-picked of (packet ∷ packets) = option_list (of packet) ++ picked of packets
-
 abbrev pub signal_by : Option TcpPacket → Option Signal
 signal_by None = None
-signal_by (Some packet) = Some (packet.way, packet.control)
+signal_by (Some packet) = Some (packet.direction, packet.control)
 
 abbrev pub arrival_by : Option TcpPacket → Dissection → Option Arrival
 arrival_by None packet = None
-arrival_by (Some tcp_packet) packet = option_map (arrival_in tcp_packet.way) (whole_segment packet)
+arrival_by (Some tcp_packet) packet = option_map (arrival_in tcp_packet.direction) (whole_segment packet)
 
 -- a packet with a TCP header is one of a conversation
 abbrev pub is_of : (Conversation → Conversation → Bool) → Conversation → Dissection → Bool
@@ -126,11 +86,11 @@ is_of same conversation packet = is_key same conversation (option_map (λ p. p.c
 
 abbrev pub signals_in : (Conversation → Conversation → Bool) → Conversation → List Dissection → List Signal
 signals_in same conversation packets =
-    picked (λ p. if is_of same conversation p then signal_by (tcp_packet_of p) else None) packets
+    filter_map (λ p. if is_of same conversation p then signal_by (tcp_packet_of p) else None) packets
 
 abbrev pub arrivals_in : (Conversation → Conversation → Bool) → Conversation → List Dissection → List Arrival
 arrivals_in same conversation packets =
-    picked (λ p. if is_of same conversation p then arrival_by (tcp_packet_of p) p else None) packets
+    filter_map (λ p. if is_of same conversation p then arrival_by (tcp_packet_of p) p else None) packets
 
 -- ---- what is counted
 
@@ -147,14 +107,15 @@ pub record IsFresh (stream : Stream) : Type 0 where
 -- ---- a stream with a packet more
 
 abbrev pub arrivals_of : Direction → (segment : Option (List ℕ)) → List Arrival
-arrivals_of way segment = option_list (option_map (arrival_in way) segment)
+arrivals_of direction segment = cons_option (option_map (arrival_in direction) segment) []
 
--- a counter counts this segment after others, if there is one; whether it follows them stays
-pub record CountsSegment (was : StreamCounter) (way : Direction) (segment : Option (List ℕ)) (now : StreamCounter)
+-- a counter counts this segment after others, if there is one; whether it follows them stays, and all of one that doesn't
+pub record CountsSegment (was : StreamCounter) (direction : Direction) (segment : Option (List ℕ)) (now : StreamCounter)
     : Type 0 where
   pub counts : (kept : ℕ) (arrivals : List Arrival) → Counts kept was arrivals
-      → Counts kept now (arrivals ++ arrivals_of way segment)
+      → Counts kept now (arrivals ++ arrivals_of direction segment)
   pub followed : is_some now.follower ≡ is_some was.follower
+  pub stopped : was.follower ≡ None → now ≡ was
 
 abbrev pub stopped : StreamCounter → StreamCounter
 stopped counter = record counter { follower = None }
@@ -170,9 +131,9 @@ counter_within others counter =
 -- a stream takes a packet while so much is held of others
 pub record StreamTakes (others : ℕ) (was : Stream) (tcp_packet : TcpPacket) (packet : Dissection) (now : Stream)
     : Type 0 where
-  pub state : now.state ≡ state_after was.state tcp_packet.way tcp_packet.control
+  pub state : now.state ≡ state_after was.state tcp_packet.direction tcp_packet.control
   pub reached : StreamCounter
-  pub counts : CountsSegment was.counter tcp_packet.way (whole_segment packet) reached
+  pub counts : CountsSegment was.counter tcp_packet.direction (whole_segment packet) reached
   pub within : now.counter ≡ counter_within others reached
 
 -- how much is held of a stream
@@ -216,9 +177,41 @@ module _ {S H : Type 0} (same : Conversation → Conversation → Bool) where
   TakeBy was packet now (Some tcp_packet) =
       TakeIn was packet now tcp_packet (get same was.streams tcp_packet.conversation)
 
+  -- no memory is left for what the stream of a conversation would hold: it is stopped, and the others stay
+  pub record StopsOne (was : Streams S H) (conversation : Conversation) (now : Streams S H) : Type 0 where
+    pub streams : (other : Conversation) → get same now.streams other
+        ≡ (if same conversation other then option_map stopped_stream (get same was.streams other)
+        else get same was.streams other)
+    pub held : now.held ≡ was.held - option_map_or stream_size (get same was.streams conversation) 0
+
+  abbrev pub StopBy : (was now : Streams S H) → Option TcpPacket → Type 0
+  StopBy was now None = ⊥
+  StopBy was now (Some tcp_packet) = StopsOne was tcp_packet.conversation now
+
   -- streams after a packet
   abbrev pub TakePacket : (was : Streams S H) (packet : Dissection) (now : Streams S H) → Type 0
   TakePacket was packet now = TakeBy was packet now (tcp_packet_of packet)
+
+  -- where there is no memory for a packet
+  abbrev pub MissPacket : (was : Streams S H) (packet : Dissection) (now : Streams S H) → Type 0
+  MissPacket was packet now = AreSame was now ⊎ StopBy was now (tcp_packet_of packet)
+
+  -- streams after packets, one after the other
+  abbrev pub TakePackets : (was : Streams S H) (packets : List Dissection) (now : Streams S H) → Type 0
+  TakePackets was [] now = AreSame was now
+  TakePackets was (packet ∷ packets) now =
+      (next : Streams S H) × TakePacket was packet next × TakePackets next packets now
+
+  -- and then there was no memory left for what the stream of a conversation would hold
+  abbrev pub TakeAndStop : (was : Streams S H) (packets : List Dissection) (now : Streams S H) → Type 0
+  TakeAndStop was packets now = (reached : Streams S H) × TakePackets was packets reached
+      × (conversation : Conversation) × StopsOne reached conversation now
+
+  -- streams after a run over packets with this result
+  abbrev pub LeavesStreams : (was : Streams S H) (packets : List Dissection) → Result Unit RunError
+      → (now : Streams S H) → Type 0
+  LeavesStreams was packets result now = TakePackets was packets now
+      ⊎ ((result ≡ Err Memory) × TakeAndStop was packets now)
 
 -- ---- what they show of packets
 
@@ -235,3 +228,24 @@ pub record FollowsStreams {S H : Type 0} (same : Conversation → Conversation �
       (arrivals_in same conversation packets)
   pub held : streams.held ≡ held_in streams.streams
   pub bounded : streams.held ≤ HELD_SIZE
+
+-- ---- what is reported of them
+
+abbrev pub no_counts : StreamCounts
+no_counts = record { repeated = 0; gaps = 0; missing = 0; conflicts = 0 }
+
+-- of the stream of a conversation, if there is one; the conversation is given in the direction of its first packet
+abbrev pub stream_row : Conversation → Option Stream → StreamRow
+stream_row conversation None =
+    record { state = None; forward = no_counts; backward = no_counts; is_followed = false }
+stream_row conversation (Some stream) = record {
+  state = Some stream.state;
+  forward = counts_in (direction_by (ascends conversation)) stream.counter;
+  backward = counts_in (direction_by (not (ascends conversation))) stream.counter;
+  is_followed = is_some stream.counter.follower;
+}
+
+-- of a row of TCP whose ports are known; streams are those of conversations from the lower end
+abbrev pub stream_row_of : (of : Conversation → Option Stream) → Row → Option StreamRow
+stream_row_of of row =
+    if is_some (connection_of row) then Some (stream_row row.conversation (of (from_lower row.conversation))) else None

@@ -5,3 +5,4 @@ pub(crate) mod event;
 pub(crate) mod event_object;
 pub(crate) mod event_text;
 pub(crate) mod following;
+pub(crate) mod whole_segment;

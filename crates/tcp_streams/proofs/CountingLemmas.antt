@@ -1,8 +1,7 @@
 -- What is counted of connections that are followed, with one segment more.
-use Rattle.std.proofs.Common.{◌≡◌, ◌∙◌, ℕ, ◌+◌, ◌-◌, ◌^◌, ◌<◌, ◌≤◌, cond, fold, Option, Some, None, List, [], ◌∷◌, ◌++◌, length, map, min}
+use Rattle.std.proofs.Common.{◌≡◌, ◌∙◌, ℕ, ◌+◌, ◌-◌, ◌^◌, ◌<◌, ◌≤◌, cond, fold, Some, None, List, [], ◌∷◌, ◌++◌, length, min}
 use Rattle.std.proofs.Common.{arith, refl, sym, ap}
 use Rattle.std.specs.List.{sum_by}
-use Rattle.std.specs.Prelude.{Err, IfOk, Ok, Result}
 use Rattle.std.proofs.lemmas.Grind.{fold-append}
 use Rattle.std.proofs.lemmas.List.{append-nil, append_assoc}
 use Rattle.std.proofs.lemmas.List.Sums.{sum_by-append}
@@ -14,12 +13,10 @@ use Rattle.tcp_streams.specs.declared.gaps.Gap.{Gap}
 use Rattle.tcp_streams.specs.declared.stream_counter.StreamCounter.{StreamCounter}
 use Rattle.tcp_streams.specs.declared.stream_counter.StreamCounts.{StreamCounts}
 use Rattle.tcp_streams.specs.ConnectionStates.{by_direction}
-use Rattle.tcp_streams.specs.Counting.{AreAllLost, AreLost, AreOutcomes, Arrival, Counts, CountsCourse, Course, GivesUpAll, IsFollowedAs}
-use Rattle.tcp_streams.specs.Counting.{IsLost, IsOutcome, IsUpTo, Outcome, arrivals_in, connection_in, connection_past}
+use Rattle.tcp_streams.specs.Counting.{AreLost, AreOutcomes, Arrival, Counts, Course, GivesUpAll, IsFollowedAs}
+use Rattle.tcp_streams.specs.Counting.{IsLost, IsOutcome, Outcome, course_arrivals, connection_in, connection_past}
 use Rattle.tcp_streams.specs.Counting.{connection_without_all, counter_with, counts_of, counts_with, counts_without, lost_size}
-use Rattle.tcp_streams.specs.Following.{Connection, Follows, ShowsSide, connection_without, no_connection, side_in}
-use Rattle.tcp_streams.specs.StreamBuf.{Contents}
-use Rattle.tcp_streams.specs.Following.{Side, buf_in}
+use Rattle.tcp_streams.specs.Following.{Connection, Follows, connection_without, no_connection, side_in}
 use Rattle.tcp_streams.specs.Segments.{text_of}
 use Rattle.tcp_streams.proofs.BufLemmas.{taken_in_text}
 use Rattle.tcp_streams.proofs.LossLemmas.{lost_bounds}
@@ -212,7 +209,7 @@ connection_in-push kept course a outcome =
     fold-append (connection_past kept) no_connection course ((a, outcome) ∷ [])
 
 arrivals-push : (course : Course) (a : Arrival) (outcome : Outcome)
-    → arrivals_in (course ++ (a, outcome) ∷ []) ≡ arrivals_in course ++ a ∷ []
+    → course_arrivals (course ++ (a, outcome) ∷ []) ≡ course_arrivals course ++ a ∷ []
 arrivals-push [] a outcome = refl
 arrivals-push (e ∷ course) a outcome = ap (λ (xs : List Arrival). e.0 ∷ xs) (arrivals-push course a outcome)
 
@@ -229,7 +226,7 @@ counts_followed kept old now arrivals a was followed missing some window does co
     let at = rw some at c.up_to in
     let here = rw (at.0) at (does (connection_in kept course) at.1) in
     let outcome : Outcome = record { lost = here.0; followed = followed } in
-    let same : arrivals ≡ arrivals_in course = counted.2 ∙ rw at.2 (simp append-nil) in (
+    let same : arrivals ≡ course_arrivals course = counted.2 ∙ rw at.2 (simp append-nil) in (
       course ++ (a, outcome) ∷ [],
       [],
       rw (same, arrivals-push course a outcome, append-nil),

@@ -11,6 +11,7 @@ mod LossLemmas
 mod NumberLaws
 mod NumberLemmas
 mod QueueLemmas
+mod RetainLemmas
 mod SegmentLemmas
 mod SparseLemmas
 mod StateLemmas

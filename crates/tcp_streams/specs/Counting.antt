@@ -1,5 +1,5 @@
 -- What is counted of the connections between two endpoints while they are followed.
-use Rattle.std.specs.Prelude.{◌≡◌, ℕ, ◌+◌, ◌-◌, ◌^◌, Bool, not, if◌then◌else◌, is_some, min, Option, Some, None}
+use Rattle.std.specs.Prelude.{◌≡◌, ℕ, ◌+◌, ◌-◌, ◌^◌, if◌then◌else◌, is_some, min, Option, Some, None}
 use Rattle.std.specs.Prelude.{List, [], ◌∷◌, ◌++◌, fold, map, sum_by}
 use Rattle.tcp_streams.specs.declared.direction.Direction.{Direction}
 use Rattle.tcp_streams.specs.declared.direction.Direction.TheVariants.{FromLower, FromHigher}
@@ -104,8 +104,8 @@ AreOutcomes kept connection (e ∷ es) =
 abbrev pub connection_in : (kept : ℕ) → Course → Connection
 connection_in kept course = fold (connection_past kept) no_connection course
 
-abbrev pub arrivals_in : Course → List Arrival
-arrivals_in course = map (λ e. e.0) course
+abbrev pub course_arrivals : Course → List Arrival
+course_arrivals course = map (λ e. e.0) course
 
 -- ---- what is counted
 
@@ -167,4 +167,4 @@ pub record CountsCourse (kept : ℕ) (counter : StreamCounter) (course : Course)
 -- it counts these segments: as long as it follows them all of them, and else the first ones
 abbrev pub Counts : (kept : ℕ) → StreamCounter → List Arrival → Type 0
 Counts kept counter arrivals = (course : Course) × (rest : List Arrival)
-    × (arrivals ≡ arrivals_in course ++ rest) × CountsCourse kept counter course rest
+    × (arrivals ≡ course_arrivals course ++ rest) × CountsCourse kept counter course rest

@@ -2,9 +2,12 @@
 use Rattle.std.specs.Prelude.{◌≡◌, ⊤, ℕ, ◌+◌, ◌-◌, ◌^◌, ◌<◌, ◌≤◌, Bool, true, false, not, ◌||◌, is_some, if◌then◌else◌}
 use Rattle.std.specs.Prelude.{max, min, List, [], ◌∷◌, filter, fold, length, map, slice_get, sum_by, take}
 use Rattle.std.specs.Prelude.{Option, Some, None}
+use Rattle.std.specs.Fn.{Called}
 use Rattle.std.specs.List.{AllByRecursion, IsDistinct, list_any}
 use Rattle.std.specs.Option.{option_map_or}
 use Rattle.std.specs.Map.{keys_of, lookup, lookup_entry, remove_entry, set_value}
+use denote.Param.Members.{Mut}
+use denote.Ref.{Bor}
 use Rattle.tcp_streams.specs.declared.connection_state.ConnectionState.TheVariants.{Unseen}
 use Rattle.tcp_streams.specs.declared.direction.Direction.{Direction}
 use Rattle.tcp_streams.specs.declared.direction.Direction.TheVariants.{FromLower, FromHigher}
@@ -88,6 +91,14 @@ abbrev pub table_with_value : {K T : Type 0} → (K → K → Bool) → Table K 
 table_with_value same table key value = option_map_or
     (λ flow. record table { flows = set_value (same key) table.flows (record flow { value = value }) })
     (flow_at same table key) table
+
+-- a call of a test with a `&` to a key and one to its flow may return this answer, and leave the test like this
+pub record TestedAt {F K T : Type 0} (g : Mut F (Bor K × (Bor (Flow T) × Unit {0})) Bool) (test : F) (entry : K × Flow T)
+    (answer : Bool) (left : F) : Type 0 where
+  pub key : Bor K
+  pub flow : Bor (Flow T)
+  pub shows : (key.now ≡ entry.0) × (flow.now ≡ entry.1)
+  pub called : Called g test (key, (flow, tt)) answer left
 
 -- ---- what holds of all tables
 

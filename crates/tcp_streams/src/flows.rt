@@ -1,14 +1,16 @@
 //! Connections by their keys.
 
 ghost use Rattle.std.specs.Prelude.{◌≡◌, ◌-◌, ◌<◌, ◌≤◌, ◌↔◌, [], IfOk, IsOk, IsSome, IsTrue, MatchOption, OnErr, OnOk, length};
-ghost use Rattle.std.specs.Prelude.{option_copied, option_map, slice_get, take};
+ghost use Rattle.std.specs.Prelude.{option_copied, option_map, reverse, slice_get, take};
 ghost use Rattle.std.specs.List.{IsDistinct};
+ghost use Rattle.std.specs.List.Retain.{IsFiltered};
 ghost use Rattle.std.specs.NonZero.{non_zero_usize_get};
 ghost use Rattle.std.specs.Map.{keys_of, remove_entry};
 ghost use Rattle.std.specs.Map.Iter.{deref_pair};
 
 use super::flow::{Flow, FlowPacket};
 use super::flow_key::FlowKey;
+use super::retain_flows::retain_flows;
 use lru::LruCache;
 use std::alloc::{AllocError, Global};
 use std::hash::{BuildHasher, BuildHasherDefault, FoldHasher, Hash};
@@ -45,7 +47,7 @@ impl<T: Drop, K: Eq + Hash + Drop> Flows<T, K, BuildHasherDefault<FoldHasher>> {
 }
 
 impl<T: Drop, K: Eq + Hash + Drop, S: BuildHasher + Drop> Flows<T, K, S> {
-    ghost use Rattle.tcp_streams.specs.Flows.{Table, counted_flow, dropped_flow, flow_at, table_with};
+    ghost use Rattle.tcp_streams.specs.Flows.{Table, TestedAt, counted_flow, dropped_flow, flow_at, table_with};
     ghost use Rattle.tcp_streams.specs.Flows.{table_with_value};
 
     /// No connection, and at most so many, whose keys are hashed by this state. Where untrusted
@@ -151,6 +153,20 @@ impl<T: Drop, K: Eq + Hash + Drop, S: BuildHasher + Drop> Flows<T, K, S> {
         } }
     {
         self.flows.pop_lru()
+    }
+
+    /// Keeps the flows for which the test returns `true`, and drops the others. The test is called
+    /// once for each, first for that whose last packet came before those of all others. The order of
+    /// flows stays. It takes no memory.
+    pub fn retain<F: FnMut(&K, &Flow<T>) -> bool>(&mut self, keep: F)
+    where
+        K: Copy,
+        requires { F.IsAlwaysCallable keep }
+        // A list of flows begins with the newest one.
+        ensures flows { IsFiltered (TestedAt F.FnMut) keep (reverse self.old.flows) (reverse self.new.flows) }
+        ensures most { self.new.most ≡ self.old.most }
+    {
+        retain_flows(&mut self.flows, keep);
     }
 
     /// How many flows there are.

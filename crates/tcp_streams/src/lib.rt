@@ -14,6 +14,7 @@ mod gaps;
 pub mod laws;
 mod packet_key;
 mod refusal;
+mod retain_flows;
 mod segment_flags;
 mod sequence_numbers;
 mod sparse_bytes;

@@ -14,12 +14,14 @@ use std::alloc::{AllocError, Global};
 #[derive(Clone, Copy, Debug, PartialEq, Eq)]
 pub struct StreamCounts {
     /// How many bytes of its segments stand where a byte came already, or before all that are kept.
+    /// Segments that are refused don't count.
     pub repeated: u64,
     /// How often a gap began where there was none.
     pub gaps: u64,
-    /// How many bytes never came, though the other endpoint acknowledges them: they were given up.
+    /// How many bytes were given up: the other endpoint acknowledges them, and they hadn't come, or had
+    /// been refused. If they come later, they count as repeated, and change nothing else.
     pub missing: u64,
-    /// How many bytes differ from those that came for the same position.
+    /// How many bytes differ from those that are kept for the same position.
     pub conflicts: u64,
 }
 
@@ -140,6 +142,7 @@ impl StreamCounter {
             → Counts kept self.new (arrivals ++ arrival direction sequence_number acknowledgment flags payload.now ∷ []) }
         ensures ok { OnOk result (is_some self.new.follower ≡ is_some self.old.follower) }
         ensures err { OnErr result (self.new ≡ record self.old { follower = None }) }
+        ensures stopped { self.old.follower ≡ None → self.new ≡ self.old }
     {
         match &mut self.follower {
             None => Ok(()),

@@ -1,5 +1,6 @@
 //! Conversations, counted, with what goes over their connections.
 ghost use Rattle.std.specs.Prelude.{◌≡◌, ◌++◌, ◌∷◌, [], List, OnErr, OnOk};
+ghost use Rattle.std.specs.HashMap.{hash_map_len};
 ghost use Rattle.packets.specs.declared.dissection.Dissection.{Dissection};
 ghost use Rattle.packets.specs.declared.flows.transfer.Transfer.{Transfer};
 
@@ -24,13 +25,14 @@ pub struct FollowedFlows<S: BuildHasher> {
 
 impl<S: BuildHasher> FollowedFlows<S> {
     ghost use Rattle.packets.specs.Flows.{CountsFlows};
-    ghost use Rattle.packets.specs.Streams.{FollowsStreams, TakePacket};
+    ghost use Rattle.packets.specs.Streams.{FollowsStreams, MissPacket, TakePacket};
     ghost use Rattle.packets.specs.Transfers.{transfer_of};
 
     /// No packet. Conversations and streams are hashed by a state each. It takes no memory.
     pub fn with_hashers(alloc: Global, conversations: S, streams: S) -> FollowedFlows<S>
         ensures flows { CountsFlows ⟦<Conversation as PartialEq>⟧.eq result.flows [] }
         ensures streams { FollowsStreams ⟦<Conversation as PartialEq>⟧.eq result.streams [] }
+        ensures none { hash_map_len result.streams.streams ≡ 0 }
     {
         FollowedFlows {
             flows: Flows::with_hasher(alloc, conversations),
@@ -50,6 +52,8 @@ impl<S: BuildHasher> FollowedFlows<S> {
             → FollowsStreams ⟦<Conversation as PartialEq>⟧.eq self.new.streams
             (packets ++ dissection.now ∷ []))) }
         ensures takes { OnOk result (TakePacket ⟦<Conversation as PartialEq>⟧.eq self.old.streams dissection.now
+            self.new.streams) }
+        ensures stops { OnErr result (MissPacket ⟦<Conversation as PartialEq>⟧.eq self.old.streams dissection.now
             self.new.streams) }
         ensures err { OnErr result (((packets : List Transfer)
             → CountsFlows ⟦<Conversation as PartialEq>⟧.eq self.old.flows packets

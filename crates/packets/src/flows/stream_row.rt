@@ -1,9 +1,15 @@
 //! What is reported of the bytes that go over the connections of a conversation.
+ghost use Rattle.std.specs.Prelude.{◌≡◌, option_copied};
+ghost use Rattle.std.specs.HashMap.{get};
+ghost use Rattle.packets.specs.Streams.{stream_row, stream_row_of};
 
+use crate::flows::conversation::Conversation;
 use crate::flows::row::Row;
+use crate::flows::stream::Stream;
 use crate::flows::streams::Streams;
+use crate::flows::tcp_packet::direction_by;
 use std::hash::BuildHasher;
-use tcp_streams::{ConnectionState, Direction, StreamCounts};
+use tcp_streams::{ConnectionState, StreamCounts};
 
 /// What is counted of the bytes that go over the connections of a conversation. Its first packet goes
 /// forward.
@@ -20,32 +26,37 @@ pub(crate) struct StreamRow {
 }
 
 impl StreamRow {
-    /// That of a row, if it is one of TCP whose ports are known. It has no contract, since the texts and
-    /// objects that are made of it have none: tests compare those.
-    pub(crate) fn of<S: BuildHasher>(row: &Row, streams: &Streams<S>) -> Option<StreamRow> {
+    /// That of a row, if it is one of TCP whose ports are known.
+    pub(crate) fn of<S: BuildHasher>(row: &Row, streams: &Streams<S>) -> Option<StreamRow>
+        ensures { result ≡ stream_row_of (get ⟦<Conversation as PartialEq>⟧.eq streams.now.streams) row.now }
+    {
         if row.connection().is_none() {
             return None;
         }
-        let Some(stream) = streams.get(&row.conversation.from_lower()) else {
-            return Some(StreamRow {
-                state: None,
-                forward: StreamCounts::NONE,
-                backward: StreamCounts::NONE,
-                is_followed: false,
-            });
-        };
-        let lower = stream.counter().counts(Direction::FromLower);
-        let higher = stream.counter().counts(Direction::FromHigher);
-        let (forward, backward) = if row.conversation.ascends() {
-            (lower, higher)
-        } else {
-            (higher, lower)
-        };
-        Some(StreamRow {
-            state: Some(stream.state()),
-            forward,
-            backward,
-            is_followed: stream.counter().is_followed(),
-        })
+        let conversation = row.conversation;
+        Some(stream_row(&conversation, streams.get(&conversation.from_lower())))
+    }
+}
+
+// Of a conversation in the direction of its first packet.
+fn stream_row(conversation: &Conversation, stream: Option<&Stream>) -> StreamRow
+    ensures { result ≡ stream_row conversation.now (option_copied stream) }
+{
+    match stream {
+        Some(stream) => {
+            let ascends = conversation.ascends();
+            StreamRow {
+                state: Some(stream.state()),
+                forward: stream.counter().counts(direction_by(ascends)),
+                backward: stream.counter().counts(direction_by(!ascends)),
+                is_followed: stream.counter().is_followed(),
+            }
+        }
+        None => StreamRow {
+            state: None,
+            forward: StreamCounts::NONE,
+            backward: StreamCounts::NONE,
+            is_followed: false,
+        },
     }
 }

@@ -1,6 +1,6 @@
 //! The connections of conversations over TCP, followed.
 ghost use Rattle.std.specs.Prelude.{◌≡◌, ◌<◌, ◌++◌, ◌∷◌, [], Bool, List, OnErr, OnOk, option_copied, true};
-ghost use Rattle.std.specs.HashMap.{get, spare};
+ghost use Rattle.std.specs.HashMap.{get, hash_map_len, spare};
 ghost use Rattle.packets.specs.declared.dissection.Dissection.{Dissection};
 
 use crate::Dissection;
@@ -28,11 +28,12 @@ pub struct Streams<S: BuildHasher> {
 }
 
 impl<S: BuildHasher> Streams<S> {
-    ghost use Rattle.packets.specs.Streams.{AreSame, FollowsStreams, TakePacket, tcp_packet_of};
+    ghost use Rattle.packets.specs.Streams.{AreSame, FollowsStreams, StopBy, StopsOne, TakePacket, tcp_packet_of};
 
     /// No packet. Conversations are hashed by this state. It takes no memory.
     pub fn with_hasher(alloc: Global, state: S) -> Streams<S>
-        ensures { FollowsStreams ⟦<Conversation as PartialEq>⟧.eq result [] }
+        ensures follows { FollowsStreams ⟦<Conversation as PartialEq>⟧.eq result [] }
+        ensures empty { hash_map_len result.streams ≡ 0 }
     {
         Streams {
             alloc,
@@ -72,6 +73,7 @@ impl<S: BuildHasher> Streams<S> {
         ensures ok { OnOk result ((packets : List Dissection)
             → FollowsStreams ⟦<Conversation as PartialEq>⟧.eq self.old packets
             → FollowsStreams ⟦<Conversation as PartialEq>⟧.eq self.new (packets ++ packet.now ∷ [])) }
+        ensures stops { OnErr result (StopBy ⟦<Conversation as PartialEq>⟧.eq self.old self.new tcp_packet) }
         ensures err { OnErr result ((packets : List Dissection)
             → FollowsStreams ⟦<Conversation as PartialEq>⟧.eq self.old packets
             → FollowsStreams ⟦<Conversation as PartialEq>⟧.eq self.new packets) }
@@ -91,6 +93,8 @@ impl<S: BuildHasher> Streams<S> {
         ensures ok { OnOk result ((packets : List Dissection)
             → FollowsStreams ⟦<Conversation as PartialEq>⟧.eq self.old packets
             → FollowsStreams ⟦<Conversation as PartialEq>⟧.eq self.new (packets ++ packet.now ∷ [])) }
+        ensures stops { OnErr result (StopsOne ⟦<Conversation as PartialEq>⟧.eq self.old tcp_packet.conversation
+            self.new) }
         ensures err { OnErr result ((packets : List Dissection)
             → FollowsStreams ⟦<Conversation as PartialEq>⟧.eq self.old packets
             → FollowsStreams ⟦<Conversation as PartialEq>⟧.eq self.new packets) }

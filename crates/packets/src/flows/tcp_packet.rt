@@ -1,6 +1,6 @@
 //! Packets with a TCP header, as their conversations take them.
 ghost use Rattle.std.specs.Prelude.{◌≡◌};
-ghost use Rattle.packets.specs.Streams.{control_by, tcp_packet, way_of};
+ghost use Rattle.packets.specs.Streams.{control_by, direction_by, tcp_packet};
 
 use crate::flows::conversation::Conversation;
 use crate::flows::transfer::Transfer;
@@ -14,7 +14,7 @@ pub(crate) struct TcpPacket {
     /// Its conversation, from the lower end.
     pub conversation: Conversation,
     /// The direction in which it goes.
-    pub way: Direction,
+    pub direction: Direction,
     /// What its flags do.
     pub control: Control,
 }
@@ -28,7 +28,7 @@ pub(crate) fn tcp_packet(transfer: &Transfer, header: Option<MessageHeader>) -> 
             if conversation.protocol == IpNumber::TCP {
                 Some(TcpPacket {
                     conversation,
-                    way: way_of(transfer.ascends),
+                    direction: direction_by(transfer.ascends),
                     control: control_by(&header),
                 })
             } else {
@@ -39,8 +39,9 @@ pub(crate) fn tcp_packet(transfer: &Transfer, header: Option<MessageHeader>) -> 
     }
 }
 
-fn way_of(ascends: bool) -> Direction
-    ensures { result ≡ way_of ascends }
+/// That of a packet that goes from the lower end, or from the higher one.
+pub(crate) fn direction_by(ascends: bool) -> Direction
+    ensures { result ≡ direction_by ascends }
 {
     if ascends {
         Direction::FromLower

@@ -1,20 +1,20 @@
 //! Follows a TCP connection through the packets of captures.
-ghost use Rattle.std.specs.Prelude.{◌≡◌, ℕ, List};
-ghost use Rattle.packets.specs.Followed.{is_whole, states_length};
+ghost use Rattle.std.specs.Prelude.{ℕ, List};
 ghost use Rattle.packets.specs.Written.{AreTexts, Writes};
 ghost use Rattle.packets.specs.declared.dissection.Dissection.{Dissection};
 
+use crate::Dissection;
 use crate::flows::conversation::Conversation;
+use crate::flows::tcp_packet::direction_by;
 use crate::flows::transfer::Transfer;
 use crate::follow::connection_id::ConnectionId;
 use crate::follow::event::{DirectionEnd, Event, EventKind, Way};
+use crate::follow::whole_segment::whole_segment;
 use crate::follow::{event_object, event_text};
 use crate::run::omitted::Omitted;
 use crate::run::output::{PacketWriter, write_packets};
 use crate::run::rules::Rules;
-use crate::{Dissection, Fragment};
 use captures::RunError;
-use ep_packet::{Message, NetSlice, TransportSlice, read_message};
 use ep_tcpudp::TcpSlice;
 use std::alloc::{AllocError, Global};
 use std::cell::RefCell;
@@ -113,27 +113,9 @@ impl Following {
     }
 
     fn take(&self, packet: &Dissection<'_>, out: &mut Vec<u8>) -> Result<(), AllocError> {
-        if !is_whole(packet) {
-            return Ok(());
-        }
-        match &packet.fragment {
-            Some(Fragment::Completes { message, .. }) => {
-                match read_message(message.ip_number, message.payload.as_slice()) {
-                    Ok(Message::Tcp(segment)) => self.take_segment(packet, &segment, out),
-                    _ => Ok(()),
-                }
-            }
-            _ => self.take_whole(packet, out),
-        }
-    }
-
-    fn take_whole(&self, packet: &Dissection<'_>, out: &mut Vec<u8>) -> Result<(), AllocError> {
-        match &packet.layers {
-            Ok(layers) => match &layers.transport {
-                Some(TransportSlice::Tcp(segment)) => self.take_segment(packet, segment, out),
-                _ => Ok(()),
-            },
-            Err(_) => Ok(()),
+        match whole_segment(packet) {
+            Some(segment) => self.take_segment(packet, &segment, out),
+            None => Ok(()),
         }
     }
 
@@ -159,41 +141,11 @@ impl Following {
     }
 }
 
-/// Whether all bytes of its IP packet were captured.
-pub(crate) fn is_whole(packet: &Dissection<'_>) -> bool
-    ensures { result ≡ is_whole packet.now.captured_len packet.now.wire_len packet.now.layers }
-{
-    if !packet.is_cut() {
-        return true;
-    }
-    match &packet.layers {
-        Ok(layers) => states_length(&layers.net),
-        Err(_) => false,
-    }
-}
-
-// Whether an IP header states the length of its packet.
-fn states_length(net: &Option<NetSlice<'_>>) -> bool
-    ensures { result ≡ states_length net.now }
-{
-    match net {
-        Some(NetSlice::Ipv4(_)) => true,
-        Some(NetSlice::Ipv6(packet)) => packet.header().payload_length() != 0,
-        _ => false,
-    }
-}
-
 // The direction of a packet in a conversation that is given in one direction, if it is one of it.
 fn direction_in(packet: &Dissection<'_>, conversation: &Conversation) -> Option<Direction> {
     let transfer = Transfer::of(packet);
     match transfer.conversation {
-        Some(other) if other == conversation.from_lower() => {
-            if transfer.ascends {
-                Some(Direction::FromLower)
-            } else {
-                Some(Direction::FromHigher)
-            }
-        }
+        Some(other) if other == conversation.from_lower() => Some(direction_by(transfer.ascends)),
         _ => None,
     }
 }

@@ -111,6 +111,8 @@ impl<S: BuildHasher> Visitor for Overview<S> {
         → CountsOverview ⟦<Reason as PartialEq>⟧.eq ⟦<Conversation as PartialEq>⟧.eq
         ⟦<Verified as PartialEq>⟧.eq now (counted ++ map transfer_of seen) };
 
+    ghost fails = { λ start now seen. ⊥ };
+
     ghost breaks = { λ start now seen. ⊥ };
 
     fn visit(&mut self, packet: &Dissection<'_>) -> Result<(), AllocError> {

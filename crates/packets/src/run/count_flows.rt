@@ -1,9 +1,9 @@
 //! Counts the conversations of a capture, and follows those over TCP.
-ghost use Rattle.std.specs.Prelude.{◌≡◌, ◌++◌, false, List, map};
+ghost use Rattle.std.specs.Prelude.{◌≡◌, ◌++◌, ◌⊎◌, false, List, map};
 ghost use Rattle.packets.specs.Courses.{shown};
 ghost use Rattle.packets.specs.Flows.{CountsFlows};
 ghost use Rattle.packets.specs.Reported.{Reports};
-ghost use Rattle.packets.specs.Streams.{FollowsStreams};
+ghost use Rattle.packets.specs.Streams.{FollowsStreams, LeavesStreams};
 ghost use Rattle.packets.specs.Transfers.{transfer_of};
 ghost use Rattle.packets.specs.declared.dissection.Dissection.{Dissection};
 ghost use Rattle.packets.specs.declared.flows.transfer.Transfer.{Transfer};
@@ -37,14 +37,16 @@ pub fn count_flows<R: Read + Drop, S: BuildHasher + Drop, P: Progress>(
         × ((followed : List Dissection)
         → FollowsStreams ⟦<Conversation as PartialEq>⟧.eq flows.old.streams followed
         → FollowsStreams ⟦<Conversation as PartialEq>⟧.eq flows.new.streams
-        (followed ++ shown rules.now.filter reported)) }
+        (followed ++ shown rules.now.filter reported))
+        × LeavesStreams ⟦<Conversation as PartialEq>⟧.eq flows.old.streams (shown rules.now.filter reported)
+        result.result flows.new.streams }
 {
     visit_all(alloc, state, rules, flows, reader, progress)
 }
 
 impl<S: BuildHasher> Visitor for FollowedFlows<S> {
     ghost use Rattle.packets.specs.Flows.{CountsFlows};
-    ghost use Rattle.packets.specs.Streams.{FollowsStreams};
+    ghost use Rattle.packets.specs.Streams.{FollowsStreams, TakeAndStop, TakePackets};
     ghost use Rattle.packets.specs.Transfers.{transfer_of};
 
     ghost writes = { false };
@@ -55,7 +57,17 @@ impl<S: BuildHasher> Visitor for FollowedFlows<S> {
         → CountsFlows ⟦<Conversation as PartialEq>⟧.eq now.flows (counted ++ map transfer_of seen))
         × ((followed : List Dissection)
         → FollowsStreams ⟦<Conversation as PartialEq>⟧.eq start.streams followed
-        → FollowsStreams ⟦<Conversation as PartialEq>⟧.eq now.streams (followed ++ seen)) };
+        → FollowsStreams ⟦<Conversation as PartialEq>⟧.eq now.streams (followed ++ seen))
+        × TakePackets ⟦<Conversation as PartialEq>⟧.eq start.streams seen now.streams };
+
+    // So they are, and then there was no memory for what a stream would hold.
+    ghost fails = { λ start now seen. ((counted : List Transfer)
+        → CountsFlows ⟦<Conversation as PartialEq>⟧.eq start.flows counted
+        → CountsFlows ⟦<Conversation as PartialEq>⟧.eq now.flows (counted ++ map transfer_of seen))
+        × ((followed : List Dissection)
+        → FollowsStreams ⟦<Conversation as PartialEq>⟧.eq start.streams followed
+        → FollowsStreams ⟦<Conversation as PartialEq>⟧.eq now.streams (followed ++ seen))
+        × TakeAndStop ⟦<Conversation as PartialEq>⟧.eq start.streams seen now.streams };
 
     ghost breaks = { λ start now seen. ⊥ };
 

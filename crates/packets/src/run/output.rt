@@ -106,6 +106,8 @@ impl<'a, P: PacketWriter, W: Write> Visitor for PacketOutput<'a, P, W> {
         × Appends (W.contents start.writer.now) (W.contents now.writer.now) written
         × AreTexts (P.writes start.packet_writer.now) seen (written ++ now.texts.waiting.items) };
 
+    ghost fails = { λ start now seen. ⊥ };
+
     // What is written is a prefix of the texts, and none wait.
     ghost breaks = { λ start now seen. (now.writer.ghost_name ≡ start.writer.ghost_name)
         × (now.texts.waiting.items ≡ []) × (written : List ℕ) × (rest : List ℕ)

@@ -63,6 +63,8 @@ impl<S: BuildHasher> Visitor for Summary<S> {
         ⟦<Verified as PartialEq>⟧.eq now
         (counted ++ map transfer_of seen) };
 
+    ghost fails = { λ start now seen. ⊥ };
+
     ghost breaks = { λ start now seen. ⊥ };
 
     fn visit(&mut self, packet: &Dissection<'_>) -> Result<(), AllocError> {

@@ -1,7 +1,7 @@
 //! Shows a visitor the packets of a capture.
 ghost use Rattle.std.specs.Prelude.{[], List};
 ghost use Rattle.packets.specs.Courses.{shown};
-ghost use Rattle.packets.specs.PacketRuns.{Unbroken};
+ghost use Rattle.packets.specs.PacketRuns.{Leaves};
 ghost use Rattle.packets.specs.Reported.{Reports};
 ghost use Rattle.packets.specs.declared.dissection.Dissection.{Dissection};
 
@@ -41,7 +41,8 @@ pub(crate) fn visit_all<R: Read + Drop, S: BuildHasher + Drop, V: Visitor, P: Pr
     requires begins { V.goes visitor.old visitor.old [] }
     ensures { (reported : List Dissection)
         × Reports V.writes rules.now (R.remaining reader) result reported
-        × Unbroken result.result (V.goes visitor.old visitor.new (shown rules.now.filter reported))
+        × Leaves result.result (V.goes visitor.old visitor.new (shown rules.now.filter reported))
+        (V.fails visitor.old visitor.new (shown rules.now.filter reported))
         (V.breaks visitor.old visitor.new (shown rules.now.filter reported)) }
 {
     let mut dissector = Dissector::with_hasher(alloc, state);

@@ -1,5 +1,5 @@
 //! A walk over the packets of a capture.
-ghost use Rattle.std.specs.Prelude.{◌≡◌, ◌≤◌, ◌∷◌, ◌++◌, Bool, Ok, Err, List, [], ℕ, MatchResult, None, filter};
+ghost use Rattle.std.specs.Prelude.{◌≡◌, ◌≤◌, ◌∷◌, ◌++◌, ◌⊎◌, Bool, Ok, Err, List, [], ℕ, MatchResult, None, filter};
 ghost use Rattle.std.specs.Io.KnownBytes.{Consumes};
 ghost use Rattle.captures.specs.Readers.{ComesTo, HasRead, skipped_by, source_of};
 ghost use Rattle.captures.specs.declared.packet.Packet.{Packet};
@@ -10,7 +10,7 @@ ghost use Rattle.packets.specs.Expressions.{lets_through};
 ghost use Rattle.packets.specs.Courses.{AreDissected, Course, HasCourse, IsDissected, course_after, forgotten};
 ghost use Rattle.packets.specs.Courses.{next_course, no_course, shown};
 ghost use Rattle.packets.specs.ReassemblyMemory.{ShowsOrder};
-ghost use Rattle.packets.specs.PacketRuns.{BreaksBy, EndsBy, EndsWithin, Unbroken, UnlessOutOfMemory};
+ghost use Rattle.packets.specs.PacketRuns.{BreaksBy, EndsBy, EndsWithin, Leaves, Unbroken, UnlessOutOfMemory};
 ghost use Rattle.packets.specs.declared.dissection.Dissection.{Dissection};
 
 use crate::run::progress::{Progress, notify_step};
@@ -29,6 +29,9 @@ pub(crate) trait Visitor {
     // From one state these packets lead to another.
     ghost goes: { Self → Self → List Dissection → Type 0 };
 
+    // And to this one where memory then ran out for the next one.
+    ghost fails: { Self → Self → List Dissection → Type 0 };
+
     // And to this one where a write then failed.
     ghost breaks: { Self → Self → List Dissection → Type 0 };
 
@@ -36,7 +39,7 @@ pub(crate) trait Visitor {
     fn visit(&mut self, packet: &Dissection<'_>) -> Result<(), AllocError>
         ensures { (start : Self) (seen : List Dissection) → goes start self.old seen
             → MatchResult result (λ _. goes start self.new (seen ++ packet.now ∷ []))
-            (λ _. goes start self.new seen) };
+            (λ _. goes start self.new seen ⊎ fails start self.new seen) };
 
     /// Does what is due before the next packet.
     fn before_packet(&mut self) -> Result<(), RunError>
@@ -76,7 +79,8 @@ pub(crate) fn walk<R: Read + Drop, S: BuildHasher, V: Visitor, P: Progress>(
         × EndsWithin V.writes rules.now (skipped_by packets.new)
         (R.remaining (source_of packets.new)) read given result
         × AreDissected rules.now.checksums rules.now.forget (no_course rules.now.reassembly_memory) given reported
-        × Unbroken result (V.goes visitor.old visitor.new (shown rules.now.filter reported))
+        × Leaves result (V.goes visitor.old visitor.new (shown rules.now.filter reported))
+        (V.fails visitor.old visitor.new (shown rules.now.filter reported))
         (V.breaks visitor.old visitor.new (shown rules.now.filter reported))
         × UnlessOutOfMemory result (ShowsFragments dissector.new.datagrams
         (course_after rules.now.forget (no_course rules.now.reassembly_memory) given).lists)
@@ -164,7 +168,8 @@ fn take<S: BuildHasher, V: Visitor>(
         packet.now reported
         × V.goes start visitor.new (seen ++ filter (lets_through rules.now.filter) (reported ∷ []))
         × HasCourse (next_course rules.now.forget course packet.now) dissector.new spans.new)
-        (λ _. V.goes start visitor.new seen × (dissector.new.dropped ≡ course.dropped)) }
+        (λ _. (V.goes start visitor.new seen ⊎ V.fails start visitor.new seen)
+        × (dissector.new.dropped ≡ course.dropped)) }
 {
     drop_idle(rules.forget, spans, packet.time, dissector);
     let Ok(dissection) = dissector.dissect(packet, rules.checksums) else {

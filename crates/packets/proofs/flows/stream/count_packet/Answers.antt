@@ -1,11 +1,12 @@
-use Rattle.std.proofs.Common.{◌≡◌, ◌∙◌, Bool, None, ap, cond, sym}
-use Rattle.packets.specs.Streams.{segment_in, whole_segment}
-use Rattle.packets.proofs.StreamLemmas.{segment_by}
+use Rattle.std.proofs.Common.{◌∙◌, sym}
+use Rattle.packets.proofs.StreamLemmas.{no_segment, segment_by}
 use Rattle.packets.proofs.flows.stream.count_packet.Goals as goal
 
-pub returns-clause-ok : goal.returns-clause-ok
-returns-clause-ok c =
-    let packet = c.args.packet.now in
-    let is : whole_segment packet ≡ segment_in packet.layers packet.fragment =
-    ap (λ (b : Bool). cond b (segment_in packet.layers packet.fragment) None) (sym c.is_whole.ensures ∙ c.if-not-is_whole.false) in
-    segment_by c.count_whole.result c.args.counter.now c.count_whole.new.counter c.args.way _ _ is c.count_whole.ensures.ok
+pub returns-in-Some-clause-ok : goal.returns-in-Some-clause-ok
+returns-in-Some-clause-ok c =
+    segment_by c.count_segment.result c.args.counter.now c.count_segment.new.counter c.args.direction _ _
+    (sym c.whole_segment.ensures ∙ c.in-Some.is) c.count_segment.ensures.ok
+
+pub returns-in-None-clause-ok : goal.returns-in-None-clause-ok
+returns-in-None-clause-ok c =
+    no_segment c.args.counter.now c.args.direction _ (sym c.whole_segment.ensures ∙ c.in-None.is)

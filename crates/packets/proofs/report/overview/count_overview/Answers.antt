@@ -1,4 +1,4 @@
-use Rattle.packets.proofs.EndLemmas.{unbroken_always}
+use Rattle.packets.proofs.EndLemmas.{always_unbroken, unbroken_always}
 use Rattle.packets.proofs.report.overview.count_overview.Goals as goal
 
 pub returns : goal.returns
@@ -6,5 +6,5 @@ returns g c =
     let visited = c.visit_all.ensures in (
       visited.0,
       visited.1,
-      unbroken_always c.visit_all.result.result _ visited.2,
+      unbroken_always c.visit_all.result.result _ (always_unbroken c.visit_all.result.result _ _ visited.2),
     )

@@ -6,7 +6,7 @@ use Rattle.packets.specs.Courses.{shown}
 use Rattle.packets.specs.PacketRuns.{EndsWithin}
 use Rattle.packets.specs.Written.{AreTexts, Writes}
 use Rattle.packets.specs.declared.run.omitted.Omitted.{Omitted}
-use Rattle.packets.proofs.EndLemmas.{either_way, nothing_first, weaker_unbroken}
+use Rattle.packets.proofs.EndLemmas.{always_unbroken, either_way, nothing_first, weaker_unbroken}
 use Rattle.packets.proofs.LimitLemmas.{breaks_within, none_fewer}
 use Rattle.packets.proofs.TextLemmas.{Break, Wait, ended_broken, ended_whole}
 use Rattle.packets.proofs.run.output.write_packets.Goals as goal
@@ -40,15 +40,16 @@ returns-in-Ok-written g c =
     let first = g.W.Write.contents c.args.writer.now in
     let mid = g.W.Write.contents output.writer.now in
     let seen = shown rules.filter walked.2 in
+    let whole = always_unbroken result _ _ walked.6 in
     let omitted : Omitted = record { skipped = c.skipped.result; dropped = c.dropped.result } in
     let writer = c.write_out-written.ensures.name ∙ either_way result _ _
-    (output.writer.ghost_name ≡ _) walked.6 (λ held here. held.0)
+    (output.writer.ghost_name ≡ _) whole (λ held here. held.0)
     (λ held here. held.0) in
     let reported = ended_whole IsTextOf result first mid
     (g.W.Write.contents c.write_out-written.new.self.writer.now) seen output.texts.waiting.items
     (weaker_unbroken result _ _ (Wait IsTextOf first mid seen output.texts.waiting.items)
     ((output.texts.waiting.items ≡ []) × Break IsTextOf first mid seen)
-    (λ held. (held.2, held.3, held.4)) (λ held. (held.1, (held.2, held.3, held.4, held.5))) walked.6)
+    (λ held. (held.2, held.3, held.4)) (λ held. (held.1, (held.2, held.3, held.4, held.5))) whole)
     c.in-Ok-written.ensures.written in
     subst (λ writer. Writes (AreTexts IsTextOf) rules omitted
     source first (g.W.Write.contents writer) result) (sym (c.writer-1.given.1 (sym writer))) (
@@ -81,15 +82,16 @@ returns g c =
     let first = g.W.Write.contents c.args.writer.now in
     let mid = g.W.Write.contents output.writer.now in
     let seen = shown rules.filter walked.2 in
+    let whole = always_unbroken result _ _ walked.6 in
     let by = c.in-Err.ensures.written in
     let omitted : Omitted = record { skipped = c.skipped.result; dropped = c.dropped.result } in
     let writer = c.write_out-written.ensures.name ∙ either_way result _ _
-    (output.writer.ghost_name ≡ _) walked.6 (λ held here. held.0) (λ held here. held.0) in
+    (output.writer.ghost_name ≡ _) whole (λ held here. held.0) (λ held here. held.0) in
     let reported = ended_broken IsTextOf result c.in-Err.error first mid
     (g.W.Write.contents c.write_out-written.new.self.writer.now) seen output.texts.waiting.items
     (weaker_unbroken result _ _ (Wait IsTextOf first mid seen output.texts.waiting.items)
     ((output.texts.waiting.items ≡ []) × Break IsTextOf first mid seen)
-    (λ held. (held.2, held.3, held.4)) (λ held. (held.1, (held.2, held.3, held.4, held.5))) walked.6)
+    (λ held. (held.2, held.3, held.4)) (λ held. (held.1, (held.2, held.3, held.4, held.5))) whole)
     by in
     subst (λ writer. Writes (AreTexts IsTextOf) rules omitted
     source first (g.W.Write.contents writer) (Err c.in-Err.error))

@@ -1,4 +1,4 @@
-use Rattle.packets.proofs.EndLemmas.{unbroken_always}
+use Rattle.packets.proofs.EndLemmas.{always_unbroken, unbroken_always}
 use Rattle.packets.proofs.run.summarize.summarize.Goals as goal
 
 pub returns : goal.returns
@@ -12,7 +12,7 @@ returns g c =
       reports.3,
       reports.4,
       reports.5,
-      unbroken_always c.visit_all.result.result _ visited.2,
+      unbroken_always c.visit_all.result.result _ (always_unbroken c.visit_all.result.result _ _ visited.2),
       reports.6.0,
       reports.6.1,
     )

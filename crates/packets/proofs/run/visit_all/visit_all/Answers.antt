@@ -19,7 +19,7 @@ returns-in_default g c = (
     refl,
     (tt, refl),
   ),
-  c.requires.begins,
+  inl c.requires.begins,
 )
 
 pub returns : goal.returns

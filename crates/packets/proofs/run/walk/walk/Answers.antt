@@ -6,7 +6,7 @@ use Rattle.captures.specs.declared.packet.Packet.{Packet}
 use Rattle.packets.specs.Courses.{Course, HasCourse, course_after, no_course, shown}
 use Rattle.packets.specs.Limits.{first_time, is_late}
 use Rattle.packets.specs.declared.dissection.Dissection.{Dissection}
-use Rattle.packets.proofs.EndLemmas.{unless_out_of_memory}
+use Rattle.packets.proofs.EndLemmas.{left_by_memory, unless_out_of_memory}
 use Rattle.packets.proofs.LimitLemmas.{all_taken, fewer_than, first_known, in_time_more, memory_kept}
 use Rattle.packets.proofs.WalkLemmas.{course_more, dissected_more, first_but_last, first_given, same_packet, shown_more}
 use Rattle.packets.proofs.run.walk.walk.Goals as goal
@@ -47,7 +47,7 @@ returns-in-Ok-false g c =
       Consumes-trans _ _ _ i.read came.0 i.consumed came.1,
       (i.in_time, inl (fewer, (came.2.0.1, came.2.0.2))),
       i.dissected,
-      came.2.1,
+      inl came.2.1,
       i.course.lists,
       i.course.dropped,
     )
@@ -64,7 +64,7 @@ returns-in-Err g c =
       Consumes-trans _ _ _ i.read came.0 i.consumed came.1,
       (i.in_time, inl (fewer, came.2.0)),
       i.dissected,
-      came.2.1,
+      inl came.2.1,
       unless_out_of_memory (Err c.in-Err.error) _ i.course.lists,
       i.course.dropped,
     )
@@ -100,7 +100,7 @@ returns-in-Err-take g c =
         ),
       ),
       i.dissected,
-      stays.0,
+      left_by_memory _ _ _ stays.0,
       tt,
       stays.1,
     )
@@ -137,7 +137,7 @@ returns-then-is_late g c =
         ),
       ),
       i.dissected,
-      came.2.1,
+      inl came.2.1,
       i.course.lists,
       i.course.dropped,
     )
@@ -196,7 +196,7 @@ returns-in-Some-count g c =
         ),
       ),
       i.dissected,
-      i.goes,
+      inl i.goes,
       i.course.lists,
       i.course.dropped,
     )
@@ -219,7 +219,7 @@ returns-in-None g c =
         ),
       ),
       i.dissected,
-      i.goes,
+      inl i.goes,
       i.course.lists,
       i.course.dropped,
     )

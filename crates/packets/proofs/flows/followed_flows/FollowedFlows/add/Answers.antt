@@ -1,7 +1,7 @@
-use Rattle.std.proofs.Common.{◌∙◌}
+use Rattle.std.proofs.Common.{◌∙◌, inl}
 use Rattle.packets.specs.Streams.{tcp_packet}
 use Rattle.packets.specs.Transfers.{transfer_with}
-use Rattle.packets.proofs.StreamLemmas.{after, always_both, takes_moved}
+use Rattle.packets.proofs.StreamLemmas.{after, always, always_both, miss_moved, on_err, takes_moved}
 use Rattle.packets.proofs.flows.followed_flows.FollowedFlows.add.Goals as goal
 
 pub add-requires-clause-packet : goal.add-requires-clause-packet
@@ -23,3 +23,10 @@ returns-clause-takes g c = takes_moved _ _ _ c.add.new.self c.args.dissection.no
 pub returns-in_err-add-clause-err : goal.returns-in_err-add-clause-err
 returns-in_err-add-clause-err g c = always_both _ _ _ c.in_ok-reserve.ensures.same
     (after _ _ _ c.in_ok-reserve-2.ensures.follows c.in_err-add.ensures.err)
+
+pub returns-in_err-reserve-2-clause-stops : goal.returns-in_err-reserve-2-clause-stops
+returns-in_err-reserve-2-clause-stops g c = always _ _ (inl c.in_err-reserve-2.ensures.same)
+
+pub returns-in_err-add-clause-stops : goal.returns-in_err-add-clause-stops
+returns-in_err-add-clause-stops g c = always _ _ (miss_moved _ _ _ c.add.new.self c.args.dissection.now
+    c.in_ok-reserve-2.ensures.same c.in_err-add.ensures.stops)

@@ -1,8 +1,9 @@
-use Rattle.std.proofs.Common.{◌∙◌, ℕ, ◌+◌, ◌-◌, ◌^◌, ap, arith, min, refl, subst, sym}
+use Rattle.std.proofs.Common.{[], ◌∙◌, ℕ, ◌+◌, ◌-◌, ◌^◌, ap, arith, min, refl, subst, sym}
 use Rattle.std.specs.HashMap.{hash_map_len}
 use Rattle.std.specs.Option.{option_copied_mut}
 use Rattle.std.specs.Prelude.{IsSome}
-use Rattle.packets.proofs.StreamLemmas.{follows_full, follows_started, follows_stopped, follows_taken, on_err, on_ok}
+use Rattle.packets.proofs.StreamLemmas.{always, follows_full, follows_started, follows_stopped, follows_taken, on_err, on_ok}
+use Rattle.packets.proofs.StreamLemmas.{stops_new, stops_there}
 use Rattle.packets.proofs.flows.streams.Streams.take.Goals as goal
 
 pub returns-in-Some-clause-ok : goal.returns-in-Some-clause-ok
@@ -51,3 +52,23 @@ returns-else-len-lt-STREAM_COUNT-clause-ok g c = λ packets was.
     follows_full _ packets c.args.packet.now c.args.tcp_packet c.requires.packet c.requires.exact c.args.self.now _ none
     (omega (arith, count, c.if-len-lt-STREAM_COUNT.false))
     (λ i. record c.args.self.now { streams = c.get_mut.follows.holds-at-none i }) was
+
+pub returns-in-Some-clause-stops : goal.returns-in-Some-clause-stops
+returns-in-Some-clause-stops g c =
+    let now = c.take-taken.new.self in
+    let there = sym c.get_mut.ensures.value ∙ ap option_copied_mut c.in-Some.is in
+    let written = c.get_mut.follows.holds now in
+    let beside = c.saturating_sub-others.ensures ∙ ap (λ (n : ℕ). c.args.self.now.held - n) c.size.ensures in
+    let held = c.saturating_add-self.ensures
+    ∙ ap (λ (n : ℕ). min (c.saturating_sub-others.result + n) (2 ^ 64 - 1)) c.size-in-Some.ensures in
+    on_err c.take-taken.result _ _
+    (λ stops. stops_there _ [] c.args.packet.now c.args.tcp_packet c.requires.packet c.requires.exact c.args.self.now _
+    c.in-Some.stream.now now c.saturating_sub-others.result there beside c.saturating_sub-others.type_inv stops held
+    (written.3 (subst IsSome (sym there) refl)).0) c.take-taken.ensures.err
+
+pub returns-in_err-take-clause-stops : goal.returns-in_err-take-clause-stops
+returns-in_err-take-clause-stops g c =
+    let none = sym c.get_mut.ensures.value ∙ ap option_copied_mut c.in_default.is in
+    always c.from_residual.result _ (stops_new _ [] c.args.packet.now c.args.tcp_packet c.requires.packet c.requires.exact
+    c.args.self.now (record c.args.self.now { streams = c.get_mut.follows.lender-at-none }) none
+    c.get_mut.follows.holds-at-none refl)

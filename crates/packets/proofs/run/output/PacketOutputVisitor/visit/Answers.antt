@@ -1,4 +1,4 @@
-use Rattle.std.proofs.Common.{◌∙◌, sym, ap, subst, ◌++◌, append_assoc, List, ℕ}
+use Rattle.std.proofs.Common.{◌∙◌, sym, ap, subst, ◌++◌, append_assoc, List, ℕ, inl}
 use Rattle.packets.specs.Written.{AreTexts}
 use Rattle.packets.proofs.EndLemmas.{weaker_match}
 use Rattle.packets.proofs.TextLemmas.{texts_more}
@@ -20,7 +20,7 @@ returns g c start seen goes =
           (texts_more IsTextOf seen (goes.2 ++ waiting) packet text.0 goes.4
           (subst (λ p. g.P.PacketWriter.writes p.now packet text.0) goes.1 text.1)),
     ))
-    (λ error same. (
+    (λ error same. inl (
       goes.0,
       goes.1,
       goes.2,
