@@ -1,6 +1,6 @@
 -- What is counted of the streams of conversations, with one packet more.
 use Rattle.std.proofs.Common.{◌≡◌, ◌∙◌, ℕ, ◌+◌, ◌-◌, ◌^◌, ◌<◌, ◌≤◌, Bool, true, false, cond, List, [], ◌∷◌, ◌++◌, Option, Some, None, Result, Ok, Err}
-use Rattle.std.proofs.Common.{IsPermutation, OnErr, OnOk, is_some, leb-true, min, nat_le, option_map, refl, ap, arith, subst, sum_by, sym}
+use Rattle.std.proofs.Common.{IsPermutation, OnErr, OnOk, filter_map, inr, is_some, leb-true, min, nat_le, option_map, refl, ap, arith, subst, sum_by, sym}
 use Rattle.std.proofs.lemmas.List.{append-nil, append_assoc}
 use Rattle.std.proofs.lemmas.List.Sorted.{sum_by-IsPermutation}
 use Rattle.std.proofs.lemmas.List.Sums.{fold-append, sum_by-cons}

@@ -7,6 +7,7 @@ ghost use Rattle.std.specs.List.Retain.{IsFiltered};
 ghost use Rattle.std.specs.NonZero.{non_zero_usize_get};
 ghost use Rattle.std.specs.Map.{keys_of, remove_entry};
 ghost use Rattle.std.specs.Map.Iter.{deref_pair};
+ghost use Rattle.ep_base.specs.Traits.{CopyIsValue, CopyNeverFails};
 
 use super::flow::{Flow, FlowPacket};
 use super::flow_key::FlowKey;
@@ -160,8 +161,11 @@ impl<T: Drop, K: Eq + Hash + Drop, S: BuildHasher + Drop> Flows<T, K, S> {
     /// flows stays. It takes no memory.
     pub fn retain<F: FnMut(&K, &Flow<T>) -> bool>(&mut self, keep: F)
     where
-        K: Copy,
-        requires { F.IsAlwaysCallable keep }
+        K: Clone,
+        requires callable { F.IsAlwaysCallable keep }
+        // Law `keys_are_plain_data` says so of `FlowKey`.
+        requires copies { CopyIsValue K.is_clone }
+        requires never_fails { CopyNeverFails K.is_infallible }
         // A list of flows begins with the newest one.
         ensures flows { IsFiltered (TestedAt F.FnMut) keep (reverse self.old.flows) (reverse self.new.flows) }
         ensures most { self.new.most ≡ self.old.most }

@@ -2,6 +2,7 @@
 
 ghost use Rattle.std.specs.Prelude.{◌≡◌, reverse};
 ghost use Rattle.std.specs.List.Retain.{IsFiltered};
+ghost use Rattle.ep_base.specs.Traits.{CopyIsValue, CopyNeverFails};
 ghost use Rattle.tcp_streams.specs.Flows.{TestedAt};
 
 use super::flow::Flow;
@@ -13,17 +14,19 @@ use std::hash::{BuildHasher, Hash};
 // are kept stand in their order in the end.
 pub(crate) fn retain_flows<
     T: Drop,
-    K: Eq + Hash + Copy + Drop,
+    K: Eq + Hash + Clone + Drop,
     S: BuildHasher,
     F: FnMut(&K, &Flow<T>) -> bool,
 >(flows: &mut LruCache<K, Flow<T>, S>, mut keep: F)
-    requires { F.IsAlwaysCallable keep }
+    requires callable { F.IsAlwaysCallable keep }
+    requires copies { CopyIsValue K.is_clone }
+    requires never_fails { CopyNeverFails K.is_infallible }
     ensures flows { IsFiltered (TestedAt F.FnMut) keep (reverse flows.old.entries) (reverse flows.new.entries) }
     ensures most { flows.new.cap ≡ flows.old.cap }
 {
     for _ in 0..flows.len() {
         let (key, flow) = flows.peek_lru().unwrap();
-        let key = *key;
+        let key = key.clone().unwrap();
         if keep(&key, flow) {
             flows.promote(&key);
         } else {

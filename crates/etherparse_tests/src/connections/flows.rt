@@ -106,3 +106,95 @@ fn values_are_replaced(rt: HostRuntime) {
     flow.count(SYN);
     holds_in(&rt, "of one packet", table.get(&2) == Some(&flow));
 }
+
+// Five flows, each with its key as value. That with key 2 has the newest packet, so the oldest one
+// comes first in the order of 1, 3, 4, 5, 2.
+fn five_flows(rt: impl Abort + Copy, alloc: Global) -> Flows<u8, u32> {
+    let Some(five) = NonZeroUsize::new(5) else {
+        fail(rt, "five is zero")
+    };
+    let Ok(mut table) = Flows::new(alloc, five) else {
+        fail(rt, "no memory")
+    };
+    equal(rt, add(rt, &mut table, 1, SYN, 1), None);
+    equal(rt, add(rt, &mut table, 2, SYN, 2), None);
+    equal(rt, add(rt, &mut table, 3, SYN, 3), None);
+    equal(rt, add(rt, &mut table, 4, SYN, 4), None);
+    equal(rt, add(rt, &mut table, 5, SYN, 5), None);
+    equal(rt, add(rt, &mut table, 2, ANSWER, 9), None);
+    table
+}
+
+#[test]
+fn flows_are_kept_in_their_order(rt: HostRuntime) {
+    let mut table = five_flows(&rt, rt.alloc());
+    // The keys of its calls, as digits.
+    let mut calls = 0u64;
+    table.retain(|key, flow| {
+        calls = calls.wrapping_mul(10).wrapping_add(u64::from(*key));
+        *key != 1 && flow.value != 4
+    });
+    equal(&rt, calls, 13452);
+    equal(&rt, table.len(), 3);
+    equal(
+        &rt,
+        table.oldest().map(|pair| (*pair.0, pair.1.value)),
+        Some((3, 3)),
+    );
+    // Those that are kept are as they were.
+    equal(&rt, table.get(&1).is_none(), true);
+    equal(&rt, table.get(&4).is_none(), true);
+    equal(
+        &rt,
+        table
+            .get(&2)
+            .map(|flow| (flow.value, flow.last, flow.from_higher.packets)),
+        Some((2, 20, 1)),
+    );
+    // There may be as many as before: the sixth one drops the oldest.
+    equal(&rt, add(&rt, &mut table, 6, SYN, 6), None);
+    equal(&rt, add(&rt, &mut table, 7, SYN, 7), None);
+    equal(
+        &rt,
+        add(&rt, &mut table, 8, SYN, 8).map(|pair| pair.0),
+        Some(3),
+    );
+    equal(&rt, table.pop_oldest().map(|pair| pair.0), Some(5));
+    equal(&rt, table.pop_oldest().map(|pair| pair.0), Some(2));
+    equal(&rt, table.pop_oldest().map(|pair| pair.0), Some(6));
+}
+
+#[test]
+fn all_flows_are_kept(rt: HostRuntime) {
+    let mut table = five_flows(&rt, rt.alloc());
+    table.retain(|_, _| true);
+    equal(&rt, table.len(), 5);
+    equal(&rt, table.pop_oldest().map(|pair| pair.0), Some(1));
+    equal(&rt, table.pop_oldest().map(|pair| pair.0), Some(3));
+    equal(&rt, table.pop_oldest().map(|pair| pair.0), Some(4));
+    equal(&rt, table.pop_oldest().map(|pair| pair.0), Some(5));
+    equal(&rt, table.pop_oldest().map(|pair| pair.0), Some(2));
+    equal(&rt, table.pop_oldest(), None);
+}
+
+#[test]
+fn no_flow_is_kept(rt: HostRuntime) {
+    let mut table = five_flows(&rt, rt.alloc());
+    let mut calls = 0u64;
+    table.retain(|key, _| {
+        calls = calls.wrapping_mul(10).wrapping_add(u64::from(*key));
+        false
+    });
+    equal(&rt, calls, 13452);
+    equal(&rt, table.is_empty(), true);
+    equal(&rt, table.pop_oldest(), None);
+    // An empty table has none to test.
+    table.retain(|key, _| {
+        calls = u64::from(*key);
+        true
+    });
+    equal(&rt, calls, 13452);
+    equal(&rt, table.is_empty(), true);
+    equal(&rt, add(&rt, &mut table, 6, SYN, 6), None);
+    equal(&rt, table.len(), 1);
+}

@@ -52,16 +52,12 @@ fn object<S: Serializer>(
 ) -> Result<(), S::Error> {
     out.begin_map(None)?;
     ends(out, row)?;
-    match stream {
-        Some(stream) => {
-            direction(out, "forward", &row.forward, Some(stream.forward))?;
-            direction(out, "backward", &row.backward, Some(stream.backward))?;
-        }
-        None => {
-            direction(out, "forward", &row.forward, None)?;
-            direction(out, "backward", &row.backward, None)?;
-        }
-    }
+    let (forward, backward) = match stream {
+        Some(stream) => (Some(stream.forward), Some(stream.backward)),
+        None => (None, None),
+    };
+    direction(out, "forward", &row.forward, forward)?;
+    direction(out, "backward", &row.backward, backward)?;
     number(out, "first", row.period.earliest.unwrap_or(0))?;
     number(out, "last", row.period.latest.unwrap_or(0))?;
     number(out, "duration", row.duration())?;

@@ -40,7 +40,7 @@ impl StreamRow {
 
 // Of a conversation in the direction of its first packet.
 fn stream_row(conversation: &Conversation, stream: Option<&Stream>) -> StreamRow
-    ensures { result ≡ stream_row conversation.now (option_copied stream) }
+    ensures { result ≡ stream_row conversation.now (option_copied stream.entry) }
 {
     match stream {
         Some(stream) => {

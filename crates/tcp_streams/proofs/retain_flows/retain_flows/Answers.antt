@@ -12,7 +12,7 @@ loop-init g c = record {
   tested = none_tested g.K.PartialEq.eq g.met.K.Eq.laws (TestedAt g.F.FnMut) c.args.keep c.args.flows.now.entries
       c.len-end.ensures.valid.0;
   most = refl;
-  callable = c.requires;
+  callable = c.requires.callable;
 }
 
 pub unwrap-requires : goal.unwrap-requires
@@ -29,16 +29,17 @@ loop-preserved g c =
     let i = c.loop.invariant in
     let e : g.row.K.Denot × Flow g.row.T.Denot = (c.unwrap.result.0.now, c.unwrap.result.1.now) in
     let is = rw c.unwrap.ensures at c.peek_lru.ensures in
+    let is_key = c.requires.copies _ _ (rw c.unwrap-key.ensures at c.clone.ensures.cases) in
     elim c.if-keep.branch [
-      | then-keep w ↦ rw (w.flows-is, w.promote.ensures.entries) (record {
+      | then-keep w ↦ rw (w.flows-is, w.promote.ensures.entries, is_key) (record {
         tested = one_kept same laws R _ _ _ _ _ i.tested (omega (arith, c.len-end.ensures.len, c.loop-test.true))
-            e is _ (tested_at g.F.FnMut c.keep.ensures w.if-keep.true);
+            e is _ (rw is_key at (tested_at g.F.FnMut c.keep.ensures w.if-keep.true));
         most = i.most;
         callable = search of_calls;
       })
       | else-keep w ↦ rw (w.flows-is, w.pop_lru.ensures.entries) (record {
         tested = one_dropped same laws R _ _ _ _ _ i.tested (omega (arith, c.len-end.ensures.len, c.loop-test.true))
-            e is _ (tested_at g.F.FnMut c.keep.ensures w.if-keep.false);
+            e is _ (rw is_key at (tested_at g.F.FnMut c.keep.ensures w.if-keep.false));
         most = i.most;
         callable = search of_calls;
       })
