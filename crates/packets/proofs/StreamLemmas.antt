@@ -1,10 +1,12 @@
 -- What is counted of the streams of conversations, with one packet more.
 use Rattle.std.proofs.Common.{◌≡◌, ◌∙◌, ℕ, ◌+◌, ◌-◌, ◌^◌, ◌<◌, ◌≤◌, Bool, true, false, cond, List, [], ◌∷◌, ◌++◌, Option, Some, None, Result, Ok, Err}
 use Rattle.std.proofs.Common.{IsPermutation, OnErr, OnOk, filter_map, inr, is_some, leb-true, min, nat_le, option_map, refl, ap, arith, subst, sum_by, sym}
-use Rattle.std.proofs.lemmas.List.{append-nil, append_assoc}
+use Rattle.std.proofs.lemmas.List.{append-nil}
+use Rattle.std.proofs.lemmas.List.Elements.{filter_map-append}
 use Rattle.std.proofs.lemmas.List.Sorted.{sum_by-IsPermutation}
 use Rattle.std.proofs.lemmas.List.Sums.{fold-append, sum_by-cons}
 use Rattle.std.specs.HashMap.{HashMap, PutsEntry, get, hash_map_len}
+use Rattle.std.specs.List.{cons_option}
 use Rattle.std.specs.Map.{lookup, set_value}
 use Rattle.tcp_streams.specs.ConnectionStates.{Signal, state_after}
 use Rattle.tcp_streams.specs.Counting.{Arrival, Counts, size_in}
@@ -152,7 +154,7 @@ after P Q R first second x holds = second x (first x holds)
 -- ---- the streams of conversations
 
 chosen : {X : Type 0} (b : Bool) (o p : Option X) → b ≡ true → o ≡ p → cons_option (cond b o None) [] ≡ cons_option p []
-chosen true o p passes same = ap (λ (o : Option X). cons_option o []) same
+chosen {X} true o p passes same = ap (λ (o : Option X). cons_option o []) same
 chosen false o p passes same = cc
 
 not_chosen : {X : Type 0} (b : Bool) (o : Option X) → b ≡ false → cons_option (cond b o None) [] ≡ []
@@ -250,8 +252,9 @@ module _ {S H : Type 0} (same : Conversation → Conversation → Bool) (was mid
   takes_moved takes = take_by_moved (tcp_packet_of packet) takes
 
   -- and where there is no memory for it
-  pub miss_moved : StopBy same mid now (tcp_packet_of packet) → MissPacket same was packet now
-  miss_moved stops = inr (stop_moved (tcp_packet_of packet) stops)
+  pub miss_moved : (o : Option TcpPacket) → o ≡ tcp_packet_of packet → StopBy same mid now o → MissPacket same was packet now
+  miss_moved o is stops =
+      inr (stop_moved (tcp_packet_of packet) (subst (λ (p : Option TcpPacket). StopBy same mid now p) is stops))
 
 module _ (same : Conversation → Conversation → Bool) (packets : List Dissection) (packet : Dissection) where
   -- a packet of no conversation over TCP

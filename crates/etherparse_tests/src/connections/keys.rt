@@ -5,7 +5,8 @@ use arrayvec::ArrayVec;
 use ep_packet::SlicedPacket;
 use ep_tag::VlanId;
 use ep_tcpudp::TcpSlice;
-use tcp_streams::{Control, Direction, Endpoint, FlowKey};
+use std::num::NonZeroUsize;
+use tcp_streams::{Control, Direction, Endpoint, FlowKey, FlowPacket, Flows, laws};
 
 const CLIENT: Endpoint = Endpoint::V4 {
     address: [10, 0, 0, 2],
@@ -47,6 +48,31 @@ fn keys_are_the_same_both_ways(rt: HostRuntime) {
     let (six, direction) = between(CLIENT, OTHER, 3);
     equal(&rt, direction, Direction::FromLower);
     holds_in(&rt, "endpoint", there != six);
+}
+
+#[test]
+fn flows_are_kept_by_keys(rt: HostRuntime) {
+    laws::keys::keys_are_plain_data::<u32>();
+    let Some(two) = NonZeroUsize::new(2) else {
+        fail(&rt, "two is zero")
+    };
+    let Ok(mut table) = Flows::new(rt.alloc(), two) else {
+        fail(&rt, "no memory")
+    };
+    let (one, direction) = between(CLIENT, SERVER, 3);
+    let (other, _) = between(CLIENT, SERVER, 4);
+    let packet = FlowPacket {
+        time: 1,
+        bytes: 60,
+        direction,
+        control: Control::Syn,
+    };
+    holds_in(&rt, "one", table.add(one, packet, 1u8).is_ok());
+    holds_in(&rt, "other", table.add(other, packet, 2).is_ok());
+    table.retain(|key, _| *key.channel_id() == 4);
+    equal(&rt, table.len(), 1);
+    let (kept, _) = between(CLIENT, SERVER, 4);
+    equal(&rt, table.get(&kept).map(|flow| flow.value), Some(2));
 }
 
 // SYN of the client: Ethernet II, IPv4 (RFC 791) and TCP (RFC 9293), without options.

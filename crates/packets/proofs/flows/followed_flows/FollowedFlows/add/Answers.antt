@@ -1,7 +1,7 @@
 use Rattle.std.proofs.Common.{◌∙◌, inl}
 use Rattle.packets.specs.Streams.{tcp_packet}
 use Rattle.packets.specs.Transfers.{transfer_with}
-use Rattle.packets.proofs.StreamLemmas.{after, always, always_both, miss_moved, on_err, takes_moved}
+use Rattle.packets.proofs.StreamLemmas.{after, always, always_both, miss_moved, takes_moved}
 use Rattle.packets.proofs.flows.followed_flows.FollowedFlows.add.Goals as goal
 
 pub add-requires-clause-packet : goal.add-requires-clause-packet
@@ -28,5 +28,8 @@ pub returns-in_err-reserve-2-clause-stops : goal.returns-in_err-reserve-2-clause
 returns-in_err-reserve-2-clause-stops g c = always _ _ (inl c.in_err-reserve-2.ensures.same)
 
 pub returns-in_err-add-clause-stops : goal.returns-in_err-add-clause-stops
-returns-in_err-add-clause-stops g c = always _ _ (miss_moved _ _ _ c.add.new.self c.args.dissection.now
-    c.in_ok-reserve-2.ensures.same c.in_err-add.ensures.stops)
+returns-in_err-add-clause-stops g c =
+    let transfer = c.transfer_with-transfer.ensures ∙ (λ i. transfer_with (c.of.ensures i) (c.of-header.ensures i)) in
+    let is = c.tcp_packet.ensures ∙ (λ i. tcp_packet (transfer i) (c.of-header.ensures i)) in
+    always _ _ (miss_moved _ _ _ c.add.new.self c.args.dissection.now c.in_ok-reserve-2.ensures.same _ is
+    c.in_err-add.ensures.stops)
