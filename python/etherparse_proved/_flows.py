@@ -213,6 +213,12 @@ class Flows(Generic[_Value]):
         with self._alone:
             return self._flows.popitem(last=False) if self._flows else None
 
+    def retain(self, keep: Callable[[FlowKey, Flow[_Value]], bool]) -> None:
+        """Keeps the flows for which the test returns true, and drops the others. The test is called once for each, first for that
+        whose last packet came before those of all others. The order of flows stays. Where the test raises, none is dropped."""
+        with self._alone:
+            self._flows = OrderedDict((key, flow) for key, flow in self._flows.items() if keep(key, flow))
+
     def items(self) -> Tuple[Tuple[FlowKey, Flow[_Value]], ...]:
         """Keys and flows, that whose last packet came first at first."""
         with self._alone:

@@ -224,6 +224,24 @@ class Flows(unittest.TestCase):
         self.assertIsNone(flows.remove(self.key(1)))
         self.assertEqual(flows.pop_oldest()[0], self.key(3))
 
+    def test_flows_are_kept_in_their_order(self):
+        flows, tested = ep.Flows(3, list), []
+        for port in (1, 2, 3, 1):
+            flows.add(self.key(port), LOWER, ACK, port)
+
+        def keep(key, flow):
+            tested.append((key, flow.last))
+            return flow.last != 3
+
+        flows.retain(keep)
+        self.assertEqual(tested, [(self.key(2), 2), (self.key(3), 3), (self.key(1), 1)])
+        self.assertEqual([key for key, _ in flows.items()], [self.key(2), self.key(1)])
+        with self.assertRaises(ZeroDivisionError):
+            flows.retain(lambda key, flow: 1 // (flow.last - 1))
+        self.assertEqual(len(flows), 2)
+        flows.retain(lambda key, flow: False)
+        self.assertIsNone(flows.pop_oldest())
+
     def test_a_value_that_can_not_be_made_changes_nothing(self):
         flows = ep.Flows(1, lambda: 1 // len(made))
         made = [1]

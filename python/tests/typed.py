@@ -87,6 +87,7 @@ def text_of(frames: List[bytes]) -> bytes:
         keyed, segment = ep.flow_key_ethernet(frame), ep.slice_ethernet(frame).tcp
         if keyed and segment:
             flows.add(*keyed, segment, time)
+    flows.retain(lambda key, flow: key.channel == 0 and flow.last > 0)
     ended = flows.pop_oldest()
     return ended[1].value.read() if ended and ended[1].state.state is ep.State.CLOSED else b""
 

@@ -330,6 +330,19 @@ impl<T> Flows<T> {
         self.remove(&key).map(|flow| (key, flow))
     }
 
+    /// Keeps the flows for which the test returns `true`, and drops the others. The test is called once for each, first for
+    /// that whose last packet came before those of all others. The order of flows stays.
+    pub fn retain(&mut self, mut keep: impl FnMut(&FlowKey, &Flow<T>) -> bool) {
+        let flows = &mut self.flows;
+        self.order.retain(|_, key| {
+            let is_kept = matches!(flows.get(key), Some((_, flow)) if keep(key, flow));
+            if !is_kept {
+                flows.remove(key);
+            }
+            is_kept
+        });
+    }
+
     /// How many flows there are.
     #[must_use]
     pub fn len(&self) -> usize {

@@ -231,6 +231,25 @@ fn the_flow_that_is_silent_for_the_longest_time_is_dropped() {
 }
 
 #[test]
+fn flows_are_kept_in_their_order() {
+    let mut flows = Flows::new(NonZeroUsize::new(3).unwrap());
+    for (port, value) in [(1, "one"), (2, "two"), (3, "three"), (1, "other")] {
+        assert_eq!(flows.add(key(port), packet(port.into()), || value), None);
+    }
+    let mut tested = Vec::new();
+    flows.retain(|key, flow| {
+        tested.push((*key, flow.value));
+        flow.value != "three"
+    });
+    assert_eq!(tested, [(key(2), "two"), (key(3), "three"), (key(1), "one")]);
+    assert_eq!((flows.len(), flows.get(&key(3))), (2, None));
+    assert_eq!(flows.pop_oldest().map(|(key, _)| key), Some(key(2)));
+    assert_eq!(flows.add(key(4), packet(4), || "four"), None);
+    flows.retain(|_, _| false);
+    assert!(flows.is_empty() && flows.oldest().is_none());
+}
+
+#[test]
 fn counts_stop_at_the_greatest_number() {
     let mut flow = Flow::new(());
     assert_eq!((flow.first, flow.last, flow.state), (u64::MAX, 0, ConnectionState::Unseen));
