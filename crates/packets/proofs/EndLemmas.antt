@@ -1,5 +1,5 @@
 -- How runs end: by a write or otherwise.
-use Rattle.std.proofs.Common.{◌≡◌, sym, refl, subst, arith, ℕ, Bool, List, [], Option, Result, Ok, Err, MatchResult}
+use Rattle.std.proofs.Common.{◌≡◌, ◌⊎◌, sym, refl, subst, arith, ℕ, Bool, List, [], Option, Result, Ok, Err, MatchResult}
 use Rattle.std.proofs.Common.{OnOk, OnErr, append-nil, inl, inr}
 use Rattle.captures.specs.PacketSteps.{Gives}
 use Rattle.captures.specs.Skipping.{none_skipped}
@@ -75,9 +75,10 @@ weaker_unbroken result A B C D first second holds = either_way result A B (Unbro
     (λ a here. here C D (first a)) (λ b here. here C D (second b))
 
 -- memory ran out for a packet
-pub left_by_memory : (Goes Fails Breaks : Type 0) → Goes ⊎ Fails → Leaves (Err Memory) Goes Fails Breaks
-left_by_memory Goes Fails Breaks (inl goes) = inl goes
-left_by_memory Goes Fails Breaks (inr fails) = inr (refl, fails)
+pub left_by_memory : (result : Result Unit RunError) (Goes Fails : Type 0) → result ≡ Err Memory → Goes ⊎ Fails
+    → Goes ⊎ ((result ≡ Err Memory) × Fails)
+left_by_memory result Goes Fails is (inl goes) = inl goes
+left_by_memory result Goes Fails is (inr fails) = inr (is, fails)
 
 -- where the visitor has no other relation for it
 pub always_unbroken : (result : Result Unit RunError) (Goes Breaks : Type 0) → Leaves result Goes ⊥ Breaks

@@ -36,4 +36,4 @@ module _ {S H : Type 0} (same : Conversation → Conversation → Bool) where
       → TakePackets same start seen now ⊎ TakeAndStop same start seen now
   taken_or_stopped start was now seen packet taken (inl are) = inl (taken_same start was now seen taken are)
   taken_or_stopped start was now seen packet taken (inr stops) =
-      inr (was, taken, stopped_by was now (tcp_packet_of packet) stops)
+      let one = stopped_by was now (tcp_packet_of packet) stops in inr (was, taken, one.0, one.1)

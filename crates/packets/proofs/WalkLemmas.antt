@@ -127,7 +127,7 @@ pub shown_more : (conditions : Filter) (reported : List Dissection) (last : Diss
 shown_more conditions reported last = filter-append (lets_through conditions) reported (last ∷ [])
 
 -- what holds of packets that are counted holds of them with none more
-none_more : {X : Type 0} (Holds : List X → Type 0) (counted : List X) → Holds counted
+pub none_more : {X : Type 0} (Holds : List X → Type 0) (counted : List X) → Holds counted
     → Holds (counted ++ [])
 none_more Holds counted = subst Holds (sym (append-nil counted))
 

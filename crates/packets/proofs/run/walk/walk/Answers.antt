@@ -100,7 +100,7 @@ returns-in-Err-take g c =
         ),
       ),
       i.dissected,
-      left_by_memory _ _ _ stays.0,
+      left_by_memory _ _ _ refl stays.0,
       tt,
       stays.1,
     )

@@ -16,9 +16,15 @@ returns g c = λ start seen goes. weaker_match c.add.result _ _ _ _
       (λ followed was. rw append_assoc at (more.0.1 (followed ++ seen) (goes.1 followed was))),
       taken_more _ _ _ _ seen c.args.packet.now goes.2 more.1,
     ))
-    (λ error stays.
-    let counts = λ counted was. stays.0.0 (counted ++ map transfer_of seen) (goes.0 counted was) in
-    let follows = λ followed was. stays.0.1 (followed ++ seen) (goes.1 followed was) in
-    by_either (taken_or_stopped _ _ _ _ seen c.args.packet.now goes.2 stays.1)
-    (λ taken. (counts, follows, taken)) (λ stops. (counts, follows, stops)))
+    (λ error stays. by_either (taken_or_stopped _ _ _ _ seen c.args.packet.now goes.2 stays.1)
+    (λ taken. (
+      (λ counted was. stays.0.0 (counted ++ map transfer_of seen) (goes.0 counted was)),
+      (λ followed was. stays.0.1 (followed ++ seen) (goes.1 followed was)),
+      taken,
+    ))
+    (λ stops. (
+      (λ counted was. stays.0.0 (counted ++ map transfer_of seen) (goes.0 counted was)),
+      (λ followed was. stays.0.1 (followed ++ seen) (goes.1 followed was)),
+      stops,
+    )))
     (by_both c.add.result _ _ _ _ c.add.ensures.ok c.add.ensures.takes c.add.ensures.err c.add.ensures.stops)
