@@ -1,126 +1,187 @@
 -- The bytes after a gap.
-use Rattle.std.proofs.Common.{◌≡◌, ◌∙◌, ℕ, zero, suc, ◌+◌, ◌-◌, ◌<◌, ◌≤◌, Bool, true, false, Bor, Option, Some, None, List, []}
-use Rattle.std.proofs.Common.{◌∷◌, length, take, drop, get_or, arith, refl, sym, ap}
-use native.Mathlib.Numerals.{unary_clauses}
+use Rattle.std.proofs.Common.{◌≡◌, ◌∙◌, ℕ, ◌+◌, ◌-◌, ◌<◌, ◌≤◌, Bool, true, false, cond, Bor, Option, Some, None, List, []}
+use Rattle.std.proofs.Common.{◌∷◌, length, take, drop, get_or, ltb, ◌⊎◌, inl, inr, arith, refl, sym, ap}
+use Rattle.std.proofs.lemmas.Bool.{cases_lt}
 use Rattle.std.proofs.lemmas.Bool.Decides.{nat_tests}
 use Rattle.std.proofs.lemmas.List.{drop-drop, length-take, length-drop, get_or-take, get_or-drop}
-use Rattle.std.specs.Slice.{IsItemAt}
-use Rattle.std.specs.Prelude.{IfSome, slice_get, slice_index_or}
+use Rattle.std.specs.Prelude.{IfSome}
 use Rattle.tcp_streams.specs.declared.gaps.Gap.{Gap}
-use Rattle.tcp_streams.specs.Gaps.{AreGapsIn, first_gap, is_missing}
+use Rattle.tcp_streams.specs.Gaps.{AreGapsIn, first_gap_after, gap_after, is_missing}
 use Rattle.tcp_streams.specs.Segments.{Placed, byte_at, text_of}
-use Rattle.tcp_streams.specs.SparseBytes.{Sparse, IsSparse, sparse, available_end, byte_in, bytes_after_gap, held_end}
+use Rattle.tcp_streams.specs.SparseBytes.{Sparse, IsSparse, byte_in, bytes_after_gap, held_end}
 use Rattle.tcp_streams.specs.StreamBuf.{Contents, Shows, IsAfterGap, available_in}
 use Rattle.tcp_streams.proofs.BufLemmas.{shows_text}
+use Rattle.tcp_streams.proofs.GapLemmas.{gaps_end}
 use Rattle.tcp_streams.proofs.SegmentLemmas.{byte_from-is, byte_from-none}
-use Rattle.tcp_streams.proofs.SparseLemmas.{first_gap-bounds, first_gap-missing, first_missing}
+use Rattle.tcp_streams.proofs.SparseLemmas.{not_missing_before}
 
--- ---- a gap by its index
+-- ---- the first gap that ends after a position
 
-pub get_of : {X : Type 0} (xs : List X) (i : ℕ) (x : X) → i < length xs → x ≡ slice_index_or xs i x
-    → slice_get xs i ≡ Some x
-get_of [] i x h e = absurd (omega arith)
-get_of (y ∷ ys) zero x h e = ap Some (sym e)
-get_of (y ∷ ys) (suc i) x h e = get_of ys i x (omega arith) e
+pub start_of : (p to : ℕ) (gs : List Gap) (g : Gap) → gap_after p gs ≡ Some g → first_gap_after p gs to ≡ g.start
+start_of p to [] g h = cc
+start_of p to (x ∷ gs) g h = elim (cases_lt p x.end) [
+  | inl here ↦
+      let test : ltb p x.end ≡ true = grind (arith, nat_tests) in
+      let same : x ≡ g = cc (rw test at h) in rw (test, same) refl
+  | inr past ↦
+      let test : ltb p x.end ≡ false = grind (arith, nat_tests) in
+      rw test (start_of p to gs g (rw test at h))
+]
 
-pub gap_found : (xs lent : List Gap) (i : ℕ) (r : Bor Gap) → lent ≡ xs → IsItemAt lent i (Some r)
-    → slice_get xs i ≡ Some r.now
-gap_found xs lent i r same at = let at = rw same at at in get_of xs i r.now at.3.0 at.1
+pub start_of_none : (p to : ℕ) (gs : List Gap) → gap_after p gs ≡ None → first_gap_after p gs to ≡ to
+start_of_none p to [] h = refl
+start_of_none p to (x ∷ gs) h = elim (cases_lt p x.end) [
+  | inl here ↦ let test : ltb p x.end ≡ true = grind (arith, nat_tests) in cc (rw test at h)
+  | inr past ↦
+      let test : ltb p x.end ≡ false = grind (arith, nat_tests) in
+      rw test (start_of_none p to gs (rw test at h))
+]
 
-drop_next : (i : ℕ) (x : Gap) (gs : List Gap) → drop (suc i + 1) (x ∷ gs) ≡ drop (i + 1) gs
-drop_next i x gs = simp unary_clauses refl
+next_most : (from to p : ℕ) (gs : List Gap) → AreGapsIn from to gs → first_gap_after p gs to ≤ to
+next_most from to p [] o = omega arith
+next_most from to p (x ∷ gs) o =
+    let rest = next_most (x.end + 1) to p gs o.2 in
+    let end = gaps_end (x.end + 1) to gs o.2 in
+    let own = o.1 in elim (cases_lt p x.end) [
+      | inl here ↦ let test : ltb p x.end ≡ true = grind (arith, nat_tests) in rw test (omega arith)
+      | inr past ↦ let test : ltb p x.end ≡ false = grind (arith, nat_tests) in rw test rest
+    ]
 
-pub gap_at : (from to : ℕ) (gs : List Gap) (i : ℕ) (g : Gap) → AreGapsIn from to gs → slice_get gs i ≡ Some g
-    → (from ≤ g.start) × (g.start < g.end) × AreGapsIn (g.end + 1) to (drop (i + 1) gs)
-gap_at from to [] i g o h = cc
-gap_at from to (x ∷ gs) zero g o h = let same : x ≡ g = cc h in rw (← same) (o.0, o.1, o.2)
-gap_at from to (x ∷ gs) (suc i) g o h =
-    let rest = gap_at (x.end + 1) to gs i g o.2 h in (omega (arith, rest.0, o.0, o.1), rest.1, rw (drop_next i x gs) rest.2)
+next_least : (from to p : ℕ) (gs : List Gap) → AreGapsIn from to gs → p < from → p < first_gap_after p gs to
+next_least from to p [] o low = omega (arith, o)
+next_least from to p (x ∷ gs) o low =
+    let test : ltb p x.end ≡ true = let at = o.0 in let own = o.1 in grind (arith, nat_tests) in
+    rw test (omega (arith, o.0))
 
--- the bytes after it end before the next one, or with the last byte
-pub end_after : (from to : ℕ) (gs : List Gap) (i : ℕ) (g : Gap) → AreGapsIn from to gs → slice_get gs i ≡ Some g
-    → (from ≤ g.end) × (g.end < first_gap (drop (i + 1) gs) to) × (first_gap (drop (i + 1) gs) to ≤ to)
-end_after from to gs i g o h =
-    let at = gap_at from to gs i g o h in
-    let bounds = first_gap-bounds (g.end + 1) to (drop (i + 1) gs) at.2 in
-    (omega (arith, at.0, at.1), omega (arith, bounds.0), bounds.1)
+there_after : (from to p q : ℕ) (gs : List Gap) → AreGapsIn from to gs → p ≤ q → q < first_gap_after p gs to
+    → is_missing gs q ≡ false
+there_after from to p q [] o low high = refl
+there_after from to p q (x ∷ gs) o low high = elim (cases_lt p x.end) [
+  | inl here ↦
+      let test : ltb p x.end ≡ true = grind (arith, nat_tests) in
+      not_missing_before x.start to (x ∷ gs) q (omega arith, o.1, o.2) (rw test at high)
+  | inr past ↦
+      let test : ltb p x.end ≡ false = grind (arith, nat_tests) in
+      let rest = there_after (x.end + 1) to p q gs o.2 low (rw test at high) in grind (arith, nat_tests)
+]
 
-missing_at : (gs : List Gap) (i : ℕ) (g : Gap) (p : ℕ) → slice_get gs i ≡ Some g → g.start ≤ p → p < g.end
-    → is_missing gs p ≡ true
-missing_at [] i g p h low high = cc
-missing_at (x ∷ gs) zero g p h low high = let same : x ≡ g = cc h in rw same (grind (arith, nat_tests))
-missing_at (x ∷ gs) (suc i) g p h low high = grind (arith, nat_tests, missing_at gs i g p h low high)
+missing_too : (x : Gap) (gs : List Gap) (q : ℕ) → is_missing gs q ≡ true → is_missing (x ∷ gs) q ≡ true
+missing_too x gs q h = grind (arith, nat_tests)
 
-there_after : (from to : ℕ) (gs : List Gap) (i : ℕ) (g : Gap) (p : ℕ) → AreGapsIn from to gs
-    → slice_get gs i ≡ Some g → g.end ≤ p → p < first_gap (drop (i + 1) gs) to → is_missing gs p ≡ false
-there_after from to [] i g p o h low high = cc
-there_after from to (x ∷ gs) zero g p o h low high =
-    let same : x ≡ g = cc h in
-    let rest = first_missing (x.end + 1) to gs p o.2 high in
-    let low : x.end ≤ p = rw same low in grind (arith, nat_tests)
-there_after from to (x ∷ gs) (suc i) g p o h low high =
-    let at = gap_at (x.end + 1) to gs i g o.2 h in
-    let high = rw (drop_next i x gs) at high in
-    let rest = there_after (x.end + 1) to gs i g p o.2 h low high in
-    let above : x.end < p = omega (arith, at.0, at.1) in grind (arith, nat_tests)
+next_missing_too : (x : Gap) (gs : List Gap) (to q : ℕ) → (q ≡ to) ⊎ (is_missing gs q ≡ true)
+    → (q ≡ to) ⊎ (is_missing (x ∷ gs) q ≡ true)
+next_missing_too x gs to q (inl end) = inl end
+next_missing_too x gs to q (inr missing) = inr (missing_too x gs q missing)
 
-missing_in : (gs : List Gap) (n p : ℕ) → is_missing (drop n gs) p ≡ true → is_missing gs p ≡ true
-missing_in [] zero p h = h
-missing_in [] (suc n) p h = h
-missing_in (x ∷ gs) zero p h = h
-missing_in (x ∷ gs) (suc n) p h = grind (arith, nat_tests, missing_in gs n p h)
+-- no byte is there
+next_missing : (from to p q : ℕ) (gs : List Gap) → AreGapsIn from to gs → q ≡ first_gap_after p gs to
+    → (q ≡ to) ⊎ (is_missing gs q ≡ true)
+next_missing from to p q [] o is = inl is
+next_missing from to p q (x ∷ gs) o is = elim (cases_lt p x.end) [
+  | inl here ↦
+      let test : ltb p x.end ≡ true = grind (arith, nat_tests) in
+      let is : q ≡ x.start = rw test at is in
+      let own = o.1 in inr (grind (arith, nat_tests))
+  | inr past ↦
+      let test : ltb p x.end ≡ false = grind (arith, nat_tests) in
+      next_missing_too x gs to q (next_missing (x.end + 1) to p q gs o.2 (rw test at is))
+]
+
+pub record IsGapAfter (from to : ℕ) (gs : List Gap) (p : ℕ) (g : Gap) : Type 0 where
+  low : from ≤ g.start
+  own : g.start < g.end
+  after : p < g.end
+  next : g.end < first_gap_after g.end gs to
+  missing : (q : ℕ) → g.start ≤ q → q < g.end → is_missing gs q ≡ true
+
+pub gap_is : (from to p : ℕ) (gs : List Gap) (g : Gap) → AreGapsIn from to gs → gap_after p gs ≡ Some g
+    → IsGapAfter from to gs p g
+gap_is from to p [] g o h = cc
+gap_is from to p (x ∷ gs) g o h = elim (cases_lt p x.end) [
+  | inl here ↦
+      let test : ltb p x.end ≡ true = grind (arith, nat_tests) in
+      let same : x ≡ g = cc (rw test at h) in
+      let ended : ltb x.end x.end ≡ false = grind (arith, nat_tests) in
+      rw (← same) record {
+        low = o.0;
+        own = o.1;
+        after = here;
+        next = rw ended (next_least (x.end + 1) to x.end gs o.2 (omega arith));
+        missing = λ q low high. grind (arith, nat_tests);
+      }
+  | inr past ↦
+      let test : ltb p x.end ≡ false = grind (arith, nat_tests) in
+      let rest = gap_is (x.end + 1) to p gs g o.2 (rw test at h) in
+      let low = rest.low in
+      let own = rest.own in
+      let before = o.0 in
+      let first = o.1 in
+      let ended : ltb g.end x.end ≡ false = grind (arith, nat_tests) in record {
+        low = omega arith;
+        own = own;
+        after = rest.after;
+        next = rw ended rest.next;
+        missing = λ q from below. let is = rest.missing q from below in grind (arith, nat_tests);
+      }
+]
 
 -- ---- the bytes after it
 
-none_at : (taken : ℕ) (bytes : List ℕ) (gs ds : List Gap) (n from : ℕ) → ds ≡ drop n gs
-    → AreGapsIn from (taken + length bytes) ds
-    → byte_in (sparse taken bytes gs) (first_gap ds (taken + length bytes)) ≡ None
-none_at taken bytes gs [] n from is o =
-    let none = byte_from-none taken bytes (taken + length bytes) (omega arith) in grind (arith, nat_tests)
-none_at taken bytes gs (d ∷ ds) n from is o =
-    let missing = missing_in gs n d.start (rw (← is) (grind (arith, nat_tests, o.1))) in rw missing refl
+module _ (held : Sparse) (sound : IsSparse held) (p : ℕ) (g : Gap) (is : gap_after p held.gaps ≡ Some g) where
+  abbrev next : ℕ
+  next = first_gap_after g.end held.gaps (held_end held)
 
-module _ (held : Sparse) (sound : IsSparse held) (i : ℕ) (g : Gap) (is : slice_get held.gaps i ≡ Some g) where
-  pub after_bounds : (held.taken ≤ g.end) × (g.end < first_gap (drop (i + 1) held.gaps) (held_end held))
-      × (first_gap (drop (i + 1) held.gaps) (held_end held) ≤ held_end held)
-  after_bounds = end_after held.taken (held_end held) held.gaps i g sound.gaps is
+  pub after_bounds : (held.taken ≤ g.end) × (g.end < next) × (next ≤ held_end held)
+  after_bounds =
+      let at = gap_is held.taken (held_end held) p held.gaps g sound.gaps is in
+      (omega (arith, at.low, at.own), at.next, next_most held.taken (held_end held) g.end held.gaps sound.gaps)
 
-  after_size : length (bytes_after_gap held i g) ≡ first_gap (drop (i + 1) held.gaps) (held_end held) - g.end
+  after_size : length (bytes_after_gap held g) ≡ next - g.end
   after_size = simp (length-take, length-drop) (omega (arith, after_bounds.0, after_bounds.1, after_bounds.2))
 
-  byte_after : (j : ℕ) → j < length (bytes_after_gap held i g)
-      → byte_in held (g.end + j) ≡ Some (get_or (bytes_after_gap held i g) j 0)
+  byte_after : (j : ℕ) → j < length (bytes_after_gap held g)
+      → byte_in held (g.end + j) ≡ Some (get_or (bytes_after_gap held g) j 0)
   byte_after j h =
       let size = after_size in
       let bounds = after_bounds in
-      let there = there_after held.taken (held_end held) held.gaps i g (g.end + j) sound.gaps is (omega arith) (omega arith) in
+      let there = there_after held.taken (held_end held) g.end (g.end + j) held.gaps sound.gaps (omega arith) (omega arith) in
       let here = byte_from-is held.taken held.bytes (g.end + j) (g.end - held.taken + j) (omega arith) (omega arith) in
-      let short : j < first_gap (drop (i + 1) held.gaps) (held_end held) - g.end = omega arith in
+      let short : j < next - g.end = omega arith in
       rw (
         there,
         here,
-        get_or-take (first_gap (drop (i + 1) held.gaps) (held_end held) - g.end) (drop (g.end - held.taken) held.bytes) j 0 short,
+        get_or-take (next - g.end) (drop (g.end - held.taken) held.bytes) j 0 short,
         get_or-drop (g.end - held.taken) held.bytes j 0,
       )
 
-  byte_past : byte_in held (g.end + length (bytes_after_gap held i g)) ≡ None
+  byte_past : byte_in held (g.end + length (bytes_after_gap held g)) ≡ None
   byte_past =
-      let at = gap_at held.taken (held_end held) held.gaps i g sound.gaps is in
-      let place : g.end + length (bytes_after_gap held i g) ≡ first_gap (drop (i + 1) held.gaps) (held_end held) =
-      omega (arith, after_size, after_bounds.1) in
-      rw place (none_at held.taken held.bytes held.gaps (drop (i + 1) held.gaps) (i + 1) (g.end + 1) refl at.2)
+      let place : g.end + length (bytes_after_gap held g) ≡ next = omega (arith, after_size, after_bounds.1) in
+      rw place (elim (next_missing held.taken (held_end held) g.end next held.gaps sound.gaps refl) [
+        | inl end ↦
+            let none = byte_from-none held.taken held.bytes next (omega (arith, end)) in
+            grind (arith, nat_tests)
+        | inr missing ↦ rw missing refl
+      ])
 
-pub shows_after_gap : (buf : Contents) (ss : List Placed) → IsSparse buf.held → Shows buf ss → (i : ℕ) (g : Gap)
-    → slice_get buf.held.gaps i ≡ Some g → IsAfterGap ss g (bytes_after_gap buf.held i g)
-shows_after_gap buf ss sound shows i g is =
-    let at = gap_at buf.held.taken (held_end buf.held) buf.held.gaps i g sound.gaps is in
-    let bounds = after_bounds buf.held sound i g is in record {
-      missing = λ p low high.
-          sym (shows.held p (omega (arith, at.0))) ∙ rw (missing_at buf.held.gaps i g p is low high) refl;
-      some = omega (arith, after_size buf.held sound i g is, bounds.1);
-      held = λ j h. sym (shows.held (g.end + j) (omega (arith, bounds.0))) ∙ byte_after buf.held sound i g is j h;
-      past = sym (shows.held _ (omega (arith, bounds.0))) ∙ byte_past buf.held sound i g is;
+pub shows_after_gap : (buf : Contents) (ss : List Placed) → IsSparse buf.held → Shows buf ss → (p : ℕ) (g : Gap)
+    → gap_after p buf.held.gaps ≡ Some g → IsAfterGap ss g (bytes_after_gap buf.held g)
+shows_after_gap buf ss sound shows p g is =
+    let at = gap_is buf.held.taken (held_end buf.held) p buf.held.gaps g sound.gaps is in
+    let bounds = after_bounds buf.held sound p g is in record {
+      missing = λ q low high. sym (shows.held q (omega (arith, at.low))) ∙ rw (at.missing q low high) refl;
+      some = omega (arith, after_size buf.held sound p g is, bounds.1);
+      held = λ j h. sym (shows.held (g.end + j) (omega (arith, bounds.0))) ∙ byte_after buf.held sound p g is j h;
+      past = sym (shows.held _ (omega (arith, bounds.0))) ∙ byte_past buf.held sound p g is;
     }
+
+pub after_gap_result : (buf : Contents) (ss : List Placed) → IsSparse buf.held → Shows buf ss → (p : ℕ)
+    → (r : Option (Gap × Bor (List ℕ))) → IfSome r (λ after. gap_after p buf.held.gaps ≡ Some after.0)
+    → IfSome r (λ after. after.1.now ≡ bytes_after_gap buf.held after.0)
+    → IfSome r (λ after. IsAfterGap ss after.0 after.1.now)
+after_gap_result buf ss sound shows p None gap bytes = tt
+after_gap_result buf ss sound shows p (Some after) gap bytes =
+    rw bytes (shows_after_gap buf ss sound shows p after.0 gap)
 
 -- ---- the available bytes from a position on
 
@@ -129,11 +190,3 @@ pub text_from : (buf : Contents) (ss : List Placed) → IsSparse buf.held → Sh
 text_from buf ss sound shows p low =
     rw (← shows_text buf ss sound shows) (drop-drop (p - buf.held.taken) buf.held.taken (text_of ss)
     ∙ ap (λ (n : ℕ). drop n (text_of ss)) (omega arith))
-
-pub after_gap_result : (buf : Contents) (ss : List Placed) → IsSparse buf.held → Shows buf ss → (i : ℕ)
-    → (r : Option (Gap × Bor (List ℕ))) → IfSome r (λ after. slice_get buf.held.gaps i ≡ Some after.0)
-    → IfSome r (λ after. after.1.now ≡ bytes_after_gap buf.held i after.0)
-    → IfSome r (λ after. IsAfterGap ss after.0 after.1.now)
-after_gap_result buf ss sound shows i None gap bytes = tt
-after_gap_result buf ss sound shows i (Some after) gap bytes =
-    rw bytes (shows_after_gap buf ss sound shows i after.0 gap)

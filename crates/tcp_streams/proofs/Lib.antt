@@ -12,6 +12,7 @@ mod NumberLaws
 mod NumberLemmas
 mod QueueLemmas
 mod RetainLemmas
+mod RunLemmas
 mod SegmentLemmas
 mod SparseLemmas
 mod StateLemmas

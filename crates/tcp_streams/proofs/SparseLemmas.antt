@@ -1,9 +1,7 @@
 -- Bytes of which some are missing, and more of them.
 use Rattle.std.proofs.Common.{◌≡◌, ℕ, ◌+◌, ◌-◌, ◌^◌, ◌<◌, ◌≤◌, Bool, true, false, cond, List, [], ◌∷◌, ◌++◌, length}
 use Rattle.std.proofs.Common.{take, drop, get_or, min, max, ltb, leb, not, ◌&&◌, Option, Some, None, arith, refl}
-use Rattle.std.proofs.Common.{ap, sym}
-use Rattle.std.proofs.Common.{replicate}
-use Rattle.std.proofs.Common.{◌⊎◌, inl, inr}
+use Rattle.std.proofs.Common.{ap, is_some, sym, replicate, ◌⊎◌, inl, inr}
 use Rattle.std.proofs.lemmas.Bool.{cases_lt}
 use Rattle.std.proofs.lemmas.Bool.Decides.{nat_tests}
 use Rattle.std.proofs.lemmas.Grind.{elements}
@@ -12,14 +10,17 @@ use Rattle.std.proofs.lemmas.List.{drop-take, drop-drop, get_or-take, get_or-dro
 use Rattle.std.specs.Option.{option_or}
 use Rattle.std.specs.Prelude.{◌==◌}
 use Rattle.tcp_streams.specs.declared.gaps.Gap.{Gap}
-use Rattle.tcp_streams.specs.Gaps.{is_missing, AreGapsIn, Reaches, first_gap, without}
-use Rattle.tcp_streams.specs.Segments.{byte_from, differs, clashes}
+use Rattle.tcp_streams.specs.Gaps.{is_missing, AreGapsIn, AreRunsIn, IsMissingFrom, NoneMissing, first_gap, split_at}
+use Rattle.tcp_streams.specs.Gaps.{with_gap, without}
+use Rattle.tcp_streams.specs.Segments.{byte_from, count_from, differs, clashes}
 use Rattle.tcp_streams.specs.SparseBytes.{Sparse, sparse, IsSparse, held_end, byte_in, available_end, end_with}
 use Rattle.tcp_streams.specs.SparseBytes.{AddsBytes, Fills}
-use Rattle.tcp_streams.proofs.SegmentLemmas.{byte_from-here, byte_from-is, byte_from-none, nothing_after}
-use Rattle.tcp_streams.proofs.SegmentLemmas.{clashes_same, clashes_none, clashes-push}
+use Rattle.tcp_streams.proofs.CountLemmas.{count_from-none, count_from-not, count_from-split}
 use Rattle.tcp_streams.proofs.GapLemmas.{is_missing-append, is_missing-without, gaps_weaker, gaps_end, gaps_push}
 use Rattle.tcp_streams.proofs.GapLemmas.{without_end, without_ordered}
+use Rattle.tcp_streams.proofs.RunLemmas.{is_missing-split, runs_of_gaps, runs_weaker, split_runs, without-split}
+use Rattle.tcp_streams.proofs.SegmentLemmas.{byte_from-here, byte_from-is, byte_from-none, nothing_after}
+use Rattle.tcp_streams.proofs.SegmentLemmas.{clashes_same, clashes_none, clashes-push}
 
 -- ---- what isn't missing
 
@@ -65,45 +66,84 @@ available_fits held end items sound is items_are =
 
 -- ---- bytes are written where they are missing
 
-pub fills_none : (position : ℕ) (old bytes : List ℕ) → Fills [] position old old bytes
-fills_none position old bytes = record { size = refl; filled = λ i h. refl }
+-- ---- bytes are written where they are missing
 
-fills_at : (gs : List Gap) (g : Gap) (position : ℕ) (old mid bytes : List ℕ) (from to : ℕ)
-    → Fills gs position old mid bytes → length bytes ≡ length old
-    → from ≡ max g.start position - position → to ≡ min g.end (position + length bytes) - position
-    → from ≤ to → to ≤ length old → (i : ℕ) → i < length old
-    → get_or (take from mid ++ (take (to - from) (drop from bytes) ++ drop to mid)) i 0
-    ≡ cond (leb from i && ltb i to) (get_or bytes i 0) (get_or mid i 0)
-fills_at gs g position old mid bytes from to f same from_is to_is order fits i within =
-    let size = f.size in grind (arith, elements, nat_tests)
+-- each byte before a position that is missing is written, and no other
+pub record FillsTo (gs : List Gap) (position written : ℕ) (old new bytes : List ℕ) : Type 0 where
+  pub size : length new ≡ length old
+  pub filled : (i : ℕ) → i < length old → get_or new i 0
+      ≡ cond (is_missing gs (position + i) && ltb (position + i) written) (get_or bytes i 0) (get_or old i 0)
 
-pub fills_more : (gs : List Gap) (g : Gap) (position : ℕ) (old mid new bytes : List ℕ) (from to : ℕ)
-    → Fills gs position old mid bytes → length bytes ≡ length old
-    → from ≡ max g.start position - position → to ≡ min g.end (position + length bytes) - position
-    → from ≤ to → to ≤ length old
-    → new ≡ take from mid ++ (take (to - from) (drop from bytes) ++ drop to mid)
-    → Fills (gs ++ g ∷ []) position old new bytes
-fills_more gs g position old mid new bytes from to f same from_is to_is order fits is = record {
-  size = let size = f.size in rw is (grind (arith, elements));
+pub fills_none : (gs : List Gap) (position : ℕ) (old bytes : List ℕ) → FillsTo gs position position old old bytes
+fills_none gs position old bytes = record { size = refl; filled = λ i h. grind (arith, nat_tests) }
+
+fills_at : (gs : List Gap) (position written : ℕ) (old mid bytes : List ℕ) (from size : ℕ)
+    → FillsTo gs position written old mid bytes → length bytes ≡ length old → from + size ≤ length old
+    → (i : ℕ) → i < length old
+    → get_or (take from mid ++ (take size (drop from bytes) ++ drop size (drop from mid))) i 0
+    ≡ cond (leb from i && ltb i (from + size)) (get_or bytes i 0) (get_or mid i 0)
+fills_at gs position written old mid bytes from size f same fits i within =
+    let filled = f.size in grind (arith, elements, nat_tests)
+
+pub fills_more : (gs : List Gap) (g : Gap) (position written : ℕ) (old mid new bytes : List ℕ) (from size : ℕ)
+    → FillsTo gs position written old mid bytes → length bytes ≡ length old
+    → position ≤ written → IsMissingFrom gs written (position + length bytes) g
+    → from ≡ g.start - position → size ≡ g.end - position - from
+    → new ≡ take from mid ++ (take size (drop from bytes) ++ drop size (drop from mid))
+    → FillsTo gs position g.end old new bytes
+fills_more gs g position written old mid new bytes from size f same low is from_is size_is new_is =
+    let start = is.start in
+    let some = is.some in
+    let end = is.end in
+    let filled = f.size in record {
+      size = rw new_is (grind (arith, elements));
+      filled = λ i h.
+          let at = fills_at gs position written old mid bytes from size f same (omega arith) i h in
+          let was = f.filled i h in
+          rw (new_is, at, was) (elim (cases_lt (position + i) g.start) [
+            | inl below ↦ elim (cases_lt (position + i) written) [
+              | inl done ↦ grind (arith, nat_tests)
+              | inr next ↦
+                  let none = is.before (position + i) next below in grind (arith, nat_tests)
+            ]
+            | inr above ↦ elim (cases_lt (position + i) g.end) [
+              | inl here ↦
+                  let missing = is.missing (position + i) above here in grind (arith, nat_tests)
+              | inr past ↦ grind (arith, nat_tests)
+            ]
+          ]);
+    }
+
+-- the same by what is put there
+pub fills_put : (gs : List Gap) (g : Gap) (position written : ℕ) (old mid put bytes : List ℕ) (from size : ℕ)
+    → FillsTo gs position written old mid bytes → length old ≡ length bytes
+    → position ≤ written → IsMissingFrom gs written (position + length bytes) g
+    → from ≡ g.start - position → size ≡ g.end - position - from → put ≡ take size (drop from bytes)
+    → FillsTo gs position g.end old (take from mid ++ (put ++ drop size (drop from mid))) bytes
+fills_put gs g position written old mid put bytes from size f same low is from_is size_is put_is =
+    rw put_is (fills_more gs g position written old mid _ bytes from size f (sym same) low is from_is size_is refl)
+
+-- where no others are missing
+pub fills_rest : (gs : List Gap) (position written : ℕ) (old new bytes : List ℕ)
+    → FillsTo gs position written old new bytes → length bytes ≡ length old
+    → NoneMissing gs written (position + length bytes) → Fills gs position old new bytes
+fills_rest gs position written old new bytes f same none = record {
+  size = f.size;
   filled = λ i h.
-      let at = fills_at gs g position old mid bytes from to f same from_is to_is order fits i h in
       let was = f.filled i h in
-      rw (is, at) (grind (arith, nat_tests, is_missing-append));
+      elim (cases_lt (position + i) written) [
+        | inl done ↦ grind (arith, nat_tests)
+        | inr next ↦ let here = none (position + i) next (omega arith) in grind (arith, nat_tests)
+      ];
 }
 
--- the same for the next gap of a list
-pub fills_put : (gs : List Gap) (k : ℕ) (position : ℕ) (old mid put bytes : List ℕ) (from size : ℕ) (g : Gap)
-    → Fills (take k gs) position old mid bytes → k < length gs → g ≡ get_or gs k g → length old ≡ length bytes
-    → Reaches position (position + length bytes) g
-    → from ≡ max g.start position - position → size ≡ min g.end (position + length bytes) - position - from
-    → put ≡ take size (drop from bytes)
-    → Fills (take (k + 1) gs) position old (take from mid ++ (put ++ drop size (drop from mid))) bytes
-fills_put gs k position old mid put bytes from size g f within g_is same reach from_is size_is put_is =
-    let to : size ≡ from + size - from = omega arith in
-    let all = fills_more (take k gs) g position old mid
-    (take from mid ++ (take (from + size - from) (drop from bytes) ++ drop (from + size) mid)) bytes from (from + size) f
-    (omega arith) from_is (omega arith) (omega arith) (omega arith) refl in
-    rw (take_more gs k g within, ← g_is, put_is, drop-drop) (rw (← to) at all)
+-- where all are written
+pub fills_all : (gs : List Gap) (position written : ℕ) (old new bytes : List ℕ)
+    → FillsTo gs position written old new bytes → position + length old ≤ written → Fills gs position old new bytes
+fills_all gs position written old new bytes f all = record {
+  size = f.size;
+  filled = λ i h. let was = f.filled i h in grind (arith, nat_tests);
+}
 
 -- ---- bytes are added
 
@@ -185,11 +225,10 @@ no_clash false b there = refl
 
 -- ---- bytes are written among those that are there
 
-module _ (taken position size : ℕ) (there bytes written : List ℕ) (gaps part : List Gap)
+module _ (taken position size : ℕ) (there bytes written : List ℕ) (gaps : List Gap)
     (after : taken ≤ position) (within : position + length bytes ≤ taken + length there)
     (size_is : size ≡ length bytes)
-    (fills : Fills part position (take size (drop (position - taken) there)) written bytes)
-    (same : (p : ℕ) → position ≤ p → p < position + length bytes → is_missing part p ≡ is_missing gaps p) where
+    (fills : Fills gaps position (take size (drop (position - taken) there)) written bytes) where
   here_size : length (take size (drop (position - taken) there)) ≡ length bytes
   here_size = simp (length-take, length-drop) (omega arith)
 
@@ -214,7 +253,7 @@ module _ (taken position size : ℕ) (there bytes written : List ℕ) (gaps part
       let filled = fills.size in let was = here_size in
       let at : get_or after_write (position - taken + i) 0 ≡ get_or written i 0 = grind (arith, elements) in
       let is = fills.filled i (omega arith) in
-      rw (at, is, same (position + i) (omega arith) (omega arith), here_at i h)
+      rw (at, is, here_at i h)
 
   abbrev before_merge : Sparse
   before_merge = record { taken = taken; bytes = there; gaps = gaps }
@@ -266,7 +305,7 @@ module _ (taken position size : ℕ) (there bytes written : List ℕ) (gaps part
       let at : position + i ≡ taken + (position - taken + i) = omega arith in
       let new = byte_from-is position written (position + i) i refl (omega arith) in
       let old = byte_from-is taken there (position + i) (position - taken + i) at (omega arith) in
-      rw (new, old, fills.filled i (omega arith), same (position + i) (omega arith) (omega arith), here_at i h)
+      rw (new, old, fills.filled i (omega arith), here_at i h)
       (no_clash (is_missing gaps (position + i)) (get_or bytes i 0) (get_or there (position - taken + i) 0)))
 
 -- ---- missing bytes are put after the last one
@@ -383,7 +422,7 @@ module _ (old : Sparse) (position len : ℕ) (bytes : List ℕ) (sound : IsSpars
   long_bytes = old.bytes ++ replicate (len - length old.bytes) 0
 
   abbrev pub long_gaps : List Gap
-  long_gaps = cond (ltb (held_end old) (old.taken + len)) (old.gaps ++ (record { start = held_end old; end = old.taken + len }) ∷ []) old.gaps
+  long_gaps = with_gap (held_end old) (old.taken + len) old.gaps
 
   no_zeros : len ≤ length old.bytes → long_bytes ≡ old.bytes
   no_zeros h = let none : len - length old.bytes ≡ 0 = omega arith in rw (none, append-nil)
@@ -457,19 +496,94 @@ module _ (old : Sparse) (position len : ℕ) (bytes : List ℕ) (sound : IsSpars
       short = rw new_end (omega (arith, sound.short));
     }
 
--- the same for bytes and gaps that are equal
+-- the same where a gap was made two
+adds_split : (taken position end : ℕ) (bytes new_bytes adds : List ℕ) (gs : List Gap) → position < end
+    → AddsBytes (sparse taken bytes (split_at position gs))
+    (sparse taken new_bytes (without position end (split_at position gs))) position adds
+    → AddsBytes (sparse taken bytes gs) (sparse taken new_bytes (without position end gs)) position adds
+adds_split taken position end bytes new_bytes adds gs some h =
+    let h = rw (without-split position end gs some) at h in record {
+      taken = refl;
+      last = h.last;
+      held = λ p low. let same = is_missing-split position gs p in rw same at (h.held p low);
+    }
+
 pub added : (old : Sparse) (position len : ℕ) (bytes mid_bytes new_bytes : List ℕ) (mid_gaps new_gaps : List Gap)
     → IsSparse old → old.taken ≤ position → 0 < length bytes → position + length bytes ≤ 2 ^ 63
     → len ≡ position - old.taken + length bytes
     → mid_bytes ≡ old.bytes ++ replicate (len - length old.bytes) 0
-    → mid_gaps ≡ cond (ltb (held_end old) (old.taken + len)) (old.gaps ++ (record { start = held_end old; end = old.taken + len }) ∷ []) old.gaps
+    → mid_gaps ≡ split_at position (with_gap (held_end old) (old.taken + len) old.gaps)
     → AddsBytes (sparse old.taken mid_bytes mid_gaps)
     (sparse old.taken new_bytes (without position (position + length bytes) mid_gaps)) position bytes
     → new_gaps ≡ without position (position + length bytes) mid_gaps
     → AddsBytes old (sparse old.taken new_bytes new_gaps) position bytes × IsSparse (sparse old.taken new_bytes new_gaps)
 added old position len bytes mid_bytes new_bytes mid_gaps new_gaps sound after some short len_is mid_is gaps_are adds new_is =
-    let adds = rw (mid_is, gaps_are) at adds in
-    rw (new_is, gaps_are) (
+    let gaps = with_gap (held_end old) (old.taken + len) old.gaps in
+    let end : position < position + length bytes = omega arith in
+    let adds = adds_split old.taken position (position + length bytes)
+    (old.bytes ++ replicate (len - length old.bytes) 0) new_bytes bytes gaps end (rw (mid_is, gaps_are) at adds) in
+    rw (new_is, gaps_are, without-split position (position + length bytes) gaps end) (
       adds_long old position len bytes sound after some short len_is new_bytes adds,
       sound_long old position len bytes sound after some short len_is new_bytes adds,
     )
+
+pub split_order : (old : Sparse) (position len : ℕ) (bytes : List ℕ) (mid_gaps : List Gap)
+    → IsSparse old → old.taken ≤ position → 0 < length bytes → position + length bytes ≤ 2 ^ 63
+    → len ≡ position - old.taken + length bytes
+    → mid_gaps ≡ split_at position (with_gap (held_end old) (old.taken + len) old.gaps)
+    → AreRunsIn 0 (2 ^ 64) mid_gaps
+split_order old position len bytes mid_gaps sound after some short len_is is =
+    rw is (split_runs 0 (2 ^ 64) position _ (runs_of_gaps 0 (2 ^ 64) _
+    (long_bounded old position len bytes sound after some short len_is)))
+
+pub split_clashes : (taken position : ℕ) (bytes adds : List ℕ) (gs : List Gap)
+    → clashes (byte_in (sparse taken bytes (split_at position gs))) position adds
+    ≡ clashes (byte_in (sparse taken bytes gs)) position adds
+split_clashes taken position bytes adds gs =
+    clashes_same (byte_in (sparse taken bytes (split_at position gs))) (byte_in (sparse taken bytes gs)) position adds
+    (λ i h. let same = is_missing-split position gs (position + i) in rw same refl)
+
+-- ---- positions at which a byte is held
+
+some_by : (missing : Bool) (b : ℕ) → is_some (cond missing None (Some b)) ≡ not missing
+some_by true b = refl
+some_by false b = refl
+
+none_by : (missing : Bool) (o : Option ℕ) → o ≡ None → is_some (cond missing None o) ≡ false
+none_by true o is = refl
+none_by false o is = rw is
+
+module _ (held : Sparse) where
+  held_at : (p : ℕ) → held.taken ≤ p → p < held_end held
+      → is_some (byte_in held p) ≡ not (is_missing held.gaps p)
+  held_at p low below =
+      rw (byte_from-here held.taken held.bytes p low below) (some_by (is_missing held.gaps p) _)
+
+  held_past : (p : ℕ) → held_end held ≤ p → is_some (byte_in held p) ≡ false
+  held_past p above = none_by (is_missing held.gaps p) _ (byte_from-none held.taken held.bytes p above)
+
+  pub none_past : (position count end : ℕ) → end ≡ min (position + count) (held_end held) → end ≤ position
+      → 0 ≡ count_from (λ p. is_some (byte_in held p)) position count
+  none_past position count end end_is past =
+      let none = count_from-none (λ p. is_some (byte_in held p)) position count
+      (λ q low high. held_past q (omega arith)) in rw none
+
+  pub counted_held : (position count end missing : ℕ) → held.taken ≤ position
+      → end ≡ min (position + count) (held_end held) → position < end
+      → missing ≡ count_from (is_missing held.gaps) position (end - position)
+      → end - position - missing ≡ count_from (λ p. is_some (byte_in held p)) position count
+  counted_held position count end missing after end_is some missing_is =
+      let size : end - position + (count - (end - position)) ≡ count = omega arith in
+      let at : position + (end - position) ≡ end = omega arith in
+      let parts = count_from-split (λ p. is_some (byte_in held p)) position (end - position) (count - (end - position)) in
+      let parts = rw (size, at) at parts in
+      let rest = count_from-none (λ p. is_some (byte_in held p)) end (count - (end - position))
+      (λ q low high. held_past q (omega arith)) in
+      let all = count_from-not (λ p. is_some (byte_in held p)) (is_missing held.gaps) position (end - position)
+      (λ q low high. held_at q (omega arith) (omega arith)) in
+      omega (arith, parts, rest, all, missing_is)
+
+pub sparse_runs : (held : Sparse) → IsSparse held → AreRunsIn 0 (2 ^ 64) held.gaps
+sparse_runs held sound =
+    runs_weaker held.taken 0 (held_end held) (2 ^ 64) held.gaps (omega arith) (omega (arith, sound.short))
+    (runs_of_gaps held.taken (held_end held) held.gaps sound.gaps)

@@ -1,8 +1,7 @@
 -- Gaps: positions of a stream whose bytes are missing.
 use Rattle.std.specs.Prelude.{ℕ, ◌+◌, ◌<◌, ◌≤◌, nat_lt, nat_le, Bool, ◌&&◌, if◌then◌else◌, max, min, List, [], ◌∷◌}
-use Rattle.std.specs.Prelude.{◌++◌}
+use Rattle.std.specs.Prelude.{◌≡◌, ◌++◌, false, true, map, Option, None, Some}
 use Rattle.std.specs.List.{list_any}
-use Rattle.std.specs.List.Sorted.{IsPartitionPoint}
 use Rattle.tcp_streams.specs.declared.gaps.Gap.{Gap}
 
 -- the position is in the gap
@@ -23,17 +22,55 @@ abbrev pub first_gap : List Gap → (end : ℕ) → ℕ
 first_gap [] end = end
 first_gap (gap ∷ gaps) end = gap.start
 
--- so many gaps end at a position or before it, and no others
-abbrev pub EndBy : List Gap → (position count : ℕ) → Type 0
-EndBy gaps position count = IsPartitionPoint (λ gap. gap.end ≤ position) (λ gap. position < gap.end) gaps count
+-- the same, but one may begin where the one before it ends
+abbrev pub AreRunsIn : (from to : ℕ) → List Gap → Type 0
+AreRunsIn from to [] = from ≤ to
+AreRunsIn from to (gap ∷ gaps) = (from ≤ gap.start) × (gap.start < gap.end) × AreRunsIn gap.end to gaps
 
--- so many gaps start before a position, and no others
-abbrev pub StartBefore : List Gap → (position count : ℕ) → Type 0
-StartBefore gaps position count = IsPartitionPoint (λ gap. gap.start < position) (λ gap. position ≤ gap.start) gaps count
+-- the gaps of a map from their ends to their starts
+abbrev pub gaps_of : List (ℕ × ℕ) → List Gap
+gaps_of entries = map (λ entry. record { start = entry.1; end = entry.0 }) entries
 
--- the gap isn't empty, and begins before one position and ends after another
-abbrev pub Reaches : (start end : ℕ) → Gap → Type 0
-Reaches start end gap = (gap.start < gap.end) × (gap.start < end) × (start < gap.end)
+-- the first gap that ends after a position
+abbrev pub gap_after : (position : ℕ) → List Gap → Option Gap
+gap_after position [] = None
+gap_after position (gap ∷ gaps) = (if nat_lt position gap.end then Some gap else gap_after position gaps)
+
+-- the start of that gap, or the end of the bytes where there is none
+abbrev pub first_gap_after : (position : ℕ) → List Gap → (end : ℕ) → ℕ
+first_gap_after position [] end = end
+first_gap_after position (gap ∷ gaps) end =
+    (if nat_lt position gap.end then gap.start else first_gap_after position gaps end)
+
+-- no position from one on and up to another is missing
+abbrev pub NoneMissing : List Gap → (from to : ℕ) → Type 0
+NoneMissing gaps from to = (p : ℕ) → from ≤ p → p < to → is_missing gaps p ≡ false
+
+-- the first positions from one on and up to another that are missing
+pub record IsMissingFrom (gaps : List Gap) (from to : ℕ) (gap : Gap) : Type 0 where
+  pub start : from ≤ gap.start
+  pub some : gap.start < gap.end
+  pub end : gap.end ≤ to
+  pub before : NoneMissing gaps from gap.start
+  pub missing : (p : ℕ) → gap.start ≤ p → p < gap.end → is_missing gaps p ≡ true
+
+-- gaps with one more after them, unless it is empty
+abbrev pub with_gap : (start end : ℕ) → List Gap → List Gap
+with_gap start end gaps = (if nat_lt start end then gaps ++ (record { start = start; end = end }) ∷ [] else gaps)
+
+-- a gap has positions before this one, and this one
+abbrev pub is_cut : ℕ → Gap → Bool
+is_cut p gap = nat_lt gap.start p && nat_lt p gap.end
+
+abbrev pub is_cut_at : ℕ → List Gap → Bool
+is_cut_at p gaps = list_any (is_cut p) gaps
+
+-- that gap as two
+abbrev pub split_at : ℕ → List Gap → List Gap
+split_at p [] = []
+split_at p (gap ∷ gaps) = (if is_cut p gap
+    then (record { start = gap.start; end = p }) ∷ (record { start = p; end = gap.end }) ∷ split_at p gaps
+    else gap ∷ split_at p gaps)
 
 -- the part of a gap before a position, and the part from one on
 abbrev pub part_before : ℕ → Gap → List Gap

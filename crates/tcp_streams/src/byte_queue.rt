@@ -1,13 +1,13 @@
 //! Bytes of which the first ones are dropped again and again.
 
-ghost use Rattle.std.specs.Prelude.{◌≡◌, ◌++◌, ◌+◌, ◌-◌, ◌^◌, ◌<◌, ◌≤◌, List, ℕ, [], length, drop, replicate, OnOk};
+ghost use Rattle.std.specs.Prelude.{◌≡◌, ◌++◌, ◌+◌, ◌-◌, ◌^◌, ◌<◌, ◌≤◌, List, ℕ, [], length, drop, replicate, take, vec_len, OnOk};
 ghost use Rattle.std.specs.Prelude.{IsOk, OnErr};
-ghost use Rattle.tcp_streams.specs.Gaps.{AreGapsIn, without};
+ghost use Rattle.tcp_streams.specs.Gaps.{AreRunsIn, without};
 ghost use Rattle.tcp_streams.specs.Segments.{clashes};
 ghost use Rattle.tcp_streams.specs.SparseBytes.{sparse, byte_in, AddsBytes, counted};
 
 use super::conflicts::Conflicts;
-use super::gaps::Gap;
+use super::gaps::Gaps;
 use super::sparse_bytes::merge;
 use std::alloc::{AllocError, Global};
 use std::marker::Model;
@@ -72,34 +72,34 @@ impl ByteQueue {
         Ok(())
     }
 
+    /// Drops all bytes but the first `len`.
+    pub(crate) fn truncate(&mut self, len: usize)
+        ensures { self.new ≡ take len self.old }
+    {
+        self.bytes.truncate(self.dropped.saturating_add(len));
+        self.dropped = release(&mut self.bytes, self.dropped);
+    }
+
     /// Drops the first bytes, so many of them.
     pub(crate) fn drop_prefix(&mut self, count: usize)
         requires { count ≤ length self.old }
         ensures { self.new ≡ drop count self.old }
     {
-        self.dropped += count;
-        if self.dropped == self.bytes.len() {
-            self.bytes.clear();
-            self.dropped = 0;
-        } else if self.bytes.len() - self.dropped <= self.dropped {
-            self.bytes.drain(..self.dropped);
-            self.dropped = 0;
-        }
+        self.dropped = release(&mut self.bytes, self.dropped + count);
     }
 
     /// Writes bytes from a position on where they are missing, and returns where the others differ.
     pub(crate) fn merge(
         &mut self,
-        gaps: &[Gap],
+        gaps: &Gaps,
         taken: u64,
         position: u64,
         bytes: &[u8],
     ) -> Conflicts
         requires after { taken ≤ position }
         requires within { position + length bytes.now ≤ taken + length self.old }
-        requires short { taken + length self.old ≤ 2 ^ 63 }
-        requires some { 0 < length bytes.now }
-        requires gaps { AreGapsIn 0 (2 ^ 64) gaps.now }
+        requires short { position + length bytes.now ≤ 2 ^ 63 }
+        requires gaps { AreRunsIn 0 (2 ^ 64) gaps.now }
         ensures adds { AddsBytes (sparse taken self.old gaps.now)
             (sparse taken self.new (without position (position + length bytes.now) gaps.now)) position bytes.now }
         ensures conflicts { result
@@ -113,4 +113,18 @@ impl ByteQueue {
             bytes,
         )
     }
+}
+
+// Takes the first bytes, so many of them, out of memory if they are no fewer than the others. How many
+// of these are still there is returned.
+fn release(bytes: &mut Vec<u8>, dropped: usize) -> usize
+    requires { dropped ≤ vec_len bytes.old }
+    ensures bytes { drop result bytes.new.items ≡ drop dropped bytes.old.items }
+    ensures few { result + result ≤ length bytes.new.items }
+{
+    if bytes.len() - dropped > dropped {
+        return dropped;
+    }
+    bytes.drain(..dropped);
+    0
 }

@@ -1,10 +1,14 @@
 //! Positions of a stream whose bytes are missing.
 
-ghost use Rattle.std.specs.Prelude.{◌≡◌, ◌+◌, ◌-◌, ◌<◌, ◌≤◌, ◌^◌, ◌++◌, ◌∷◌, [], length, nat_lt, vec_len, vec_capacity};
-ghost use Rattle.std.specs.Prelude.{if◌then◌else◌, drop};
-ghost use Rattle.std.specs.List.{AllWithin, insert, remove_range};
-ghost use Rattle.tcp_streams.specs.Gaps.{AreGapsIn, EndBy, Reaches, StartBefore, is_missing, without};
+ghost use Rattle.std.specs.Prelude.{◌≡◌, ◌-◌, ◌<◌, ◌≤◌, ◌^◌, [], length, false};
+ghost use Rattle.std.specs.Prelude.{drop, slice_get, IfNone, IfSome, OnErr, OnOk};
+ghost use Rattle.tcp_streams.specs.Gaps.{AreRunsIn, IsMissingFrom, NoneMissing, gap_after, is_cut_at, is_missing, split_at, with_gap, without};
 ghost use Rattle.tcp_streams.specs.Segments.{count_from};
+
+use std::alloc::{AllocError, Global};
+use std::collections::BTreeMap;
+use std::marker::Model;
+use std::ops::Bound;
 
 /// Positions whose bytes are missing.
 #[derive(Clone, Copy, Debug, PartialEq, Eq)]
@@ -15,144 +19,179 @@ pub struct Gap {
     pub end: u64,
 }
 
-// How many gaps end at a position or before it.
-fn count_ended(gaps: &[Gap], position: u64) -> usize
-    requires { AreGapsIn 0 (2 ^ 64) gaps.now }
-    ensures bound { result ≤ length gaps.now }
-    ensures ended { EndBy gaps.now position result }
-{
-    gaps.partition_point(|gap| gap.end <= position)
+/// Gaps in the order of their positions. The cost of finding one, of adding one and of taking one
+/// out is logarithmic in their number.
+#[derive(Debug, Drop)]
+pub(crate) struct Gaps {
+    // By the end of each.
+    starts: BTreeMap<u64, u64>,
 }
 
-// How many gaps start before a position.
-fn count_started(gaps: &[Gap], position: u64) -> usize
-    requires { AreGapsIn 0 (2 ^ 64) gaps.now }
-    ensures bound { result ≤ length gaps.now }
-    ensures started { StartBefore gaps.now position result }
-{
-    gaps.partition_point(|gap| gap.start < position)
+impl Model for Gaps {
+    ghost use Rattle.std.specs.Prelude.{List};
+    ghost use Rattle.tcp_streams.specs.declared.gaps.Gap.{Gap};
+    ghost use Rattle.tcp_streams.specs.Gaps.{gaps_of};
+
+    ghost Value = { List Gap };
+
+    ghost view = { λ gaps. gaps_of gaps.starts.entries };
 }
 
-// The index of the first gap that has any of the positions from `start` up to `end`, or would come
-// after it, and that of the first one after all of these.
-pub(crate) fn touched(gaps: &[Gap], start: u64, end: u64) -> (usize, usize)
-    requires some { start < end }
-    requires gaps { AreGapsIn 0 (2 ^ 64) gaps.now }
-    ensures order { result.0 ≤ result.1 }
-    ensures bound { result.1 ≤ length gaps.now }
-    ensures ended { EndBy gaps.now start result.0 }
-    ensures started { StartBefore gaps.now end result.1 }
-{
-    let first = count_ended(gaps, start);
-    let last = count_started(gaps, end);
-    (first, last)
-}
-
-// How many of the positions from `start` up to `end` are missing.
-pub(crate) fn count_missing(gaps: &[Gap], start: u64, end: u64) -> u64
-    requires some { start < end }
-    requires gaps { AreGapsIn 0 (2 ^ 64) gaps.now }
-    ensures { result ≡ count_from (is_missing gaps.now) start (end - start) }
-{
-    let (first, last) = touched(gaps, start, end);
-    count_reached(&gaps[first..last], start, end)
-}
-
-// The same of gaps that have some of them each.
-fn count_reached(gaps: &[Gap], start: u64, end: u64) -> u64
-    requires some { start < end }
-    requires gaps { AreGapsIn 0 (2 ^ 64) gaps.now }
-    requires reach { AllWithin (Reaches start end) gaps.now 0 (length gaps.now) }
-    ensures { result ≡ count_from (is_missing gaps.now) start (end - start) }
-{
-    let mut count = 0;
-    for gap in gaps {
-        count += gap.end.min(end) - gap.start.max(start);
+impl Gaps {
+    pub(crate) fn new(alloc: Global) -> Gaps
+        ensures { result ≡ [] }
+    {
+        Gaps {
+            starts: BTreeMap::new(alloc),
+        }
     }
-    count
-}
 
-// Adds a gap after all others unless it is empty.
-pub(crate) fn push_gap(gaps: &mut Vec<Gap>, start: u64, end: u64)
-    requires room { vec_len gaps.old < vec_capacity gaps.old }
-    ensures items { gaps.new.items
-        ≡ (if nat_lt start end then gaps.old.items ++ (record { start = start; end = end }) ∷ []
-        else gaps.old.items) }
-    ensures room { vec_capacity gaps.old ≤ vec_capacity gaps.new }
-    ensures len { vec_len gaps.new ≤ vec_len gaps.old + 1 }
-{
-    if start < end {
-        gaps.push(Gap { start, end }).unwrap();
+    /// How many there are.
+    pub(crate) fn count(&self) -> usize
+        ensures { result ≡ length self.now }
+    {
+        self.starts.len()
     }
-}
 
-// Removes the first gap, if there is one.
-pub(crate) fn remove_first(gaps: &mut Vec<Gap>)
-    ensures { gaps.new.items ≡ drop 1 gaps.old.items }
-{
-    if gaps.is_empty() {
-        return;
+    pub(crate) fn first(&self) -> Option<Gap>
+        ensures { result ≡ slice_get self.now 0 }
+    {
+        match self.starts.first_key_value() {
+            Some((end, start)) => Some(Gap {
+                start: *start,
+                end: *end,
+            }),
+            None => None,
+        }
     }
-    gaps.drain(..1);
-}
 
-// Removes the gaps from one index on, up to another.
-fn remove_between(gaps: &mut Vec<Gap>, first: usize, last: usize)
-    requires ordered { first ≤ last }
-    requires within { last ≤ vec_len gaps.old }
-    ensures items { gaps.new.items ≡ remove_range gaps.old.items first last }
-    ensures room { vec_capacity gaps.new ≡ vec_capacity gaps.old }
-{
-    gaps.drain(first..last);
-}
-
-// Inserts a gap unless it is empty.
-fn insert_gap(gaps: &mut Vec<Gap>, index: usize, gap: Gap)
-    requires room { vec_len gaps.old < vec_capacity gaps.old }
-    requires within { index ≤ vec_len gaps.old }
-    ensures items { gaps.new.items
-        ≡ (if nat_lt gap.start gap.end then insert gaps.old.items index gap else gaps.old.items) }
-    ensures room { vec_capacity gaps.old ≤ vec_capacity gaps.new }
-{
-    if gap.start < gap.end {
-        gaps.insert(index, gap).unwrap();
+    /// The first one that ends after a position.
+    pub(crate) fn after(&self, position: u64) -> Option<Gap>
+        ensures { result ≡ gap_after position self.now }
+    {
+        let after = (Bound::Excluded(position), Bound::Unbounded);
+        match self.starts.range(after).next() {
+            Some((end, start)) => Some(Gap {
+                start: *start,
+                end: *end,
+            }),
+            None => None,
+        }
     }
-}
 
-// Takes the positions from `start` up to `end` out of the gaps. There is memory for one more gap.
-pub(crate) fn close(gaps: &mut Vec<Gap>, start: u64, end: u64)
-    requires room { vec_len gaps.old + 1 ≤ vec_capacity gaps.old }
-    requires some { start < end }
-    requires gaps { AreGapsIn 0 (2 ^ 64) gaps.old.items }
-    ensures { gaps.new.items ≡ without start end gaps.old.items }
-{
-    let (first, last) = touched(gaps, start, end);
-    if first < last {
-        close_between(gaps, first, last, start, end);
+    /// The first positions from one on and up to another that are missing.
+    pub(crate) fn missing_from(&self, position: u64, end: u64) -> Option<Gap>
+        requires order { AreRunsIn 0 (2 ^ 64) self.now }
+        ensures some { IfSome result (IsMissingFrom self.now position end) }
+        ensures none { IfNone result (NoneMissing self.now position end) }
+    {
+        let Some(gap) = self.after(position) else {
+            return None;
+        };
+        if gap.start >= end || position >= end {
+            return None;
+        }
+        Some(Gap {
+            start: gap.start.max(position),
+            end: gap.end.min(end),
+        })
     }
-}
 
-// Takes the positions from `start` up to `end` out of the gaps from one index on up to another,
-// which are those that have any of them.
-fn close_between(gaps: &mut Vec<Gap>, first: usize, last: usize, start: u64, end: u64)
-    requires room { vec_len gaps.old + 1 ≤ vec_capacity gaps.old }
-    requires some { start < end }
-    requires order { first < last }
-    requires within { last ≤ vec_len gaps.old }
-    requires gaps { AreGapsIn 0 (2 ^ 64) gaps.old.items }
-    requires ended { EndBy gaps.old.items start first }
-    requires started { StartBefore gaps.old.items end last }
-    ensures { gaps.new.items ≡ without start end gaps.old.items }
-{
-    let left = Gap {
-        start: gaps[first].start,
-        end: start,
-    };
-    let right = Gap {
-        start: end,
-        end: gaps[last - 1].end,
-    };
-    remove_between(gaps, first, last);
-    insert_gap(gaps, first, right);
-    insert_gap(gaps, first, left);
+    /// How many of the positions from `start` up to `end` are missing.
+    pub(crate) fn count_missing(&self, start: u64, end: u64) -> u64
+        requires some { start ≤ end }
+        requires order { AreRunsIn 0 (2 ^ 64) self.now }
+        ensures { result ≡ count_from (is_missing self.now) start (end - start) }
+    {
+        let mut count = 0;
+        let mut position = start;
+        for _ in start..end {
+            let Some(gap) = self.missing_from(position, end) else {
+                return count;
+            };
+            count += gap.end - gap.start;
+            position = gap.end;
+        }
+        count
+    }
+
+    /// Removes the first one, if there is one.
+    pub(crate) fn remove_first(&mut self)
+        ensures { self.new ≡ drop 1 self.old }
+    {
+        self.starts.pop_first();
+    }
+
+    // Adds a gap after all others unless it is empty.
+    fn push(&mut self, start: u64, end: u64) -> Result<(), AllocError>
+        requires { AreRunsIn 0 start self.old }
+        ensures ok { OnOk result (self.new ≡ with_gap start end self.old) }
+        ensures err { OnErr result (self.new ≡ self.old) }
+    {
+        if start < end {
+            self.starts.insert(end, start)?;
+        }
+        Ok(())
+    }
+
+    // Makes two gaps of the one that has positions before this one, and this one.
+    fn split(&mut self, position: u64) -> Result<(), AllocError>
+        requires { AreRunsIn 0 (2 ^ 64) self.old }
+        ensures ok { OnOk result (self.new ≡ split_at position self.old) }
+        ensures err { OnErr result (self.new ≡ self.old) }
+    {
+        let Some(gap) = self.after(position) else {
+            return Ok(());
+        };
+        if position <= gap.start {
+            return Ok(());
+        }
+        self.starts.insert(position, gap.start)?;
+        let shorter: Result<_, _> = self.starts.insert(gap.end, position);
+        shorter.unwrap();
+        Ok(())
+    }
+
+    /// Adds a gap after all others unless it is empty. Then makes two gaps of the one that has
+    /// positions before `position`, and `position`.
+    pub(crate) fn open(&mut self, start: u64, end: u64, position: u64) -> Result<(), AllocError>
+        requires order { AreRunsIn 0 start self.old }
+        ensures ok { OnOk result (self.new ≡ split_at position (with_gap start end self.old)) }
+        ensures err { OnErr result (self.new ≡ self.old) }
+    {
+        self.push(start, end)?;
+        match self.split(position) {
+            Ok(()) => Ok(()),
+            Err(error) => {
+                if start < end {
+                    self.starts.pop_last();
+                }
+                Err(error)
+            }
+        }
+    }
+
+    /// Takes the positions from `start` up to `end` out of the gaps, none of which begins before
+    /// `start` and ends after it.
+    pub(crate) fn close(&mut self, start: u64, end: u64)
+        requires some { start < end }
+        requires order { AreRunsIn 0 (2 ^ 64) self.old }
+        requires whole { is_cut_at start self.old ≡ false }
+        ensures { self.new ≡ without start end self.old }
+    {
+        for _ in 0..self.starts.len() {
+            let Some(gap) = self.after(start) else {
+                return;
+            };
+            if end <= gap.start {
+                return;
+            }
+            if end < gap.end {
+                let shorter: Result<_, _> = self.starts.insert(gap.end, end);
+                shorter.unwrap();
+                return;
+            }
+            self.starts.remove(&gap.end);
+        }
+    }
 }

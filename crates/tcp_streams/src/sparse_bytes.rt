@@ -1,18 +1,17 @@
 //! Bytes of a stream, of which some are missing.
 
-ghost use Rattle.std.specs.Prelude.{◌≡◌, ◌+◌, ◌-◌, ◌<◌, ◌≤◌, ◌^◌, [], ◌∷◌, ◌++◌, if◌then◌else◌, nat_lt, length};
+ghost use Rattle.std.specs.Prelude.{◌≡◌, ◌+◌, ◌-◌, ◌<◌, ◌≤◌, ◌^◌, [], length};
 ghost use Rattle.std.specs.Prelude.{take, drop};
-ghost use Rattle.std.specs.Prelude.{replicate, slice_get, vec_len, vec_capacity, IfOk, IfNone, IfSome, IsOk, OnOk, OnErr};
-ghost use Rattle.std.specs.Prelude.{Some, is_some};
-ghost use Rattle.std.specs.List.{AllWithin};
-ghost use Rattle.tcp_streams.specs.Gaps.{AreGapsIn, Reaches, first_gap, without};
+ghost use Rattle.std.specs.Prelude.{slice_get, IfOk, IfNone, IfSome, IsOk, OnOk, OnErr};
+ghost use Rattle.std.specs.Prelude.{None, Some, is_some};
+ghost use Rattle.tcp_streams.specs.Gaps.{AreRunsIn, first_gap_after, gap_after, without};
 ghost use Rattle.tcp_streams.specs.Segments.{byte_from, clashes, count_from};
 ghost use Rattle.tcp_streams.specs.SparseBytes.{Sparse, sparse, IsSparse, held_end, available_end, byte_in};
 ghost use Rattle.tcp_streams.specs.SparseBytes.{AddsBytes, CanSkipTo, Fills, Skips, bytes_after_gap, counted, size_of};
 
 use super::byte_queue::ByteQueue;
 use super::conflicts::{Conflicts, differences};
-use super::gaps::{Gap, close, count_missing, push_gap, remove_first, touched};
+use super::gaps::{Gap, Gaps};
 use std::alloc::{AllocError, Global};
 use std::marker::Model;
 
@@ -22,16 +21,15 @@ pub(crate) struct SparseBytes {
     taken: u64,
     // With 0 at each position whose byte is missing. The last one isn't.
     bytes: ByteQueue,
-    // In order.
-    gaps: Vec<Gap>,
+    gaps: Gaps,
 }
 
 impl Model for SparseBytes {
     ghost Value = { Sparse };
 
-    ghost view = { λ held. sparse held.taken held.bytes held.gaps.items };
+    ghost view = { λ held. sparse held.taken held.bytes held.gaps };
 
-    ghost invariant = { λ held. IsSparse (sparse held.taken held.bytes held.gaps.items) };
+    ghost invariant = { λ held. IsSparse (sparse held.taken held.bytes held.gaps) };
 }
 
 impl SparseBytes {
@@ -42,7 +40,7 @@ impl SparseBytes {
         SparseBytes {
             taken: 0,
             bytes: ByteQueue::new(alloc),
-            gaps: Vec::new(alloc),
+            gaps: Gaps::new(alloc),
         }
     }
 
@@ -65,7 +63,7 @@ impl SparseBytes {
     pub(crate) fn size(&self) -> u64
         ensures { result ≡ size_of self.now }
     {
-        let gaps = (self.gaps.len() as u64).saturating_mul(16);
+        let gaps = (self.gaps.count() as u64).saturating_mul(16);
         (self.bytes.len() as u64).saturating_add(gaps)
     }
 
@@ -79,14 +77,14 @@ impl SparseBytes {
         if end <= position {
             return 0;
         }
-        end - position - count_missing(&self.gaps, position, end)
+        end - position - self.gaps.count_missing(position, end)
     }
 
-    /// Where bytes are missing.
-    pub(crate) fn gaps(&self) -> &[Gap]
-        ensures { result.now ≡ self.now.gaps }
+    /// The first gap.
+    pub(crate) fn first_gap(&self) -> Option<Gap>
+        ensures { result ≡ slice_get self.now.gaps 0 }
     {
-        &self.gaps
+        self.gaps.first()
     }
 
     /// The position after the bytes that follow without a gap.
@@ -117,27 +115,26 @@ impl SparseBytes {
         available.get(count as usize..).unwrap_or(&[])
     }
 
-    /// The gap with this index, and the bytes after it, up to the next gap or to the last byte.
-    pub(crate) fn after_gap(&self, index: usize) -> Option<(Gap, &[u8])>
-        ensures gap { IfSome result (λ after. slice_get self.now.gaps index ≡ Some after.0) }
-        ensures bytes { IfSome result (λ after. after.1.now ≡ bytes_after_gap self.now index after.0) }
-        ensures none { IfNone result (length self.now.gaps ≤ index) }
+    /// The first gap that ends after a position, and the bytes after it, up to the next gap or to the
+    /// last byte.
+    pub(crate) fn gap_after(&self, position: u64) -> Option<(Gap, &[u8])>
+        ensures gap { IfSome result (λ after. gap_after position self.now.gaps ≡ Some after.0) }
+        ensures bytes { IfSome result (λ after. after.1.now ≡ bytes_after_gap self.now after.0) }
+        ensures none { IfNone result (gap_after position self.now.gaps ≡ None) }
     {
-        let Some(gap) = self.gaps.get(index) else {
+        let Some(gap) = self.gaps.after(position) else {
             return None;
         };
-        let end = self.end_after_gap(index);
         let from = (gap.end - self.taken) as usize;
-        let to = (end - self.taken) as usize;
-        Some((*gap, part(self.bytes.as_slice(), from, to)))
+        let to = (self.end_after(gap) - self.taken) as usize;
+        Some((gap, part(self.bytes.as_slice(), from, to)))
     }
 
-    // The position after the bytes that follow the gap with this index.
-    fn end_after_gap(&self, index: usize) -> u64
-        requires { index < length self.now.gaps }
-        ensures { result ≡ first_gap (drop (index + 1) self.now.gaps) (held_end self.now) }
+    // The position after the bytes that follow a gap.
+    fn end_after(&self, gap: Gap) -> u64
+        ensures { result ≡ first_gap_after gap.end self.now.gaps (held_end self.now) }
     {
-        match self.gaps.get(index + 1) {
+        match self.gaps.after(gap.end) {
             Some(next) => next.start,
             None => self.end(),
         }
@@ -162,7 +159,7 @@ impl SparseBytes {
     {
         let count = ((position - self.taken) as usize).min(self.bytes.len());
         self.bytes.drop_prefix(count);
-        remove_first(&mut self.gaps);
+        self.gaps.remove_first();
         self.taken = position;
     }
 
@@ -203,7 +200,7 @@ fn part(bytes: &[u8], from: usize, to: usize) -> &[u8]
 // Adds bytes from a position on where they are missing, and returns where the others differ.
 fn insert(
     held: &mut ByteQueue,
-    gaps: &mut Vec<Gap>,
+    gaps: &mut Gaps,
     taken: u64,
     position: u64,
     bytes: &[u8],
@@ -211,59 +208,58 @@ fn insert(
     requires after { taken ≤ position }
     requires some { 0 < length bytes.now }
     requires short { position + length bytes.now ≤ 2 ^ 63 }
-    requires sparse { IsSparse (sparse taken held.old gaps.old.items) }
-    ensures adds { OnOk result (AddsBytes (sparse taken held.old gaps.old.items)
-        (sparse taken held.new gaps.new.items) position bytes.now) }
-    ensures sound { OnOk result (IsSparse (sparse taken held.new gaps.new.items)) }
+    requires sparse { IsSparse (sparse taken held.old gaps.old) }
+    ensures adds { OnOk result (AddsBytes (sparse taken held.old gaps.old)
+        (sparse taken held.new gaps.new) position bytes.now) }
+    ensures sound { OnOk result (IsSparse (sparse taken held.new gaps.new)) }
     ensures conflicts { IfOk result (λ conflicts. conflicts
-        ≡ counted (clashes (byte_in (sparse taken held.old gaps.old.items)) position bytes.now)) }
-    ensures err { OnErr result ((held.new ≡ held.old) × (gaps.new.items ≡ gaps.old.items)) }
+        ≡ counted (clashes (byte_in (sparse taken held.old gaps.old)) position bytes.now)) }
+    ensures err { OnErr result ((held.new ≡ held.old) × (gaps.new ≡ gaps.old)) }
 {
+    let size = held.len();
     let len = (position - taken) as usize + bytes.len();
-    let end = taken + held.len() as u64;
-    gaps.try_reserve(2)?;
     held.lengthen(len)?;
-    push_gap(gaps, end, taken + len as u64);
+    if let Err(error) = gaps.open(taken + size as u64, taken + len as u64, position) {
+        held.truncate(size);
+        return Err(error);
+    }
     let conflicts = held.merge(gaps, taken, position, bytes);
-    close(gaps, position, position + bytes.len() as u64);
+    gaps.close(position, position + bytes.len() as u64);
     Ok(conflicts)
 }
 
 // Writes bytes where they are missing.
 pub(crate) fn merge(
     held: &mut [u8],
-    gaps: &[Gap],
+    gaps: &Gaps,
     taken: u64,
     position: u64,
     bytes: &[u8],
 ) -> Conflicts
     requires after { taken ≤ position }
     requires within { position + length bytes.now ≤ taken + length held.old }
-    requires short { taken + length held.old ≤ 2 ^ 63 }
-    requires some { 0 < length bytes.now }
-    requires gaps { AreGapsIn 0 (2 ^ 64) gaps.now }
+    requires short { position + length bytes.now ≤ 2 ^ 63 }
+    requires gaps { AreRunsIn 0 (2 ^ 64) gaps.now }
     ensures adds { AddsBytes (sparse taken held.old gaps.now)
         (sparse taken held.new (without position (position + length bytes.now) gaps.now)) position bytes.now }
     ensures conflicts { result
         ≡ counted (clashes (byte_in (sparse taken held.old gaps.now)) position bytes.now) }
 {
-    let end = position + bytes.len() as u64;
-    let (first, last) = touched(gaps, position, end);
     let start = (position - taken) as usize;
     fill(
         &mut held[start..start + bytes.len()],
         position,
-        &gaps[first..last],
+        gaps,
         bytes,
     )
 }
 
 // Writes bytes over those that are held from a position on, where those are missing. The positions
 // at which the others differ are returned.
-fn fill(held: &mut [u8], position: u64, gaps: &[Gap], bytes: &[u8]) -> Conflicts
+fn fill(held: &mut [u8], position: u64, gaps: &Gaps, bytes: &[u8]) -> Conflicts
     requires same { length held.old ≡ length bytes.now }
     requires short { position + length bytes.now ≤ 2 ^ 63 }
-    requires reach { AllWithin (Reaches position (position + length bytes.now)) gaps.now 0 (length gaps.now) }
+    requires gaps { AreRunsIn 0 (2 ^ 64) gaps.now }
     ensures fills { Fills gaps.now position held.old held.new bytes.now }
     ensures conflicts { result ≡ counted (clashes (byte_from position held.new) position bytes.now) }
 {
@@ -271,16 +267,21 @@ fn fill(held: &mut [u8], position: u64, gaps: &[Gap], bytes: &[u8]) -> Conflicts
     differences(held, bytes, position)
 }
 
-fn write_missing(held: &mut [u8], position: u64, gaps: &[Gap], bytes: &[u8])
+fn write_missing(held: &mut [u8], position: u64, gaps: &Gaps, bytes: &[u8])
     requires same { length held.old ≡ length bytes.now }
     requires short { position + length bytes.now ≤ 2 ^ 63 }
-    requires reach { AllWithin (Reaches position (position + length bytes.now)) gaps.now 0 (length gaps.now) }
+    requires gaps { AreRunsIn 0 (2 ^ 64) gaps.now }
     ensures { Fills gaps.now position held.old held.new bytes.now }
 {
     let end = position + bytes.len() as u64;
-    for gap in gaps {
-        let from = (gap.start.max(position) - position) as usize;
-        let to = (gap.end.min(end) - position) as usize;
+    let mut written = position;
+    for _ in position..end {
+        let Some(gap) = gaps.missing_from(written, end) else {
+            return;
+        };
+        let from = (gap.start - position) as usize;
+        let to = (gap.end - position) as usize;
         held[from..to].copy_from_slice(&bytes[from..to]);
+        written = gap.end;
     }
 }

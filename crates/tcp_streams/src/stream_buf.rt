@@ -11,6 +11,7 @@ ghost use Rattle.tcp_streams.specs.Losses.{with_given_up};
 ghost use Rattle.tcp_streams.specs.Placing.{Segment, segment, bytes_of, first_number, start_number, placed_at};
 ghost use Rattle.tcp_streams.specs.Placing.{placed, repeated_of};
 ghost use Rattle.tcp_streams.specs.Refusals.{window_end, fin_refusal, refusal_of};
+ghost use Rattle.tcp_streams.specs.Gaps.{gap_after};
 ghost use Rattle.tcp_streams.specs.Segments.{Placed, byte_at, text_of, fin_of, is_reset, clashes, conflicts_with};
 ghost use Rattle.tcp_streams.specs.Segments.{conflicts_of, count_from};
 ghost use Rattle.tcp_streams.specs.SparseBytes.{byte_in, counted, size_of};
@@ -273,11 +274,11 @@ impl StreamBuf {
         ensures lost { result ≡ lost_in self.now number }
         ensures sound { IsSound self.now }
     {
-        let gaps = self.held.gaps();
+        let gap = self.held.first_gap();
         let end = self.held.available_end();
         let last = window_end(self.window, self.held.taken());
         let acknowledged = self.acknowledged(number);
-        lost_by(gaps.first().copied(), end, self.fin, last, acknowledged)
+        lost_by(gap, end, self.fin, last, acknowledged)
     }
 
     // Where a segment of so many bytes stands, the first of which has this number.
@@ -493,18 +494,18 @@ impl StreamBuf {
         ensures none { (ss : List Placed) → Shows self.now ss → IfNone result
             ((p : ℕ) → length (text_of ss) ≤ p → byte_at ss p ≡ None) }
     {
-        self.held.gaps().first().copied()
+        self.held.first_gap()
     }
 
-    /// The gap with this index, of those before bytes that are held, in the order of their positions;
-    /// and the bytes after it, up to the next gap or to the last byte that is held.
-    pub fn after_gap(&self, index: usize) -> Option<(Gap, &[u8])>
-        ensures gap { IfSome result (λ after. slice_get self.now.held.gaps index ≡ Some after.0) }
-        ensures none { IfNone result (length self.now.held.gaps ≤ index) }
+    /// The first gap that ends after a position, of those before bytes that are held; and the bytes
+    /// after it, up to the next gap or to the last byte that is held.
+    pub fn gap_after(&self, position: u64) -> Option<(Gap, &[u8])>
+        ensures gap { IfSome result (λ after. gap_after position self.now.held.gaps ≡ Some after.0) }
+        ensures none { IfNone result (gap_after position self.now.held.gaps ≡ None) }
         ensures bytes { (ss : List Placed) → Shows self.now ss
             → IfSome result (λ after. IsAfterGap ss after.0 after.1.now) }
     {
-        self.held.after_gap(index)
+        self.held.gap_after(position)
     }
 
     /// Whether all bytes before FIN came.

@@ -1,6 +1,5 @@
-use Rattle.std.proofs.Common.{◌≡◌, ◌+◌, ◌-◌, length, arith, ◌∙◌, ap}
+use Rattle.std.proofs.Common.{◌≡◌, ◌+◌, ◌-◌, length, arith, refl, ◌∙◌, ap}
 use Rattle.tcp_streams.specs.SparseBytes.{counted}
-use Rattle.tcp_streams.proofs.GapLemmas.{reached, missing_touched}
 use Rattle.tcp_streams.proofs.SparseLemmas.{adds_merge, conflicts_merge}
 use Rattle.tcp_streams.proofs.sparse_bytes.merge.Goals as goal
 
@@ -9,9 +8,7 @@ returns-clause-adds c =
     let start = c.args.position - c.args.taken in
     let size : start + length c.args.bytes.now - start ≡ length c.args.bytes.now = omega arith in
     adds_merge c.args.taken c.args.position (start + length c.args.bytes.now - start) c.args.held.now
-    c.args.bytes.now c.fill.new.held c.args.gaps.now _ c.requires.after c.requires.within size c.fill.ensures.fills
-    (missing_touched c.args.position (c.args.position + length c.args.bytes.now) c.args.gaps.now _ _
-    c.touched-first.ensures.order c.touched-first.ensures.bound c.touched-first.ensures.ended c.touched-first.ensures.started)
+    c.args.bytes.now c.fill.new.held c.args.gaps.now c.requires.after c.requires.within size c.fill.ensures.fills
 
 pub returns-clause-conflicts : goal.returns-clause-conflicts
 returns-clause-conflicts c =
@@ -19,11 +16,4 @@ returns-clause-conflicts c =
     let size : start + length c.args.bytes.now - start ≡ length c.args.bytes.now = omega arith in
     c.fill.ensures.conflicts ∙ ap counted (conflicts_merge c.args.taken c.args.position
     (start + length c.args.bytes.now - start) c.args.held.now
-    c.args.bytes.now c.fill.new.held c.args.gaps.now _ c.requires.after c.requires.within size c.fill.ensures.fills
-    (missing_touched c.args.position (c.args.position + length c.args.bytes.now) c.args.gaps.now _ _
-    c.touched-first.ensures.order c.touched-first.ensures.bound c.touched-first.ensures.ended c.touched-first.ensures.started))
-
-pub fill-requires-clause-reach : goal.fill-requires-clause-reach
-fill-requires-clause-reach c =
-    reached 0 _ c.args.position (c.args.position + length c.args.bytes.now) c.args.gaps.now _ _ c.requires.gaps
-    c.touched-first.ensures.order c.touched-first.ensures.bound c.touched-first.ensures.ended c.touched-first.ensures.started
+    c.args.bytes.now c.fill.new.held c.args.gaps.now c.requires.after c.requires.within size c.fill.ensures.fills)

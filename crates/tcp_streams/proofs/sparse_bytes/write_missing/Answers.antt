@@ -1,17 +1,34 @@
-use Rattle.std.proofs.Common.{◌-◌, ℕ, ap, get_or, arith}
-use Rattle.std.proofs.lemmas.List.{get_or_default}
-use Rattle.tcp_streams.proofs.SparseLemmas.{fills_put}
+use Rattle.std.proofs.Common.{◌-◌, arith, refl, sym}
+use Rattle.tcp_streams.proofs.SparseLemmas.{fills_all, fills_none, fills_put, fills_rest}
 use Rattle.tcp_streams.proofs.sparse_bytes.write_missing.Goals as goal
 
-pub loop-gap-preserved : goal.loop-gap-preserved
-loop-gap-preserved c =
-    let g = get_or c.args.gaps.now c.loop-gap.gap-index record { start = 0; end = 0 } in
-    fills_put c.args.gaps.now c.loop-gap.gap-index c.args.position c.args.held.now c.loop-gap.held
-    c.copy_from_slice.new.self c.args.bytes.now (c.max.result - c.args.position)
-    (c.min.result - c.args.position - (c.max.result - c.args.position)) g c.loop-gap.invariant c.loop-gap-test.true
-    (get_or_default c.args.gaps.now c.loop-gap.gap-index record { start = 0; end = 0 } g c.loop-gap-test.true)
-    c.requires.same
-    (c.requires.reach c.loop-gap.gap-index record { start = 0; end = 0 } (omega arith) c.loop-gap-test.true)
-    (ap (λ (n : ℕ). n - c.args.position) c.max.ensures)
-    (ap (λ (n : ℕ). n - c.args.position - (c.max.result - c.args.position)) c.min.ensures)
-    c.copy_from_slice.ensures.after
+pub loop-init : goal.loop-init
+loop-init c = record {
+  low = omega arith;
+  more = omega arith;
+  fills = fills_none c.args.gaps.now c.args.position c.args.held.now c.args.bytes.now;
+}
+
+pub returns-in_default : goal.returns-in_default
+returns-in_default c =
+    fills_rest c.args.gaps.now c.args.position c.loop.written c.args.held.now c.loop.held c.args.bytes.now
+    c.loop.invariant.fills (sym c.requires.same) (rw c.in_default.is at c.missing_from.ensures.none)
+
+pub loop-preserved : goal.loop-preserved
+loop-preserved c =
+    let gap = c.in-Some.gap in
+    let is = c.in-Some.ensures.some in
+    let start = is.start in
+    let some = is.some in record {
+      low = omega (arith, c.loop.invariant.low);
+      more = omega (arith, c.loop.invariant.more);
+      fills = fills_put c.args.gaps.now gap c.args.position c.loop.written c.args.held.now c.loop.held
+          c.copy_from_slice.new.self c.args.bytes.now (gap.start - c.args.position)
+          (gap.end - c.args.position - (gap.start - c.args.position)) c.loop.invariant.fills c.requires.same
+          c.loop.invariant.low is refl refl c.copy_from_slice.ensures.after;
+    }
+
+pub returns : goal.returns
+returns c =
+    fills_all c.args.gaps.now c.args.position c.loop.written c.args.held.now c.loop.held c.args.bytes.now
+    c.loop.invariant.fills (omega (arith, c.loop.invariant.more, c.loop-test.false, c.requires.same))

@@ -1,6 +1,10 @@
-use Rattle.std.proofs.Common.{take}
-use Rattle.tcp_streams.specs.SparseBytes.{Fills}
+use Rattle.std.proofs.Common.{◌≤◌}
+use Rattle.tcp_streams.proofs.SparseLemmas.{FillsTo}
 use Rattle.tcp_streams.proofs.sparse_bytes.write_missing.Given as goal
 
-abbrev pub invariant-loop-gap : goal.invariant-loop-gap
-invariant-loop-gap l = Fills (take l.gap-index l.gaps) l.position l.initial.held l.held l.bytes
+abbrev pub invariant-loop : goal.invariant-loop
+invariant-loop l = record {
+  low : l.position ≤ l.written;
+  more : l.counter ≤ l.written;
+  fills : FillsTo l.gaps l.position l.written l.fn.held l.held l.bytes;
+}

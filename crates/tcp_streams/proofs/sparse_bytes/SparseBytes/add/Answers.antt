@@ -4,7 +4,7 @@ use Rattle.tcp_streams.proofs.SparseLemmas.{adds_after, adds_sound, clashes_afte
 use Rattle.tcp_streams.proofs.sparse_bytes.SparseBytes.add.Goals as goal
 
 abbrev old_of : goal.After-none → Sparse
-old_of c = sparse c.self.inside.taken c.self.inside.bytes c.self.inside.gaps.items
+old_of c = sparse c.self.inside.taken c.self.inside.bytes c.self.inside.gaps
 
 at_end : (c : goal.After-none) → c.args.position ≡ held_end (old_of c)
 at_end c =
