@@ -1,5 +1,5 @@
 -- What datagrams take in a capture, packet by packet.
-use Rattle.std.proofs.Common.{arith, ◌≡◌, ◌∙◌, refl, sym, ℕ, ◌≤◌, ◌==◌, ◌&&◌, false, List, [], ◌∷◌}
+use Rattle.std.proofs.Common.{arith, ◌≡◌, refl, sym, ℕ, ◌≤◌, false, List, [], ◌∷◌}
 use Rattle.std.proofs.Common.{Option, None, Some}
 use Rattle.std.specs.Prelude.{◌↔◌, IsTrue}
 use Rattle.captures.specs.Spans.{passed_with}

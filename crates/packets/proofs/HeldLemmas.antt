@@ -1,5 +1,5 @@
 -- The order of starts that a pool keeps, after a fragment and after datagrams are dropped.
-use Rattle.std.proofs.Common.{arith, ◌≡◌, ◌∙◌, refl, sym, ap, subst, ℕ, ◌+◌, ◌*◌, ◌==◌, ◌&&◌, Bool, true, false, not}
+use Rattle.std.proofs.Common.{arith, ◌≡◌, ◌∙◌, refl, sym, ap, subst, ℕ, ◌+◌, ◌==◌, ◌&&◌, Bool, true, false, not}
 use Rattle.std.proofs.Common.{List, [], ◌∷◌, map, Option, None, Some, Result, Ok, Err, inl, inr}
 use Rattle.std.proofs.lemmas.Bool.{and_parts, cases_Bool, eqb-true}
 use Rattle.std.specs.Option.{option_map}

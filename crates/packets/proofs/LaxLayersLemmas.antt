@@ -1,11 +1,10 @@
 -- What is there of packets that aren't refused: all of them.
-use Rattle.std.proofs.Common.{◌≡◌, ◌∙◌, refl, sym, ap, arith, List, [], ◌∷◌, Bool, map, Option, Some, None, Result, Ok, Err, ℕ}
+use Rattle.std.proofs.Common.{◌≡◌, ◌∙◌, refl, sym, ap, arith, List, [], ◌∷◌, map, Option, Some, None, Result, Ok, Err, ℕ}
 use Rattle.std.specs.List.{list_any}
 use Rattle.std.specs.Option.{option_map}
 use Rattle.captures.specs.declared.link.header.Header.{Header}
 use Rattle.captures.specs.declared.link.kind.Link.{Link}
 use Rattle.ep_base.specs.declared.link.ether_type.EtherType.{EtherType}
-use Rattle.ep_base.specs.declared.err.len_error.LenError.{LenError}
 use Rattle.ep_packet.specs.LaxSliced.{lax_sliced_ether_type, lax_sliced_ethernet}
 use Rattle.ep_packet.specs.LaxView.{lax_vlan_ids_of}
 use Rattle.ep_packet.specs.LaxWhole.{whole_net, whole_packet, whole_tag}

@@ -1,6 +1,6 @@
 -- The order in which the datagrams started that are not complete, and how many bytes they take.
-use Rattle.std.proofs.Common.{arith, ◌≡◌, ◌∙◌, refl, sym, ℕ, ◌+◌, ◌*◌, ◌==◌, ◌&&◌, Bool, true, false, not}
-use Rattle.std.proofs.Common.{List, [], ◌∷◌, ◌++◌, length, map, min, Option, None, Some, Result, Ok, Err, cond}
+use Rattle.std.proofs.Common.{arith, ◌≡◌, refl, sym, ℕ, Bool, true, false, not}
+use Rattle.std.proofs.Common.{List, [], ◌∷◌, length, map, min, Option, None, Some, Result, Ok, Err, cond}
 use Rattle.std.proofs.lemmas.List.{map-append}
 use Rattle.std.specs.Prelude.{filter, is_some, IfErr, IfOk}
 use Rattle.etherparse.specs.FragmentBytes.{kept_bytes}

@@ -13,7 +13,6 @@ use Rattle.captures.specs.declared.reading.read_error.ReadError.TheVariants as r
 use Rattle.captures.specs.declared.translation.run_error.RunError.{RunError}
 use Rattle.captures.specs.declared.translation.run_error.RunError.TheVariants.{Read, TooManyReads, Capture}
 use Rattle.captures.specs.declared.unfit.Unfit.{Unfit}
-use Rattle.packets.specs.declared.reason.Reason.{Reason}
 use Rattle.packets.specs.Expressions.{lets_through}
 use Rattle.packets.specs.Courses.{AreDissected, Course, IsDissected, course_after, forgotten, next_course, shown}
 use Rattle.packets.specs.PacketRuns.{AreButLast, AreFirst, EndsBy, Unbroken}
@@ -24,9 +23,6 @@ use Rattle.packets.specs.declared.flows.conversation.Conversation.{Conversation}
 use Rattle.packets.specs.declared.flows.flows.Flows.{Flows}
 use Rattle.packets.specs.declared.flows.transfer.Transfer.{Transfer}
 use Rattle.packets.specs.declared.filter.Filter.{Filter}
-use Rattle.packets.specs.declared.outline.Outline.{Outline}
-use Rattle.packets.specs.declared.summary.summary.Summary.{Summary}
-use Rattle.packets.specs.declared.summary.verified.Verified.{Verified}
 use Rattle.packets.proofs.EndLemmas.{all_first}
 
 -- the error of a run by a reader's error

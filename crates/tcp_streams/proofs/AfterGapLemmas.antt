@@ -1,5 +1,5 @@
 -- The bytes after a gap.
-use Rattle.std.proofs.Common.{◌≡◌, ◌∙◌, ℕ, ◌+◌, ◌-◌, ◌<◌, ◌≤◌, Bool, true, false, cond, Bor, Option, Some, None, List, []}
+use Rattle.std.proofs.Common.{◌≡◌, ◌∙◌, ℕ, ◌+◌, ◌-◌, ◌<◌, ◌≤◌, true, false, Bor, Option, Some, None, List, []}
 use Rattle.std.proofs.Common.{◌∷◌, length, take, drop, get_or, ltb, ◌⊎◌, inl, inr, arith, refl, sym, ap}
 use Rattle.std.proofs.lemmas.Bool.{cases_lt}
 use Rattle.std.proofs.lemmas.Bool.Decides.{nat_tests}
@@ -7,7 +7,7 @@ use Rattle.std.proofs.lemmas.List.{drop-drop, length-take, length-drop, get_or-t
 use Rattle.std.specs.Prelude.{IfSome}
 use Rattle.tcp_streams.specs.declared.gaps.Gap.{Gap}
 use Rattle.tcp_streams.specs.Gaps.{AreGapsIn, first_gap_after, gap_after, is_missing}
-use Rattle.tcp_streams.specs.Segments.{Placed, byte_at, text_of}
+use Rattle.tcp_streams.specs.Segments.{Placed, text_of}
 use Rattle.tcp_streams.specs.SparseBytes.{Sparse, IsSparse, byte_in, bytes_after_gap, held_end}
 use Rattle.tcp_streams.specs.StreamBuf.{Contents, Shows, IsAfterGap, available_in}
 use Rattle.tcp_streams.proofs.BufLemmas.{shows_text}

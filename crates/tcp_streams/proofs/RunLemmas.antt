@@ -302,9 +302,9 @@ removed_runs : (from to : ℕ) (test : ℕ → Bool) (es : List (ℕ × ℕ)) �
 removed_runs from to test [] h = h
 removed_runs from to test (e ∷ es) h = elim (test e.0) as (λ b. test e.0 ≡ b
     → AreRunsIn from to (gaps_of (remove_entry test (e ∷ es)))) [
-  | true ↦ λ is. rw is (runs_weaker e.0 from to to (gaps_of es) (omega arith) (omega arith) h.2)
-  | false ↦ λ is. rw is (h.0, h.1, removed_runs e.0 to test es h.2)
-] refl
+      | true ↦ λ is. rw is (runs_weaker e.0 from to to (gaps_of es) (omega arith) (omega arith) h.2)
+      | false ↦ λ is. rw is (h.0, h.1, removed_runs e.0 to test es h.2)
+    ] refl
 
 removed_whole : (p : ℕ) (test : ℕ → Bool) (es : List (ℕ × ℕ)) → is_cut_at p (gaps_of es) ≡ false
     → is_cut_at p (gaps_of (remove_entry test es)) ≡ false
@@ -342,7 +342,7 @@ removed_first s e es fs g some h whole is far fs_is =
       removed_runs 0 (2 ^ 64) (is_at (nat_cmp g.end)) es h,
       removed_whole s (is_at (nat_cmp g.end)) es whole,
       removed_without 0 (2 ^ 64) s e es g some h is low far,
-      sym count
+      sym count,
     )
 
 -- ---- insertions that can't fail

@@ -6,7 +6,7 @@ use Rattle.std.proofs.lemmas.Bool.{cases_lt}
 use Rattle.std.proofs.lemmas.Bool.Decides.{nat_tests}
 use Rattle.std.proofs.lemmas.Grind.{elements}
 use Rattle.std.proofs.lemmas.List.{length-append, length-take, length-drop, length-replicate, append-nil, take_more}
-use Rattle.std.proofs.lemmas.List.{drop-take, drop-drop, get_or-take, get_or-drop}
+use Rattle.std.proofs.lemmas.List.{drop-take, get_or-take, get_or-drop}
 use Rattle.std.specs.Option.{option_or}
 use Rattle.std.specs.Prelude.{◌==◌}
 use Rattle.tcp_streams.specs.declared.gaps.Gap.{Gap}

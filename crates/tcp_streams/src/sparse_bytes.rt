@@ -246,12 +246,7 @@ pub(crate) fn merge(
         ≡ counted (clashes (byte_in (sparse taken held.old gaps.now)) position bytes.now) }
 {
     let start = (position - taken) as usize;
-    fill(
-        &mut held[start..start + bytes.len()],
-        position,
-        gaps,
-        bytes,
-    )
+    fill(&mut held[start..start + bytes.len()], position, gaps, bytes)
 }
 
 // Writes bytes over those that are held from a position on, where those are missing. The positions

@@ -1,6 +1,6 @@
 //! What is counted of TCP connections while they are followed.
 
-ghost use Rattle.std.specs.Prelude.{◌≡◌, ◌++◌, ◌∷◌, ℕ, [], List, IfOk, None, OnErr, OnOk, Some, is_some, true};
+ghost use Rattle.std.specs.Prelude.{◌≡◌, ◌++◌, ◌∷◌, ℕ, [], List, IfOk, IsOk, None, OnErr, OnOk, Some, is_some, true};
 ghost use Rattle.tcp_streams.specs.Counting.{Arrival, Counts, GivesUpAll, IsFollowedAs, arrival, counter_with, counts_in};
 ghost use Rattle.tcp_streams.specs.Counting.{counts_with, counts_without, number_of, size_in};
 ghost use Rattle.tcp_streams.specs.Following.{Connection, Follows};
@@ -143,6 +143,7 @@ impl StreamCounter {
         ensures ok { OnOk result (is_some self.new.follower ≡ is_some self.old.follower) }
         ensures err { OnErr result (self.new ≡ record self.old { follower = None }) }
         ensures stopped { self.old.follower ≡ None → self.new ≡ self.old }
+        ensures succeeds { self.old.follower ≡ None → IsOk result }
     {
         match &mut self.follower {
             None => Ok(()),

@@ -327,8 +327,8 @@ fn bytes_that_are_lost(rt: HostRuntime) {
     );
 }
 
-fn is_after(rt: impl Abort + Copy, buf: &StreamBuf, index: usize, gap: Gap, bytes: &[u8]) {
-    match buf.after_gap(index) {
+fn is_after(rt: impl Abort + Copy, buf: &StreamBuf, position: u64, gap: Gap, bytes: &[u8]) {
+    match buf.gap_after(position) {
         Some((found, held)) => {
             equal_in(rt, "gap", &found, &gap);
             holds_in(rt, "held", is_same(held, bytes));
@@ -344,8 +344,9 @@ fn bytes_after_gaps(rt: HostRuntime) {
         holds_in(&rt, "added", buf.add(number, NONE, payload).is_ok());
     }
     is_after(&rt, &buf, 0, Gap { start: 2, end: 5 }, b"fg");
-    is_after(&rt, &buf, 1, Gap { start: 7, end: 9 }, b"jk");
-    holds_in(&rt, "no more", buf.after_gap(2).is_none());
+    is_after(&rt, &buf, 4, Gap { start: 2, end: 5 }, b"fg");
+    is_after(&rt, &buf, 5, Gap { start: 7, end: 9 }, b"jk");
+    holds_in(&rt, "no more", buf.gap_after(9).is_none());
     equal_in(&rt, "end", &buf.available_end(), &2);
     equal_in(&rt, "no FIN", &buf.fin(), &None);
     holds_in(&rt, "added", buf.add(20, FIN, b"").is_ok());

@@ -319,11 +319,12 @@ impl Connections {
         out: &mut Vec<u8>,
     ) -> Result<(), AllocError> {
         let buf = self.follower.buf(direction);
-        'gaps: for index in 0..usize::MAX {
-            let Some((gap, bytes)) = buf.after_gap(index) else {
+        let mut position = 0;
+        'gaps: for _ in 0..u64::MAX {
+            let Some((gap, bytes)) = buf.gap_after(position) else {
                 break 'gaps;
             };
-            let position = gap.end;
+            position = gap.end;
             writing.append(self.count, None, Some(direction), EventKind::Gap(gap), out)?;
             let kind = EventKind::Bytes { position, bytes };
             writing.append(self.count, None, Some(direction), kind, out)?;

@@ -1,4 +1,4 @@
-use Rattle.std.proofs.Common.{◌≡◌, ◌+◌, ◌-◌, length, arith, refl, ◌∙◌, ap}
+use Rattle.std.proofs.Common.{◌≡◌, ◌+◌, ◌-◌, length, arith, ◌∙◌, ap}
 use Rattle.tcp_streams.specs.SparseBytes.{counted}
 use Rattle.tcp_streams.proofs.SparseLemmas.{adds_merge, conflicts_merge}
 use Rattle.tcp_streams.proofs.sparse_bytes.merge.Goals as goal

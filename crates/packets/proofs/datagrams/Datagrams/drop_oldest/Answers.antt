@@ -1,4 +1,4 @@
-use Rattle.std.proofs.Common.{◌≡◌, ◌∙◌, Some, None, arith}
+use Rattle.std.proofs.Common.{Some, None, arith}
 use Rattle.packets.specs.declared.datagrams.Datagrams.{Datagrams}
 use Rattle.packets.proofs.HeldLemmas.{drops_oldest, none_reported, reported}
 use Rattle.packets.proofs.datagrams.Datagrams.drop_oldest.Goals as goal

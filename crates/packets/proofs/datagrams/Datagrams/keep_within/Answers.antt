@@ -1,4 +1,4 @@
-use Rattle.std.proofs.Common.{◌≡◌, sym, subst, ℕ, Bool, arith}
+use Rattle.std.proofs.Common.{sym, subst, ℕ, Bool, arith}
 use Rattle.packets.specs.ReassemblyMemory.{DropsOldest}
 use Rattle.packets.proofs.KeepLemmas.{Dropped, begins, ends, none_left, one_dropped}
 use Rattle.packets.proofs.datagrams.Datagrams.keep_within.Goals as goal

@@ -12,8 +12,16 @@ returns-in_default c =
 pub overflow_add-count : goal.overflow_add-count
 overflow_add-count c =
     let gap = c.in-Some.ensures.some in
-    omega (arith, c.loop.invariant.count, c.loop.invariant.low, gap.start, gap.some, gap.end, c.ranges.end,
-    count_from-most (is_missing c.args.self.now) c.args.start (c.loop.position - c.args.start))
+    omega (
+      arith,
+      c.loop.invariant.count,
+      c.loop.invariant.low,
+      gap.start,
+      gap.some,
+      gap.end,
+      c.ranges.end,
+      count_from-most (is_missing c.args.self.now) c.args.start (c.loop.position - c.args.start),
+    )
 
 pub loop-preserved : goal.loop-preserved
 loop-preserved c =

@@ -1,7 +1,6 @@
-use Rattle.std.proofs.Common.{◌++◌, ◌∷◌, [], map}
+use Rattle.std.proofs.Common.{◌++◌, map}
 use Rattle.std.proofs.lemmas.List.{append_assoc}
 use Rattle.packets.specs.Flows.{CountsFlows}
-use Rattle.packets.specs.Streams.{FollowsStreams}
 use Rattle.packets.specs.Transfers.{transfer_of}
 use Rattle.packets.proofs.EndLemmas.{by_both, by_either, weaker_match}
 use Rattle.packets.proofs.StreamRunLemmas.{taken_more, taken_or_stopped}

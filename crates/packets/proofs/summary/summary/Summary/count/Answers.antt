@@ -1,5 +1,4 @@
-use Rattle.packets.specs.Counts.{Counts}
-use Rattle.packets.specs.Flows.{CountsFlows, outlines}
+use Rattle.packets.specs.Flows.{outlines}
 use Rattle.packets.proofs.FlowLemmas.{outlines-end}
 use Rattle.packets.proofs.summary.summary.Summary.count.Goals as goal
 
