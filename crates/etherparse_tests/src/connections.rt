@@ -4,4 +4,5 @@ mod bytes;
 mod flows;
 mod followed;
 mod keys;
+mod memory;
 mod states;

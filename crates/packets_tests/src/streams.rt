@@ -41,6 +41,8 @@ fn counts_of_a_direction(rt: HostRuntime) {
     );
     counter.stop();
     equal(rt, (counter.is_followed(), counter.size()), (false, 0));
+    let repeated = counter.add(Direction::FromLower, 100, Some(500), NO_FLAGS, b"k");
+    holds(rt, repeated.is_ok());
     equal(rt, counter.counts(Direction::FromLower), COUNTED);
     equal(
         rt,

@@ -2,10 +2,12 @@ mod AfterGapLemmas
 mod BufLemmas
 mod CountLemmas
 mod CountingLemmas
+mod FillLemmas
 mod FlowKeyLemmas
 mod FlowLemmas
 mod FollowLemmas
 mod GapLemmas
+mod HeldLemmas
 mod LawLemmas
 mod LossLemmas
 mod NumberLaws

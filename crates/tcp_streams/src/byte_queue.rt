@@ -61,7 +61,8 @@ impl ByteQueue {
         self.bytes.extend_from_slice(bytes)
     }
 
-    /// Makes the bytes no fewer than `len`. Those that are new are 0.
+    /// Makes the bytes no fewer than `len`. Those that are new are 0. Where there is no memory, nothing
+    /// changes.
     pub(crate) fn lengthen(&mut self, len: usize) -> Result<(), AllocError>
         ensures ok { OnOk result (self.new ≡ self.old ++ replicate (len - length self.old) 0) }
         ensures err { OnErr result (self.new ≡ self.old) }

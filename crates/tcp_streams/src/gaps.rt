@@ -1,8 +1,8 @@
 //! Positions of a stream whose bytes are missing.
 
 ghost use Rattle.std.specs.Prelude.{◌≡◌, ◌-◌, ◌<◌, ◌≤◌, ◌^◌, [], length, false};
-ghost use Rattle.std.specs.Prelude.{drop, slice_get, IfNone, IfSome, OnErr, OnOk};
-ghost use Rattle.tcp_streams.specs.Gaps.{AreRunsIn, IsMissingFrom, NoneMissing, gap_after, is_cut_at, is_missing, split_at, with_gap, without};
+ghost use Rattle.std.specs.Prelude.{drop, slice_get, IfSome, OnErr, OnOk};
+ghost use Rattle.tcp_streams.specs.Gaps.{AreRunsIn, gap_after, is_missing, is_split_at, missing_from, split_at, with_gap, without};
 ghost use Rattle.tcp_streams.specs.Segments.{count_from};
 
 use std::alloc::{AllocError, Global};
@@ -53,6 +53,7 @@ impl Gaps {
         self.starts.len()
     }
 
+    /// The one that begins before all others.
     pub(crate) fn first(&self) -> Option<Gap>
         ensures { result ≡ slice_get self.now 0 }
     {
@@ -79,28 +80,30 @@ impl Gaps {
         }
     }
 
-    /// The first positions from one on and up to another that are missing.
+    /// The first positions from one on and up to another that are missing: what one gap has of them.
     pub(crate) fn missing_from(&self, position: u64, end: u64) -> Option<Gap>
-        requires order { AreRunsIn 0 (2 ^ 64) self.now }
-        ensures some { IfSome result (IsMissingFrom self.now position end) }
-        ensures none { IfNone result (NoneMissing self.now position end) }
+        requires { AreRunsIn 0 (2 ^ 64) self.now }
+        ensures gap { result ≡ missing_from position end self.now }
+        ensures within { IfSome result (λ gap.
+            (position ≤ gap.start) × (gap.start < gap.end) × (gap.end ≤ end)) }
     {
         let Some(gap) = self.after(position) else {
             return None;
         };
-        if gap.start >= end || position >= end {
+        let start = gap.start.max(position);
+        if end <= start {
             return None;
         }
         Some(Gap {
-            start: gap.start.max(position),
+            start,
             end: gap.end.min(end),
         })
     }
 
     /// How many of the positions from `start` up to `end` are missing.
     pub(crate) fn count_missing(&self, start: u64, end: u64) -> u64
-        requires some { start ≤ end }
-        requires order { AreRunsIn 0 (2 ^ 64) self.now }
+        requires order { start ≤ end }
+        requires gaps { AreRunsIn 0 (2 ^ 64) self.now }
         ensures { result ≡ count_from (is_missing self.now) start (end - start) }
     {
         let mut count = 0;
@@ -153,30 +156,28 @@ impl Gaps {
     }
 
     /// Adds a gap after all others unless it is empty. Then makes two gaps of the one that has
-    /// positions before `position`, and `position`.
+    /// positions before `position`, and `position`. Where there is no memory, nothing changes.
     pub(crate) fn open(&mut self, start: u64, end: u64, position: u64) -> Result<(), AllocError>
-        requires order { AreRunsIn 0 start self.old }
+        requires gaps { AreRunsIn 0 start self.old }
         ensures ok { OnOk result (self.new ≡ split_at position (with_gap start end self.old)) }
         ensures err { OnErr result (self.new ≡ self.old) }
     {
         self.push(start, end)?;
-        match self.split(position) {
-            Ok(()) => Ok(()),
-            Err(error) => {
-                if start < end {
-                    self.starts.pop_last();
-                }
-                Err(error)
+        if let Err(error) = self.split(position) {
+            if start < end {
+                self.starts.pop_last();
             }
+            return Err(error);
         }
+        Ok(())
     }
 
     /// Takes the positions from `start` up to `end` out of the gaps, none of which begins before
     /// `start` and ends after it.
     pub(crate) fn close(&mut self, start: u64, end: u64)
         requires some { start < end }
-        requires order { AreRunsIn 0 (2 ^ 64) self.old }
-        requires whole { is_cut_at start self.old ≡ false }
+        requires gaps { AreRunsIn 0 (2 ^ 64) self.old }
+        requires whole { is_split_at start self.old ≡ false }
         ensures { self.new ≡ without start end self.old }
     {
         for _ in 0..self.starts.len() {
