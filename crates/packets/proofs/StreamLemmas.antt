@@ -221,6 +221,7 @@ module _ {S H : Type 0} (same : Conversation → Conversation → Bool) (was mid
   stop_moved (Some tcp_packet) stops = record {
     streams = λ q. rw (sym (are.streams q)) (stops.streams q);
     held = rw (sym are.held, sym (are.streams tcp_packet.conversation)) stops.held;
+    len = stops.len ∙ are.len;
   }
 
   take_moved : (tcp_packet : TcpPacket) (stream : Stream) (n m : ℕ) → n ≡ m
@@ -229,6 +230,7 @@ module _ {S H : Type 0} (same : Conversation → Conversation → Bool) (was mid
     stream_now = takes.stream_now;
     takes = subst (λ (others : ℕ). StreamTakes others stream tcp_packet packet takes.stream_now) is takes.takes;
     held = takes.held ∙ ap (λ (others : ℕ). others + stream_size takes.stream_now) is;
+    len = rw (sym are.len, sym (are.streams tcp_packet.conversation)) takes.len;
     written = λ q. takes.written q
         ∙ ap (λ (o : Option Stream). cond (same tcp_packet.conversation q) (Some takes.stream_now) o) (are.streams q);
   }
@@ -494,10 +496,11 @@ module _ (same : Conversation → Conversation → Bool) (packets : List Dissect
           → get same old.streams tcp_packet.conversation ≡ Some was → others_held ≡ old.held - stream_size was
           → others_held < 2 ^ 64 → stream ≡ stopped_stream was
           → new.held ≡ min (others_held + stream_size stream) (2 ^ 64 - 1)
+          → hash_map_len new.streams ≡ hash_map_len old.streams
           → ((q : Conversation) → get same new.streams q
           ≡ cond (same tcp_packet.conversation q) (Some stream) (get same old.streams q))
           → StopsOne same old tcp_packet.conversation new
-      stops_there old new was stream others_held there beside_is fits is_stopped held written = record {
+      stops_there old new was stream others_held there beside_is fits is_stopped held size written = record {
         streams = λ q. written q ∙ elim (same tcp_packet.conversation q) as (λ b. same tcp_packet.conversation q ≡ b
             → cond b (Some stream) (get same old.streams q)
             ≡ cond b (option_map stopped_stream (get same old.streams q)) (get same old.streams q)) [
@@ -507,6 +510,7 @@ module _ (same : Conversation → Conversation → Bool) (packets : List Dissect
         held =
             let nothing : stream_size stream ≡ 0 = ap stream_size is_stopped in
             rw there (omega (arith, held, nothing, fits, beside_is));
+        len = size;
       }
 
       pub stops_new : (old new : Streams S H) → get same old.streams tcp_packet.conversation ≡ None
@@ -520,4 +524,5 @@ module _ (same : Conversation → Conversation → Bool) (packets : List Dissect
               | false ↦ λ other. refl
             ] refl;
         held = rw none (omega (arith, held));
+        len = ap hash_map_len streams;
       }

@@ -65,7 +65,7 @@ Unbroken (Err TooManyReads) Goes Breaks = Goes
 Unbroken (Err (Capture error position)) Goes Breaks = Goes
 Unbroken (Err (BadLine number)) Goes Breaks = Goes
 
--- the same, or memory ran out for a packet and the second holds
+-- after a run the first holds, or the third where a write ended it; or memory ran out for a packet, and the second holds
 abbrev pub Leaves : Result Unit RunError → (Goes Fails Breaks : Type 0) → Type 0
 Leaves result Goes Fails Breaks = Unbroken result Goes Breaks ⊎ ((result ≡ Err Memory) × Fails)
 

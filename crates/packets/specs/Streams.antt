@@ -151,6 +151,8 @@ module _ {S H : Type 0} (same : Conversation → Conversation → Bool) where
     pub stream_now : Stream
     pub takes : StreamTakes others stream tcp_packet packet stream_now
     pub held : now.held ≡ others + stream_size stream_now
+    pub len : hash_map_len now.streams
+        ≡ hash_map_len was.streams + (if is_some (get same was.streams tcp_packet.conversation) then 0 else 1)
     pub written : (conversation : Conversation) → get same now.streams conversation
         ≡ (if same tcp_packet.conversation conversation then Some stream_now else get same was.streams conversation)
 
@@ -183,6 +185,7 @@ module _ {S H : Type 0} (same : Conversation → Conversation → Bool) where
         ≡ (if same conversation other then option_map stopped_stream (get same was.streams other)
         else get same was.streams other)
     pub held : now.held ≡ was.held - option_map_or stream_size (get same was.streams conversation) 0
+    pub len : hash_map_len now.streams ≡ hash_map_len was.streams
 
   abbrev pub StopBy : (was now : Streams S H) → Option TcpPacket → Type 0
   StopBy was now None = ⊥

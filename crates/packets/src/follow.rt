@@ -5,4 +5,3 @@ pub(crate) mod event;
 pub(crate) mod event_object;
 pub(crate) mod event_text;
 pub(crate) mod following;
-pub(crate) mod whole_segment;

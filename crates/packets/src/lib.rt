@@ -28,6 +28,7 @@ mod source_route;
 mod summary;
 mod unread_message;
 mod verification;
+mod whole_segment;
 
 pub use captures::{Frame, Header, Link, Packet};
 pub use condition::{Condition, Side, TcpFlag};

@@ -4,38 +4,19 @@ use Rattle.std.proofs.Common.{◌∷◌, length, take, drop, get_or, ltb, ◌⊎
 use Rattle.std.proofs.lemmas.Bool.{cases_lt}
 use Rattle.std.proofs.lemmas.Bool.Decides.{nat_tests}
 use Rattle.std.proofs.lemmas.List.{drop-drop, length-take, length-drop, get_or-take, get_or-drop}
-use Rattle.std.specs.Prelude.{IfSome}
+use Rattle.std.specs.Prelude.{IfNone, IfSome, IsSome}
 use Rattle.tcp_streams.specs.declared.gaps.Gap.{Gap}
-use Rattle.tcp_streams.specs.Gaps.{AreGapsIn, first_gap_after, gap_after, is_missing}
-use Rattle.tcp_streams.specs.Segments.{Placed, text_of}
+use Rattle.tcp_streams.specs.Gaps.{AreGapsIn, AreRunsIn, first_gap_after, gap_after, is_missing}
+use Rattle.tcp_streams.specs.Segments.{Placed, byte_at, text_of}
 use Rattle.tcp_streams.specs.SparseBytes.{Sparse, IsSparse, byte_in, bytes_after_gap, held_end}
 use Rattle.tcp_streams.specs.StreamBuf.{Contents, Shows, IsAfterGap, available_in}
 use Rattle.tcp_streams.proofs.BufLemmas.{shows_text}
 use Rattle.tcp_streams.proofs.GapLemmas.{gaps_end}
+use Rattle.tcp_streams.proofs.RunLemmas.{after_own, none_by_after, none_with_none, runs_of_gaps}
 use Rattle.tcp_streams.proofs.SegmentLemmas.{byte_from-is, byte_from-none}
 use Rattle.tcp_streams.proofs.SparseLemmas.{not_missing_before}
 
 -- ---- the first gap that ends after a position
-
-pub start_of : (p to : ℕ) (gs : List Gap) (g : Gap) → gap_after p gs ≡ Some g → first_gap_after p gs to ≡ g.start
-start_of p to [] g h = cc
-start_of p to (x ∷ gs) g h = elim (cases_lt p x.end) [
-  | inl here ↦
-      let test : ltb p x.end ≡ true = grind (arith, nat_tests) in
-      let same : x ≡ g = cc (rw test at h) in rw (test, same) refl
-  | inr past ↦
-      let test : ltb p x.end ≡ false = grind (arith, nat_tests) in
-      rw test (start_of p to gs g (rw test at h))
-]
-
-pub start_of_none : (p to : ℕ) (gs : List Gap) → gap_after p gs ≡ None → first_gap_after p gs to ≡ to
-start_of_none p to [] h = refl
-start_of_none p to (x ∷ gs) h = elim (cases_lt p x.end) [
-  | inl here ↦ let test : ltb p x.end ≡ true = grind (arith, nat_tests) in cc (rw test at h)
-  | inr past ↦
-      let test : ltb p x.end ≡ false = grind (arith, nat_tests) in
-      rw test (start_of_none p to gs (rw test at h))
-]
 
 next_most : (from to p : ℕ) (gs : List Gap) → AreGapsIn from to gs → first_gap_after p gs to ≤ to
 next_most from to p [] o = omega arith
@@ -182,6 +163,37 @@ pub after_gap_result : (buf : Contents) (ss : List Placed) → IsSparse buf.held
 after_gap_result buf ss sound shows p None gap bytes = tt
 after_gap_result buf ss sound shows p (Some after) gap bytes =
     rw bytes (shows_after_gap buf ss sound shows p after.0 gap)
+
+-- which gap it is
+
+module _ (buf : Contents) (ss : List Placed) (sound : IsSparse buf.held) (shows : Shows buf ss) where
+  there : (q : ℕ) → buf.held.taken ≤ q → q < held_end buf.held → is_missing buf.held.gaps q ≡ false
+      → byte_at ss q ≡ Some (get_or buf.held.bytes (q - buf.held.taken) 0)
+  there q low high here =
+      let is = byte_from-is buf.held.taken buf.held.bytes q (q - buf.held.taken) (omega arith) (omega arith) in
+      sym (shows.held q low) ∙ rw here is
+
+  in_order : AreRunsIn buf.held.taken (held_end buf.held) buf.held.gaps
+  in_order = runs_of_gaps buf.held.taken (held_end buf.held) buf.held.gaps sound.gaps
+
+  pub first_result : (p : ℕ) (r : Option (Gap × Bor (List ℕ)))
+      → IfSome r (λ after. gap_after p buf.held.gaps ≡ Some after.0)
+      → IfSome r (λ after. (q : ℕ) → buf.held.taken ≤ q → p ≤ q → q < after.0.start → IsSome (byte_at ss q))
+  first_result p None is = tt
+  first_result p (Some after) is = λ q low from below.
+      let own = after_own buf.held.taken (held_end buf.held) p buf.held.gaps after.0 in_order is in
+      let here = none_by_after buf.held.taken (held_end buf.held) p buf.held.gaps after.0 q in_order is from below in
+      rw (there q low (omega (arith, own.1, own.2)) here) refl
+
+  pub last_result : (p : ℕ) (r : Option (Gap × Bor (List ℕ))) → IfNone r (gap_after p buf.held.gaps ≡ None)
+      → IfNone r ((q s : ℕ) → buf.held.taken ≤ q → p ≤ q → q ≤ s → byte_at ss q ≡ None → byte_at ss s ≡ None)
+  last_result p (Some after) is = tt
+  last_result p None is = λ q s low from order none. elim (cases_lt q (held_end buf.held)) [
+    | inl below ↦ cc (sym (there q low below (none_with_none p buf.held.gaps q is from)) ∙ none)
+    | inr past ↦
+        let here = none_with_none p buf.held.gaps s is (omega arith) in
+        sym (shows.held s (omega arith)) ∙ rw here (byte_from-none buf.held.taken buf.held.bytes s (omega arith))
+  ]
 
 -- ---- the available bytes from a position on
 

@@ -2,10 +2,13 @@ mod AfterGapLemmas
 mod BufLemmas
 mod CountLemmas
 mod CountingLemmas
+mod FillLemmas
+mod FirstGapLemmas
 mod FlowKeyLemmas
 mod FlowLemmas
 mod FollowLemmas
 mod GapLemmas
+mod HeldLemmas
 mod LawLemmas
 mod LossLemmas
 mod NumberLaws

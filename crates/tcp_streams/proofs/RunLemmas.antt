@@ -1,7 +1,7 @@
 -- Gaps of which one may begin where the one before it ends, and the map of them.
 use Rattle.std.proofs.Common.{◌≡◌, ℕ, zero, suc, ◌+◌, ◌-◌, ◌<◌, ◌≤◌, Bool, true, false, List, [], ◌∷◌, ◌++◌}
-use Rattle.std.proofs.Common.{length, min, max, ◌⊎◌, inl, inr, arith, refl, sym, Option, Some, None}
-use Rattle.std.proofs.Common.{option_map, slice_get, ◌^◌}
+use Rattle.std.proofs.Common.{length, min, max, inl, inr, arith, refl, sym, Option, Some, None}
+use Rattle.std.proofs.Common.{option_and_then, option_map, slice_get, ◌^◌, ltb}
 use Rattle.std.proofs.lemmas.Bool.{cases_lt}
 use Rattle.std.proofs.lemmas.Bool.Decides.{nat_tests}
 use Rattle.std.specs.BTreeMap.{insert_entry, is_at}
@@ -12,8 +12,8 @@ use Rattle.std.specs.Result.{IsOk}
 use Rattle.std.proofs.Common.{OnErr, OnOk, Result, Ok, Err}
 use Rattle.std.specs.declared.ops.Bound.TheVariants.{Excluded, Unbounded}
 use Rattle.tcp_streams.specs.declared.gaps.Gap.{Gap}
-use Rattle.tcp_streams.specs.Gaps.{AreGapsIn, AreRunsIn, IsMissingFrom, NoneMissing, gap_after, gaps_of}
-use Rattle.tcp_streams.specs.Gaps.{is_cut_at, is_missing, split_at, with_gap, without}
+use Rattle.tcp_streams.specs.Gaps.{AreGapsIn, AreRunsIn, gap_after, gaps_of, is_missing, is_split_at, missing_from}
+use Rattle.tcp_streams.specs.Gaps.{part_between, split_at, with_gap, without}
 use Rattle.tcp_streams.specs.Segments.{count_from}
 use Rattle.tcp_streams.proofs.CountLemmas.{count_from-none, count_from-split}
 
@@ -57,7 +57,7 @@ pub without-split : (s e : ℕ) (gs : List Gap) → s < e → without s e (split
 without-split s e [] some = refl
 without-split s e (g ∷ gs) some = grind (arith, nat_tests, without-split s e gs some)
 
-pub split_whole : (p : ℕ) (gs : List Gap) → is_cut_at p (split_at p gs) ≡ false
+pub split_whole : (p : ℕ) (gs : List Gap) → is_split_at p (split_at p gs) ≡ false
 split_whole p [] = refl
 split_whole p (g ∷ gs) = grind (arith, nat_tests, split_whole p gs)
 
@@ -80,11 +80,11 @@ pub after_no : (p : ℕ) (es : List (ℕ × ℕ)) → entries_between nat_cmp (E
     → None ≡ gap_after p (gaps_of es)
 after_no p es is = let whole = rw is at (after_is p es) in sym whole
 
-after_ends : (p : ℕ) (gs : List Gap) (g : Gap) → gap_after p gs ≡ Some g → p < g.end
+pub after_ends : (p : ℕ) (gs : List Gap) (g : Gap) → gap_after p gs ≡ Some g → p < g.end
 after_ends p [] g is = absurd (cc is)
 after_ends p (k ∷ gs) g is = grind (arith, nat_tests, after_ends p gs g)
 
-after_own : (from to p : ℕ) (gs : List Gap) (g : Gap) → AreRunsIn from to gs → gap_after p gs ≡ Some g
+pub after_own : (from to p : ℕ) (gs : List Gap) (g : Gap) → AreRunsIn from to gs → gap_after p gs ≡ Some g
     → (from ≤ g.start) × (g.start < g.end) × (g.end ≤ to)
 after_own from to p [] g h is = absurd (cc is)
 after_own from to p (k ∷ gs) g h is = elim (cases_lt p k.end) [
@@ -92,12 +92,12 @@ after_own from to p (k ∷ gs) g h is = elim (cases_lt p k.end) [
   | inr above ↦ let rest = after_own k.end to p gs g h.2 in grind (arith, nat_tests)
 ]
 
-none_before : (from to : ℕ) (gs : List Gap) (q : ℕ) → AreRunsIn from to gs → q < from → is_missing gs q ≡ false
+pub none_before : (from to : ℕ) (gs : List Gap) (q : ℕ) → AreRunsIn from to gs → q < from → is_missing gs q ≡ false
 none_before from to [] q h below = refl
 none_before from to (g ∷ gs) q h below =
     grind (arith, nat_tests, none_before g.end to gs q h.2 (omega arith))
 
-none_by_after : (from to p : ℕ) (gs : List Gap) (g : Gap) (q : ℕ) → AreRunsIn from to gs → gap_after p gs ≡ Some g
+pub none_by_after : (from to p : ℕ) (gs : List Gap) (g : Gap) (q : ℕ) → AreRunsIn from to gs → gap_after p gs ≡ Some g
     → p ≤ q → q < g.start → is_missing gs q ≡ false
 none_by_after from to p [] g q h is low below = refl
 none_by_after from to p (k ∷ gs) g q h is low below = elim (cases_lt p k.end) [
@@ -110,31 +110,71 @@ all_in_after : (p : ℕ) (gs : List Gap) (g : Gap) (q : ℕ) → gap_after p gs 
 all_in_after p [] g q is low below = absurd (cc is)
 all_in_after p (k ∷ gs) g q is low below = grind (arith, nat_tests, all_in_after p gs g q)
 
-none_with_none : (p : ℕ) (gs : List Gap) (q : ℕ) → gap_after p gs ≡ None → p ≤ q → is_missing gs q ≡ false
+pub none_with_none : (p : ℕ) (gs : List Gap) (q : ℕ) → gap_after p gs ≡ None → p ≤ q → is_missing gs q ≡ false
 none_with_none p [] q is low = refl
 none_with_none p (g ∷ gs) q is low = grind (arith, nat_tests, none_with_none p gs q)
 
-pub missing_none : (position end : ℕ) (gs : List Gap) → gap_after position gs ≡ None → NoneMissing gs position end
-missing_none position end gs is q low below = none_with_none position gs q is low
+-- no position from one on and up to another is missing
+abbrev pub NoneMissing : List Gap → (from to : ℕ) → Type 0
+NoneMissing gs from to = (p : ℕ) → from ≤ p → p < to → is_missing gs p ≡ false
 
-pub missing_far : (position end : ℕ) (gs : List Gap) (g : Gap) → AreRunsIn 0 (2 ^ 64) gs → gap_after position gs ≡ Some g
-    → (end ≤ g.start) ⊎ (end ≤ position) → NoneMissing gs position end
-missing_far position end gs g h is (inl far) q low below = none_by_after 0 (2 ^ 64) position gs g q h is low (omega arith)
-missing_far position end gs g h is (inr far) q low below = absurd (omega arith)
+-- the first positions from one on and up to another that are missing
+pub record IsMissingFrom (gs : List Gap) (from to : ℕ) (gap : Gap) : Type 0 where
+  pub start : from ≤ gap.start
+  pub some : gap.start < gap.end
+  pub end : gap.end ≤ to
+  pub before : NoneMissing gs from gap.start
+  pub missing : (p : ℕ) → gap.start ≤ p → p < gap.end → is_missing gs p ≡ true
 
-pub missing_some : (position end start stop : ℕ) (gs : List Gap) (g : Gap) → AreRunsIn 0 (2 ^ 64) gs
-    → gap_after position gs ≡ Some g → g.start < end → position < end → start ≡ max g.start position
-    → stop ≡ min g.end end → IsMissingFrom gs position end (record { start = start; end = stop })
-missing_some position end start stop gs g h is near some start_is stop_is =
-    let ends = after_ends position gs g is in
-    let own = after_own 0 (2 ^ 64) position gs g h is in
-    record {
+part_some : (from to : ℕ) (k g : Gap) → part_between from to k ≡ Some g
+    → (max k.start from < to) × (record { start = max k.start from; end = min k.end to } ≡ g)
+part_some from to k g is = elim (cases_lt (max k.start from) to) [
+  | inl some ↦
+      let test : ltb (max k.start from) to ≡ true = grind (arith, nat_tests) in (some, cc (rw test at is))
+  | inr none ↦
+      let test : ltb (max k.start from) to ≡ false = grind (arith, nat_tests) in cc (rw test at is)
+]
+
+part_none : (from to : ℕ) (k : Gap) → part_between from to k ≡ None → to ≤ max k.start from
+part_none from to k is = elim (cases_lt (max k.start from) to) [
+  | inl some ↦
+      let test : ltb (max k.start from) to ≡ true = grind (arith, nat_tests) in cc (rw test at is)
+  | inr none ↦ none
+]
+
+missing_some : (from to : ℕ) (gs : List Gap) (k g : Gap) → AreRunsIn 0 (2 ^ 64) gs → gap_after from gs ≡ Some k
+    → part_between from to k ≡ Some g → IsMissingFrom gs from to g
+missing_some from to gs k g h at is =
+    let ends = after_ends from gs k at in
+    let own = after_own 0 (2 ^ 64) from gs k h at in
+    let part = part_some from to k g is in
+    let some = part.0 in
+    rw (← part.1) record {
       start = omega arith;
       some = omega arith;
       end = omega arith;
-      before = λ q low below. none_by_after 0 (2 ^ 64) position gs g q h is low (omega arith);
-      missing = λ q low below. all_in_after position gs g q is (omega arith) (omega arith);
+      before = λ q low below. none_by_after 0 (2 ^ 64) from gs k q h at low (omega arith);
+      missing = λ q low below. all_in_after from gs k q at (omega arith) (omega arith);
     }
+
+missing_by : (from to : ℕ) (gs : List Gap) (g : Gap) (o : Option Gap) → AreRunsIn 0 (2 ^ 64) gs → gap_after from gs ≡ o
+    → option_and_then (part_between from to) o ≡ Some g → IsMissingFrom gs from to g
+missing_by from to gs g None h at is = cc is
+missing_by from to gs g (Some k) h at is = missing_some from to gs k g h at is
+
+pub missing_is : (from to : ℕ) (gs : List Gap) (g : Gap) → AreRunsIn 0 (2 ^ 64) gs → missing_from from to gs ≡ Some g
+    → IsMissingFrom gs from to g
+missing_is from to gs g h is = missing_by from to gs g (gap_after from gs) h refl is
+
+none_by : (from to : ℕ) (gs : List Gap) (o : Option Gap) → AreRunsIn 0 (2 ^ 64) gs → gap_after from gs ≡ o
+    → option_and_then (part_between from to) o ≡ None → NoneMissing gs from to
+none_by from to gs None h at is q low below = none_with_none from gs q at low
+none_by from to gs (Some k) h at is q low below =
+    none_by_after 0 (2 ^ 64) from gs k q h at low (omega (arith, part_none from to k is))
+
+pub missing_none : (from to : ℕ) (gs : List Gap) → AreRunsIn 0 (2 ^ 64) gs → missing_from from to gs ≡ None
+    → NoneMissing gs from to
+missing_none from to gs h is = none_by from to gs (gap_after from gs) h refl is
 
 -- ---- how many positions are missing
 
@@ -180,6 +220,11 @@ push_is from start end [] h some = grind (arith, nat_tests)
 push_is from start end (e ∷ es) h some =
     grind (arith, nat_tests, push_is e.0 start end es h.2 some, runs_end e.0 start (gaps_of es) h.2)
 
+pub insert_first_is : (to : ℕ) (g : Gap) (es : List (ℕ × ℕ)) → AreRunsIn g.end to (gaps_of es)
+    → gaps_of (insert_entry nat_cmp es g.end g.start) ≡ g ∷ gaps_of es
+insert_first_is to g [] h = refl
+insert_first_is to g (e ∷ es) h = grind (arith, nat_tests)
+
 pub with_gap_runs : (from to start end : ℕ) (gs : List Gap) → AreRunsIn from start gs → start ≤ to → end ≤ to
     → AreRunsIn from to (with_gap start end gs)
 with_gap_runs from to start end gs h s e = elim (cases_lt start end) [
@@ -191,7 +236,7 @@ with_gap_runs from to start end gs h s e = elim (cases_lt start end) [
 
 -- ---- a gap as two
 
-split_later : (from to p : ℕ) (gs : List Gap) → AreRunsIn from to gs → p ≤ from → split_at p gs ≡ gs
+pub split_later : (from to p : ℕ) (gs : List Gap) → AreRunsIn from to gs → p ≤ from → split_at p gs ≡ gs
 split_later from to p [] h low = refl
 split_later from to p (g ∷ gs) h low = grind (arith, nat_tests, split_later g.end to p gs h.2 (omega arith))
 
@@ -247,11 +292,11 @@ after_found p from to (e ∷ es) g h is = elim (cases_lt p e.0) [
 
 -- ---- gaps without some positions
 
-pub after_whole : (p : ℕ) (gs : List Gap) (g : Gap) → is_cut_at p gs ≡ false → gap_after p gs ≡ Some g → p ≤ g.start
+pub after_whole : (p : ℕ) (gs : List Gap) (g : Gap) → is_split_at p gs ≡ false → gap_after p gs ≡ Some g → p ≤ g.start
 after_whole p [] g whole is = absurd (cc is)
 after_whole p (k ∷ gs) g whole is = grind (arith, nat_tests, after_whole p gs g)
 
-without_later : (from to s e : ℕ) (gs : List Gap) → s < e → AreRunsIn from to gs → e ≤ from → without s e gs ≡ gs
+pub without_later : (from to s e : ℕ) (gs : List Gap) → s < e → AreRunsIn from to gs → e ≤ from → without s e gs ≡ gs
 without_later from to s e [] some h low = refl
 without_later from to s e (g ∷ gs) some h low =
     grind (arith, nat_tests, without_later g.end to s e gs some h.2 (omega arith))
@@ -306,8 +351,8 @@ removed_runs from to test (e ∷ es) h = elim (test e.0) as (λ b. test e.0 ≡ 
       | false ↦ λ is. rw is (h.0, h.1, removed_runs e.0 to test es h.2)
     ] refl
 
-removed_whole : (p : ℕ) (test : ℕ → Bool) (es : List (ℕ × ℕ)) → is_cut_at p (gaps_of es) ≡ false
-    → is_cut_at p (gaps_of (remove_entry test es)) ≡ false
+removed_whole : (p : ℕ) (test : ℕ → Bool) (es : List (ℕ × ℕ)) → is_split_at p (gaps_of es) ≡ false
+    → is_split_at p (gaps_of (remove_entry test es)) ≡ false
 removed_whole p test [] h = h
 removed_whole p test (e ∷ es) h = grind (arith, nat_tests, removed_whole p test es)
 
@@ -330,9 +375,9 @@ removed_without from to s e (k ∷ es) g some h is low far = elim (cases_lt s k.
 
 -- the first of them that lies within the positions is taken out
 pub removed_first : (s e : ℕ) (es fs : List (ℕ × ℕ)) (g : Gap) → s < e → AreRunsIn 0 (2 ^ 64) (gaps_of es)
-    → is_cut_at s (gaps_of es) ≡ false → gap_after s (gaps_of es) ≡ Some g → g.end ≤ e
+    → is_split_at s (gaps_of es) ≡ false → gap_after s (gaps_of es) ≡ Some g → g.end ≤ e
     → fs ≡ remove_entry (is_at (nat_cmp g.end)) es
-    → AreRunsIn 0 (2 ^ 64) (gaps_of fs) × (is_cut_at s (gaps_of fs) ≡ false)
+    → AreRunsIn 0 (2 ^ 64) (gaps_of fs) × (is_split_at s (gaps_of fs) ≡ false)
     × (without s e (gaps_of fs) ≡ without s e (gaps_of es)) × (suc (length (gaps_of fs)) ≡ length (gaps_of es))
 removed_first s e es fs g some h whole is far fs_is =
     let low = after_whole s (gaps_of es) g whole is in

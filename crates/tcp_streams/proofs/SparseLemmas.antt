@@ -1,7 +1,7 @@
 -- Bytes of which some are missing, and more of them.
 use Rattle.std.proofs.Common.{◌≡◌, ℕ, ◌+◌, ◌-◌, ◌^◌, ◌<◌, ◌≤◌, Bool, true, false, cond, List, [], ◌∷◌, ◌++◌, length}
-use Rattle.std.proofs.Common.{take, drop, get_or, min, max, ltb, leb, not, ◌&&◌, Option, Some, None, arith, refl}
-use Rattle.std.proofs.Common.{ap, is_some, sym, replicate, ◌⊎◌, inl, inr}
+use Rattle.std.proofs.Common.{take, drop, get_or, max, ltb, not, Option, Some, None, arith, refl}
+use Rattle.std.proofs.Common.{ap, sym, replicate, ◌⊎◌, inl, inr}
 use Rattle.std.proofs.lemmas.Bool.{cases_lt}
 use Rattle.std.proofs.lemmas.Bool.Decides.{nat_tests}
 use Rattle.std.proofs.lemmas.Grind.{elements}
@@ -10,15 +10,14 @@ use Rattle.std.proofs.lemmas.List.{drop-take, get_or-take, get_or-drop}
 use Rattle.std.specs.Option.{option_or}
 use Rattle.std.specs.Prelude.{◌==◌}
 use Rattle.tcp_streams.specs.declared.gaps.Gap.{Gap}
-use Rattle.tcp_streams.specs.Gaps.{is_missing, AreGapsIn, AreRunsIn, IsMissingFrom, NoneMissing, first_gap, split_at}
+use Rattle.tcp_streams.specs.Gaps.{is_missing, AreGapsIn, AreRunsIn, first_gap, split_at}
 use Rattle.tcp_streams.specs.Gaps.{with_gap, without}
-use Rattle.tcp_streams.specs.Segments.{byte_from, count_from, differs, clashes}
+use Rattle.tcp_streams.specs.Segments.{byte_from, differs, clashes}
 use Rattle.tcp_streams.specs.SparseBytes.{Sparse, sparse, IsSparse, held_end, byte_in, available_end, end_with}
 use Rattle.tcp_streams.specs.SparseBytes.{AddsBytes, Fills}
-use Rattle.tcp_streams.proofs.CountLemmas.{count_from-none, count_from-not, count_from-split}
 use Rattle.tcp_streams.proofs.GapLemmas.{is_missing-append, is_missing-without, gaps_weaker, gaps_end, gaps_push}
 use Rattle.tcp_streams.proofs.GapLemmas.{without_end, without_ordered}
-use Rattle.tcp_streams.proofs.RunLemmas.{is_missing-split, runs_of_gaps, runs_weaker, split_runs, without-split}
+use Rattle.tcp_streams.proofs.RunLemmas.{is_missing-split, none_before, runs_of_gaps, split_runs, without-split}
 use Rattle.tcp_streams.proofs.SegmentLemmas.{byte_from-here, byte_from-is, byte_from-none, nothing_after}
 use Rattle.tcp_streams.proofs.SegmentLemmas.{clashes_same, clashes_none, clashes-push}
 
@@ -26,9 +25,7 @@ use Rattle.tcp_streams.proofs.SegmentLemmas.{clashes_same, clashes_none, clashes
 
 pub not_missing_before : (from to : ℕ) (gs : List Gap) (p : ℕ) → AreGapsIn from to gs → p < from
     → is_missing gs p ≡ false
-not_missing_before from to [] p h below = refl
-not_missing_before from to (g ∷ gs) p h below =
-    grind (arith, nat_tests, not_missing_before (g.end + 1) to gs p h.2 (omega arith))
+not_missing_before from to gs p h below = none_before from to gs p (runs_of_gaps from to gs h) below
 
 pub not_missing_after : (from to : ℕ) (gs : List Gap) (p : ℕ) → AreGapsIn from to gs → to ≤ p
     → is_missing gs p ≡ false
@@ -63,87 +60,6 @@ available_fits held end items sound is items_are =
     let bounds = available_bounds held sound in
     let size : length items ≡ length held.bytes = ap length items_are in
     simp length-take (omega (arith, bounds.0, bounds.1, size))
-
--- ---- bytes are written where they are missing
-
--- ---- bytes are written where they are missing
-
--- each byte before a position that is missing is written, and no other
-pub record FillsTo (gs : List Gap) (position written : ℕ) (old new bytes : List ℕ) : Type 0 where
-  pub size : length new ≡ length old
-  pub filled : (i : ℕ) → i < length old → get_or new i 0
-      ≡ cond (is_missing gs (position + i) && ltb (position + i) written) (get_or bytes i 0) (get_or old i 0)
-
-pub fills_none : (gs : List Gap) (position : ℕ) (old bytes : List ℕ) → FillsTo gs position position old old bytes
-fills_none gs position old bytes = record { size = refl; filled = λ i h. grind (arith, nat_tests) }
-
-fills_at : (gs : List Gap) (position written : ℕ) (old mid bytes : List ℕ) (from size : ℕ)
-    → FillsTo gs position written old mid bytes → length bytes ≡ length old → from + size ≤ length old
-    → (i : ℕ) → i < length old
-    → get_or (take from mid ++ (take size (drop from bytes) ++ drop size (drop from mid))) i 0
-    ≡ cond (leb from i && ltb i (from + size)) (get_or bytes i 0) (get_or mid i 0)
-fills_at gs position written old mid bytes from size f same fits i within =
-    let filled = f.size in grind (arith, elements, nat_tests)
-
-pub fills_more : (gs : List Gap) (g : Gap) (position written : ℕ) (old mid new bytes : List ℕ) (from size : ℕ)
-    → FillsTo gs position written old mid bytes → length bytes ≡ length old
-    → position ≤ written → IsMissingFrom gs written (position + length bytes) g
-    → from ≡ g.start - position → size ≡ g.end - position - from
-    → new ≡ take from mid ++ (take size (drop from bytes) ++ drop size (drop from mid))
-    → FillsTo gs position g.end old new bytes
-fills_more gs g position written old mid new bytes from size f same low is from_is size_is new_is =
-    let start = is.start in
-    let some = is.some in
-    let end = is.end in
-    let filled = f.size in record {
-      size = rw new_is (grind (arith, elements));
-      filled = λ i h.
-          let at = fills_at gs position written old mid bytes from size f same (omega arith) i h in
-          let was = f.filled i h in
-          rw (new_is, at, was) (elim (cases_lt (position + i) g.start) [
-            | inl below ↦ elim (cases_lt (position + i) written) [
-              | inl done ↦ grind (arith, nat_tests)
-              | inr next ↦
-                  let none = is.before (position + i) next below in grind (arith, nat_tests)
-            ]
-            | inr above ↦ elim (cases_lt (position + i) g.end) [
-              | inl here ↦
-                  let missing = is.missing (position + i) above here in grind (arith, nat_tests)
-              | inr past ↦ grind (arith, nat_tests)
-            ]
-          ]);
-    }
-
--- the same by what is put there
-pub fills_put : (gs : List Gap) (g : Gap) (position written : ℕ) (old mid put bytes : List ℕ) (from size : ℕ)
-    → FillsTo gs position written old mid bytes → length old ≡ length bytes
-    → position ≤ written → IsMissingFrom gs written (position + length bytes) g
-    → from ≡ g.start - position → size ≡ g.end - position - from → put ≡ take size (drop from bytes)
-    → FillsTo gs position g.end old (take from mid ++ (put ++ drop size (drop from mid))) bytes
-fills_put gs g position written old mid put bytes from size f same low is from_is size_is put_is =
-    rw put_is (fills_more gs g position written old mid _ bytes from size f (sym same) low is from_is size_is refl)
-
--- where no others are missing
-pub fills_rest : (gs : List Gap) (position written : ℕ) (old new bytes : List ℕ)
-    → FillsTo gs position written old new bytes → length bytes ≡ length old
-    → NoneMissing gs written (position + length bytes) → Fills gs position old new bytes
-fills_rest gs position written old new bytes f same none = record {
-  size = f.size;
-  filled = λ i h.
-      let was = f.filled i h in
-      elim (cases_lt (position + i) written) [
-        | inl done ↦ grind (arith, nat_tests)
-        | inr next ↦ let here = none (position + i) next (omega arith) in grind (arith, nat_tests)
-      ];
-}
-
--- where all are written
-pub fills_all : (gs : List Gap) (position written : ℕ) (old new bytes : List ℕ)
-    → FillsTo gs position written old new bytes → position + length old ≤ written → Fills gs position old new bytes
-fills_all gs position written old new bytes f all = record {
-  size = f.size;
-  filled = λ i h. let was = f.filled i h in grind (arith, nat_tests);
-}
 
 -- ---- bytes are added
 
@@ -393,8 +309,6 @@ module _ (held : Sparse) (count : ℕ) (sound : IsSparse held) (few : held.taken
       let rest : available_end held - held.taken ≡ count + (available_end held - (held.taken + count)) = omega arith in
       rw (end, rest, drop-take)
 
--- ---- bytes are added wherever they stand
-
 clashes_past : (f : ℕ → Option ℕ) (p : ℕ) (bs : List ℕ) → ((q : ℕ) → p ≤ q → f q ≡ None) → clashes f p bs ≡ []
 clashes_past f p bs none = clashes_none f p bs (λ i h. rw (none (p + i) (omega arith)))
 
@@ -410,10 +324,80 @@ adds_sound old new bytes sound is short =
     }
 
 -- no byte is held after the last one
-pub clashes_after : (old : Sparse) (bytes : List ℕ) → IsSparse old → clashes (byte_in old) (held_end old) bytes ≡ []
-clashes_after old bytes sound = clashes_past (byte_in old) (held_end old) bytes (λ q above.
-    rw (not_missing_after old.taken (held_end old) old.gaps q sound.gaps above)
-    (byte_from-none old.taken old.bytes q above))
+pub clashes_after : (old : Sparse) (position : ℕ) (bytes : List ℕ) → IsSparse old → held_end old ≤ position
+    → clashes (byte_in old) position bytes ≡ []
+clashes_after old position bytes sound after = clashes_past (byte_in old) position bytes (λ q above.
+    rw (not_missing_after old.taken (held_end old) old.gaps q sound.gaps (omega arith))
+    (byte_from-none old.taken old.bytes q (omega arith)))
+
+-- ---- bytes are added after a gap
+
+module _ (old : Sparse) (len : ℕ) (bytes : List ℕ) (sound : IsSparse old) (longer : length old.bytes < len)
+    (some : 0 < length bytes) (short : old.taken + len + length bytes ≤ 2 ^ 63) where
+  abbrev with_zeros : List ℕ
+  with_zeros = old.bytes ++ replicate (len - length old.bytes) 0
+
+  abbrev gap_before : Gap
+  gap_before = record { start = held_end old; end = old.taken + len }
+
+  abbrev after_gap : Sparse
+  after_gap = sparse old.taken (with_zeros ++ bytes) (old.gaps ++ gap_before ∷ [])
+
+  end_after_gap : held_end after_gap ≡ old.taken + len + length bytes
+  end_after_gap = let size = lengthened_size old.taken len old.bytes old.gaps sound.gaps longer in
+      omega (arith, size, length-append with_zeros bytes)
+
+  byte_after_gap : (p : ℕ) → old.taken ≤ p
+      → byte_in after_gap p ≡ option_or (byte_in old p) (byte_from (old.taken + len) bytes p)
+  byte_after_gap p low =
+      let size = lengthened_size old.taken len old.bytes old.gaps sound.gaps longer in
+      let parts = byte_from-append old.taken with_zeros bytes p low in
+      elim (cases_lt p (old.taken + len)) [
+        | inl below ↦
+            let same = lengthened_byte old.taken len old.bytes old.gaps sound.gaps longer p low in
+            let here = byte_from-here old.taken with_zeros p low (omega (arith, size)) in
+            rw (byte_from-before (old.taken + len) bytes p below, nothing_after (byte_in old p), ← same, parts, here)
+        | inr above ↦
+            let none = not_missing_after old.taken (held_end old) old.gaps p sound.gaps (omega arith) in
+            let missing = is_missing-append old.gaps (gap_before ∷ []) p in
+            let past : is_missing (old.gaps ++ gap_before ∷ []) p ≡ false = grind (arith, nat_tests) in
+            let no_zero = byte_from-none old.taken with_zeros p (omega (arith, size)) in
+            let no_byte = byte_from-none old.taken old.bytes p (omega arith) in
+            grind (arith, nat_tests, parts, size, past, none, no_zero, no_byte)
+      ]
+
+  adds_after_gap : AddsBytes old after_gap (old.taken + len) bytes
+  adds_after_gap = record {
+    taken = refl;
+    last =
+        let end : end_with (old.taken + len) bytes ≡ old.taken + len + length bytes = grind (arith, nat_tests) in
+        rw (end, end_after_gap) (omega arith);
+    held = byte_after_gap;
+  }
+
+  sound_after_gap : IsSparse after_gap
+  sound_after_gap = record {
+    gaps = rw end_after_gap (gaps_weaker old.taken old.taken (old.taken + len + 1) (old.taken + len + length bytes)
+        (old.gaps ++ gap_before ∷ []) (omega arith) (omega arith)
+        (lengthened_gaps old.taken len old.bytes old.gaps sound.gaps longer));
+    short = rw end_after_gap short;
+  }
+
+pub added_after_gap : (old : Sparse) (position : ℕ) (bytes new_bytes : List ℕ) (new_gaps : List Gap) → IsSparse old
+    → held_end old < position → 0 < length bytes → position + length bytes ≤ 2 ^ 63
+    → new_bytes ≡ (old.bytes ++ replicate (position - old.taken - length old.bytes) 0) ++ bytes
+    → new_gaps ≡ with_gap (held_end old) position old.gaps
+    → AddsBytes old (sparse old.taken new_bytes new_gaps) position bytes × IsSparse (sparse old.taken new_bytes new_gaps)
+added_after_gap old position bytes new_bytes new_gaps sound after some short bytes_are gaps_are =
+    let at : old.taken + (position - old.taken) ≡ position = omega arith in
+    let test : ltb (held_end old) position ≡ true = grind (arith, nat_tests) in
+    let gaps_are = rw test at gaps_are in
+    let short : old.taken + (position - old.taken) + length bytes ≤ 2 ^ 63 = omega arith in
+    let adds = adds_after_gap old (position - old.taken) bytes sound (omega arith) some short in
+    let sparse = sound_after_gap old (position - old.taken) bytes sound (omega arith) some short in
+    rw (bytes_are, gaps_are) (rw at at adds, rw at at sparse)
+
+-- ---- bytes are added wherever they stand
 
 module _ (old : Sparse) (position len : ℕ) (bytes : List ℕ) (sound : IsSparse old) (after : old.taken ≤ position)
     (some : 0 < length bytes) (short : position + length bytes ≤ 2 ^ 63)
@@ -542,48 +526,3 @@ pub split_clashes : (taken position : ℕ) (bytes adds : List ℕ) (gs : List Ga
 split_clashes taken position bytes adds gs =
     clashes_same (byte_in (sparse taken bytes (split_at position gs))) (byte_in (sparse taken bytes gs)) position adds
     (λ i h. let same = is_missing-split position gs (position + i) in rw same refl)
-
--- ---- positions at which a byte is held
-
-some_by : (missing : Bool) (b : ℕ) → is_some (cond missing None (Some b)) ≡ not missing
-some_by true b = refl
-some_by false b = refl
-
-none_by : (missing : Bool) (o : Option ℕ) → o ≡ None → is_some (cond missing None o) ≡ false
-none_by true o is = refl
-none_by false o is = rw is
-
-module _ (held : Sparse) where
-  held_at : (p : ℕ) → held.taken ≤ p → p < held_end held
-      → is_some (byte_in held p) ≡ not (is_missing held.gaps p)
-  held_at p low below =
-      rw (byte_from-here held.taken held.bytes p low below) (some_by (is_missing held.gaps p) _)
-
-  held_past : (p : ℕ) → held_end held ≤ p → is_some (byte_in held p) ≡ false
-  held_past p above = none_by (is_missing held.gaps p) _ (byte_from-none held.taken held.bytes p above)
-
-  pub none_past : (position count end : ℕ) → end ≡ min (position + count) (held_end held) → end ≤ position
-      → 0 ≡ count_from (λ p. is_some (byte_in held p)) position count
-  none_past position count end end_is past =
-      let none = count_from-none (λ p. is_some (byte_in held p)) position count
-      (λ q low high. held_past q (omega arith)) in rw none
-
-  pub counted_held : (position count end missing : ℕ) → held.taken ≤ position
-      → end ≡ min (position + count) (held_end held) → position < end
-      → missing ≡ count_from (is_missing held.gaps) position (end - position)
-      → end - position - missing ≡ count_from (λ p. is_some (byte_in held p)) position count
-  counted_held position count end missing after end_is some missing_is =
-      let size : end - position + (count - (end - position)) ≡ count = omega arith in
-      let at : position + (end - position) ≡ end = omega arith in
-      let parts = count_from-split (λ p. is_some (byte_in held p)) position (end - position) (count - (end - position)) in
-      let parts = rw (size, at) at parts in
-      let rest = count_from-none (λ p. is_some (byte_in held p)) end (count - (end - position))
-      (λ q low high. held_past q (omega arith)) in
-      let all = count_from-not (λ p. is_some (byte_in held p)) (is_missing held.gaps) position (end - position)
-      (λ q low high. held_at q (omega arith) (omega arith)) in
-      omega (arith, parts, rest, all, missing_is)
-
-pub sparse_runs : (held : Sparse) → IsSparse held → AreRunsIn 0 (2 ^ 64) held.gaps
-sparse_runs held sound =
-    runs_weaker held.taken 0 (held_end held) (2 ^ 64) held.gaps (omega arith) (omega (arith, sound.short))
-    (runs_of_gaps held.taken (held_end held) held.gaps sound.gaps)

@@ -1,6 +1,7 @@
 -- Gaps: positions of a stream whose bytes are missing.
 use Rattle.std.specs.Prelude.{ℕ, ◌+◌, ◌<◌, ◌≤◌, nat_lt, nat_le, Bool, ◌&&◌, if◌then◌else◌, max, min, List, [], ◌∷◌}
-use Rattle.std.specs.Prelude.{◌≡◌, ◌++◌, false, true, map, Option, None, Some}
+use Rattle.std.specs.Prelude.{◌++◌, map, Option, None, Some}
+use Rattle.std.specs.Option.{option_and_then, option_map_or}
 use Rattle.std.specs.List.{list_any}
 use Rattle.tcp_streams.specs.declared.gaps.Gap.{Gap}
 
@@ -22,7 +23,7 @@ abbrev pub first_gap : List Gap → (end : ℕ) → ℕ
 first_gap [] end = end
 first_gap (gap ∷ gaps) end = gap.start
 
--- the same, but one may begin where the one before it ends
+-- gaps as in `AreGapsIn`, but one may begin where the one before it ends
 abbrev pub AreRunsIn : (from to : ℕ) → List Gap → Type 0
 AreRunsIn from to [] = from ≤ to
 AreRunsIn from to (gap ∷ gaps) = (from ≤ gap.start) × (gap.start < gap.end) × AreRunsIn gap.end to gaps
@@ -31,6 +32,11 @@ AreRunsIn from to (gap ∷ gaps) = (from ≤ gap.start) × (gap.start < gap.end)
 abbrev pub gaps_of : List (ℕ × ℕ) → List Gap
 gaps_of entries = map (λ entry. record { start = entry.1; end = entry.0 }) entries
 
+-- gaps of which the first one may stand beside the others
+abbrev pub with_first : Option Gap → List Gap → List Gap
+with_first None gaps = gaps
+with_first (Some gap) gaps = gap ∷ gaps
+
 -- the first gap that ends after a position
 abbrev pub gap_after : (position : ℕ) → List Gap → Option Gap
 gap_after position [] = None
@@ -38,37 +44,32 @@ gap_after position (gap ∷ gaps) = (if nat_lt position gap.end then Some gap el
 
 -- the start of that gap, or the end of the bytes where there is none
 abbrev pub first_gap_after : (position : ℕ) → List Gap → (end : ℕ) → ℕ
-first_gap_after position [] end = end
-first_gap_after position (gap ∷ gaps) end =
-    (if nat_lt position gap.end then gap.start else first_gap_after position gaps end)
+first_gap_after position gaps end = option_map_or (λ gap. gap.start) (gap_after position gaps) end
 
--- no position from one on and up to another is missing
-abbrev pub NoneMissing : List Gap → (from to : ℕ) → Type 0
-NoneMissing gaps from to = (p : ℕ) → from ≤ p → p < to → is_missing gaps p ≡ false
+-- what a gap has from a position on and up to another
+abbrev pub part_between : (from to : ℕ) → Gap → Option Gap
+part_between from to gap = (if nat_lt (max gap.start from) to
+    then Some (record { start = max gap.start from; end = min gap.end to }) else None)
 
--- the first positions from one on and up to another that are missing
-pub record IsMissingFrom (gaps : List Gap) (from to : ℕ) (gap : Gap) : Type 0 where
-  pub start : from ≤ gap.start
-  pub some : gap.start < gap.end
-  pub end : gap.end ≤ to
-  pub before : NoneMissing gaps from gap.start
-  pub missing : (p : ℕ) → gap.start ≤ p → p < gap.end → is_missing gaps p ≡ true
+-- what the first gap that ends after the one has between them
+abbrev pub missing_from : (from to : ℕ) → List Gap → Option Gap
+missing_from from to gaps = option_and_then (part_between from to) (gap_after from gaps)
 
 -- gaps with one more after them, unless it is empty
 abbrev pub with_gap : (start end : ℕ) → List Gap → List Gap
 with_gap start end gaps = (if nat_lt start end then gaps ++ (record { start = start; end = end }) ∷ [] else gaps)
 
 -- a gap has positions before this one, and this one
-abbrev pub is_cut : ℕ → Gap → Bool
-is_cut p gap = nat_lt gap.start p && nat_lt p gap.end
+abbrev pub is_split_by : ℕ → Gap → Bool
+is_split_by p gap = nat_lt gap.start p && nat_lt p gap.end
 
-abbrev pub is_cut_at : ℕ → List Gap → Bool
-is_cut_at p gaps = list_any (is_cut p) gaps
+abbrev pub is_split_at : ℕ → List Gap → Bool
+is_split_at p gaps = list_any (is_split_by p) gaps
 
 -- that gap as two
 abbrev pub split_at : ℕ → List Gap → List Gap
 split_at p [] = []
-split_at p (gap ∷ gaps) = (if is_cut p gap
+split_at p (gap ∷ gaps) = (if is_split_by p gap
     then (record { start = gap.start; end = p }) ∷ (record { start = p; end = gap.end }) ∷ split_at p gaps
     else gap ∷ split_at p gaps)
 

@@ -61,7 +61,8 @@ impl ByteQueue {
         self.bytes.extend_from_slice(bytes)
     }
 
-    /// Makes the bytes no fewer than `len`. Those that are new are 0.
+    /// Makes the bytes no fewer than `len`. Those that are new are 0. Where there is no memory, nothing
+    /// changes.
     pub(crate) fn lengthen(&mut self, len: usize) -> Result<(), AllocError>
         ensures ok { OnOk result (self.new ≡ self.old ++ replicate (len - length self.old) 0) }
         ensures err { OnErr result (self.new ≡ self.old) }
@@ -69,6 +70,20 @@ impl ByteQueue {
         let additional = len.saturating_sub(self.bytes.len() - self.dropped);
         self.bytes.try_reserve(additional)?;
         self.bytes.resize(self.bytes.len() + additional, 0).unwrap();
+        Ok(())
+    }
+
+    /// Adds bytes from an index on that isn't before the end. Those before them that are new are 0. Where
+    /// there is no memory, nothing changes.
+    pub(crate) fn extend_from(&mut self, index: usize, bytes: &[u8]) -> Result<(), AllocError>
+        requires { length self.old ≤ index }
+        ensures ok { OnOk result (self.new ≡ (self.old ++ replicate (index - length self.old) 0) ++ bytes.now) }
+        ensures err { OnErr result (self.new ≡ self.old) }
+    {
+        let zeros = index - (self.bytes.len() - self.dropped);
+        self.bytes.try_reserve(zeros.saturating_add(bytes.len()))?;
+        self.bytes.resize(self.bytes.len() + zeros, 0).unwrap();
+        self.bytes.extend_from_slice(bytes).unwrap();
         Ok(())
     }
 

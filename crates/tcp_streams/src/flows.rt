@@ -158,7 +158,7 @@ impl<T: Drop, K: Eq + Hash + Drop, S: BuildHasher + Drop> Flows<T, K, S> {
 
     /// Keeps the flows for which the test returns `true`, and drops the others. The test is called
     /// once for each, first for that whose last packet came before those of all others. The order of
-    /// flows stays. It takes no memory.
+    /// flows stays. It takes no memory but what clones of keys take.
     pub fn retain<F: FnMut(&K, &Flow<T>) -> bool>(&mut self, keep: F)
     where
         K: Clone,

@@ -1,14 +1,13 @@
 //! Positions of a stream whose bytes are missing.
 
 ghost use Rattle.std.specs.Prelude.{◌≡◌, ◌-◌, ◌<◌, ◌≤◌, ◌^◌, [], length, false};
-ghost use Rattle.std.specs.Prelude.{drop, slice_get, IfNone, IfSome, OnErr, OnOk};
-ghost use Rattle.tcp_streams.specs.Gaps.{AreRunsIn, IsMissingFrom, NoneMissing, gap_after, is_cut_at, is_missing, split_at, with_gap, without};
+ghost use Rattle.std.specs.Prelude.{drop, slice_get, take, IfSome, OnErr, OnOk};
+ghost use Rattle.tcp_streams.specs.Gaps.{AreRunsIn, gap_after, is_missing, is_split_at, missing_from, split_at, with_gap, without};
 ghost use Rattle.tcp_streams.specs.Segments.{count_from};
 
+use super::gap_tree::GapTree;
 use std::alloc::{AllocError, Global};
-use std::collections::BTreeMap;
 use std::marker::Model;
-use std::ops::Bound;
 
 /// Positions whose bytes are missing.
 #[derive(Clone, Copy, Debug, PartialEq, Eq)]
@@ -23,18 +22,20 @@ pub struct Gap {
 /// out is logarithmic in their number.
 #[derive(Debug, Drop)]
 pub(crate) struct Gaps {
-    // By the end of each.
-    starts: BTreeMap<u64, u64>,
+    // Beside the tree: a stream with one gap at a time takes no memory for it.
+    first: Option<Gap>,
+    // Those after it.
+    rest: GapTree,
 }
 
 impl Model for Gaps {
     ghost use Rattle.std.specs.Prelude.{List};
     ghost use Rattle.tcp_streams.specs.declared.gaps.Gap.{Gap};
-    ghost use Rattle.tcp_streams.specs.Gaps.{gaps_of};
+    ghost use Rattle.tcp_streams.specs.Gaps.{with_first};
 
     ghost Value = { List Gap };
 
-    ghost view = { λ gaps. gaps_of gaps.starts.entries };
+    ghost view = { λ gaps. with_first gaps.first gaps.rest };
 }
 
 impl Gaps {
@@ -42,7 +43,8 @@ impl Gaps {
         ensures { result ≡ [] }
     {
         Gaps {
-            starts: BTreeMap::new(alloc),
+            first: None,
+            rest: GapTree::new(alloc),
         }
     }
 
@@ -50,18 +52,19 @@ impl Gaps {
     pub(crate) fn count(&self) -> usize
         ensures { result ≡ length self.now }
     {
-        self.starts.len()
+        match self.first {
+            Some(_) => 1 + self.rest.count(),
+            None => self.rest.count(),
+        }
     }
 
+    /// The one that begins before all others.
     pub(crate) fn first(&self) -> Option<Gap>
         ensures { result ≡ slice_get self.now 0 }
     {
-        match self.starts.first_key_value() {
-            Some((end, start)) => Some(Gap {
-                start: *start,
-                end: *end,
-            }),
-            None => None,
+        match self.first {
+            Some(gap) => Some(gap),
+            None => self.rest.first(),
         }
     }
 
@@ -69,38 +72,36 @@ impl Gaps {
     pub(crate) fn after(&self, position: u64) -> Option<Gap>
         ensures { result ≡ gap_after position self.now }
     {
-        let after = (Bound::Excluded(position), Bound::Unbounded);
-        match self.starts.range(after).next() {
-            Some((end, start)) => Some(Gap {
-                start: *start,
-                end: *end,
-            }),
-            None => None,
+        match self.first {
+            Some(gap) if position < gap.end => Some(gap),
+            _ => self.rest.after(position),
         }
     }
 
-    /// The first positions from one on and up to another that are missing.
+    /// The first positions from one on and up to another that are missing: what one gap has of them.
     pub(crate) fn missing_from(&self, position: u64, end: u64) -> Option<Gap>
-        requires order { AreRunsIn 0 (2 ^ 64) self.now }
-        ensures some { IfSome result (IsMissingFrom self.now position end) }
-        ensures none { IfNone result (NoneMissing self.now position end) }
+        requires { AreRunsIn 0 (2 ^ 64) self.now }
+        ensures gap { result ≡ missing_from position end self.now }
+        ensures within { IfSome result (λ gap.
+            (position ≤ gap.start) × (gap.start < gap.end) × (gap.end ≤ end)) }
     {
         let Some(gap) = self.after(position) else {
             return None;
         };
-        if gap.start >= end || position >= end {
+        let start = gap.start.max(position);
+        if end <= start {
             return None;
         }
         Some(Gap {
-            start: gap.start.max(position),
+            start,
             end: gap.end.min(end),
         })
     }
 
     /// How many of the positions from `start` up to `end` are missing.
     pub(crate) fn count_missing(&self, start: u64, end: u64) -> u64
-        requires some { start ≤ end }
-        requires order { AreRunsIn 0 (2 ^ 64) self.now }
+        requires order { start ≤ end }
+        requires gaps { AreRunsIn 0 (2 ^ 64) self.now }
         ensures { result ≡ count_from (is_missing self.now) start (end - start) }
     {
         let mut count = 0;
@@ -119,17 +120,33 @@ impl Gaps {
     pub(crate) fn remove_first(&mut self)
         ensures { self.new ≡ drop 1 self.old }
     {
-        self.starts.pop_first();
+        if self.first.take().is_none() {
+            self.rest.remove_first();
+        }
     }
 
-    // Adds a gap after all others unless it is empty.
-    fn push(&mut self, start: u64, end: u64) -> Result<(), AllocError>
+    /// Removes the last one, if there is one.
+    pub(crate) fn remove_last(&mut self)
+        ensures { self.new ≡ take (length self.old - 1) self.old }
+    {
+        if self.rest.is_empty() {
+            self.first = None;
+        } else {
+            self.rest.remove_last();
+        }
+    }
+
+    /// Adds a gap after all others unless it is empty.
+    pub(crate) fn push(&mut self, start: u64, end: u64) -> Result<(), AllocError>
         requires { AreRunsIn 0 start self.old }
         ensures ok { OnOk result (self.new ≡ with_gap start end self.old) }
         ensures err { OnErr result (self.new ≡ self.old) }
     {
+        if self.first.is_some() || !self.rest.is_empty() {
+            return self.rest.push(start, end);
+        }
         if start < end {
-            self.starts.insert(end, start)?;
+            self.first = Some(Gap { start, end });
         }
         Ok(())
     }
@@ -140,58 +157,67 @@ impl Gaps {
         ensures ok { OnOk result (self.new ≡ split_at position self.old) }
         ensures err { OnErr result (self.new ≡ self.old) }
     {
-        let Some(gap) = self.after(position) else {
-            return Ok(());
+        let Some(gap) = self.first else {
+            return self.rest.split(position);
         };
-        if position <= gap.start {
-            return Ok(());
+        if gap.end <= position {
+            return self.rest.split(position);
         }
-        self.starts.insert(position, gap.start)?;
-        let shorter: Result<_, _> = self.starts.insert(gap.end, position);
-        shorter.unwrap();
+        if gap.start < position {
+            self.rest.insert_first(Gap {
+                start: position,
+                end: gap.end,
+            })?;
+            self.first = Some(Gap {
+                start: gap.start,
+                end: position,
+            });
+        }
         Ok(())
     }
 
     /// Adds a gap after all others unless it is empty. Then makes two gaps of the one that has
-    /// positions before `position`, and `position`.
+    /// positions before `position`, and `position`. Where there is no memory, nothing changes.
     pub(crate) fn open(&mut self, start: u64, end: u64, position: u64) -> Result<(), AllocError>
-        requires order { AreRunsIn 0 start self.old }
+        requires gaps { AreRunsIn 0 start self.old }
         ensures ok { OnOk result (self.new ≡ split_at position (with_gap start end self.old)) }
         ensures err { OnErr result (self.new ≡ self.old) }
     {
         self.push(start, end)?;
-        match self.split(position) {
-            Ok(()) => Ok(()),
-            Err(error) => {
-                if start < end {
-                    self.starts.pop_last();
-                }
-                Err(error)
+        if let Err(error) = self.split(position) {
+            if start < end {
+                self.remove_last();
             }
+            return Err(error);
         }
+        Ok(())
     }
 
     /// Takes the positions from `start` up to `end` out of the gaps, none of which begins before
     /// `start` and ends after it.
     pub(crate) fn close(&mut self, start: u64, end: u64)
         requires some { start < end }
-        requires order { AreRunsIn 0 (2 ^ 64) self.old }
-        requires whole { is_cut_at start self.old ≡ false }
+        requires gaps { AreRunsIn 0 (2 ^ 64) self.old }
+        requires whole { is_split_at start self.old ≡ false }
         ensures { self.new ≡ without start end self.old }
     {
-        for _ in 0..self.starts.len() {
-            let Some(gap) = self.after(start) else {
-                return;
-            };
+        let Some(gap) = self.first else {
+            self.rest.close(start, end);
+            return;
+        };
+        if start < gap.end {
             if end <= gap.start {
                 return;
             }
             if end < gap.end {
-                let shorter: Result<_, _> = self.starts.insert(gap.end, end);
-                shorter.unwrap();
+                self.first = Some(Gap {
+                    start: end,
+                    end: gap.end,
+                });
                 return;
             }
-            self.starts.remove(&gap.end);
+            self.first = None;
         }
+        self.rest.close(start, end);
     }
 }

@@ -10,6 +10,7 @@ mod flow;
 mod flow_key;
 mod flows;
 mod follower;
+mod gap_tree;
 mod gaps;
 pub mod laws;
 mod packet_key;

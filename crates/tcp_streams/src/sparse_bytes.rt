@@ -184,6 +184,10 @@ impl SparseBytes {
         if bytes.is_empty() {
             return Ok(Conflicts::none());
         }
+        if start > self.bytes.len() {
+            add_after_gap(&mut self.bytes, &mut self.gaps, self.taken, position, bytes)?;
+            return Ok(Conflicts::none());
+        }
         insert(&mut self.bytes, &mut self.gaps, self.taken, position, bytes)
     }
 }
@@ -195,6 +199,31 @@ fn part(bytes: &[u8], from: usize, to: usize) -> &[u8]
     ensures { result.now ≡ take (to - from) (drop from bytes.now) }
 {
     &bytes[from..to]
+}
+
+// Adds bytes from a position on that is after the end of those that are held.
+fn add_after_gap(
+    held: &mut ByteQueue,
+    gaps: &mut Gaps,
+    taken: u64,
+    position: u64,
+    bytes: &[u8],
+) -> Result<(), AllocError>
+    requires after { taken + length held.old < position }
+    requires some { 0 < length bytes.now }
+    requires short { position + length bytes.now ≤ 2 ^ 63 }
+    requires sparse { IsSparse (sparse taken held.old gaps.old) }
+    ensures adds { OnOk result (AddsBytes (sparse taken held.old gaps.old)
+        (sparse taken held.new gaps.new) position bytes.now) }
+    ensures sound { OnOk result (IsSparse (sparse taken held.new gaps.new)) }
+    ensures err { OnErr result ((held.new ≡ held.old) × (gaps.new ≡ gaps.old)) }
+{
+    gaps.push(taken + held.len() as u64, position)?;
+    if let Err(error) = held.extend_from((position - taken) as usize, bytes) {
+        gaps.remove_last();
+        return Err(error);
+    }
+    Ok(())
 }
 
 // Adds bytes from a position on where they are missing, and returns where the others differ.
@@ -216,11 +245,11 @@ fn insert(
         ≡ counted (clashes (byte_in (sparse taken held.old gaps.old)) position bytes.now)) }
     ensures err { OnErr result ((held.new ≡ held.old) × (gaps.new ≡ gaps.old)) }
 {
-    let size = held.len();
+    let old_len = held.len();
     let len = (position - taken) as usize + bytes.len();
     held.lengthen(len)?;
-    if let Err(error) = gaps.open(taken + size as u64, taken + len as u64, position) {
-        held.truncate(size);
+    if let Err(error) = gaps.open(taken + old_len as u64, taken + len as u64, position) {
+        held.truncate(old_len);
         return Err(error);
     }
     let conflicts = held.merge(gaps, taken, position, bytes);
@@ -249,19 +278,7 @@ pub(crate) fn merge(
     fill(&mut held[start..start + bytes.len()], position, gaps, bytes)
 }
 
-// Writes bytes over those that are held from a position on, where those are missing. The positions
-// at which the others differ are returned.
-fn fill(held: &mut [u8], position: u64, gaps: &Gaps, bytes: &[u8]) -> Conflicts
-    requires same { length held.old ≡ length bytes.now }
-    requires short { position + length bytes.now ≤ 2 ^ 63 }
-    requires gaps { AreRunsIn 0 (2 ^ 64) gaps.now }
-    ensures fills { Fills gaps.now position held.old held.new bytes.now }
-    ensures conflicts { result ≡ counted (clashes (byte_from position held.new) position bytes.now) }
-{
-    write_missing(held, position, gaps, bytes);
-    differences(held, bytes, position)
-}
-
+// Writes bytes over those that are held from a position on, where those are missing.
 fn write_missing(held: &mut [u8], position: u64, gaps: &Gaps, bytes: &[u8])
     requires same { length held.old ≡ length bytes.now }
     requires short { position + length bytes.now ≤ 2 ^ 63 }
@@ -279,4 +296,17 @@ fn write_missing(held: &mut [u8], position: u64, gaps: &Gaps, bytes: &[u8])
         held[from..to].copy_from_slice(&bytes[from..to]);
         written = gap.end;
     }
+}
+
+// Writes bytes over those that are held from a position on, where those are missing, and returns the
+// positions at which the others differ.
+fn fill(held: &mut [u8], position: u64, gaps: &Gaps, bytes: &[u8]) -> Conflicts
+    requires same { length held.old ≡ length bytes.now }
+    requires short { position + length bytes.now ≤ 2 ^ 63 }
+    requires gaps { AreRunsIn 0 (2 ^ 64) gaps.now }
+    ensures fills { Fills gaps.now position held.old held.new bytes.now }
+    ensures conflicts { result ≡ counted (clashes (byte_from position held.new) position bytes.now) }
+{
+    write_missing(held, position, gaps, bytes);
+    differences(held, bytes, position)
 }

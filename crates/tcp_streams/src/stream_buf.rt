@@ -2,7 +2,7 @@
 
 ghost use Rattle.std.specs.Prelude.{◌≡◌, ℕ, ◌+◌, ◌<◌, ◌≤◌, ◌↔◌, ◌^◌, ◌++◌, ◌∷◌, ◌==◌, [], if◌then◌else◌, List};
 ghost use Rattle.std.specs.Prelude.{None, Some, false};
-ghost use Rattle.std.specs.Prelude.{IsTrue, IfOk, IfErr, IsOk, OnOk, OnErr, IfSome, IfNone, not, is_some, length, drop};
+ghost use Rattle.std.specs.Prelude.{IsTrue, IfOk, IfErr, IsOk, IsSome, OnOk, OnErr, IfSome, IfNone, not, is_some, length, drop};
 ghost use Rattle.std.specs.Prelude.{◌-◌, min, slice_get, Option};
 ghost use Rattle.std.specs.Option.{option_map_or};
 ghost use Rattle.tcp_streams.specs.declared.gaps.Gap.{Gap};
@@ -498,12 +498,18 @@ impl StreamBuf {
     }
 
     /// The first gap that ends after a position, of those before bytes that are held; and the bytes
-    /// after it, up to the next gap or to the last byte that is held.
+    /// after it, up to the next gap or to the last byte that is held. All of them: the first one after
+    /// 0, and then each time that after the end of the one before.
     pub fn gap_after(&self, position: u64) -> Option<(Gap, &[u8])>
         ensures gap { IfSome result (λ after. gap_after position self.now.held.gaps ≡ Some after.0) }
         ensures none { IfNone result (gap_after position self.now.held.gaps ≡ None) }
         ensures bytes { (ss : List Placed) → Shows self.now ss
             → IfSome result (λ after. IsAfterGap ss after.0 after.1.now) }
+        ensures first { (ss : List Placed) → Shows self.now ss
+            → IfSome result (λ after. (p : ℕ) → self.now.held.taken ≤ p → position ≤ p → p < after.0.start → IsSome (byte_at ss p)) }
+        ensures last { (ss : List Placed) → Shows self.now ss
+            → IfNone result ((p q : ℕ) → self.now.held.taken ≤ p → position ≤ p → p ≤ q
+            → byte_at ss p ≡ None → byte_at ss q ≡ None) }
     {
         self.held.gap_after(position)
     }
@@ -545,7 +551,8 @@ impl StreamBuf {
     }
 
     /// How much it holds: the bytes from the first one that wasn't consumed up to the last one that came, also
-    /// where they are missing, and 16 for each gap. Its memory is a small multiple of the greatest of all times.
+    /// where they are missing, and 16 for each gap. Its memory is a small multiple of the greatest of all times, and
+    /// 250 bytes more where there are two gaps.
     pub fn size(&self) -> u64
         ensures { result ≡ size_of self.now.held }
     {

@@ -19,7 +19,8 @@ pub struct StreamCounts {
     /// How often a gap began where there was none.
     pub gaps: u64,
     /// How many bytes were given up: the other endpoint acknowledges them, and they hadn't come, or had
-    /// been refused. If they come later, they count as repeated, and change nothing else.
+    /// been refused. If they come later and aren't refused, they count as repeated, and change nothing
+    /// else.
     pub missing: u64,
     /// How many bytes differ from those that are kept for the same position.
     pub conflicts: u64,
@@ -129,7 +130,7 @@ impl StreamCounter {
     /// Follows a segment. Where the other endpoint's bytes are missing, though it acknowledges them by
     /// its acknowledgment number, they are given up before; one with RST acknowledges none.
     ///
-    /// Where there is no memory for it, it is stopped.
+    /// Where there is no memory for it, it is stopped. Then a segment changes nothing, and the result is `Ok`.
     pub fn add(
         &mut self,
         direction: Direction,

@@ -7,7 +7,7 @@ ghost use Rattle.packets.specs.Streams.{flags_in, stopped, stopped_stream, strea
 use crate::Dissection;
 use crate::flows::streams::HELD_SIZE;
 use crate::flows::tcp_packet::TcpPacket;
-use crate::follow::whole_segment::whole_segment;
+use crate::whole_segment::whole_segment;
 use ep_tcpudp::TcpSlice;
 use std::alloc::{AllocError, Global};
 use tcp_streams::{ConnectionState, Direction, SegmentFlags, StreamCounter};

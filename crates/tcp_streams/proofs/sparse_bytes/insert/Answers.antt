@@ -7,7 +7,7 @@ use Rattle.tcp_streams.proofs.sparse_bytes.insert.Goals as goal
 pub open-requires : goal.open-requires
 open-requires c =
     let end = c.args.taken + length c.args.held.now in record {
-      order = rw c.len-size.ensures (runs_weaker c.args.taken 0 end end c.args.gaps.now (omega arith) (omega arith)
+      gaps = rw c.len-old_len.ensures (runs_weaker c.args.taken 0 end end c.args.gaps.now (omega arith) (omega arith)
           (runs_of_gaps c.args.taken end c.args.gaps.now c.requires.sparse.gaps));
     }
 
@@ -21,13 +21,13 @@ pub merge-conflicts-requires-clause-gaps : goal.merge-conflicts-requires-clause-
 merge-conflicts-requires-clause-gaps c =
     split_order (sparse c.args.taken c.args.held.now c.args.gaps.now) c.args.position _ c.args.bytes.now
     c.open.new.self c.requires.sparse c.requires.after c.requires.some c.requires.short refl
-    (rw c.len-size.ensures at c.in_default.ensures.ok)
+    (rw c.len-old_len.ensures at c.in_default.ensures.ok)
 
-pub close-requires-clause-order : goal.close-requires-clause-order
-close-requires-clause-order c =
+pub close-requires-clause-gaps : goal.close-requires-clause-gaps
+close-requires-clause-gaps c =
     split_order (sparse c.args.taken c.args.held.now c.args.gaps.now) c.args.position _ c.args.bytes.now
     c.open.new.self c.requires.sparse c.requires.after c.requires.some c.requires.short refl
-    (rw c.len-size.ensures at c.in_default.ensures.ok)
+    (rw c.len-old_len.ensures at c.in_default.ensures.ok)
 
 pub close-requires-clause-whole : goal.close-requires-clause-whole
 close-requires-clause-whole c = rw c.in_default.ensures.ok (split_whole c.args.position _)
@@ -39,7 +39,7 @@ all c =
     added (sparse c.args.taken c.args.held.now c.args.gaps.now) c.args.position _ c.args.bytes.now
     c.lengthen.new.self c.merge-conflicts.new.self c.open.new.self c.close.new.self
     c.requires.sparse c.requires.after c.requires.some c.requires.short refl c.in_ok-lengthen.ensures.ok
-    (rw c.len-size.ensures at c.in_default.ensures.ok) c.merge-conflicts.ensures.adds c.close.ensures
+    (rw c.len-old_len.ensures at c.in_default.ensures.ok) c.merge-conflicts.ensures.adds c.close.ensures
 
 pub returns-clause-adds : goal.returns-clause-adds
 returns-clause-adds c = (all c).0
@@ -49,7 +49,7 @@ returns-clause-sound c = (all c).1
 
 pub returns-clause-conflicts : goal.returns-clause-conflicts
 returns-clause-conflicts c =
-    let opened = rw c.len-size.ensures at c.in_default.ensures.ok in
+    let opened = rw c.len-old_len.ensures at c.in_default.ensures.ok in
     let merged = rw (opened, c.in_ok-lengthen.ensures.ok) at c.merge-conflicts.ensures.conflicts in
     merged ∙ ap counted (split_clashes c.args.taken c.args.position _ c.args.bytes.now _
     ∙ long_clashes (sparse c.args.taken c.args.held.now c.args.gaps.now) c.args.position _

@@ -1,5 +1,6 @@
-use Rattle.std.proofs.Common.{◌-◌, arith, refl, sym}
-use Rattle.tcp_streams.proofs.SparseLemmas.{fills_all, fills_none, fills_put, fills_rest}
+use Rattle.std.proofs.Common.{◌∙◌, ◌-◌, arith, refl, sym}
+use Rattle.tcp_streams.proofs.RunLemmas.{missing_is, missing_none}
+use Rattle.tcp_streams.proofs.FillLemmas.{fills_all, fills_none, fills_put, fills_rest}
 use Rattle.tcp_streams.proofs.sparse_bytes.write_missing.Goals as goal
 
 pub loop-init : goal.loop-init
@@ -12,12 +13,12 @@ loop-init c = record {
 pub returns-in_default : goal.returns-in_default
 returns-in_default c =
     fills_rest c.args.gaps.now c.args.position c.loop.written c.args.held.now c.loop.held c.args.bytes.now
-    c.loop.invariant.fills (sym c.requires.same) (rw c.in_default.is at c.missing_from.ensures.none)
+    c.loop.invariant.fills (sym c.requires.same) (missing_none c.loop.written _ c.args.gaps.now c.requires.gaps (sym c.in_default.ensures.gap))
 
 pub loop-preserved : goal.loop-preserved
 loop-preserved c =
     let gap = c.in-Some.gap in
-    let is = c.in-Some.ensures.some in
+    let is = missing_is c.loop.written _ c.args.gaps.now gap c.requires.gaps (sym c.missing_from.ensures.gap ∙ c.in-Some.is) in
     let start = is.start in
     let some = is.some in record {
       low = omega (arith, c.loop.invariant.low);

@@ -1,5 +1,5 @@
 use Rattle.std.proofs.Common.{◌≤◌}
-use Rattle.tcp_streams.proofs.SparseLemmas.{FillsTo}
+use Rattle.tcp_streams.proofs.FillLemmas.{FillsTo}
 use Rattle.tcp_streams.proofs.sparse_bytes.write_missing.Given as goal
 
 abbrev pub invariant-loop : goal.invariant-loop

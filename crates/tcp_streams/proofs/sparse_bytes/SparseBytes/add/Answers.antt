@@ -24,10 +24,23 @@ returns-then-start-len-clause-adds c =
 
 pub returns-then-start-len-clause-conflicts : goal.returns-then-start-len-clause-conflicts
 returns-then-start-len-clause-conflicts c =
-    rw (at_end c, ← c.self.view_is, clashes_after (old_of c) c.args.bytes.now c.self.invariant) c.none.ensures
+    let at = at_end c in
+    rw (← c.self.view_is, clashes_after (old_of c) c.args.position c.args.bytes.now c.self.invariant (omega (arith, at)))
+    c.none.ensures
 
 pub returns-then-start-len-clause-sound : goal.returns-then-start-len-clause-sound
 returns-then-start-len-clause-sound c =
     let at = at_end c in
     rw c.in_ok-extend_from_slice.ensures.ok
     (adds_sound (old_of c) _ c.args.bytes.now c.self.invariant refl (omega (arith, at, c.requires.short)))
+
+pub returns-then-start-len-2-clause-conflicts : goal.returns-then-start-len-2-clause-conflicts
+returns-then-start-len-2-clause-conflicts c =
+    let old = sparse c.self.inside.taken c.self.inside.bytes c.self.inside.gaps in
+    let after = rw (← c.self.view_is) at c.requires.after in
+    rw (
+      ← c.self.view_is,
+      clashes_after old c.args.position c.args.bytes.now c.self.invariant
+          (omega (arith, after, c.if-start-len-2.true, c.len-2.ensures)),
+    )
+    c.none-then-start-len-2.ensures

@@ -64,7 +64,7 @@ returns-in-Some-clause-stops g c =
     on_err c.take-taken.result _ _
     (λ stops. stops_there _ [] c.args.packet.now c.args.tcp_packet c.requires.packet c.requires.exact c.args.self.now _
     c.in-Some.stream.now now c.saturating_sub-others.result there beside c.saturating_sub-others.type_inv stops held
-    (written.3 (subst IsSome (sym there) refl)).0) c.take-taken.ensures.err
+    written.2 (written.3 (subst IsSome (sym there) refl)).0) c.take-taken.ensures.err
 
 pub returns-in_err-take-clause-stops : goal.returns-in_err-take-clause-stops
 returns-in_err-take-clause-stops g c =

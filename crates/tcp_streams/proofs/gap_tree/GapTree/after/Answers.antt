@@ -1,7 +1,7 @@
 use Rattle.std.proofs.Common.{◌∙◌, ap, sym}
 use Rattle.tcp_streams.specs.Gaps.{gap_after}
 use Rattle.tcp_streams.proofs.RunLemmas.{after_first, after_no}
-use Rattle.tcp_streams.proofs.gaps.Gaps.after.Goals as goal
+use Rattle.tcp_streams.proofs.gap_tree.GapTree.after.Goals as goal
 
 pub returns-in-Some : goal.returns-in-Some
 returns-in-Some c =
