@@ -1,6 +1,6 @@
 -- The bytes after a gap.
 use Rattle.std.proofs.Common.{◌≡◌, ◌∙◌, ℕ, ◌+◌, ◌-◌, ◌<◌, ◌≤◌, true, false, Bor, Option, Some, None, List, []}
-use Rattle.std.proofs.Common.{◌∷◌, length, take, drop, get_or, ltb, ◌⊎◌, inl, inr, arith, refl, sym, ap}
+use Rattle.std.proofs.Common.{◌∷◌, length, drop, get_or, ltb, ◌⊎◌, inl, inr, arith, refl, sym, ap}
 use Rattle.std.proofs.lemmas.Bool.{cases_lt}
 use Rattle.std.proofs.lemmas.Bool.Decides.{nat_tests}
 use Rattle.std.proofs.lemmas.List.{drop-drop, length-take, length-drop, get_or-take, get_or-drop}
