@@ -1,5 +1,5 @@
 //! What the calls of `etherparse` for C take and give, as structs of numbers: packets, verdicts,
-//! plans, pools that reassemble datagrams, and TCP streams.
+//! plans, pools that reassemble datagrams, TCP streams, and captures.
 #![tactic(auto)]
 
 mod added;

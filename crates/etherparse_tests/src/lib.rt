@@ -1,7 +1,7 @@
-//! Tests of `etherparse` over its public calls: of packets that are read (`packets`), of the
-//! builder (`builder`), of reassembly (`defrag`), and of the names and the memory of all (`paths`,
-//! `memory`); and of `tcp_streams` (`connections`). They are a crate of their own, so that they are
-//! proved once beside the libraries and not with each of their functions.
+//! Tests of `etherparse` and `ep_packet` over their public calls: of packets that are read
+//! (`packets`), of the builder (`builder`), of reassembly (`defrag`), and of the names and the memory
+//! of all (`paths`, `memory`); and of `tcp_streams` (`connections`). They are a crate of their own, so
+//! that they are proved once beside the libraries and not with each of their functions.
 #![tactic(auto)]
 
 #[cfg(test)]

@@ -1,7 +1,7 @@
 //! Compares the answers of `netlines` with worked rows.
 //!
 //! A row NAME is an input, `NAME.in`, and the output that it has to give, `NAME.out`. The rows were
-//! worked out by a program that is independent of this project. The arguments name the rows that
+//! worked out by hand, or by a program that is independent of this project. The arguments name the rows that
 //! are compared, with each hasher's state for the names of messages. Those that differ are printed,
 //! and then the program fails. The file `refusals` says of each frame that is refused which layer
 //! breaks, and at which offset that starts.

@@ -1,4 +1,4 @@
--- What a summary takes of a packet.
+-- What filters, summaries and conversations need of a packet.
 use Rattle.std.specs.Prelude.{Bool, true, false, Option, Some, None, Result, Ok, Err}
 use Rattle.std.specs.List.{list_any}
 use Rattle.captures.specs.declared.link.kind.Link.{Link}

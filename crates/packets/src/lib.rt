@@ -1,5 +1,6 @@
-//! Dissects, shows, filters and counts the packets of a capture: as a line or a JSON object for
-//! each, or as a summary.
+//! Dissects and filters the packets of a capture, and shows them: as a line or a JSON object for
+//! each, as a summary, as conversations, as a page for a browser, as the text of TCP connections, or
+//! as a capture of some of them.
 #![tactic(auto)]
 
 mod condition;

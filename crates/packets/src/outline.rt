@@ -1,4 +1,4 @@
-//! What filters and summaries need of a packet.
+//! What filters, summaries and conversations need of a packet.
 ghost use Rattle.std.specs.Prelude.{◌≡◌};
 ghost use Rattle.std.specs.List.{list_any};
 ghost use Rattle.ep_packet.specs.Readable.{message_at};

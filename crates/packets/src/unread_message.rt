@@ -1,4 +1,4 @@
-//! What is shown of messages that the library doesn't read.
+//! The ports of SCTP, whose header the library doesn't read.
 
 ghost use Rattle.std.specs.Prelude.{◌≡◌};
 ghost use Rattle.packets.specs.MessageHeaders.{sctp_ports};

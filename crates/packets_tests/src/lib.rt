@@ -1,5 +1,5 @@
-//! Tests of `packets` over its public calls. The rows of `tools/packets_rows` compare the output
-//! for whole captures.
+//! Tests of `packets` and `header_descriptions` over their public calls. The rows of
+//! `tools/packets_rows` compare the output for whole captures.
 #![tactic(auto)]
 
 #[cfg(test)]

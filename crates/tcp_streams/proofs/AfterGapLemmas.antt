@@ -6,7 +6,7 @@ use Rattle.std.proofs.lemmas.Bool.Decides.{nat_tests}
 use Rattle.std.proofs.lemmas.List.{drop-drop, length-take, length-drop, get_or-take, get_or-drop}
 use Rattle.std.specs.Prelude.{IfNone, IfSome, IsSome}
 use Rattle.tcp_streams.specs.declared.gaps.Gap.{Gap}
-use Rattle.tcp_streams.specs.Gaps.{AreGapsIn, AreRunsIn, first_gap_after, gap_after, is_missing}
+use Rattle.tcp_streams.specs.Gaps.{AreGapsIn, AreRunsIn, gap_start_after, gap_after, is_missing}
 use Rattle.tcp_streams.specs.Segments.{Placed, byte_at, text_of}
 use Rattle.tcp_streams.specs.SparseBytes.{Sparse, IsSparse, byte_in, bytes_after_gap, held_end}
 use Rattle.tcp_streams.specs.StreamBuf.{Contents, Shows, IsAfterGap, available_in}
@@ -18,7 +18,7 @@ use Rattle.tcp_streams.proofs.SparseLemmas.{not_missing_before}
 
 -- ---- the first gap that ends after a position
 
-next_most : (from to p : ℕ) (gs : List Gap) → AreGapsIn from to gs → first_gap_after p gs to ≤ to
+next_most : (from to p : ℕ) (gs : List Gap) → AreGapsIn from to gs → gap_start_after p gs to ≤ to
 next_most from to p [] o = omega arith
 next_most from to p (x ∷ gs) o =
     let rest = next_most (x.end + 1) to p gs o.2 in
@@ -28,13 +28,13 @@ next_most from to p (x ∷ gs) o =
       | inr past ↦ let test : ltb p x.end ≡ false = grind (arith, nat_tests) in rw test rest
     ]
 
-next_least : (from to p : ℕ) (gs : List Gap) → AreGapsIn from to gs → p < from → p < first_gap_after p gs to
+next_least : (from to p : ℕ) (gs : List Gap) → AreGapsIn from to gs → p < from → p < gap_start_after p gs to
 next_least from to p [] o low = omega (arith, o)
 next_least from to p (x ∷ gs) o low =
     let test : ltb p x.end ≡ true = let at = o.0 in let own = o.1 in grind (arith, nat_tests) in
     rw test (omega (arith, o.0))
 
-there_after : (from to p q : ℕ) (gs : List Gap) → AreGapsIn from to gs → p ≤ q → q < first_gap_after p gs to
+there_after : (from to p q : ℕ) (gs : List Gap) → AreGapsIn from to gs → p ≤ q → q < gap_start_after p gs to
     → is_missing gs q ≡ false
 there_after from to p q [] o low high = refl
 there_after from to p q (x ∷ gs) o low high = elim (cases_lt p x.end) [
@@ -55,7 +55,7 @@ next_missing_too x gs to q (inl end) = inl end
 next_missing_too x gs to q (inr missing) = inr (missing_too x gs q missing)
 
 -- no byte is there
-next_missing : (from to p q : ℕ) (gs : List Gap) → AreGapsIn from to gs → q ≡ first_gap_after p gs to
+next_missing : (from to p q : ℕ) (gs : List Gap) → AreGapsIn from to gs → q ≡ gap_start_after p gs to
     → (q ≡ to) ⊎ (is_missing gs q ≡ true)
 next_missing from to p q [] o is = inl is
 next_missing from to p q (x ∷ gs) o is = elim (cases_lt p x.end) [
@@ -72,7 +72,7 @@ pub record IsGapAfter (from to : ℕ) (gs : List Gap) (p : ℕ) (g : Gap) : Type
   low : from ≤ g.start
   own : g.start < g.end
   after : p < g.end
-  next : g.end < first_gap_after g.end gs to
+  next : g.end < gap_start_after g.end gs to
   missing : (q : ℕ) → g.start ≤ q → q < g.end → is_missing gs q ≡ true
 
 pub gap_is : (from to p : ℕ) (gs : List Gap) (g : Gap) → AreGapsIn from to gs → gap_after p gs ≡ Some g
@@ -110,7 +110,7 @@ gap_is from to p (x ∷ gs) g o h = elim (cases_lt p x.end) [
 
 module _ (held : Sparse) (sound : IsSparse held) (p : ℕ) (g : Gap) (is : gap_after p held.gaps ≡ Some g) where
   abbrev next : ℕ
-  next = first_gap_after g.end held.gaps (held_end held)
+  next = gap_start_after g.end held.gaps (held_end held)
 
   pub after_bounds : (held.taken ≤ g.end) × (g.end < next) × (next ≤ held_end held)
   after_bounds =

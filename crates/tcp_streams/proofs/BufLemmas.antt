@@ -15,7 +15,7 @@ use Rattle.tcp_streams.specs.declared.sequence_numbers.Distance.{Distance}
 use Rattle.tcp_streams.specs.declared.sequence_numbers.Distance.TheVariants.{After, Before}
 use Rattle.tcp_streams.specs.declared.stream_buf.Added.{Added}
 use Rattle.tcp_streams.specs.declared.stream_buf.Location.{Location}
-use Rattle.tcp_streams.specs.Gaps.{AreGapsIn, first_gap, is_missing}
+use Rattle.tcp_streams.specs.Gaps.{AreGapsIn, first_gap_start, is_missing}
 use Rattle.tcp_streams.specs.Placing.{Segment, bytes_of, next_position, placed, placed_at, distance_from, repeated_of, start_number}
 use Rattle.tcp_streams.specs.Refusals.{fin_refusal, refusal_by, refusal_of, window_end}
 use Rattle.tcp_streams.specs.Segments.{Placed, end_of, byte_at, bytes_from, text_of, fin_of}
@@ -30,14 +30,14 @@ use Rattle.tcp_streams.proofs.SegmentLemmas.{length-bytes_from, byte_at-past, cl
 use Rattle.tcp_streams.proofs.CountLemmas.{count_from-same}
 use Rattle.tcp_streams.proofs.GapLemmas.{gap_count, gaps_end}
 use Rattle.tcp_streams.proofs.SparseLemmas.{available_bounds, consumed_byte, consumed_end, not_missing_before}
-use Rattle.tcp_streams.proofs.SparseLemmas.{first_missing, first_gap-missing}
+use Rattle.tcp_streams.proofs.SparseLemmas.{first_missing, first_gap_start-missing}
 
 -- ---- the bytes that are available
 
 none_at_gap : (taken : ℕ) (bytes : List ℕ) (gaps : List Gap) → AreGapsIn taken (taken + length bytes) gaps
-    → byte_in (sparse taken bytes gaps) (first_gap gaps (taken + length bytes)) ≡ None
+    → byte_in (sparse taken bytes gaps) (first_gap_start gaps (taken + length bytes)) ≡ None
 none_at_gap taken bytes [] o = byte_from-none taken bytes (taken + length bytes) (omega arith)
-none_at_gap taken bytes (g ∷ gaps) o = rw (first_gap-missing taken (taken + length bytes) g gaps o)
+none_at_gap taken bytes (g ∷ gaps) o = rw (first_gap_start-missing taken (taken + length bytes) g gaps o)
 
 module _ (held : Sparse) (sound : IsSparse held) where
   pub available_size : length (available_in held) ≡ available_end held - held.taken

@@ -9,8 +9,6 @@ use Rattle.tcp_streams.specs.Gaps.{is_missing}
 use Rattle.tcp_streams.specs.SparseBytes.{Fills}
 use Rattle.tcp_streams.proofs.RunLemmas.{IsMissingFrom, NoneMissing}
 
--- ---- bytes are written where they are missing
-
 -- each byte before a position that is missing is written, and no other
 pub record FillsTo (gs : List Gap) (position written : ℕ) (old new bytes : List ℕ) : Type 0 where
   pub size : length new ≡ length old

@@ -2,7 +2,7 @@
 use Rattle.std.proofs.Common.{◌≡◌, ℕ, ◌<◌, ◌≤◌, false, List, ◌∷◌, Option, Some, None, arith, sym}
 use Rattle.std.proofs.lemmas.Bool.Decides.{nat_tests}
 use Rattle.tcp_streams.specs.declared.gaps.Gap.{Gap}
-use Rattle.tcp_streams.specs.Gaps.{AreRunsIn, is_split_at, split_at, with_first, without}
+use Rattle.tcp_streams.specs.Gaps.{AreRunsIn, crosses_one, split_at, with_first, without}
 use Rattle.tcp_streams.proofs.RunLemmas.{runs_weaker, split_later, without_later}
 
 pub rest_runs : (to : ℕ) (first : Option Gap) (gs : List Gap) → AreRunsIn 0 to (with_first first gs) → AreRunsIn 0 to gs
@@ -26,11 +26,11 @@ pub without_before : (from to s e : ℕ) (g : Gap) (gs : List Gap) → s < e →
 without_before from to s e g gs some h before =
     sym (without_later g.start to s e (g ∷ gs) some (omega arith, h.1, h.2) before)
 
-whole_start : (s : ℕ) (g : Gap) (gs : List Gap) → is_split_at s (g ∷ gs) ≡ false → s < g.end → s ≤ g.start
+whole_start : (s : ℕ) (g : Gap) (gs : List Gap) → crosses_one s (g ∷ gs) ≡ false → s < g.end → s ≤ g.start
 whole_start s g gs whole here = grind (arith, nat_tests)
 
 pub without_part : (from to s e : ℕ) (g : Gap) (gs : List Gap) → s < e → AreRunsIn from to (g ∷ gs)
-    → is_split_at s (g ∷ gs) ≡ false → s < g.end → g.start < e → e < g.end
+    → crosses_one s (g ∷ gs) ≡ false → s < g.end → g.start < e → e < g.end
     → record { start = e; end = g.end } ∷ gs ≡ without s e (g ∷ gs)
 without_part from to s e g gs some h whole here low high =
     grind (arith, nat_tests, whole_start s g gs whole here, without_later g.end to s e gs some h.2)

@@ -1,7 +1,7 @@
 -- Gaps without some positions.
 use Rattle.std.proofs.Common.{◌≡◌, ℕ, ◌+◌, ◌-◌, ◌*◌, ◌<◌, ◌≤◌, List, [], ◌∷◌}
 use Rattle.std.proofs.Common.{◌++◌, length}
-use Rattle.std.proofs.Common.{min, max, ltb, leb, not, ◌&&◌, ◌||◌, inl, inr, arith, refl}
+use Rattle.std.proofs.Common.{ltb, leb, not, ◌&&◌, ◌||◌, inl, inr, arith, refl}
 use Rattle.std.proofs.lemmas.Bool.{cases_lt}
 use Rattle.std.proofs.lemmas.Bool.Decides.{nat_tests}
 use Rattle.tcp_streams.specs.declared.gaps.Gap.{Gap}
@@ -26,17 +26,6 @@ is_missing-without s e (g ∷ gs) p h =
     grind (arith, is_missing-append, part_missing, is_missing-without s e gs p h)
 
 -- ---- parts of one gap
-
-own_part_before : (s : ℕ) (g : Gap) → g.start < g.end → g.end ≤ s → part_before s g ≡ g ∷ []
-own_part_before s g own h =
-    let least : min s g.end ≡ g.end = omega arith in rw least (grind (arith, nat_tests))
-
-own_part_from : (e : ℕ) (g : Gap) → g.start < g.end → e ≤ g.start → part_from e g ≡ g ∷ []
-own_part_from e g own h =
-    let most : max e g.start ≡ g.start = omega arith in rw most (grind (arith, nat_tests))
-
-no_part_before : (s : ℕ) (g : Gap) → s ≤ g.start → part_before s g ≡ []
-no_part_before s g h = grind (arith, nat_tests)
 
 no_part_from : (e : ℕ) (g : Gap) → g.end ≤ e → part_from e g ≡ []
 no_part_from e g h = grind (arith, nat_tests)

@@ -8,14 +8,14 @@ use Rattle.std.specs.Prelude.{IsSome, slice_get}
 use Rattle.tcp_streams.specs.declared.gaps.Gap.{Gap}
 use Rattle.tcp_streams.specs.declared.sequence_numbers.Distance.{Distance}
 use Rattle.tcp_streams.specs.declared.sequence_numbers.Distance.TheVariants.{After, Before}
-use Rattle.tcp_streams.specs.Gaps.{AreGapsIn, first_gap, is_missing}
+use Rattle.tcp_streams.specs.Gaps.{AreGapsIn, first_gap_start, is_missing}
 use Rattle.tcp_streams.specs.Losses.{acknowledged, acknowledged_at, gap_between, given_up, lost_after, lost_by, lost_in, lost_of}
 use Rattle.tcp_streams.specs.Placing.{next_position}
 use Rattle.tcp_streams.specs.Refusals.{window_end}
 use Rattle.tcp_streams.specs.Segments.{Placed, byte_at, byte_from, clashes, fin_of, text_of}
 use Rattle.tcp_streams.specs.SequenceNumbers.{distance}
 use Rattle.tcp_streams.specs.SparseBytes.{CanSkipTo, IsSparse, Skips, Sparse, available_end, held_end, sparse}
-use Rattle.tcp_streams.specs.StreamBuf.{Contents, IsGapIn, IsSound, Shows, next_in}
+use Rattle.tcp_streams.specs.StreamBuf.{Contents, IsGapIn, Shows, next_in}
 use Rattle.tcp_streams.proofs.BufLemmas.{available_size, byte_available, shows_gap, shows_gap_result, shows_length}
 use Rattle.tcp_streams.proofs.BufLemmas.{shows_no_gap, shows_no_gap_result, some_or}
 use Rattle.tcp_streams.proofs.GapLemmas.{gaps_end}
@@ -136,8 +136,8 @@ lost_first first end fin window_end a gap h =
     same_gap first gap (tested (leb first.end a) (Some first) gap h).1
 
 lost_where : (gaps : List Gap) (from to : ℕ) (fin : Option ℕ) (window_end a : ℕ) (gap : Gap) → AreGapsIn from to gaps
-    → a ≤ 2 ^ 63 → lost_by (slice_get gaps 0) (first_gap gaps to) fin window_end a ≡ Some gap
-    → (gap.start ≡ first_gap gaps to) × (gap.start < gap.end) × CanSkipTo gaps to gap.end
+    → a ≤ 2 ^ 63 → lost_by (slice_get gaps 0) (first_gap_start gaps to) fin window_end a ≡ Some gap
+    → (gap.start ≡ first_gap_start gaps to) × (gap.start < gap.end) × CanSkipTo gaps to gap.end
 lost_where [] from to fin window_end a gap o most h =
     let is = lost_last to fin window_end a gap most h in
     (is.0, omega (arith, is.0, is.1), (omega (arith, is.1), is.2))
@@ -174,13 +174,6 @@ lost_bounds window taken start ss (Some g) number gap is lost =
 
 abbrev pub zeros : Gap → List ℕ
 zeros gap = replicate (gap.end - gap.start) 0
-
-pub sound_after : (buf : Contents) (held : Sparse) (position : ℕ) → IsSound buf → buf.held.taken ≤ position
-    → IsSparse held → Skips buf.held held position → IsSound (record buf { held = held })
-sound_after buf held position sound low sparse skips = record {
-  sparse = sparse;
-  window = omega (arith, sound.window, sparse.short, skips.last, skips.taken);
-}
 
 module _ (buf : Contents) (ss : List Placed) (sound : IsSparse buf.held) (shows : Shows buf ss) where
   byte_before : (p : ℕ) → p < available_end buf.held → IsSome (byte_at ss p)

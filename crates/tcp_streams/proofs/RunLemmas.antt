@@ -12,8 +12,8 @@ use Rattle.std.specs.Result.{IsOk}
 use Rattle.std.proofs.Common.{OnErr, OnOk, Result, Ok, Err}
 use Rattle.std.specs.declared.ops.Bound.TheVariants.{Excluded, Unbounded}
 use Rattle.tcp_streams.specs.declared.gaps.Gap.{Gap}
-use Rattle.tcp_streams.specs.Gaps.{AreGapsIn, AreRunsIn, gap_after, gaps_of, is_missing, is_split_at, missing_from}
-use Rattle.tcp_streams.specs.Gaps.{part_between, split_at, with_gap, without}
+use Rattle.tcp_streams.specs.Gaps.{AreGapsIn, AreRunsIn, gap_after, gaps_of, is_missing, crosses_one, missing_from}
+use Rattle.tcp_streams.specs.Gaps.{clipped, split_at, with_gap, without}
 use Rattle.tcp_streams.specs.Segments.{count_from}
 use Rattle.tcp_streams.proofs.CountLemmas.{count_from-none, count_from-split}
 
@@ -57,7 +57,7 @@ pub without-split : (s e : ℕ) (gs : List Gap) → s < e → without s e (split
 without-split s e [] some = refl
 without-split s e (g ∷ gs) some = grind (arith, nat_tests, without-split s e gs some)
 
-pub split_whole : (p : ℕ) (gs : List Gap) → is_split_at p (split_at p gs) ≡ false
+pub split_whole : (p : ℕ) (gs : List Gap) → crosses_one p (split_at p gs) ≡ false
 split_whole p [] = refl
 split_whole p (g ∷ gs) = grind (arith, nat_tests, split_whole p gs)
 
@@ -126,7 +126,7 @@ pub record IsMissingFrom (gs : List Gap) (from to : ℕ) (gap : Gap) : Type 0 wh
   pub before : NoneMissing gs from gap.start
   pub missing : (p : ℕ) → gap.start ≤ p → p < gap.end → is_missing gs p ≡ true
 
-part_some : (from to : ℕ) (k g : Gap) → part_between from to k ≡ Some g
+part_some : (from to : ℕ) (k g : Gap) → clipped from to k ≡ Some g
     → (max k.start from < to) × (record { start = max k.start from; end = min k.end to } ≡ g)
 part_some from to k g is = elim (cases_lt (max k.start from) to) [
   | inl some ↦
@@ -135,7 +135,7 @@ part_some from to k g is = elim (cases_lt (max k.start from) to) [
       let test : ltb (max k.start from) to ≡ false = grind (arith, nat_tests) in cc (rw test at is)
 ]
 
-part_none : (from to : ℕ) (k : Gap) → part_between from to k ≡ None → to ≤ max k.start from
+part_none : (from to : ℕ) (k : Gap) → clipped from to k ≡ None → to ≤ max k.start from
 part_none from to k is = elim (cases_lt (max k.start from) to) [
   | inl some ↦
       let test : ltb (max k.start from) to ≡ true = grind (arith, nat_tests) in cc (rw test at is)
@@ -143,7 +143,7 @@ part_none from to k is = elim (cases_lt (max k.start from) to) [
 ]
 
 missing_some : (from to : ℕ) (gs : List Gap) (k g : Gap) → AreRunsIn 0 (2 ^ 64) gs → gap_after from gs ≡ Some k
-    → part_between from to k ≡ Some g → IsMissingFrom gs from to g
+    → clipped from to k ≡ Some g → IsMissingFrom gs from to g
 missing_some from to gs k g h at is =
     let ends = after_ends from gs k at in
     let own = after_own 0 (2 ^ 64) from gs k h at in
@@ -158,7 +158,7 @@ missing_some from to gs k g h at is =
     }
 
 missing_by : (from to : ℕ) (gs : List Gap) (g : Gap) (o : Option Gap) → AreRunsIn 0 (2 ^ 64) gs → gap_after from gs ≡ o
-    → option_and_then (part_between from to) o ≡ Some g → IsMissingFrom gs from to g
+    → option_and_then (clipped from to) o ≡ Some g → IsMissingFrom gs from to g
 missing_by from to gs g None h at is = cc is
 missing_by from to gs g (Some k) h at is = missing_some from to gs k g h at is
 
@@ -167,7 +167,7 @@ pub missing_is : (from to : ℕ) (gs : List Gap) (g : Gap) → AreRunsIn 0 (2 ^ 
 missing_is from to gs g h is = missing_by from to gs g (gap_after from gs) h refl is
 
 none_by : (from to : ℕ) (gs : List Gap) (o : Option Gap) → AreRunsIn 0 (2 ^ 64) gs → gap_after from gs ≡ o
-    → option_and_then (part_between from to) o ≡ None → NoneMissing gs from to
+    → option_and_then (clipped from to) o ≡ None → NoneMissing gs from to
 none_by from to gs None h at is q low below = none_with_none from gs q at low
 none_by from to gs (Some k) h at is q low below =
     none_by_after 0 (2 ^ 64) from gs k q h at low (omega (arith, part_none from to k is))
@@ -214,16 +214,16 @@ counted_rest has start position end count low high none is =
 
 -- ---- a gap more
 
-pub push_is : (from start end : ℕ) (es : List (ℕ × ℕ)) → AreRunsIn from start (gaps_of es) → start < end
+pub push_last_is : (from start end : ℕ) (es : List (ℕ × ℕ)) → AreRunsIn from start (gaps_of es) → start < end
     → gaps_of (insert_entry nat_cmp es end start) ≡ with_gap start end (gaps_of es)
-push_is from start end [] h some = grind (arith, nat_tests)
-push_is from start end (e ∷ es) h some =
-    grind (arith, nat_tests, push_is e.0 start end es h.2 some, runs_end e.0 start (gaps_of es) h.2)
+push_last_is from start end [] h some = grind (arith, nat_tests)
+push_last_is from start end (e ∷ es) h some =
+    grind (arith, nat_tests, push_last_is e.0 start end es h.2 some, runs_end e.0 start (gaps_of es) h.2)
 
-pub insert_first_is : (to : ℕ) (g : Gap) (es : List (ℕ × ℕ)) → AreRunsIn g.end to (gaps_of es)
+pub push_first_is : (to : ℕ) (g : Gap) (es : List (ℕ × ℕ)) → AreRunsIn g.end to (gaps_of es)
     → gaps_of (insert_entry nat_cmp es g.end g.start) ≡ g ∷ gaps_of es
-insert_first_is to g [] h = refl
-insert_first_is to g (e ∷ es) h = grind (arith, nat_tests)
+push_first_is to g [] h = refl
+push_first_is to g (e ∷ es) h = grind (arith, nat_tests)
 
 pub with_gap_runs : (from to start end : ℕ) (gs : List Gap) → AreRunsIn from start gs → start ≤ to → end ≤ to
     → AreRunsIn from to (with_gap start end gs)
@@ -292,7 +292,7 @@ after_found p from to (e ∷ es) g h is = elim (cases_lt p e.0) [
 
 -- ---- gaps without some positions
 
-pub after_whole : (p : ℕ) (gs : List Gap) (g : Gap) → is_split_at p gs ≡ false → gap_after p gs ≡ Some g → p ≤ g.start
+pub after_whole : (p : ℕ) (gs : List Gap) (g : Gap) → crosses_one p gs ≡ false → gap_after p gs ≡ Some g → p ≤ g.start
 after_whole p [] g whole is = absurd (cc is)
 after_whole p (k ∷ gs) g whole is = grind (arith, nat_tests, after_whole p gs g)
 
@@ -351,8 +351,8 @@ removed_runs from to test (e ∷ es) h = elim (test e.0) as (λ b. test e.0 ≡ 
       | false ↦ λ is. rw is (h.0, h.1, removed_runs e.0 to test es h.2)
     ] refl
 
-removed_whole : (p : ℕ) (test : ℕ → Bool) (es : List (ℕ × ℕ)) → is_split_at p (gaps_of es) ≡ false
-    → is_split_at p (gaps_of (remove_entry test es)) ≡ false
+removed_whole : (p : ℕ) (test : ℕ → Bool) (es : List (ℕ × ℕ)) → crosses_one p (gaps_of es) ≡ false
+    → crosses_one p (gaps_of (remove_entry test es)) ≡ false
 removed_whole p test [] h = h
 removed_whole p test (e ∷ es) h = grind (arith, nat_tests, removed_whole p test es)
 
@@ -375,9 +375,9 @@ removed_without from to s e (k ∷ es) g some h is low far = elim (cases_lt s k.
 
 -- the first of them that lies within the positions is taken out
 pub removed_first : (s e : ℕ) (es fs : List (ℕ × ℕ)) (g : Gap) → s < e → AreRunsIn 0 (2 ^ 64) (gaps_of es)
-    → is_split_at s (gaps_of es) ≡ false → gap_after s (gaps_of es) ≡ Some g → g.end ≤ e
+    → crosses_one s (gaps_of es) ≡ false → gap_after s (gaps_of es) ≡ Some g → g.end ≤ e
     → fs ≡ remove_entry (is_at (nat_cmp g.end)) es
-    → AreRunsIn 0 (2 ^ 64) (gaps_of fs) × (is_split_at s (gaps_of fs) ≡ false)
+    → AreRunsIn 0 (2 ^ 64) (gaps_of fs) × (crosses_one s (gaps_of fs) ≡ false)
     × (without s e (gaps_of fs) ≡ without s e (gaps_of es)) × (suc (length (gaps_of fs)) ≡ length (gaps_of es))
 removed_first s e es fs g some h whole is far fs_is =
     let low = after_whole s (gaps_of es) g whole is in

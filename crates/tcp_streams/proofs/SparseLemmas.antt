@@ -10,7 +10,7 @@ use Rattle.std.proofs.lemmas.List.{drop-take, get_or-take, get_or-drop}
 use Rattle.std.specs.Option.{option_or}
 use Rattle.std.specs.Prelude.{◌==◌}
 use Rattle.tcp_streams.specs.declared.gaps.Gap.{Gap}
-use Rattle.tcp_streams.specs.Gaps.{is_missing, AreGapsIn, AreRunsIn, first_gap, split_at}
+use Rattle.tcp_streams.specs.Gaps.{is_missing, AreGapsIn, AreRunsIn, first_gap_start, split_at}
 use Rattle.tcp_streams.specs.Gaps.{with_gap, without}
 use Rattle.tcp_streams.specs.Segments.{byte_from, differs, clashes}
 use Rattle.tcp_streams.specs.SparseBytes.{Sparse, sparse, IsSparse, held_end, byte_in, available_end, end_with}
@@ -35,24 +35,24 @@ not_missing_after from to (g ∷ gs) p h above =
     let rest = not_missing_after (g.end + 1) to gs p h.2 above in grind (arith, nat_tests)
 
 -- the first gap
-pub first_missing : (from to : ℕ) (gs : List Gap) (p : ℕ) → AreGapsIn from to gs → p < first_gap gs to
+pub first_missing : (from to : ℕ) (gs : List Gap) (p : ℕ) → AreGapsIn from to gs → p < first_gap_start gs to
     → is_missing gs p ≡ false
 first_missing from to [] p h below = refl
 first_missing from to (g ∷ gs) p h below =
     grind (arith, nat_tests, not_missing_before (g.end + 1) to gs p h.2 (omega arith))
 
-pub first_gap-missing : (from to : ℕ) (g : Gap) (gs : List Gap) → AreGapsIn from to (g ∷ gs)
+pub first_gap_start-missing : (from to : ℕ) (g : Gap) (gs : List Gap) → AreGapsIn from to (g ∷ gs)
     → is_missing (g ∷ gs) g.start ≡ true
-first_gap-missing from to g gs h = grind (arith, nat_tests)
+first_gap_start-missing from to g gs h = grind (arith, nat_tests)
 
-pub first_gap-bounds : (from to : ℕ) (gs : List Gap) → AreGapsIn from to gs
-    → (from ≤ first_gap gs to) × (first_gap gs to ≤ to)
-first_gap-bounds from to [] h = (h, omega arith)
-first_gap-bounds from to (g ∷ gs) h = (h.0, omega (arith, gaps_end (g.end + 1) to gs h.2))
+pub first_gap_start-bounds : (from to : ℕ) (gs : List Gap) → AreGapsIn from to gs
+    → (from ≤ first_gap_start gs to) × (first_gap_start gs to ≤ to)
+first_gap_start-bounds from to [] h = (h, omega arith)
+first_gap_start-bounds from to (g ∷ gs) h = (h.0, omega (arith, gaps_end (g.end + 1) to gs h.2))
 
 pub available_bounds : (held : Sparse) → IsSparse held
     → (held.taken ≤ available_end held) × (available_end held ≤ held_end held)
-available_bounds held sound = first_gap-bounds held.taken (held_end held) held.gaps sound.gaps
+available_bounds held sound = first_gap_start-bounds held.taken (held_end held) held.gaps sound.gaps
 
 pub available_fits : (held : Sparse) (end : ℕ) (items : List ℕ) → IsSparse held → end ≡ available_end held
     → items ≡ held.bytes → end - held.taken ≡ length (take (end - held.taken) items)
@@ -69,17 +69,6 @@ byte_from-before q bs p h = grind (arith, nat_tests)
 byte_from-append : (q : ℕ) (cs bs : List ℕ) (p : ℕ) → q ≤ p
     → byte_from q (cs ++ bs) p ≡ option_or (byte_from q cs p) (byte_from (q + length cs) bs p)
 byte_from-append q cs bs p h = grind (arith, elements, nat_tests)
-
-byte_from-empty : (q p : ℕ) → byte_from q [] p ≡ None
-byte_from-empty q p = grind (arith, nat_tests)
-
--- where no byte is added
-pub adds_none : (old : Sparse) (position : ℕ) → AddsBytes old old position []
-adds_none old position = record {
-  taken = refl;
-  last = omega arith;
-  held = λ p h. sym (rw (byte_from-empty position p) (nothing_after (byte_in old p)));
-}
 
 -- after the last one
 pub adds_after : (old new : Sparse) (bytes : List ℕ) → IsSparse old → new.taken ≡ old.taken
@@ -262,7 +251,7 @@ module _ (taken len : ℕ) (bytes : List ℕ) (gaps : List Gap) (o : AreGapsIn t
 
 -- ---- bytes are consumed
 
-gaps_from : (from from' to : ℕ) (gs : List Gap) → AreGapsIn from to gs → from' ≤ first_gap gs to
+gaps_from : (from from' to : ℕ) (gs : List Gap) → AreGapsIn from to gs → from' ≤ first_gap_start gs to
     → AreGapsIn from' to gs
 gaps_from from from' to [] o h = h
 gaps_from from from' to (g ∷ gs) o h = (h, o.1, o.2)

@@ -78,18 +78,6 @@ module _ {K X : Type 0} (P : K → Type 0) where
       by false t others = others (rw t at is) h.1
 
 module _ {K X : Type 0} where
-  lookup_taken : (test : K → Bool) (es : List (K × X)) (n : ℕ) → length (before test es) < n
-      → lookup test (take n es) ≡ lookup test es
-  lookup_taken test [] zero less = refl
-  lookup_taken test [] (suc n) less = refl
-  lookup_taken test (e ∷ es) zero less = absurd (omega arith)
-  lookup_taken test (e ∷ es) (suc n) less = by (test e.0) refl (lookup_taken test es n)
-    where
-      by : (b : Bool) → test e.0 ≡ b → (length (before test es) < n → lookup test (take n es) ≡ lookup test es)
-          → lookup test (e ∷ take n es) ≡ lookup test (e ∷ es)
-      by true is others = rw is refl
-      by false is others = let shorter = rw is at less in rw is (others (omega arith))
-
   none_at : (test : K → Bool) (es : List (K × X)) (n : ℕ) → AllByRecursion (λ k. test k ≡ false) (keys_of es)
       → option_map_or (λ (e : K × X). test e.0) (slice_get es n) false ≡ false
   none_at test [] n h = refl

@@ -18,10 +18,10 @@ abbrev pub AreGapsIn : (from to : ℕ) → List Gap → Type 0
 AreGapsIn from to [] = from ≤ to
 AreGapsIn from to (gap ∷ gaps) = (from ≤ gap.start) × (gap.start < gap.end) × AreGapsIn (gap.end + 1) to gaps
 
--- the start of the first gap, or the end of the bytes where there is none
-abbrev pub first_gap : List Gap → (end : ℕ) → ℕ
-first_gap [] end = end
-first_gap (gap ∷ gaps) end = gap.start
+-- where the first gap begins, or the end of the bytes where there is none
+abbrev pub first_gap_start : List Gap → (end : ℕ) → ℕ
+first_gap_start [] end = end
+first_gap_start (gap ∷ gaps) end = gap.start
 
 -- gaps as in `AreGapsIn`, but one may begin where the one before it ends
 abbrev pub AreRunsIn : (from to : ℕ) → List Gap → Type 0
@@ -43,33 +43,34 @@ gap_after position [] = None
 gap_after position (gap ∷ gaps) = (if nat_lt position gap.end then Some gap else gap_after position gaps)
 
 -- the start of that gap, or the end of the bytes where there is none
-abbrev pub first_gap_after : (position : ℕ) → List Gap → (end : ℕ) → ℕ
-first_gap_after position gaps end = option_map_or (λ gap. gap.start) (gap_after position gaps) end
+abbrev pub gap_start_after : (position : ℕ) → List Gap → (end : ℕ) → ℕ
+gap_start_after position gaps end = option_map_or (λ gap. gap.start) (gap_after position gaps) end
 
--- what a gap has from a position on and up to another
-abbrev pub part_between : (from to : ℕ) → Gap → Option Gap
-part_between from to gap = (if nat_lt (max gap.start from) to
+-- what a gap has from a position on and up to another, if it has any
+abbrev pub clipped : (from to : ℕ) → Gap → Option Gap
+clipped from to gap = (if nat_lt (max gap.start from) to
     then Some (record { start = max gap.start from; end = min gap.end to }) else None)
 
--- what the first gap that ends after the one has between them
+-- what the first gap that ends after a position has from it on and up to another
 abbrev pub missing_from : (from to : ℕ) → List Gap → Option Gap
-missing_from from to gaps = option_and_then (part_between from to) (gap_after from gaps)
+missing_from from to gaps = option_and_then (clipped from to) (gap_after from gaps)
 
 -- gaps with one more after them, unless it is empty
 abbrev pub with_gap : (start end : ℕ) → List Gap → List Gap
 with_gap start end gaps = (if nat_lt start end then gaps ++ (record { start = start; end = end }) ∷ [] else gaps)
 
--- a gap has positions before this one, and this one
-abbrev pub is_split_by : ℕ → Gap → Bool
-is_split_by p gap = nat_lt gap.start p && nat_lt p gap.end
+-- the position is in the gap, and isn't its first one
+abbrev pub crosses : ℕ → Gap → Bool
+crosses p gap = nat_lt gap.start p && nat_lt p gap.end
 
-abbrev pub is_split_at : ℕ → List Gap → Bool
-is_split_at p gaps = list_any (is_split_by p) gaps
+-- the position crosses one of the gaps
+abbrev pub crosses_one : ℕ → List Gap → Bool
+crosses_one p gaps = list_any (crosses p) gaps
 
--- that gap as two
+-- the gap that a position crosses as two
 abbrev pub split_at : ℕ → List Gap → List Gap
 split_at p [] = []
-split_at p (gap ∷ gaps) = (if is_split_by p gap
+split_at p (gap ∷ gaps) = (if crosses p gap
     then (record { start = gap.start; end = p }) ∷ (record { start = p; end = gap.end }) ∷ split_at p gaps
     else gap ∷ split_at p gaps)
 

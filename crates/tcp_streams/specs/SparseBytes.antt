@@ -4,7 +4,7 @@ use Rattle.std.specs.Prelude.{Option, None, List, [], ◌∷◌, drop, length, s
 use Rattle.std.specs.Option.{option_or}
 use Rattle.tcp_streams.specs.declared.gaps.Gap.{Gap}
 use Rattle.tcp_streams.specs.declared.conflicts.Conflicts.{Conflicts}
-use Rattle.tcp_streams.specs.Gaps.{AreGapsIn, first_gap, first_gap_after, is_missing}
+use Rattle.tcp_streams.specs.Gaps.{AreGapsIn, first_gap_start, gap_start_after, is_missing}
 use Rattle.tcp_streams.specs.Segments.{byte_from}
 
 -- how many bytes of the stream were taken; those after them, with 0 at each position whose byte is
@@ -32,11 +32,11 @@ pub record IsSparse (held : Sparse) : Type 0 where
 
 -- the end of the bytes that follow without a gap
 abbrev pub available_end : Sparse → ℕ
-available_end held = first_gap held.gaps (held_end held)
+available_end held = first_gap_start held.gaps (held_end held)
 
 -- the bytes after a gap, up to the next gap or to the last byte
 abbrev pub bytes_after_gap : Sparse → Gap → List ℕ
-bytes_after_gap held gap = take (first_gap_after gap.end held.gaps (held_end held) - gap.end)
+bytes_after_gap held gap = take (gap_start_after gap.end held.gaps (held_end held) - gap.end)
     (drop (gap.end - held.taken) held.bytes)
 
 -- the end of bytes from a position on, if there are any

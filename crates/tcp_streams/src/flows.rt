@@ -48,7 +48,7 @@ impl<T: Drop, K: Eq + Hash + Drop> Flows<T, K, BuildHasherDefault<FoldHasher>> {
 }
 
 impl<T: Drop, K: Eq + Hash + Drop, S: BuildHasher + Drop> Flows<T, K, S> {
-    ghost use Rattle.tcp_streams.specs.Flows.{Table, TestedAt, counted_flow, dropped_flow, flow_at, table_with};
+    ghost use Rattle.tcp_streams.specs.Flows.{Table, TestedAt, dropped_flow, flow_at, table_with};
     ghost use Rattle.tcp_streams.specs.Flows.{table_with_value};
 
     /// No connection, and at most so many, whose keys are hashed by this state. Where untrusted
@@ -158,7 +158,7 @@ impl<T: Drop, K: Eq + Hash + Drop, S: BuildHasher + Drop> Flows<T, K, S> {
 
     /// Keeps the flows for which the test returns `true`, and drops the others. The test is called
     /// once for each, first for that whose last packet came before those of all others. The order of
-    /// flows stays. It takes no memory but what clones of keys take.
+    /// flows stays. Each key is cloned once.
     pub fn retain<F: FnMut(&K, &Flow<T>) -> bool>(&mut self, keep: F)
     where
         K: Clone,

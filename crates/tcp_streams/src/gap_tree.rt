@@ -2,7 +2,7 @@
 
 ghost use Rattle.std.specs.Prelude.{◌≡◌, ◌-◌, ◌<◌, ◌^◌, ◌∷◌, [], length, false};
 ghost use Rattle.std.specs.Prelude.{drop, slice_get, take, IsTrue, OnErr, OnOk, ◌↔◌};
-ghost use Rattle.tcp_streams.specs.Gaps.{AreRunsIn, gap_after, is_split_at, split_at, with_gap, without};
+ghost use Rattle.tcp_streams.specs.Gaps.{AreRunsIn, gap_after, crosses_one, split_at, with_gap, without};
 
 use super::gaps::Gap;
 use std::alloc::{AllocError, Global};
@@ -10,8 +10,7 @@ use std::collections::BTreeMap;
 use std::marker::Model;
 use std::ops::Bound;
 
-/// Gaps in the order of their positions. The cost of finding one, of adding one and of taking one
-/// out is logarithmic in their number.
+/// Gaps in the order of their positions. Where there is no memory for a call, nothing changes.
 #[derive(Debug, Drop)]
 pub(crate) struct GapTree {
     // By the end of each.
@@ -79,9 +78,8 @@ impl GapTree {
     }
 
     /// Adds a gap before all others.
-    pub(crate) fn insert_first(&mut self, gap: Gap) -> Result<(), AllocError>
-        requires some { gap.start < gap.end }
-        requires gaps { AreRunsIn gap.end (2 ^ 64) self.old }
+    pub(crate) fn push_first(&mut self, gap: Gap) -> Result<(), AllocError>
+        requires { AreRunsIn gap.end (2 ^ 64) self.old }
         ensures ok { OnOk result (self.new ≡ gap ∷ self.old) }
         ensures err { OnErr result (self.new ≡ self.old) }
     {
@@ -90,7 +88,7 @@ impl GapTree {
     }
 
     /// Adds a gap after all others unless it is empty.
-    pub(crate) fn push(&mut self, start: u64, end: u64) -> Result<(), AllocError>
+    pub(crate) fn push_last(&mut self, start: u64, end: u64) -> Result<(), AllocError>
         requires { AreRunsIn 0 start self.old }
         ensures ok { OnOk result (self.new ≡ with_gap start end self.old) }
         ensures err { OnErr result (self.new ≡ self.old) }
@@ -138,7 +136,7 @@ impl GapTree {
     pub(crate) fn close(&mut self, start: u64, end: u64)
         requires some { start < end }
         requires gaps { AreRunsIn 0 (2 ^ 64) self.old }
-        requires whole { is_split_at start self.old ≡ false }
+        requires whole { crosses_one start self.old ≡ false }
         ensures { self.new ≡ without start end self.old }
     {
         for _ in 0..self.starts.len() {

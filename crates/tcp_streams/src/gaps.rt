@@ -1,8 +1,8 @@
 //! Positions of a stream whose bytes are missing.
 
 ghost use Rattle.std.specs.Prelude.{◌≡◌, ◌-◌, ◌<◌, ◌≤◌, ◌^◌, [], length, false};
-ghost use Rattle.std.specs.Prelude.{drop, slice_get, take, IfSome, OnErr, OnOk};
-ghost use Rattle.tcp_streams.specs.Gaps.{AreRunsIn, gap_after, is_missing, is_split_at, missing_from, split_at, with_gap, without};
+ghost use Rattle.std.specs.Prelude.{drop, slice_get, take, IfSome, IsOk, OnErr, OnOk};
+ghost use Rattle.tcp_streams.specs.Gaps.{AreRunsIn, gap_after, is_missing, crosses_one, missing_from, split_at, with_gap, without};
 ghost use Rattle.tcp_streams.specs.Segments.{count_from};
 
 use super::gap_tree::GapTree;
@@ -19,12 +19,12 @@ pub struct Gap {
 }
 
 /// Gaps in the order of their positions. The cost of finding one, of adding one and of taking one
-/// out is logarithmic in their number.
+/// out is logarithmic in their number. Where there is no memory for a call, nothing changes.
 #[derive(Debug, Drop)]
 pub(crate) struct Gaps {
-    // Beside the tree: a stream with one gap at a time takes no memory for it.
+    // Beside the tree, so that the only gap takes no memory.
     first: Option<Gap>,
-    // Those after it.
+    // The others: all of them where it is `None`.
     rest: GapTree,
 }
 
@@ -82,6 +82,7 @@ impl Gaps {
     pub(crate) fn missing_from(&self, position: u64, end: u64) -> Option<Gap>
         requires { AreRunsIn 0 (2 ^ 64) self.now }
         ensures gap { result ≡ missing_from position end self.now }
+        // In numbers, for callers that slice by them.
         ensures within { IfSome result (λ gap.
             (position ≤ gap.start) × (gap.start < gap.end) × (gap.end ≤ end)) }
     {
@@ -137,13 +138,14 @@ impl Gaps {
     }
 
     /// Adds a gap after all others unless it is empty.
-    pub(crate) fn push(&mut self, start: u64, end: u64) -> Result<(), AllocError>
+    pub(crate) fn push_last(&mut self, start: u64, end: u64) -> Result<(), AllocError>
         requires { AreRunsIn 0 start self.old }
         ensures ok { OnOk result (self.new ≡ with_gap start end self.old) }
         ensures err { OnErr result (self.new ≡ self.old) }
+        ensures succeeds { self.old ≡ [] → IsOk result }
     {
         if self.first.is_some() || !self.rest.is_empty() {
-            return self.rest.push(start, end);
+            return self.rest.push_last(start, end);
         }
         if start < end {
             self.first = Some(Gap { start, end });
@@ -164,7 +166,7 @@ impl Gaps {
             return self.rest.split(position);
         }
         if gap.start < position {
-            self.rest.insert_first(Gap {
+            self.rest.push_first(Gap {
                 start: position,
                 end: gap.end,
             })?;
@@ -177,13 +179,13 @@ impl Gaps {
     }
 
     /// Adds a gap after all others unless it is empty. Then makes two gaps of the one that has
-    /// positions before `position`, and `position`. Where there is no memory, nothing changes.
+    /// positions before `position`, and `position`.
     pub(crate) fn open(&mut self, start: u64, end: u64, position: u64) -> Result<(), AllocError>
         requires gaps { AreRunsIn 0 start self.old }
         ensures ok { OnOk result (self.new ≡ split_at position (with_gap start end self.old)) }
         ensures err { OnErr result (self.new ≡ self.old) }
     {
-        self.push(start, end)?;
+        self.push_last(start, end)?;
         if let Err(error) = self.split(position) {
             if start < end {
                 self.remove_last();
@@ -198,7 +200,7 @@ impl Gaps {
     pub(crate) fn close(&mut self, start: u64, end: u64)
         requires some { start < end }
         requires gaps { AreRunsIn 0 (2 ^ 64) self.old }
-        requires whole { is_split_at start self.old ≡ false }
+        requires whole { crosses_one start self.old ≡ false }
         ensures { self.new ≡ without start end self.old }
     {
         let Some(gap) = self.first else {

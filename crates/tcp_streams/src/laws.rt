@@ -1,4 +1,4 @@
-//! Laws of the definitions: the contract of each function is the law.
+//! Laws of streams, connections and keys: the contract of each function is the law.
 
 ghost use Rattle.tcp_streams.specs.Laws.{CutsArePlaced, NumbersAreRelative, OneTextGivesAll, OneTextGivesPrefix};
 ghost use Rattle.tcp_streams.specs.Laws.{BytesStay, LateBytesAreLeftOut};

@@ -4,7 +4,7 @@ ghost use Rattle.std.specs.Prelude.{◌≡◌, ◌+◌, ◌-◌, ◌<◌, ◌≤
 ghost use Rattle.std.specs.Prelude.{take, drop};
 ghost use Rattle.std.specs.Prelude.{slice_get, IfOk, IfNone, IfSome, IsOk, OnOk, OnErr};
 ghost use Rattle.std.specs.Prelude.{None, Some, is_some};
-ghost use Rattle.tcp_streams.specs.Gaps.{AreRunsIn, first_gap_after, gap_after, without};
+ghost use Rattle.tcp_streams.specs.Gaps.{AreRunsIn, gap_start_after, gap_after, without};
 ghost use Rattle.tcp_streams.specs.Segments.{byte_from, clashes, count_from};
 ghost use Rattle.tcp_streams.specs.SparseBytes.{Sparse, sparse, IsSparse, held_end, available_end, byte_in};
 ghost use Rattle.tcp_streams.specs.SparseBytes.{AddsBytes, CanSkipTo, Fills, Skips, bytes_after_gap, counted, size_of};
@@ -132,7 +132,7 @@ impl SparseBytes {
 
     // The position after the bytes that follow a gap.
     fn end_after(&self, gap: Gap) -> u64
-        ensures { result ≡ first_gap_after gap.end self.now.gaps (held_end self.now) }
+        ensures { result ≡ gap_start_after gap.end self.now.gaps (held_end self.now) }
     {
         match self.gaps.after(gap.end) {
             Some(next) => next.start,
@@ -164,7 +164,7 @@ impl SparseBytes {
     }
 
     /// Adds bytes from a position on. Those that are held stay, and the positions at which they
-    /// differ are returned.
+    /// differ are returned. Where there is no memory, nothing changes.
     pub(crate) fn add(&mut self, position: u64, bytes: &[u8]) -> Result<Conflicts, AllocError>
         requires after { self.old.taken ≤ position }
         requires short { position + length bytes.now ≤ 2 ^ 63 }
@@ -218,7 +218,7 @@ fn add_after_gap(
     ensures sound { OnOk result (IsSparse (sparse taken held.new gaps.new)) }
     ensures err { OnErr result ((held.new ≡ held.old) × (gaps.new ≡ gaps.old)) }
 {
-    gaps.push(taken + held.len() as u64, position)?;
+    gaps.push_last(taken + held.len() as u64, position)?;
     if let Err(error) = held.extend_from((position - taken) as usize, bytes) {
         gaps.remove_last();
         return Err(error);

@@ -3,7 +3,7 @@
 ghost use Rattle.std.specs.Prelude.{◌≡◌, ℕ, ◌+◌, ◌<◌, ◌≤◌, ◌↔◌, ◌^◌, ◌++◌, ◌∷◌, ◌==◌, [], if◌then◌else◌, List};
 ghost use Rattle.std.specs.Prelude.{None, Some, false};
 ghost use Rattle.std.specs.Prelude.{IsTrue, IfOk, IfErr, IsOk, IsSome, OnOk, OnErr, IfSome, IfNone, not, is_some, length, drop};
-ghost use Rattle.std.specs.Prelude.{◌-◌, min, slice_get, Option};
+ghost use Rattle.std.specs.Prelude.{◌-◌, min, Option};
 ghost use Rattle.std.specs.Option.{option_map_or};
 ghost use Rattle.tcp_streams.specs.declared.gaps.Gap.{Gap};
 ghost use Rattle.tcp_streams.specs.Losses.{acknowledged, acknowledged_at, gap_between, lost_after, lost_by, lost_in, lost_of};
@@ -12,7 +12,7 @@ ghost use Rattle.tcp_streams.specs.Placing.{Segment, segment, bytes_of, first_nu
 ghost use Rattle.tcp_streams.specs.Placing.{placed, repeated_of};
 ghost use Rattle.tcp_streams.specs.Refusals.{window_end, fin_refusal, refusal_of};
 ghost use Rattle.tcp_streams.specs.Gaps.{gap_after};
-ghost use Rattle.tcp_streams.specs.Segments.{Placed, byte_at, text_of, fin_of, is_reset, clashes, conflicts_with};
+ghost use Rattle.tcp_streams.specs.Segments.{Placed, byte_at, text_of, fin_of, is_reset, conflicts_with};
 ghost use Rattle.tcp_streams.specs.Segments.{conflicts_of, count_from};
 ghost use Rattle.tcp_streams.specs.SparseBytes.{byte_in, counted, size_of};
 ghost use Rattle.tcp_streams.specs.StreamBuf.{Contents, Shows, IsSound, IsBounded, IsLocation, IsLocated};
@@ -498,15 +498,16 @@ impl StreamBuf {
     }
 
     /// The first gap that ends after a position, of those before bytes that are held; and the bytes
-    /// after it, up to the next gap or to the last byte that is held. All of them: the first one after
-    /// 0, and then each time that after the end of the one before.
+    /// after it, up to the next gap or to the last byte that is held. To have all gaps, call it with 0,
+    /// and then each time with the end of the gap before.
     pub fn gap_after(&self, position: u64) -> Option<(Gap, &[u8])>
         ensures gap { IfSome result (λ after. gap_after position self.now.held.gaps ≡ Some after.0) }
         ensures none { IfNone result (gap_after position self.now.held.gaps ≡ None) }
         ensures bytes { (ss : List Placed) → Shows self.now ss
             → IfSome result (λ after. IsAfterGap ss after.0 after.1.now) }
         ensures first { (ss : List Placed) → Shows self.now ss
-            → IfSome result (λ after. (p : ℕ) → self.now.held.taken ≤ p → position ≤ p → p < after.0.start → IsSome (byte_at ss p)) }
+            → IfSome result (λ after. (p : ℕ) → self.now.held.taken ≤ p → position ≤ p
+            → p < after.0.start → IsSome (byte_at ss p)) }
         ensures last { (ss : List Placed) → Shows self.now ss
             → IfNone result ((p q : ℕ) → self.now.held.taken ≤ p → position ≤ p → p ≤ q
             → byte_at ss p ≡ None → byte_at ss q ≡ None) }
@@ -551,8 +552,8 @@ impl StreamBuf {
     }
 
     /// How much it holds: the bytes from the first one that wasn't consumed up to the last one that came, also
-    /// where they are missing, and 16 for each gap. Its memory is a small multiple of the greatest of all times, and
-    /// 250 bytes more where there are two gaps.
+    /// where they are missing, and 16 for each gap. Its memory is a small multiple of the greatest size of all times,
+    /// and 250 bytes more from the first time on that there are two gaps, even if only during a call.
     pub fn size(&self) -> u64
         ensures { result ≡ size_of self.now.held }
     {

@@ -130,7 +130,8 @@ impl StreamCounter {
     /// Follows a segment. Where the other endpoint's bytes are missing, though it acknowledges them by
     /// its acknowledgment number, they are given up before; one with RST acknowledges none.
     ///
-    /// Where there is no memory for it, it is stopped. Then a segment changes nothing, and the result is `Ok`.
+    /// Where there is no memory for a segment, the result is `Err`, and the counter is stopped. From then
+    /// on a segment changes nothing, and the result is `Ok`.
     pub fn add(
         &mut self,
         direction: Direction,

@@ -1,5 +1,5 @@
-//! Out of memory. To be run with each allocation failing in turn, too: then one of the calls finds
-//! none, and the same call succeeds after it.
+//! Out of memory. `tools/faults_tried` runs these tests with each allocation failing in turn: then
+//! one of the calls finds none, and the same call succeeds after it.
 
 use crate::checks::{equal, equal_in, fail, holds_in};
 use std::num::NonZeroUsize;

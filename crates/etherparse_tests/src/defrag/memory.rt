@@ -1,5 +1,5 @@
-//! Out of memory. To be run with each allocation failing in turn, too: then one of the calls finds
-//! no memory and leaves its buffer as it was, and the next one finds it.
+//! Out of memory. `tools/faults_tried` runs these tests with each allocation failing in turn: then
+//! one of the calls finds no memory and leaves its buffer as it was, and the next one finds it.
 
 use crate::checks::{equal, holds};
 use crate::defrag::fragments::{ZEROS, empty, has_bytes, is_its_copy, offset, refusing};

@@ -1,5 +1,6 @@
-//! Out of memory in a pool. To be run with each allocation failing in turn, too: then one of the
-//! calls finds no memory and leaves the pool as it was, and the next one finds it.
+//! Out of memory in a pool. `tools/faults_tried` runs these tests with each allocation failing in
+//! turn: then one of the calls finds no memory and leaves the pool as it was, and the next one finds
+//! it.
 
 use crate::checks::{equal, fail, holds};
 use crate::defrag::frames::{

@@ -1,4 +1,4 @@
-//! Overlaps that a pool refuses: over IPv6 they end their reassembly (RFC 5722; RFC 8200, section
+//! Overlaps in a pool: over IPv6 they end their reassembly (RFC 5722; RFC 8200, section
 //! 4.5), over IPv4 later bytes overwrite earlier ones (RFC 791, section 3.2).
 
 use crate::defrag::frames::{FIRST, IPV6_FIRST, IPV6_LATER, IPV6_SECOND, IPV6_UDP, SECOND};

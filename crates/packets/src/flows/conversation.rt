@@ -17,7 +17,7 @@ use std::hash::{Hash, Hasher};
 pub struct Conversation {
     /// The addresses.
     pub addresses: Addresses,
-    /// The ports of TCP or UDP.
+    /// The ports of TCP, UDP or SCTP.
     pub ports: Option<Ports>,
     /// The protocol.
     pub protocol: IpNumber,

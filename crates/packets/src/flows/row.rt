@@ -22,7 +22,7 @@ pub struct Row {
     pub period: Period,
 }
 
-/// How far a TCP connection came, by the flags that were seen.
+/// What the flags of all segments of a conversation over TCP show, whatever their order.
 #[derive(Clone, Copy, Debug, PartialEq, Eq)]
 pub enum Connection {
     /// A segment with RST was seen.

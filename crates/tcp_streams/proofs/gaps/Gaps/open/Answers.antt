@@ -4,5 +4,5 @@ use Rattle.tcp_streams.proofs.gaps.Gaps.open.Goals as goal
 
 pub split-requires : goal.split-requires
 split-requires c =
-    rw c.in_ok-push.ensures.ok
+    rw c.in_ok-push_last.ensures.ok
     (with_gap_runs 0 (2 ^ 64) c.args.start c.args.end c.args.self.now c.requires.gaps (omega arith) (omega arith))

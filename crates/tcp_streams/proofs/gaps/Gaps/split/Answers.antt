@@ -7,10 +7,10 @@ split-requires-then-gap-position c =
     let order = rw (← c.self.view_is) at c.requires in
     rest_runs (2 ^ 64) c.self.inside.first c.self.inside.rest order
 
-pub returns-in_ok-insert_first-clause-ok : goal.returns-in_ok-insert_first-clause-ok
-returns-in_ok-insert_first-clause-ok c =
+pub returns-in_ok-push_first-clause-ok : goal.returns-in_ok-push_first-clause-ok
+returns-in_ok-push_first-clause-ok c =
     let order = rw (← c.self.view_is, c.in-Some.is) at c.requires in
-    rw (c.in_ok-insert_first.ensures.ok, ← c.self.view_is, c.in-Some.is)
+    rw (c.in_ok-push_first.ensures.ok, ← c.self.view_is, c.in-Some.is)
     (split_here 0 (2 ^ 64) c.args.position c.in-Some.gap c.self.inside.rest order
     (omega (arith, c.if-gap-position-2.true)) (omega (arith, c.if-gap-position.false)))
 

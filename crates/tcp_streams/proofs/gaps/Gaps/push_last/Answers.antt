@@ -1,7 +1,7 @@
 use Rattle.tcp_streams.proofs.FirstGapLemmas.{rest_runs}
-use Rattle.tcp_streams.proofs.gaps.Gaps.push.Goals as goal
+use Rattle.tcp_streams.proofs.gaps.Gaps.push_last.Goals as goal
 
-pub push-requires : goal.push-requires
-push-requires c =
+pub push_last-requires : goal.push_last-requires
+push_last-requires c =
     let order = rw (← c.self.view_is) at c.requires in
     rest_runs c.args.start c.self.inside.first c.self.inside.rest order
