@@ -2,7 +2,7 @@
 
 import ctypes
 from dataclasses import dataclass
-from typing import Any, Optional, Protocol
+from typing import Any, Iterator, Optional, Protocol
 
 from . import _raw
 from ._arguments import Buffer, bytes_of, integer, number_up_to
@@ -138,6 +138,9 @@ def _conflicts(raw: Any) -> Conflicts:
 
 _GREATEST_WINDOW = (1 << 8 * ctypes.sizeof(ctypes.c_size_t)) - 1
 
+# How many bytes a chunk has at most.
+_CHUNK = 1 << 16
+
 
 class Stream(_Handle):
     """The bytes that one end of a TCP connection sent, put together as its segments come. Any thread may use it, one after
@@ -149,7 +152,8 @@ class Stream(_Handle):
         with Stream(65536) as stream:
             for packet in packets:
                 stream.add(packet.tcp.sequence_number, packet.tcp, packet.payload)
-                output.write(stream.read())
+                for chunk in stream:
+                    output.write(chunk)
     """
 
     __slots__ = ()
@@ -186,6 +190,12 @@ class Stream(_Handle):
             room = available if size < 0 else min(size, available)
             output = (ctypes.c_uint8 * room)()
             return ctypes.string_at(output, etherparse.ep_stream_read(stream, output, room))
+
+    def __iter__(self) -> Iterator[bytes]:
+        """Over the bytes that are available, in chunks of at most 64 KiB, each of which is taken away. It ends where the next byte
+        is missing; after the segment that brings it there are more."""
+        while chunk := self.read(_CHUNK):
+            yield chunk
 
     def progress(self) -> StreamProgress:
         """How far it came."""

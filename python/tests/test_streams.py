@@ -133,6 +133,16 @@ class Streams(unittest.TestCase):
                     call()
             self.assertEqual(stream.progress().available, 0)
 
+    def test_chunks_end_where_a_byte_is_missing(self):
+        text = bytes(i % 251 for i in range(150_000))
+        with ep.Stream(200_000) as stream:
+            for start in (0, 50_000, 110_000):
+                stream.add(start, ACK, text[start : start + 40_000])
+            self.assertEqual(list(stream), [text[:40_000]])
+            self.assertEqual(list(stream), [])
+            stream.add(40_000, ACK, text[40_000:110_000])
+            self.assertEqual(list(stream), [text[40_000:105_536], text[105_536:]])
+
     def test_refusals(self):
         for refused, reason, text in (
             (ep.SegmentRefused(1, 9), "outside_window", "a segment that ends after the window, which ends at byte 9"),

@@ -5,6 +5,10 @@ use crate::OutOfMemory;
 use std::error::Error;
 use std::fmt;
 use std::io::{self, Read};
+use std::iter;
+
+/// How many bytes a chunk has at most.
+const CHUNK: usize = 1 << 16;
 
 /// Control flags of a TCP segment (RFC 9293, section 3.1). By default none is set.
 #[derive(Clone, Copy, Debug, Default, PartialEq, Eq, Hash)]
@@ -116,8 +120,8 @@ pub struct StreamProgress {
 /// It holds no more bytes than its window has. The first byte that came for a position stays. Positions count from 0, the
 /// number after that of SYN or, where SYN wasn't seen, that of the first segment.
 ///
-/// [`Read`] gives the bytes that are available, in their order; it returns 0 where the next byte is missing, and more may
-/// come.
+/// [`Read`] and [`chunks`](Stream::chunks) give the bytes that are available, in their order; where the next byte is missing,
+/// the one returns 0 and the other ends, and more may come.
 #[derive(Debug)]
 pub struct Stream {
     raw: EpStream,
@@ -172,6 +176,17 @@ impl Stream {
         let count = self.read_into(&mut bytes);
         bytes.truncate(count);
         bytes
+    }
+
+    /// An iterator over the bytes that are available, in chunks of at most 64 KiB, each of which is taken away. It ends where the
+    /// next byte is missing; after the segment that brings it there are more.
+    pub fn chunks(&mut self) -> impl Iterator<Item = Vec<u8>> + '_ {
+        iter::from_fn(move || {
+            let mut chunk = vec![0; self.progress().available.min(CHUNK)];
+            let count = self.read_into(&mut chunk);
+            chunk.truncate(count);
+            Some(chunk).filter(|chunk| !chunk.is_empty())
+        })
     }
 
     fn read_into(&mut self, output: &mut [u8]) -> usize {

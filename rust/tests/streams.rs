@@ -164,6 +164,19 @@ fn a_stream_is_moved_and_read() {
     assert_eq!(text, b"cde");
 }
 
+#[test]
+fn chunks_end_where_a_byte_is_missing() {
+    let text: Vec<u8> = (0..150_000u32).map(|i| (i % 251) as u8).collect();
+    let mut stream = Stream::new(200_000).unwrap();
+    for start in [0, 50_000, 110_000] {
+        stream.add(start, flags("A"), &text[start as usize..start as usize + 40_000]).unwrap();
+    }
+    assert_eq!(stream.chunks().collect::<Vec<_>>(), [&text[..40_000]]);
+    assert!(stream.chunks().next().is_none());
+    stream.add(40_000, flags("A"), &text[40_000..110_000]).unwrap();
+    assert_eq!(stream.chunks().collect::<Vec<_>>(), [&text[40_000..105_536], &text[105_536..]]);
+}
+
 /// A TCP segment over IPv4, from 10.0.0.1 port 1 to 10.0.0.2 port 2, or back, with these flags.
 fn frame(back: bool, flags: u8) -> Vec<u8> {
     let mut frame = vec![2, 0, 0, 0, 0, 2, 2, 0, 0, 0, 0, 1, 8, 0, 0x45, 0, 0, 42, 0, 1, 0, 0, 64, 6, 0, 0];
