@@ -1,5 +1,5 @@
-//! ICMP messages over IPv4 and IPv6: each kind as its type, code and bytes by position, read and
-//! written both ways, and the checksums.
+//! ICMP messages over IPv4 and IPv6, with their kinds and checksums, read and written both ways;
+//! neighbor discovery; and messages of multicast groups (IGMP, multicast listener discovery).
 #![tactic(auto)]
 
 pub mod laws;

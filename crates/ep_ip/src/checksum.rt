@@ -1,4 +1,4 @@
-//! The sums of pseudo headers, at which every transport checksum starts.
+//! The sums of pseudo headers, at which the checksums of UDP, TCP and ICMPv6 start.
 
 ghost use Rattle.ep_base.specs.MessageSum.{SumsWords};
 ghost use Rattle.ep_ip.specs.Pseudo.{pseudo_v4, pseudo_v6};

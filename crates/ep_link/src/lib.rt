@@ -1,5 +1,5 @@
-//! Link headers: Ethernet II (RFC 894) and those of Linux cooked captures, and ARP packets (RFC
-//! 826).
+//! Link headers: Ethernet II (RFC 894) and those of Linux cooked captures; the frame check sequence
+//! (IEEE 802.3, section 3.2.9); and ARP packets (RFC 826).
 #![tactic(auto)]
 
 pub mod err;

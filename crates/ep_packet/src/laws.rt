@@ -1,4 +1,4 @@
-//! Laws of the definitions: the contract of each function is the law.
+//! Laws of packets, as slices and as headers: the contract of each function is the law.
 
 mod cut;
 mod faults;

@@ -1,3 +1,4 @@
+//! The headers of all layers of a packet as values, as far as they are there.
 ghost use Rattle.std.specs.Prelude.{◌≡◌, ◌<◌, ◌+◌, ◌^◌, length, map};
 ghost use Rattle.std.specs.Option.{option_map};
 ghost use Rattle.ep_packet.specs.LaxPacketHeaders.{lax_after_tags, lax_ether_type_headers, lax_ethernet_headers};

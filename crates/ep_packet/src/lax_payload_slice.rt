@@ -1,3 +1,4 @@
+//! Payloads of packets that may have been cut off, by the header before them.
 ghost use Rattle.std.specs.Prelude.{◌≡◌};
 ghost use Rattle.ep_packet.specs.LaxPayload.{lax_bytes_of, lax_payload_parsed};
 

@@ -1,3 +1,4 @@
+//! Packets that may have been cut off, sliced into layers.
 ghost use Rattle.std.specs.Prelude.{◌≡◌, ◌<◌, ◌+◌, ◌^◌, length};
 ghost use Rattle.std.specs.Option.{option_map};
 ghost use Rattle.ep_ipslice.specs.Compared.{lax_value};

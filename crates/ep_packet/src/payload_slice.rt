@@ -1,3 +1,4 @@
+//! Payloads of packets, by the header before them.
 ghost use Rattle.std.specs.Prelude.{◌≡◌};
 ghost use Rattle.ep_packet.specs.Payload.{bytes_of, payload_parsed};
 

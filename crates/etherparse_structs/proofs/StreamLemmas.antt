@@ -4,8 +4,8 @@ use Rattle.std.proofs.Common.{Option, Some, None, true, Result, Ok, Err, OnOk, O
 use Rattle.std.proofs.Common.{if◌then◌else◌, drop, min, take}
 use Rattle.tcp_streams.specs.Placing.{Segment, placed, start_number}
 use Rattle.tcp_streams.specs.Refusals.{refusal_of}
-use Rattle.tcp_streams.specs.Segments.{Placed, conflicts_with, text_of}
-use Rattle.tcp_streams.specs.SparseBytes.{counted}
+use Rattle.tcp_streams.specs.Segments.{Placed, byte_at, conflicts_with, text_of}
+use Rattle.tcp_streams.specs.SparseBytes.{AllHeld, counted}
 use Rattle.tcp_streams.specs.StreamBuf.{AnswersAdd, Contents, Shows, available_in}
 use Rattle.tcp_streams.specs.declared.refusal.Refused.{Refused}
 use Rattle.tcp_streams.specs.declared.refusal.Refused.TheVariants.{OutOfMemory}
@@ -112,7 +112,8 @@ pub answers : (old new : Contents) (s : Stream) (segment : Segment) (result : Re
     → OnErr result (new ≡ old) → new.held.taken ≡ old.held.taken → new.window ≡ old.window
     → ((ss : List Placed) → Shows old ss
     → refusal_of old.window old.held.taken ss (placed old.start old.held.taken ss segment) ≡ None
-    → length (placed old.start old.held.taken ss segment).bytes ≡ 0 → IsOk result)
+    → (let s = placed old.start old.held.taken ss segment in AllHeld (byte_at ss) s.position (length s.bytes))
+    → IsOk result)
     → IsSegmentAnswered (ShowsStream new) s segment (segment_struct result)
 answers old new s segment (Ok added) h accepted refused position conflicts start late same taken window succeeds =
     subst (λ (x : Stream). IsSegmentAnswered (ShowsStream new) x segment (segment_struct (Ok added))) h.is
@@ -124,7 +125,8 @@ answers old new s segment (Err e) h accepted refused position conflicts start la
     subst (λ (x : Stream). IsSegmentAnswered (ShowsStream new) x segment (segment_struct (Err e))) h.is
     (refuses old new s.segments segment e
     (refusal_of old.window old.held.taken s.segments (placed old.start old.held.taken s.segments segment)) h.shows
-    same (refused s.segments h.shows) (λ none empty. cc (succeeds s.segments h.shows none empty)))
+    same (refused s.segments h.shows)
+    (λ none empty. cc (succeeds s.segments h.shows none (λ p low high. absurd (omega (arith, empty, low, high))))))
 
 -- what is read of the buffer
 pub reads : (old new : Contents) (s : Stream) (bytes was now : List ℕ) (count : ℕ) → ShowsStream old s

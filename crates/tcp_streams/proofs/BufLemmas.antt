@@ -20,7 +20,7 @@ use Rattle.tcp_streams.specs.Placing.{Segment, bytes_of, next_position, placed, 
 use Rattle.tcp_streams.specs.Refusals.{fin_refusal, refusal_by, refusal_of, window_end}
 use Rattle.tcp_streams.specs.Segments.{Placed, end_of, byte_at, bytes_from, text_of, fin_of}
 use Rattle.tcp_streams.specs.Segments.{clashes, conflicts_with, conflicts_of, count_from, differs}
-use Rattle.tcp_streams.specs.SparseBytes.{Sparse, sparse, IsSparse, byte_in, held_end, available_end, counted}
+use Rattle.tcp_streams.specs.SparseBytes.{AllHeld, Sparse, sparse, IsSparse, byte_in, held_end, available_end, counted}
 use Rattle.tcp_streams.specs.StreamBuf.{Contents, Shows, IsSound, IsBounded, IsFirstGap, IsLocated, IsAdded}
 use Rattle.tcp_streams.specs.StreamBuf.{AnswersAdd, Accepts, available_in, next_in, placed_in, refusal_in}
 use Rattle.tcp_streams.proofs.SegmentLemmas.{byte_at-push, last_end-push, fin_of-push, is_reset-push}
@@ -270,8 +270,11 @@ module _ (buf : Contents) (ss : List Placed) (a : Segment) (sound : IsSound buf)
       → refusal_of buf.window buf.held.taken ss (placed buf.start buf.held.taken ss a) ≡ None → ⊥
   refused_not refused is none = cc (refusal_placed, is, none)
 
-  pub no_byte_left : length (placed buf.start buf.held.taken ss a).bytes ≡ 0 → length (placed_in buf a).bytes ≡ 0
-  no_byte_left none = rw placed_same at none
+  pub all_held : (let s = placed buf.start buf.held.taken ss a in AllHeld (byte_at ss) s.position (length s.bytes))
+      → AllHeld (byte_in buf.held) (placed_in buf a).position (length (placed_in buf a).bytes)
+  all_held held p low high =
+      let held = rw placed_same at held in
+      rw (shows.held p (omega (arith, placed_low buf a sound, low))) (held p low high)
 
   pub answers_refusal : (X : Type 0) (refused : Refused) → refusal_in buf (placed_in buf a) ≡ Some refused
       → AnswersAdd {X = X} (refusal_of buf.window buf.held.taken ss (placed buf.start buf.held.taken ss a)) (Err refused)

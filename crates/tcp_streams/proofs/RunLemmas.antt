@@ -244,6 +244,15 @@ pub split_none : (p : ℕ) (gs : List Gap) → gap_after p gs ≡ None → split
 split_none p [] is = refl
 split_none p (g ∷ gs) is = grind (arith, nat_tests, split_none p gs)
 
+pub crosses_after : (p : ℕ) (gs : List Gap) (g : Gap) → crosses_one p gs ≡ false → gap_after p gs ≡ Some g
+    → g.start < p → ⊥
+crosses_after p [] g none is low = cc is
+crosses_after p (k ∷ gs) g none is low = grind (arith, nat_tests, crosses_after p gs g)
+
+pub crosses_no_missing : (p : ℕ) (gs : List Gap) → is_missing gs p ≡ false → crosses_one p gs ≡ false
+crosses_no_missing p [] none = refl
+crosses_no_missing p (g ∷ gs) none = grind (arith, nat_tests, crosses_no_missing p gs)
+
 pub split_far : (from to p : ℕ) (gs : List Gap) (g : Gap) → AreRunsIn from to gs → gap_after p gs ≡ Some g
     → p ≤ g.start → split_at p gs ≡ gs
 split_far from to p [] g h is far = refl

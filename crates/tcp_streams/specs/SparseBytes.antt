@@ -1,6 +1,6 @@
 -- Bytes of a stream, of which some are missing.
 use Rattle.std.specs.Prelude.{◌≡◌, ℕ, ◌+◌, ◌-◌, ◌*◌, ◌^◌, ◌<◌, ◌≤◌, ◌==◌, if◌then◌else◌, max, min}
-use Rattle.std.specs.Prelude.{Option, None, List, [], ◌∷◌, drop, length, slice_index, slice_get, take}
+use Rattle.std.specs.Prelude.{Option, None, IsSome, List, [], ◌∷◌, drop, length, slice_index, slice_get, take}
 use Rattle.std.specs.Option.{option_or}
 use Rattle.tcp_streams.specs.declared.gaps.Gap.{Gap}
 use Rattle.tcp_streams.specs.declared.conflicts.Conflicts.{Conflicts}
@@ -24,6 +24,10 @@ held_end held = held.taken + length held.bytes
 -- the byte that is held at a position
 abbrev pub byte_in : Sparse → ℕ → Option ℕ
 byte_in held p = (if is_missing held.gaps p then None else byte_from held.taken held.bytes p)
+
+-- a byte is held at each of so many positions from one on
+abbrev pub AllHeld : (held : ℕ → Option ℕ) → (position count : ℕ) → Type 0
+AllHeld held position count = (p : ℕ) → position ≤ p → p < position + count → IsSome (held p)
 
 -- gaps are among the bytes, the last of which isn't missing; no position is greater than 2 to the 63
 pub record IsSparse (held : Sparse) : Type 0 where

@@ -66,6 +66,7 @@ impl ByteQueue {
     pub(crate) fn lengthen(&mut self, len: usize) -> Result<(), AllocError>
         ensures ok { OnOk result (self.new ≡ self.old ++ replicate (len - length self.old) 0) }
         ensures err { OnErr result (self.new ≡ self.old) }
+        ensures succeeds { len ≤ length self.old → IsOk result }
     {
         let additional = len.saturating_sub(self.bytes.len() - self.dropped);
         self.bytes.try_reserve(additional)?;
@@ -139,6 +140,10 @@ fn release(bytes: &mut Vec<u8>, dropped: usize) -> usize
 {
     if bytes.len() - dropped > dropped {
         return dropped;
+    }
+    if bytes.len() == dropped {
+        bytes.clear();
+        return 0;
     }
     bytes.drain(..dropped);
     0

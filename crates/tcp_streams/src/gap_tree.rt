@@ -1,7 +1,7 @@
 //! Gaps of a stream in a tree.
 
-ghost use Rattle.std.specs.Prelude.{◌≡◌, ◌-◌, ◌<◌, ◌^◌, ◌∷◌, [], length, false};
-ghost use Rattle.std.specs.Prelude.{drop, slice_get, take, IsTrue, OnErr, OnOk, ◌↔◌};
+ghost use Rattle.std.specs.Prelude.{◌≡◌, ◌-◌, ◌<◌, ◌≤◌, ◌^◌, ◌∷◌, [], length, false};
+ghost use Rattle.std.specs.Prelude.{drop, slice_get, take, IsOk, IsTrue, OnErr, OnOk, ◌↔◌};
 ghost use Rattle.tcp_streams.specs.Gaps.{AreRunsIn, gap_after, crosses_one, split_at, with_gap, without};
 
 use super::gaps::Gap;
@@ -92,6 +92,7 @@ impl GapTree {
         requires { AreRunsIn 0 start self.old }
         ensures ok { OnOk result (self.new ≡ with_gap start end self.old) }
         ensures err { OnErr result (self.new ≡ self.old) }
+        ensures succeeds { end ≤ start → IsOk result }
     {
         if start < end {
             self.starts.insert(end, start)?;
@@ -118,6 +119,7 @@ impl GapTree {
         requires { AreRunsIn 0 (2 ^ 64) self.old }
         ensures ok { OnOk result (self.new ≡ split_at position self.old) }
         ensures err { OnErr result (self.new ≡ self.old) }
+        ensures succeeds { crosses_one position self.old ≡ false → IsOk result }
     {
         let Some(gap) = self.after(position) else {
             return Ok(());

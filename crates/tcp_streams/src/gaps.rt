@@ -142,7 +142,8 @@ impl Gaps {
         requires { AreRunsIn 0 start self.old }
         ensures ok { OnOk result (self.new ≡ with_gap start end self.old) }
         ensures err { OnErr result (self.new ≡ self.old) }
-        ensures succeeds { self.old ≡ [] → IsOk result }
+        ensures none { end ≤ start → IsOk result }
+        ensures only { self.old ≡ [] → IsOk result }
     {
         if self.first.is_some() || !self.rest.is_empty() {
             return self.rest.push_last(start, end);
@@ -158,6 +159,7 @@ impl Gaps {
         requires { AreRunsIn 0 (2 ^ 64) self.old }
         ensures ok { OnOk result (self.new ≡ split_at position self.old) }
         ensures err { OnErr result (self.new ≡ self.old) }
+        ensures succeeds { crosses_one position self.old ≡ false → IsOk result }
     {
         let Some(gap) = self.first else {
             return self.rest.split(position);
@@ -184,6 +186,7 @@ impl Gaps {
         requires gaps { AreRunsIn 0 start self.old }
         ensures ok { OnOk result (self.new ≡ split_at position (with_gap start end self.old)) }
         ensures err { OnErr result (self.new ≡ self.old) }
+        ensures succeeds { end ≤ start → crosses_one position self.old ≡ false → IsOk result }
     {
         self.push_last(start, end)?;
         if let Err(error) = self.split(position) {

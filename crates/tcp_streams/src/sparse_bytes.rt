@@ -1,13 +1,13 @@
 //! Bytes of a stream, of which some are missing.
 
-ghost use Rattle.std.specs.Prelude.{◌≡◌, ◌+◌, ◌-◌, ◌<◌, ◌≤◌, ◌^◌, [], length};
+ghost use Rattle.std.specs.Prelude.{◌≡◌, ◌+◌, ◌-◌, ◌<◌, ◌≤◌, ◌^◌, [], length, false};
 ghost use Rattle.std.specs.Prelude.{take, drop};
 ghost use Rattle.std.specs.Prelude.{slice_get, IfOk, IfNone, IfSome, IsOk, OnOk, OnErr};
 ghost use Rattle.std.specs.Prelude.{None, Some, is_some};
-ghost use Rattle.tcp_streams.specs.Gaps.{AreRunsIn, gap_start_after, gap_after, without};
+ghost use Rattle.tcp_streams.specs.Gaps.{AreRunsIn, gap_start_after, gap_after, is_missing, without};
 ghost use Rattle.tcp_streams.specs.Segments.{byte_from, clashes, count_from};
 ghost use Rattle.tcp_streams.specs.SparseBytes.{Sparse, sparse, IsSparse, held_end, available_end, byte_in};
-ghost use Rattle.tcp_streams.specs.SparseBytes.{AddsBytes, CanSkipTo, Fills, Skips, bytes_after_gap, counted, size_of};
+ghost use Rattle.tcp_streams.specs.SparseBytes.{AddsBytes, AllHeld, CanSkipTo, Fills, Skips, bytes_after_gap, counted, size_of};
 
 use super::byte_queue::ByteQueue;
 use super::conflicts::{Conflicts, differences};
@@ -173,8 +173,8 @@ impl SparseBytes {
             ≡ counted (clashes (byte_in self.old) position bytes.now)) }
         ensures err { OnErr result (self.new ≡ self.old) }
         ensures sound { IsSparse self.new }
-        // No bytes take no memory.
-        ensures succeeds { length bytes.now ≡ 0 → IsOk result }
+        // Bytes at positions that hold one take no memory.
+        ensures succeeds { AllHeld (byte_in self.old) position (length bytes.now) → IsOk result }
     {
         let start = (position - self.taken) as usize;
         if start == self.bytes.len() {
@@ -244,6 +244,8 @@ fn insert(
     ensures conflicts { IfOk result (λ conflicts. conflicts
         ≡ counted (clashes (byte_in (sparse taken held.old gaps.old)) position bytes.now)) }
     ensures err { OnErr result ((held.new ≡ held.old) × (gaps.new ≡ gaps.old)) }
+    ensures succeeds { position + length bytes.now ≤ taken + length held.old → is_missing gaps.old position ≡ false
+        → IsOk result }
 {
     let old_len = held.len();
     let len = (position - taken) as usize + bytes.len();

@@ -14,7 +14,7 @@ ghost use Rattle.tcp_streams.specs.Refusals.{window_end, fin_refusal, refusal_of
 ghost use Rattle.tcp_streams.specs.Gaps.{gap_after};
 ghost use Rattle.tcp_streams.specs.Segments.{Placed, byte_at, text_of, fin_of, is_reset, conflicts_with};
 ghost use Rattle.tcp_streams.specs.Segments.{conflicts_of, count_from};
-ghost use Rattle.tcp_streams.specs.SparseBytes.{byte_in, counted, size_of};
+ghost use Rattle.tcp_streams.specs.SparseBytes.{AllHeld, byte_in, counted, size_of};
 ghost use Rattle.tcp_streams.specs.StreamBuf.{Contents, Shows, IsSound, IsBounded, IsLocation, IsLocated};
 ghost use Rattle.tcp_streams.specs.StreamBuf.{IsAfterGap, IsFirstGap, IsGapIn, AnswersAdd, IsAdded};
 ghost use Rattle.tcp_streams.specs.StreamBuf.{available_in, next_in, placed_in, refusal_in};
@@ -349,7 +349,7 @@ impl StreamBuf {
         ensures repeated { IfOk result (λ added. added.repeated ≡ location.skipped
             + count_from (λ p. is_some (byte_in self.old.held p)) location.position (length bytes.now)) }
         ensures memory { IfErr result (λ e. e ≡ Refused.OutOfMemory) }
-        ensures succeeds { length bytes.now ≡ 0 → IsOk result }
+        ensures succeeds { AllHeld (byte_in self.old.held) location.position (length bytes.now) → IsOk result }
         ensures err { OnErr result (self.new ≡ self.old) }
         ensures sound { IsSound self.new }
     {
@@ -413,10 +413,11 @@ impl StreamBuf {
         ensures taken { self.new.held.taken ≡ self.old.held.taken }
         ensures window { self.new.window ≡ self.old.window }
         ensures bounded { IsBounded self.new }
-        // A segment of which no byte is left takes no memory.
+        // A segment of which no byte is new takes no memory.
         ensures succeeds { (ss : List Placed) → Shows self.old ss →
             let s = placed self.old.start self.old.held.taken ss (segment sequence_number flags payload.now) in
-            refusal_of self.old.window self.old.held.taken ss s ≡ None → length s.bytes ≡ 0 → IsOk result }
+            refusal_of self.old.window self.old.held.taken ss s ≡ None
+            → AllHeld (byte_at ss) s.position (length s.bytes) → IsOk result }
     {
         let (location, bytes) = self.locate(sequence_number, flags, payload);
         let number = first_number(sequence_number, flags);

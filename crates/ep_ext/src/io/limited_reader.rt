@@ -1,3 +1,5 @@
+//! Readers with a limit, from which a packet is read layer after layer.
+
 ghost use Rattle.std.specs.Prelude.{◌≡◌, ℕ, ◌+◌, ◌<◌, ◌≤◌, ◌^◌, length, MatchResult};
 ghost use Rattle.ep_ext.specs.Limited.{Limited, at_next_layer, Takes, Refuses};
 

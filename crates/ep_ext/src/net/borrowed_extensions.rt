@@ -1,3 +1,5 @@
+//! Extension headers of an IPv6 packet, found in a row as views, then copied into a value.
+
 ghost use Rattle.std.specs.Prelude.{◌≡◌, ℕ, List, [], ◌++◌, IfOk, IfErr, OnErr, Err, Some, None};
 ghost use Rattle.std.specs.Option.{option_map};
 ghost use Rattle.ep_base.specs.Bytes.{num};

@@ -1,3 +1,5 @@
+//! Extension headers of IPv4 packets as values, read from slices and written.
+
 ghost use Rattle.std.specs.Prelude.{◌≡◌, ◌+◌, ◌≤◌, ◌<◌, ◌^◌, ℕ, List, IfOk, IfErr, IsOkAnd, MatchOption, Err, Ok, None};
 ghost use Rattle.std.specs.Prelude.{Some, Option, is_some, is_none, if◌then◌else◌, length, vec_len, vec_capacity};
 ghost use Rattle.ep_ext.specs.Auth.{IsAuth, auth_of, auth_encoding};

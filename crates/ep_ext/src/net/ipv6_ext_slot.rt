@@ -1,3 +1,5 @@
+//! Slots of extension headers, with the number and the layer of each.
+
 ghost use Rattle.std.specs.Prelude.{◌≡◌};
 ghost use Rattle.ep_ext.specs.Chain.{layer_of};
 ghost use Rattle.ep_ext.specs.Slot.{slot_number};

@@ -1,3 +1,5 @@
+//! Raw extension headers of IPv6 as borrowed bytes.
+
 ghost use Rattle.std.specs.Prelude.{◌≡◌, ℕ, List, drop, Ok, nat_eq};
 ghost use Rattle.std.specs.Cmp.Lexicographic.{pointwise};
 ghost use Rattle.std.specs.Cmp.Rules.{comparing};

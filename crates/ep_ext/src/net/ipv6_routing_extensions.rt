@@ -1,3 +1,5 @@
+//! Routing headers of IPv6 with their final destination options.
+
 ghost use Rattle.std.specs.Prelude.{◌≡◌, ◌≤◌, length, ◌++◌, unwrap_or, []};
 ghost use Rattle.std.specs.Option.{option_map};
 ghost use Rattle.ep_ext.specs.Raw.{raw_encoding};

@@ -1,3 +1,4 @@
+//! ARP packets of Ethernet and IPv4 addresses, as values.
 ghost use Rattle.std.specs.Net.Addr.{ipv4_octets};
 ghost use Rattle.std.specs.Prelude.{◌≡◌};
 ghost use Rattle.ep_link.specs.Arp.{Fits, IsArp, IsArpPacket, fields_of};

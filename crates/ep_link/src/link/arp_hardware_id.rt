@@ -1,3 +1,4 @@
+//! Hardware types of ARP, with those that Linux adds.
 ghost use Rattle.std.specs.Prelude.{◌≡◌, Some};
 ghost use Rattle.std.specs.Fmt.{decimal};
 

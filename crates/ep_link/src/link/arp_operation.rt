@@ -1,3 +1,4 @@
+//! Operations of ARP packets: request, reply and others.
 ghost use Rattle.std.specs.Prelude.{◌≡◌};
 
 /// What an ARP packet is for (RFC 826). A packet holds it in two bytes, high byte first.

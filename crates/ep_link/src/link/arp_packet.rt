@@ -1,3 +1,4 @@
+//! ARP packets of addresses of any type, as values.
 ghost use Rattle.std.specs.Prelude.{◌≡◌, ◌+◌, ◌*◌, ◌≤◌, ℕ, List, ◌++◌, length, Ok, Err, OnOk, OnErr, IsOk, IfOk, IfErr};
 ghost use Rattle.std.specs.Prelude.{IsOkAnd, vec_len, vec_capacity};
 ghost use Rattle.arrayvec.specs.ArrayVec.{array_vec_len};

@@ -1,3 +1,4 @@
+//! Ethernet II headers as values.
 ghost use Rattle.std.specs.Prelude.{◌≡◌, ◌+◌, ◌<◌, ◌≤◌, ℕ, List, ◌++◌, length, drop, Err, OnOk, OnErr, IsOk, IfOk};
 ghost use Rattle.std.specs.Prelude.{IfErr, IsOkAnd, MatchResult, vec_len, vec_capacity};
 ghost use Rattle.ep_base.specs.declared.err.layer.Layer.TheVariants as layer;

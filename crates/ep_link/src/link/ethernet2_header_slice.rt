@@ -1,3 +1,4 @@
+//! Ethernet II headers as borrowed bytes.
 ghost use Rattle.std.specs.Prelude.{◌≡◌, ℕ, List, length, IfErr, nat_eq};
 ghost use Rattle.std.specs.Cmp.Lexicographic.{pointwise};
 ghost use Rattle.std.specs.Cmp.Rules.{comparing};

@@ -1,3 +1,4 @@
+//! The link layer of a packet, borrowed.
 ghost use Rattle.std.specs.Prelude.{◌≡◌};
 ghost use Rattle.ep_link.specs.Link.{fields_of, payload_after, sll_payload_after};
 

@@ -1,3 +1,4 @@
+//! Headers of Linux cooked captures as values.
 ghost use Rattle.std.specs.Prelude.{◌≡◌, ◌+◌, ◌≤◌, ℕ, List, ◌++◌, length, Err, OnOk, OnErr, IsOk, IfOk, IfErr, IsOkAnd};
 ghost use Rattle.std.specs.Prelude.{vec_len, vec_capacity};
 ghost use Rattle.ep_base.specs.SliceError.{content_offset};

@@ -1,3 +1,4 @@
+//! Headers of Linux cooked captures as borrowed bytes.
 ghost use Rattle.std.specs.Prelude.{◌≡◌, IfErr};
 ghost use Rattle.ep_base.specs.SliceError.{content_offset};
 ghost use Rattle.ep_link.specs.Sll.{IsSllHeader};

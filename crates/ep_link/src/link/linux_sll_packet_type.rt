@@ -1,3 +1,5 @@
+//! Packet types of Linux cooked captures: sent to this machine, to others, or by it.
+
 use crate::err::linux_sll::HeaderError;
 use std::marker::Model;
 

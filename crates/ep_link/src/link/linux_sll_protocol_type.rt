@@ -1,3 +1,4 @@
+//! Protocol numbers of Linux cooked captures, whose meaning depends on the hardware type.
 ghost use Rattle.std.specs.Prelude.{◌≡◌};
 ghost use Rattle.ep_link.specs.Sll.{ether_protocol, protocol_of, protocol_number, with_number};
 

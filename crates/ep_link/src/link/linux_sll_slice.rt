@@ -1,3 +1,4 @@
+//! Packets of Linux cooked captures, borrowed.
 ghost use Rattle.std.specs.Prelude.{◌≡◌, ◌≤◌, length, drop, IfErr};
 ghost use Rattle.ep_base.specs.SliceError.{content_offset};
 ghost use Rattle.ep_link.specs.Sll.{sll_len, greatest_packet_type, packet_type_of};

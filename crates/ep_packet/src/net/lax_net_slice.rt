@@ -1,3 +1,4 @@
+//! IP or ARP packets, borrowed, as far as they are there.
 ghost use Rattle.std.specs.Prelude.{◌≡◌};
 ghost use Rattle.std.specs.Option.{option_map};
 ghost use Rattle.ep_ipslice.specs.Compared.{lax_value};

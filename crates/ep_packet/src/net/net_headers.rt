@@ -1,3 +1,4 @@
+//! IP headers with extension headers, or ARP packets, as values.
 ghost use Rattle.std.specs.Prelude.{◌≡◌};
 ghost use Rattle.std.specs.Option.{option_map};
 ghost use Rattle.ep_packet.specs.NetHeaders.{IsNetLinked, arp_in, ipv4_in, ipv6_in, is_arp, is_ip, is_ipv4, is_ipv6};

@@ -1,3 +1,4 @@
+//! UDP, TCP or ICMP headers as values, and their checksums over either IP version.
 ghost use Rattle.std.specs.Prelude.{◌≡◌, ◌+◌, ◌≤◌, ◌++◌, OnOk, OnErr, IfOk, IfErr, IsOk, Ok, Err, vec_len};
 ghost use Rattle.std.specs.Prelude.{vec_capacity};
 ghost use Rattle.std.specs.Option.{option_copied_mut};

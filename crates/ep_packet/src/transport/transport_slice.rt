@@ -1,3 +1,5 @@
+//! UDP datagrams, TCP segments or ICMP messages, borrowed.
+
 use ep_icmp::{Icmpv4Slice, Icmpv6Slice};
 use ep_tcpudp::{TcpSlice, UdpSlice};
 

@@ -1,3 +1,4 @@
+//! An outer and an inner VLAN tag as a value.
 ghost use Rattle.std.specs.Prelude.{◌≡◌, ◌+◌, ◌≤◌, ◌++◌, ℕ, List, Err, OnOk, OnErr, IsOk, IfOk, IfErr, IsOkAnd};
 ghost use Rattle.std.specs.Prelude.{vec_len, vec_capacity};
 ghost use Rattle.ep_base.specs.SliceError.{content_offset};

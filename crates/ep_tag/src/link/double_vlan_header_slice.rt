@@ -1,3 +1,4 @@
+//! An outer and an inner VLAN tag as borrowed bytes.
 ghost use Rattle.std.specs.Prelude.{◌≡◌, ℕ, List, IfErr, nat_eq};
 ghost use Rattle.std.specs.Cmp.Lexicographic.{pointwise};
 ghost use Rattle.std.specs.Cmp.Rules.{comparing};

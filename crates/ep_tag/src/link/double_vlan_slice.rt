@@ -1,3 +1,4 @@
+//! An outer and an inner VLAN tag with the payload of each, borrowed.
 ghost use Rattle.std.specs.Prelude.{◌≡◌, drop};
 ghost use Rattle.ep_tag.specs.Vlan.{vlan_len, single_vlan_header_of, payload_of};
 

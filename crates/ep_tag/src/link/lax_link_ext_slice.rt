@@ -1,3 +1,4 @@
+//! VLAN tags or MACsec headers with their payloads, as far as these are there.
 ghost use Rattle.std.specs.Prelude.{◌≡◌, ◌≤◌, replicate};
 ghost use Rattle.ep_tag.specs.LinkExt.{lax_tag_len, lax_fields_of, lax_payload_after};
 ghost use Rattle.ep_tag.specs.declared.link.lax_link_ext_slice.LaxLinkExtSlice.TheVariants as tag;

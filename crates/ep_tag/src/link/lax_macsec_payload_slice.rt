@@ -1,3 +1,4 @@
+//! Payloads of MACsec headers, as far as they are there.
 ghost use Rattle.std.specs.Prelude.{◌≡◌, option_map};
 ghost use Rattle.ep_tag.specs.MacsecLax.{complete_in, lax_payload_under};
 ghost use Rattle.ep_tag.specs.MacsecView.{lax_payload_parsed, payload_parsed};

@@ -1,3 +1,4 @@
+//! MACsec headers with their payloads, as far as these are there.
 ghost use Rattle.std.specs.Prelude.{◌≡◌, ◌&&◌, length, nat_eq, IfErr, option_map};
 ghost use Rattle.std.specs.Cmp.Lexicographic.{pointwise};
 ghost use Rattle.std.specs.Cmp.Rules.{comparing};

@@ -1,3 +1,4 @@
+//! VLAN tags or MACsec headers as values.
 ghost use Rattle.std.specs.Prelude.{◌≡◌, ◌+◌, ◌≤◌, ◌++◌, length, OnOk, OnErr, IsOk, vec_len, vec_capacity};
 ghost use Rattle.ep_tag.specs.LinkExt.{tag_encoding, next_type_in};
 ghost use Rattle.ep_tag.specs.Vlan.{default_header};

@@ -1,3 +1,4 @@
+//! VLAN tags or MACsec headers with their payloads, borrowed.
 ghost use Rattle.std.specs.Prelude.{◌≡◌, ◌≤◌, replicate};
 ghost use Rattle.ep_tag.specs.LinkExt.{tag_len, fields_of, payload_after};
 ghost use Rattle.ep_tag.specs.declared.link.link_ext_slice.LinkExtSlice.TheVariants as tag;

@@ -1,3 +1,4 @@
+//! MACsec headers as values.
 ghost use Rattle.std.specs.Prelude.{◌≡◌, ◌==◌, ◌&&◌, ℕ, ◌+◌, ◌≤◌, List, [], ◌∷◌, ◌++◌, length, Bool, true, false};
 ghost use Rattle.std.specs.Prelude.{if◌then◌else◌, is_some, Some, None, Err, OnOk, OnErr, IsOk, IfOk, IfErr, IsOkAnd};
 ghost use Rattle.std.specs.Prelude.{vec_len, vec_capacity};

@@ -1,3 +1,5 @@
+//! Whether MACsec encrypted or changed a payload.
+
 use ep_base::EtherType;
 
 /// What follows a MACsec header, by its bits E (encrypted) and C (changed text; IEEE 802.1AE,

@@ -1,3 +1,5 @@
+//! Payloads of MACsec headers, under an ether type or modified.
+
 use super::EtherPayloadSlice;
 
 /// What follows a MACsec header, borrowed.

@@ -1,3 +1,4 @@
+//! VLAN tags as values.
 ghost use Rattle.std.specs.Prelude.{◌≡◌, ◌+◌, ◌^◌, ◌≤◌, List, ℕ, if◌then◌else◌, ◌++◌, length, OnOk, OnErr, IsOk, IfOk};
 ghost use Rattle.std.specs.Prelude.{IfErr, IsOkAnd, Err, Bool, false, vec_len, vec_capacity};
 ghost use Rattle.ep_base.specs.declared.err.layer.Layer.TheVariants as layer;

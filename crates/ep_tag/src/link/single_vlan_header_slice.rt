@@ -1,3 +1,4 @@
+//! VLAN tags as borrowed bytes.
 ghost use Rattle.std.specs.Prelude.{◌≡◌, length, IfErr};
 ghost use Rattle.ep_base.specs.declared.err.layer.Layer.TheVariants as layer;
 ghost use Rattle.ep_tag.specs.Prefix.{prefix_at};

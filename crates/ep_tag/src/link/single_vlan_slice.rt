@@ -1,3 +1,4 @@
+//! VLAN tags with all bytes after them, borrowed.
 ghost use Rattle.std.specs.Prelude.{◌≡◌, ◌≤◌, length, take, drop, replicate, IfErr};
 ghost use Rattle.ep_base.specs.declared.err.layer.Layer.TheVariants as layer;
 ghost use Rattle.ep_tag.specs.Prefix.{whole_at};

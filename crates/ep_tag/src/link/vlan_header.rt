@@ -1,3 +1,4 @@
+//! One or two VLAN tags as a value.
 ghost use Rattle.std.specs.Prelude.{◌≡◌, ◌+◌, ◌≤◌, ◌++◌, length, OnOk, OnErr, IsOk, vec_len, vec_capacity};
 ghost use Rattle.ep_tag.specs.VlanForms.{tags_encoding, last_type_in};
 

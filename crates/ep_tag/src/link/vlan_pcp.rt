@@ -1,3 +1,4 @@
+//! The priority code point of VLAN tags.
 ghost use Rattle.std.specs.Prelude.{◌≡◌, ℕ, ◌≤◌, Some};
 ghost use Rattle.std.specs.Fmt.{decimal};
 ghost use Rattle.ep_base.specs.Bounded.{IsBounded};

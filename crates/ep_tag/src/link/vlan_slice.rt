@@ -1,3 +1,4 @@
+//! One or two VLAN tags with their payload, borrowed.
 ghost use Rattle.std.specs.Prelude.{◌≡◌};
 ghost use Rattle.ep_tag.specs.VlanForms.{fields_of, last_payload_of, tags_len_of};
 

@@ -1,4 +1,4 @@
-//! Laws of the definitions: the contract of each function is the law.
+//! Laws of the reassembly of fragmented IP packets: the contract of each function is the law.
 
 pub mod joined;
 pub mod memory;

@@ -1,4 +1,4 @@
-//! Laws of the definitions: the contract of each function is the law.
+//! Laws of the fragments of one datagram: the contract of each function is the law.
 
 ghost use Rattle.std.specs.Prelude.{◌≡◌, ◌↔◌, IsTrue, List};
 ghost use Rattle.etherparse.specs.Fragments.{Fragment, is_complete, Complete, FragmentsAgree, AcceptedAreDisjoint};

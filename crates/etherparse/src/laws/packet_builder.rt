@@ -1,4 +1,4 @@
-//! Laws of the definitions: the contract of each function is the law.
+//! Laws of the packet builder: the contract of each function is the law.
 
 pub mod builder;
 pub mod frames;

@@ -1,3 +1,5 @@
+//! Errors of readers with a limit.
+
 use ep_base::err::LenError;
 use std::io;
 use thiserror::Error;

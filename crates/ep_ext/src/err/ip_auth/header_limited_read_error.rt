@@ -1,3 +1,5 @@
+//! Errors of authentication headers from a reader with a limit.
+
 ghost use Rattle.std.specs.Prelude.{◌≡◌};
 ghost use Rattle.ep_ext.specs.Reads.{auth_error};
 

@@ -1,3 +1,5 @@
+//! Errors of authentication headers from a reader.
+
 use super::HeaderError;
 use std::io;
 use thiserror::Error;

@@ -1,3 +1,5 @@
+//! The refusal of integrity check values by their length (RFC 4302, section 2.6).
+
 use thiserror::Error;
 
 /// Why bytes are no integrity check value of an authentication header. Each variant holds their

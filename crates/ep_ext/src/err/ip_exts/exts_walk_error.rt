@@ -1,3 +1,5 @@
+//! Faults in the numbers that name extension headers, of either version.
+
 use crate::err::{ipv4_exts, ipv6_exts};
 use thiserror::Error;
 

@@ -1,3 +1,5 @@
+//! Faults in the bytes of extension headers, of IPv4 or IPv6.
+
 use crate::err::{ip_auth, ipv6_exts};
 use thiserror::Error;
 

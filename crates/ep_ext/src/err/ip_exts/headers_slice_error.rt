@@ -1,3 +1,5 @@
+//! Why a slice begins with no extension headers, of IPv4 or IPv6.
+
 use super::HeaderError;
 use ep_base::err::SliceError;
 

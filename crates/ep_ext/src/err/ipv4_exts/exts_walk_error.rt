@@ -1,3 +1,5 @@
+//! An authentication header that the protocol number of IPv4 doesn't name.
+
 use ep_base::IpNumber;
 use thiserror::Error;
 

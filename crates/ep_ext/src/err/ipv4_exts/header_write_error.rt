@@ -1,3 +1,5 @@
+//! Errors of writing the authentication header of an IPv4 packet.
+
 use super::ExtsWalkError;
 use thiserror::Error;
 

@@ -1,3 +1,5 @@
+//! The refusal of payloads of raw extension headers by their length.
+
 use thiserror::Error;
 
 /// Why bytes are no payload of a raw extension header. Each variant holds their number.

@@ -1,3 +1,5 @@
+//! Errors of IPv6 extension headers from a reader with a limit.
+
 use super::HeaderError;
 use ep_base::err::LenError;
 use std::io;

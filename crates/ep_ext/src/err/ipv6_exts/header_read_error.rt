@@ -1,3 +1,5 @@
+//! Errors of IPv6 extension headers from a reader.
+
 use super::HeaderError;
 use std::io;
 use thiserror::Error;

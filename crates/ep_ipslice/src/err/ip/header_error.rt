@@ -1,3 +1,5 @@
+//! Faults in the bytes of IPv4 or IPv6 base headers.
+
 ghost use Rattle.std.specs.Prelude.{◌≡◌};
 ghost use Rattle.ep_ipslice.specs.LaxIp.{ipv4_header_fault, ipv6_header_fault, map_content};
 

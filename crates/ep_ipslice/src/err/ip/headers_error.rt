@@ -1,3 +1,5 @@
+//! Faults in the bytes of IP headers, extension headers included.
+
 use super::HeaderError;
 use ep_ext::err::{ip_auth, ipv6_exts};
 use thiserror::Error;

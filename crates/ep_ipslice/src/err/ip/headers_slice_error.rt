@@ -1,3 +1,5 @@
+//! Why a slice begins with no IP headers, extension headers included.
+
 ghost use Rattle.std.specs.Prelude.{◌≡◌};
 ghost use Rattle.ep_ipslice.specs.IpFault.{CanMove, headers_fault, offset_by};
 

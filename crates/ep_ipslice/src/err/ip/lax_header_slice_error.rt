@@ -1,3 +1,5 @@
+//! Why a slice begins with no IP base header.
+
 use super::HeaderError;
 use ep_base::err::SliceError;
 

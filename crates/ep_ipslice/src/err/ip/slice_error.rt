@@ -1,3 +1,5 @@
+//! Why a slice begins with no IP packet of either version.
+
 ghost use Rattle.std.specs.Prelude.{◌≡◌};
 ghost use Rattle.ep_ipslice.specs.IpSlice.{ipv4_fault, ipv6_fault};
 

@@ -1,3 +1,5 @@
+//! Why a slice begins with no IPv4 packet.
+
 use ep_base::err::LenError;
 use ep_ext::err::ip_auth;
 use ep_ip::err::ipv4::HeaderError;

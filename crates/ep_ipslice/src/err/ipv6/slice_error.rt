@@ -1,3 +1,5 @@
+//! Why a slice begins with no IPv6 packet.
+
 ghost use Rattle.std.specs.Prelude.{◌≡◌};
 ghost use Rattle.ep_base.specs.SliceError.{CanMove};
 ghost use Rattle.ep_ipslice.specs.Ipv6Fault.{of_exts_fault, of_header_fault};

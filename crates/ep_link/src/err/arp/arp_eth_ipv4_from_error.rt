@@ -1,3 +1,5 @@
+//! ARP packets of other addresses than Ethernet's and IPv4's.
+
 use crate::ArpHardwareId;
 use ep_base::EtherType;
 use thiserror::Error;

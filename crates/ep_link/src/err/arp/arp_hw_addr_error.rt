@@ -1,3 +1,5 @@
+//! The refusal of hardware addresses by their lengths (RFC 826).
+
 use thiserror::Error;
 
 /// What is wrong with the hardware addresses of an ARP packet (RFC 826).

@@ -1,3 +1,5 @@
+//! The refusal of hardware or protocol addresses of an ARP packet.
+
 ghost use Rattle.std.specs.Prelude.{◌≡◌};
 ghost use Rattle.ep_link.specs.declared.err.arp.arp_new_error.ArpNewError.TheVariants as fault;
 

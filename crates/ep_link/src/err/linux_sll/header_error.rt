@@ -1,3 +1,5 @@
+//! Faults in the bytes of the header of a Linux cooked capture.
+
 use crate::ArpHardwareId;
 use thiserror::Error;
 

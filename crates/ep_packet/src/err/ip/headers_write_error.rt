@@ -1,3 +1,5 @@
+//! Errors of writing IP headers and their extension headers.
+
 ghost use Rattle.std.specs.Prelude.{◌≡◌};
 ghost use Rattle.ep_packet.specs.HeadersWriteError.{is_memory, ipv4_exts_in, ipv6_exts_in};
 

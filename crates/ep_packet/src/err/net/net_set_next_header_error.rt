@@ -1,3 +1,5 @@
+//! The refusal of a next header number by an ARP packet.
+
 use thiserror::Error;
 
 /// Why no next header number was set in headers of the network layer.

@@ -1,3 +1,5 @@
+//! Faults in a packet, by the layer that has one.
+
 use ep_base::err::LenError;
 use ep_ext::err::{ip_auth, ipv6_exts};
 use ep_ip::err::{ipv4, ipv6};

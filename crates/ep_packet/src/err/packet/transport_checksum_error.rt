@@ -1,3 +1,5 @@
+//! The refusal of checksums over IPv4: of long payloads, and of ICMPv6.
+
 use ep_base::err::ValueTooBigError;
 use thiserror::Error;
 

@@ -1,3 +1,5 @@
+//! Faults in the bytes of two VLAN tags.
+
 use ep_base::EtherType;
 use thiserror::Error;
 

@@ -1,3 +1,5 @@
+//! Faults in the bytes of a MACsec header.
+
 use thiserror::Error;
 
 /// What is wrong with the bytes of a MACsec header.

@@ -1,3 +1,5 @@
+//! Errors of packet builders.
+
 ghost use Rattle.std.specs.Prelude.{◌≡◌};
 ghost use Rattle.etherparse.specs.BuildWriteError.{is_icmpv6_in_ipv4, is_memory, ipv4_exts_in, ipv6_exts_in};
 ghost use Rattle.etherparse.specs.BuildWriteError.{payload_len_in};

@@ -1,6 +1,6 @@
 use Rattle.std.proofs.Common.{◌∙◌, ◌+◌, ap, length, refl, arith}
 use Rattle.tcp_streams.specs.SparseBytes.{AddsBytes, IsSparse, sparse, counted}
-use Rattle.tcp_streams.proofs.RunLemmas.{runs_of_gaps, runs_weaker, split_whole}
+use Rattle.tcp_streams.proofs.RunLemmas.{crosses_no_missing, runs_of_gaps, runs_weaker, split_whole}
 use Rattle.tcp_streams.proofs.SparseLemmas.{added, long_clashes, long_size, split_clashes, split_order}
 use Rattle.tcp_streams.proofs.sparse_bytes.insert.Goals as goal
 
@@ -54,3 +54,8 @@ returns-clause-conflicts c =
     merged ∙ ap counted (split_clashes c.args.taken c.args.position _ c.args.bytes.now _
     ∙ long_clashes (sparse c.args.taken c.args.held.now c.args.gaps.now) c.args.position _
     c.args.bytes.now c.requires.sparse c.requires.after c.requires.some c.requires.short refl)
+
+pub returns-in-Err-clause-succeeds : goal.returns-in-Err-clause-succeeds
+returns-in-Err-clause-succeeds c within none =
+    c.in-Err.ensures.succeeds (omega (arith, within, c.requires.after, c.len-old_len.ensures))
+    (crosses_no_missing c.args.position c.args.gaps.now none)

@@ -1,6 +1,6 @@
 use Rattle.std.proofs.Common.{◌∙◌, ◌^◌, arith, sym, ap}
 use Rattle.tcp_streams.specs.Gaps.{gaps_of, split_at}
-use Rattle.tcp_streams.proofs.RunLemmas.{never_err, split_far, split_found, split_is, split_none, when_ok}
+use Rattle.tcp_streams.proofs.RunLemmas.{crosses_after, never_err, split_far, split_found, split_is, split_none, when_ok}
 use Rattle.tcp_streams.proofs.gap_tree.GapTree.split.Goals as goal
 
 pub returns-in_default-clause-ok : goal.returns-in_default-clause-ok
@@ -34,3 +34,8 @@ returns-clause-ok c =
     let halves = split_is 0 (2 ^ 64) c.args.position c.self.inside.starts.entries c.in-Some.gap order (sym is)
     (omega (arith, c.if-position-gap.false)) in
     ap gaps_of second ∙ halves ∙ ap (split_at c.args.position) c.self.view_is
+
+pub returns-in_err-insert-clause-succeeds : goal.returns-in_err-insert-clause-succeeds
+returns-in_err-insert-clause-succeeds c none =
+    absurd (crosses_after c.args.position c.args.self.now c.in-Some.gap none (sym c.in-Some.ensures)
+    (omega (arith, c.if-position-gap.false)))

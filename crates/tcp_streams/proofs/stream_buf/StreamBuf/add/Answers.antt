@@ -4,7 +4,7 @@ use Rattle.tcp_streams.specs.declared.stream_buf.Added.{Added}
 use Rattle.tcp_streams.specs.Placing.{segment}
 use Rattle.tcp_streams.specs.StreamBuf.{IsAdded, placed_in, refusal_in}
 use Rattle.tcp_streams.proofs.BufLemmas.{bounded, answers_refusal, answers_none, located_after, located_within}
-use Rattle.tcp_streams.proofs.BufLemmas.{no_byte_left, placed_low, refused_not}
+use Rattle.tcp_streams.proofs.BufLemmas.{all_held, placed_low, refused_not}
 use Rattle.tcp_streams.proofs.BufLemmas.{add_shows, add_position, add_conflicts, add_start, add_joined_late}
 use Rattle.tcp_streams.proofs.BufLemmas.{add_repeated, add_same}
 use Rattle.tcp_streams.proofs.stream_buf.StreamBuf.add.Goals as goal
@@ -107,7 +107,7 @@ pub returns-in-None-clause-bounded : goal.returns-in-None-clause-bounded
 returns-in-None-clause-bounded c = bounded c.accept.new.self c.accept.ensures.sound
 
 pub returns-in-Some-clause-succeeds : goal.returns-in-Some-clause-succeeds
-returns-in-Some-clause-succeeds c ss shows none empty =
+returns-in-Some-clause-succeeds c ss shows none held =
     let a = segment c.args.sequence_number c.args.flags c.args.payload.now in
     let located = c.locate.ensures.located in
     absurd (refused_not c.args.self.now ss a c.locate.ensures.sound shows c.in-Some.refused
@@ -115,7 +115,8 @@ returns-in-Some-clause-succeeds c ss shows none empty =
     ∙ c.in-Some.is) none)
 
 pub returns-in-None-clause-succeeds : goal.returns-in-None-clause-succeeds
-returns-in-None-clause-succeeds c ss shows none empty =
+returns-in-None-clause-succeeds c ss shows none held =
     let a = segment c.args.sequence_number c.args.flags c.args.payload.now in
-    c.accept.ensures.succeeds (ap length c.locate.ensures.located.bytes
-    ∙ no_byte_left c.args.self.now ss a c.locate.ensures.sound shows empty)
+    let located = c.locate.ensures.located in
+    c.accept.ensures.succeeds (rw (located.position, located.bytes)
+    (all_held c.args.self.now ss a c.locate.ensures.sound shows held))
