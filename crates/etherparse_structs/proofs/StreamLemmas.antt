@@ -2,9 +2,9 @@
 use Rattle.std.proofs.Common.{arith, inl, inr, refl, ◌≡◌, ◌⊎◌, ◌+◌, ap, ap₂, sym, subst, ◌∙◌, ℕ, List, [], ◌∷◌, ◌++◌}
 use Rattle.std.proofs.Common.{Option, Some, None, true, Result, Ok, Err, OnOk, OnErr, IfOk, IsOk, length, is_some, not}
 use Rattle.std.proofs.Common.{if◌then◌else◌, drop, min, take}
-use Rattle.tcp_streams.specs.Placing.{Segment, placed, start_number}
+use Rattle.tcp_streams.specs.Segments.{Segment, placed, start_number}
 use Rattle.tcp_streams.specs.Refusals.{refusal_of}
-use Rattle.tcp_streams.specs.Segments.{Placed, byte_at, conflicts_with, text_of}
+use Rattle.tcp_streams.specs.PlacedSegments.{Placed, byte_at, conflicts_with, text_of}
 use Rattle.tcp_streams.specs.SparseBytes.{AllHeld, counted}
 use Rattle.tcp_streams.specs.StreamBuf.{AnswersAdd, Contents, Shows, available_in}
 use Rattle.tcp_streams.specs.declared.refusal.Refused.{Refused}

@@ -2,9 +2,9 @@
 use Rattle.std.specs.Prelude.{◌≡◌, ◌⊎◌, ◌↔◌, ℕ, ◌+◌, ◌<◌, ◌≤◌, Bool, true, false, not, if◌then◌else◌, min}
 use Rattle.std.specs.Prelude.{Option, Some, None, IfSome, IfNone, IsTrue, is_some}
 use Rattle.std.specs.Prelude.{List, [], ◌∷◌, ◌++◌, length, take, drop}
-use Rattle.tcp_streams.specs.Placing.{Segment, placed, segment, start_number}
+use Rattle.tcp_streams.specs.Segments.{Segment, placed, segment, start_number}
 use Rattle.tcp_streams.specs.Refusals.{refusal_of}
-use Rattle.tcp_streams.specs.Segments.{Placed, byte_at, conflicts_of, conflicts_with, fin_of, is_reset, text_of}
+use Rattle.tcp_streams.specs.PlacedSegments.{Placed, byte_at, conflicts_of, conflicts_with, fin_of, is_reset, text_of}
 use Rattle.tcp_streams.specs.SparseBytes.{counted}
 use Rattle.tcp_streams.specs.StreamBuf.{Contents, IsFirstGap, Shows}
 use Rattle.tcp_streams.specs.declared.gaps.Gap.{Gap}

@@ -7,7 +7,7 @@ use Rattle.std.proofs.lemmas.List.{drop-drop, length-take, length-drop, get_or-t
 use Rattle.std.specs.Prelude.{IfNone, IfSome, IsSome}
 use Rattle.tcp_streams.specs.declared.gaps.Gap.{Gap}
 use Rattle.tcp_streams.specs.Gaps.{AreGapsIn, AreRunsIn, gap_start_after, gap_after, is_missing}
-use Rattle.tcp_streams.specs.Segments.{Placed, byte_at, text_of}
+use Rattle.tcp_streams.specs.PlacedSegments.{Placed, byte_at, text_of}
 use Rattle.tcp_streams.specs.SparseBytes.{Sparse, IsSparse, byte_in, bytes_after_gap, held_end}
 use Rattle.tcp_streams.specs.StreamBuf.{Contents, Shows, IsAfterGap, available_in}
 use Rattle.tcp_streams.proofs.BufLemmas.{shows_text}

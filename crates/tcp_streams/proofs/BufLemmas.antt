@@ -16,10 +16,10 @@ use Rattle.tcp_streams.specs.declared.sequence_numbers.Distance.TheVariants.{Aft
 use Rattle.tcp_streams.specs.declared.stream_buf.Added.{Added}
 use Rattle.tcp_streams.specs.declared.stream_buf.Location.{Location}
 use Rattle.tcp_streams.specs.Gaps.{AreGapsIn, first_gap_start, is_missing}
-use Rattle.tcp_streams.specs.Placing.{Segment, bytes_of, next_position, placed, placed_at, distance_from, repeated_of, start_number}
+use Rattle.tcp_streams.specs.Segments.{Segment, bytes_of, next_position, placed, placed_at, distance_from, repeated_of, start_number}
 use Rattle.tcp_streams.specs.Refusals.{fin_refusal, refusal_by, refusal_of, window_end}
-use Rattle.tcp_streams.specs.Segments.{Placed, end_of, byte_at, bytes_from, text_of, fin_of}
-use Rattle.tcp_streams.specs.Segments.{clashes, conflicts_with, conflicts_of, count_from, differs}
+use Rattle.tcp_streams.specs.PlacedSegments.{Placed, end_of, byte_at, bytes_from, text_of, fin_of}
+use Rattle.tcp_streams.specs.PlacedSegments.{clashes, conflicts_with, conflicts_of, count_from, differs}
 use Rattle.tcp_streams.specs.SparseBytes.{AllHeld, Sparse, sparse, IsSparse, byte_in, held_end, available_end, counted}
 use Rattle.tcp_streams.specs.StreamBuf.{Contents, Shows, IsSound, IsBounded, IsFirstGap, IsLocated, IsAdded}
 use Rattle.tcp_streams.specs.StreamBuf.{AnswersAdd, Accepts, available_in, next_in, placed_in, refusal_in}

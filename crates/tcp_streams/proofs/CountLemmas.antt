@@ -1,6 +1,6 @@
 -- How many positions have something.
 use Rattle.std.proofs.Common.{◌≡◌, ℕ, zero, suc, ◌+◌, ◌<◌, ◌≤◌, Bool, true, false, cond, not, arith, refl}
-use Rattle.tcp_streams.specs.Segments.{count_from}
+use Rattle.tcp_streams.specs.PlacedSegments.{count_from}
 
 one_most : (b : Bool) (x n : ℕ) → x ≤ n → cond b 1 0 + x ≤ suc n
 one_most true x n h = omega arith

@@ -17,7 +17,7 @@ use Rattle.tcp_streams.specs.Counting.{AreLost, AreOutcomes, Arrival, Counts, Co
 use Rattle.tcp_streams.specs.Counting.{IsLost, IsOutcome, Outcome, course_arrivals, connection_in, connection_past}
 use Rattle.tcp_streams.specs.Counting.{connection_without_all, counter_with, counts_of, counts_with, counts_without, lost_size}
 use Rattle.tcp_streams.specs.Following.{Connection, Follows, connection_without, no_connection, side_in}
-use Rattle.tcp_streams.specs.Segments.{text_of}
+use Rattle.tcp_streams.specs.PlacedSegments.{text_of}
 use Rattle.tcp_streams.proofs.BufLemmas.{taken_in_text}
 use Rattle.tcp_streams.proofs.LossLemmas.{lost_bounds}
 

@@ -17,9 +17,9 @@ use Rattle.tcp_streams.specs.declared.refusal.Refused.TheVariants.{OutOfMemory}
 use Rattle.tcp_streams.specs.ConnectionStates.{state_after}
 use Rattle.tcp_streams.specs.Following.Step.{Comes, GivesUp}
 use Rattle.tcp_streams.specs.Losses.{lost_of, with_given_up}
-use Rattle.tcp_streams.specs.Placing.{Segment, placed, repeated_of, start_number}
+use Rattle.tcp_streams.specs.Segments.{Segment, placed, repeated_of, start_number}
 use Rattle.tcp_streams.specs.Refusals.{refusal_of}
-use Rattle.tcp_streams.specs.Segments.{Placed, conflicts_with, text_of}
+use Rattle.tcp_streams.specs.PlacedSegments.{Placed, conflicts_with, text_of}
 use Rattle.tcp_streams.specs.SparseBytes.{counted}
 use Rattle.tcp_streams.specs.StreamBuf.{Contents, IsGapIn, Shows}
 use Rattle.tcp_streams.proofs.BufLemmas.{taken_in_text}

@@ -2,7 +2,7 @@
 use Rattle.std.proofs.Common.{◌≡◌, ℕ, ◌+◌, ◌-◌, ◌^◌, ◌<◌, ◌≤◌, Bool, true, false, cond, not, Option, Some, None, is_some, min}
 use Rattle.std.proofs.Common.{arith, refl}
 use Rattle.tcp_streams.specs.Gaps.{AreRunsIn, is_missing}
-use Rattle.tcp_streams.specs.Segments.{count_from}
+use Rattle.tcp_streams.specs.PlacedSegments.{count_from}
 use Rattle.tcp_streams.specs.SparseBytes.{IsSparse, Sparse, byte_in, held_end}
 use Rattle.tcp_streams.proofs.CountLemmas.{count_from-none, count_from-not, count_from-split}
 use Rattle.tcp_streams.proofs.RunLemmas.{runs_of_gaps, runs_weaker}

@@ -8,8 +8,8 @@ use Rattle.std.proofs.lemmas.List.{append_assoc}
 use Rattle.std.specs.Prelude.{Contains, ◌==◌}
 use Rattle.std.specs.Option.{option_or}
 use Rattle.std.specs.List.{AllByRecursion}
-use Rattle.tcp_streams.specs.Segments.{Placed, end_of, byte_from, byte_at, last_end, bytes_from, differs}
-use Rattle.tcp_streams.specs.Segments.{clashes, conflicts_with, conflicts_after, conflicts_of}
+use Rattle.tcp_streams.specs.PlacedSegments.{Placed, end_of, byte_from, byte_at, last_end, bytes_from, differs}
+use Rattle.tcp_streams.specs.PlacedSegments.{clashes, conflicts_with, conflicts_after, conflicts_of}
 use Rattle.tcp_streams.specs.Laws.{IsPartOf, is_covered, OneTextHasNoConflict, OneTextGivesPrefix, OneTextGivesAll}
 use Rattle.tcp_streams.specs.Laws.{TextStays}
 use Rattle.tcp_streams.specs.Laws.{OrderDoesNotMatter}

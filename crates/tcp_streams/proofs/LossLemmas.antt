@@ -10,9 +10,9 @@ use Rattle.tcp_streams.specs.declared.sequence_numbers.Distance.{Distance}
 use Rattle.tcp_streams.specs.declared.sequence_numbers.Distance.TheVariants.{After, Before}
 use Rattle.tcp_streams.specs.Gaps.{AreGapsIn, first_gap_start, is_missing}
 use Rattle.tcp_streams.specs.Losses.{acknowledged, acknowledged_at, gap_between, given_up, lost_after, lost_by, lost_in, lost_of}
-use Rattle.tcp_streams.specs.Placing.{next_position}
+use Rattle.tcp_streams.specs.Segments.{next_position}
 use Rattle.tcp_streams.specs.Refusals.{window_end}
-use Rattle.tcp_streams.specs.Segments.{Placed, byte_at, byte_from, clashes, fin_of, text_of}
+use Rattle.tcp_streams.specs.PlacedSegments.{Placed, byte_at, byte_from, clashes, fin_of, text_of}
 use Rattle.tcp_streams.specs.SequenceNumbers.{distance}
 use Rattle.tcp_streams.specs.SparseBytes.{CanSkipTo, IsSparse, Skips, Sparse, available_end, held_end, sparse}
 use Rattle.tcp_streams.specs.StreamBuf.{Contents, IsGapIn, Shows, next_in}

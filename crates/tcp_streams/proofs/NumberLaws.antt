@@ -9,13 +9,13 @@ use Rattle.std.specs.Prelude.{is_some}
 use Rattle.tcp_streams.specs.declared.segment_flags.SegmentFlags.{SegmentFlags}
 use Rattle.tcp_streams.specs.declared.sequence_numbers.Distance.{Distance}
 use Rattle.tcp_streams.specs.declared.sequence_numbers.Distance.TheVariants.{After, Before}
-use Rattle.tcp_streams.specs.Laws.{IsPartOf, IsCutOf, CutsArePlaced, Arrival, with_accepted, start_after}
+use Rattle.tcp_streams.specs.Laws.{IsPartOf, IsCutOf, CutsArePlaced, ReceivedSegment, with_accepted, start_after}
 use Rattle.tcp_streams.specs.Laws.{with_all_accepted, number_later, segment_later, NumbersAreRelative}
-use Rattle.tcp_streams.specs.Placing.{Segment, bytes_of, first_number, start_number, distance_from, placed}
-use Rattle.tcp_streams.specs.Placing.{placed_at}
-use Rattle.tcp_streams.specs.Placing.{next_position}
+use Rattle.tcp_streams.specs.Segments.{Segment, bytes_of, first_number, start_number, distance_from, placed}
+use Rattle.tcp_streams.specs.Segments.{placed_at}
+use Rattle.tcp_streams.specs.Segments.{next_position}
 use Rattle.tcp_streams.specs.Refusals.{refusal_of}
-use Rattle.tcp_streams.specs.Segments.{Placed}
+use Rattle.tcp_streams.specs.PlacedSegments.{Placed}
 use Rattle.tcp_streams.specs.SequenceNumbers.{distance}
 use Rattle.tcp_streams.proofs.NumberLemmas.{distance-after, distance-before, distance-later}
 
@@ -103,12 +103,12 @@ start_later k next (Some start) n flags =
     ap (distance ((number_later k start + next) % 2 ^ 32)) first
     ∙ ap (λ (e : ℕ). distance e ((m + k) % 2 ^ 32)) later ∙ distance-later m (start + next) k
 
-same_position : (k : ℕ) (d : Distance) (next : ℕ) (a : Arrival)
+same_position : (k : ℕ) (d : Distance) (next : ℕ) (a : ReceivedSegment)
     → placed_at d next a.taken (segment_later k a).segment ≡ placed_at d next a.taken a.segment
 same_position k (After n) next a = refl
 same_position k (Before n) next a = refl
 
-placed_later : (k : ℕ) (start : Option ℕ) (ss : List Placed) (a : Arrival)
+placed_later : (k : ℕ) (start : Option ℕ) (ss : List Placed) (a : ReceivedSegment)
     → placed (option_map (number_later k) start) a.taken ss (segment_later k a).segment ≡ placed start a.taken ss a.segment
 placed_later k start ss a =
     ap (λ (d : Distance). placed_at d (next_position ss) a.taken (segment_later k a).segment)
@@ -116,7 +116,7 @@ placed_later k start ss a =
     ∙ same_position k (distance_from (next_position ss) (start_number start a.segment.number a.segment.flags) a.segment)
     (next_position ss) a
 
-accepted_later : (window k : ℕ) (start : Option ℕ) (ss : List Placed) (a : Arrival)
+accepted_later : (window k : ℕ) (start : Option ℕ) (ss : List Placed) (a : ReceivedSegment)
     → with_accepted window (option_map (number_later k) start) ss (segment_later k a) ≡ with_accepted window start ss a
 accepted_later window k start ss a = rw (placed_later k start ss a)
 
@@ -133,7 +133,7 @@ start_either : (k : ℕ) (refused : Bool) (start : Option ℕ) (n : ℕ) (flags 
 start_either k true start n flags = refl
 start_either k false start n flags = ap Some (started k n start flags)
 
-start_after_later : (window k : ℕ) (start : Option ℕ) (ss : List Placed) (a : Arrival)
+start_after_later : (window k : ℕ) (start : Option ℕ) (ss : List Placed) (a : ReceivedSegment)
     → start_after window (option_map (number_later k) start) ss (segment_later k a)
     ≡ option_map (number_later k) (start_after window start ss a)
 start_after_later window k start ss a =
@@ -141,7 +141,7 @@ start_after_later window k start ss a =
     (start_either k (is_some (refusal_of window a.taken ss (placed start a.taken ss a.segment))) start a.segment.number
     a.segment.flags)
 
-relative : (window k : ℕ) (start : Option ℕ) (ss : List Placed) (arrivals : List Arrival)
+relative : (window k : ℕ) (start : Option ℕ) (ss : List Placed) (arrivals : List ReceivedSegment)
     → with_all_accepted window (option_map (number_later k) start) ss (map (segment_later k) arrivals)
     ≡ with_all_accepted window start ss arrivals
 relative window k start ss [] = refl

@@ -14,7 +14,7 @@ use Rattle.std.specs.declared.ops.Bound.TheVariants.{Excluded, Unbounded}
 use Rattle.tcp_streams.specs.declared.gaps.Gap.{Gap}
 use Rattle.tcp_streams.specs.Gaps.{AreGapsIn, AreRunsIn, gap_after, gaps_of, is_missing, crosses_one, missing_from}
 use Rattle.tcp_streams.specs.Gaps.{clipped, split_at, with_gap, without}
-use Rattle.tcp_streams.specs.Segments.{count_from}
+use Rattle.tcp_streams.specs.PlacedSegments.{count_from}
 use Rattle.tcp_streams.proofs.CountLemmas.{count_from-none, count_from-split}
 
 -- ---- order

@@ -5,8 +5,8 @@ use Rattle.std.proofs.lemmas.Bool.Decides.{nat_tests}
 use Rattle.std.proofs.lemmas.List.{append_assoc, append-nil}
 use Rattle.std.specs.Prelude.{IsSome}
 use Rattle.std.specs.Option.{option_or}
-use Rattle.tcp_streams.specs.Segments.{Placed, end_of, is_empty, byte_from, byte_at, last_end, bytes_from}
-use Rattle.tcp_streams.specs.Segments.{fin_of, is_reset, differs, clashes, conflicts_with, conflicts_after}
+use Rattle.tcp_streams.specs.PlacedSegments.{Placed, end_of, is_empty, byte_from, byte_at, last_end, bytes_from}
+use Rattle.tcp_streams.specs.PlacedSegments.{fin_of, is_reset, differs, clashes, conflicts_with, conflicts_after}
 
 -- ---- one more segment
 

@@ -12,7 +12,7 @@ use Rattle.std.specs.Prelude.{◌==◌}
 use Rattle.tcp_streams.specs.declared.gaps.Gap.{Gap}
 use Rattle.tcp_streams.specs.Gaps.{is_missing, AreGapsIn, AreRunsIn, first_gap_start, split_at}
 use Rattle.tcp_streams.specs.Gaps.{with_gap, without}
-use Rattle.tcp_streams.specs.Segments.{byte_from, differs, clashes}
+use Rattle.tcp_streams.specs.PlacedSegments.{byte_from, differs, clashes}
 use Rattle.tcp_streams.specs.SparseBytes.{Sparse, sparse, IsSparse, held_end, byte_in, available_end, end_with}
 use Rattle.tcp_streams.specs.SparseBytes.{AddsBytes, Fills}
 use Rattle.tcp_streams.proofs.GapLemmas.{is_missing-append, is_missing-without, gaps_weaker, gaps_end, gaps_push}

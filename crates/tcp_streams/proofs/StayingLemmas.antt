@@ -10,8 +10,8 @@ use Rattle.tcp_streams.specs.declared.gaps.Gap.{Gap}
 use Rattle.tcp_streams.specs.Following.{side_without, taken_of}
 use Rattle.tcp_streams.specs.Laws.{BytesStay, LateBytesAreLeftOut}
 use Rattle.tcp_streams.specs.Losses.{given_up}
-use Rattle.tcp_streams.specs.Placing.{distance_from, next_position, start_number}
-use Rattle.tcp_streams.specs.Segments.{Placed, byte_at, bytes_from, last_end, text_of, with_byte}
+use Rattle.tcp_streams.specs.Segments.{distance_from, next_position, start_number}
+use Rattle.tcp_streams.specs.PlacedSegments.{Placed, byte_at, bytes_from, last_end, text_of, with_byte}
 use Rattle.tcp_streams.proofs.BufLemmas.{placed_after, some_or}
 use Rattle.tcp_streams.proofs.LossLemmas.{zeros}
 use Rattle.tcp_streams.proofs.SegmentLemmas.{byte_at-push, byte_from-here, last_end-push, length-bytes_from}

@@ -16,9 +16,9 @@ use Rattle.tcp_streams.specs.declared.refusal.Refused.TheVariants.{OutsideWindow
 use Rattle.tcp_streams.specs.declared.segment_flags.SegmentFlags.{SegmentFlags}
 use Rattle.tcp_streams.specs.ConnectionStates.{control_in, state_after}
 use Rattle.tcp_streams.specs.Losses.{given_up, lost_of}
-use Rattle.tcp_streams.specs.Placing.{Segment, placed, repeated_of, segment, start_number}
+use Rattle.tcp_streams.specs.Segments.{Segment, placed, repeated_of, segment, start_number}
 use Rattle.tcp_streams.specs.Refusals.{refusal_of}
-use Rattle.tcp_streams.specs.Segments.{Placed, conflicts_with, text_of}
+use Rattle.tcp_streams.specs.PlacedSegments.{Placed, conflicts_with, text_of}
 use Rattle.tcp_streams.specs.SparseBytes.{counted, size_of}
 use Rattle.tcp_streams.specs.StreamBuf.{Contents, Shows, IsGapIn}
 

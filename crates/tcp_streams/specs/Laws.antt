@@ -7,9 +7,9 @@ use Rattle.std.specs.Option.{option_map}
 use Rattle.tcp_streams.specs.declared.gaps.Gap.{Gap}
 use Rattle.tcp_streams.specs.Following.{Side, placed_on, side_without}
 use Rattle.tcp_streams.specs.Losses.{given_up}
-use Rattle.tcp_streams.specs.Placing.{Segment, first_number, placed, next_position, start_number}
+use Rattle.tcp_streams.specs.Segments.{Segment, first_number, placed, next_position, start_number}
 use Rattle.tcp_streams.specs.Refusals.{refusal_of}
-use Rattle.tcp_streams.specs.Segments.{Placed, byte_at, end_of, text_of, conflicts_of}
+use Rattle.tcp_streams.specs.PlacedSegments.{Placed, byte_at, end_of, text_of, conflicts_of}
 
 -- ---- segments of one text
 
@@ -82,24 +82,24 @@ LateBytesAreLeftOut = (kept : ℕ) (side : Side) (gap : Gap) (s : Segment) → g
 -- ---- the number of the first byte
 
 -- a segment, and how many bytes were taken when it came
-pub record Arrival : Type 0 where
+pub record ReceivedSegment : Type 0 where
   pub taken : ℕ
   pub segment : Segment
 
 -- the list with this segment at its end, unless it is refused
-abbrev pub with_accepted : (window : ℕ) → Option ℕ → List Placed → Arrival → List Placed
+abbrev pub with_accepted : (window : ℕ) → Option ℕ → List Placed → ReceivedSegment → List Placed
 with_accepted window start ss a =
     let s = placed start a.taken ss a.segment in
     if is_some (refusal_of window a.taken ss s) then ss else ss ++ s ∷ []
 
 -- the number of position 0 after it
-abbrev pub start_after : (window : ℕ) → Option ℕ → List Placed → Arrival → Option ℕ
+abbrev pub start_after : (window : ℕ) → Option ℕ → List Placed → ReceivedSegment → Option ℕ
 start_after window start ss a =
     if is_some (refusal_of window a.taken ss (placed start a.taken ss a.segment)) then start
     else Some (start_number start a.segment.number a.segment.flags)
 
 -- those of the segments that are accepted, each after those before it
-abbrev pub with_all_accepted : (window : ℕ) → Option ℕ → List Placed → List Arrival → List Placed
+abbrev pub with_all_accepted : (window : ℕ) → Option ℕ → List Placed → List ReceivedSegment → List Placed
 with_all_accepted window start ss [] = ss
 with_all_accepted window start ss (a ∷ rest) =
     with_all_accepted window (start_after window start ss a) (with_accepted window start ss a) rest
@@ -108,11 +108,11 @@ with_all_accepted window start ss (a ∷ rest) =
 abbrev pub number_later : ℕ → ℕ → ℕ
 number_later k n = (n + k) % 2 ^ 32
 
-abbrev pub segment_later : ℕ → Arrival → Arrival
+abbrev pub segment_later : ℕ → ReceivedSegment → ReceivedSegment
 segment_later k a = record a { segment = record a.segment { number = number_later k a.segment.number } }
 
 -- what becomes of segments doesn't depend on the number of the first byte
 abbrev pub NumbersAreRelative : Type 0
-NumbersAreRelative = (window k : ℕ) (start : Option ℕ) (arrivals : List Arrival)
+NumbersAreRelative = (window k : ℕ) (start : Option ℕ) (arrivals : List ReceivedSegment)
     → with_all_accepted window (option_map (number_later k) start) [] (map (segment_later k) arrivals)
     ≡ with_all_accepted window start [] arrivals

@@ -7,7 +7,7 @@ pub mod Gaps
 pub mod Laws
 pub mod Losses
 pub mod PacketKeys
-pub mod Placing
+pub mod PlacedSegments
 pub mod Refusals
 pub mod Segments
 pub mod SequenceNumbers

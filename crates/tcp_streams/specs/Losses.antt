@@ -4,9 +4,9 @@ use Rattle.std.specs.Prelude.{Option, Some, None, List, [], ◌∷◌, ◌++◌,
 use Rattle.tcp_streams.specs.declared.gaps.Gap.{Gap}
 use Rattle.tcp_streams.specs.declared.sequence_numbers.Distance.{Distance}
 use Rattle.tcp_streams.specs.declared.sequence_numbers.Distance.TheVariants.{After, Before}
-use Rattle.tcp_streams.specs.Placing.{next_position}
+use Rattle.tcp_streams.specs.Segments.{next_position}
 use Rattle.tcp_streams.specs.Refusals.{window_end}
-use Rattle.tcp_streams.specs.Segments.{Placed, fin_of, placed_segment, text_of}
+use Rattle.tcp_streams.specs.PlacedSegments.{Placed, fin_of, placed_segment, text_of}
 use Rattle.tcp_streams.specs.SequenceNumbers.{distance}
 use Rattle.tcp_streams.specs.SparseBytes.{available_end}
 use Rattle.tcp_streams.specs.StreamBuf.{Contents, next_in}

@@ -5,7 +5,7 @@ use Rattle.std.specs.Prelude.{List}
 use Rattle.std.specs.Option.{option_and_then, option_or}
 use Rattle.tcp_streams.specs.declared.refusal.Refused.{Refused}
 use Rattle.tcp_streams.specs.declared.refusal.Refused.TheVariants.{OutsideWindow, AfterFin, AfterReset}
-use Rattle.tcp_streams.specs.Segments.{Placed, end_of, is_empty, last_end, fin_of, is_reset}
+use Rattle.tcp_streams.specs.PlacedSegments.{Placed, end_of, is_empty, last_end, fin_of, is_reset}
 
 -- the end of the window: it has so many bytes from the first one that isn't taken; no position is
 -- greater than 2 to the 63

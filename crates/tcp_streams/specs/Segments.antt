@@ -1,100 +1,73 @@
--- One direction of a TCP connection, by its segments that were accepted, the oldest first (RFC 9293,
--- sections 3.4 and 3.10.7.4). Positions count bytes: the first byte of the stream has position 0.
-use Rattle.std.specs.Prelude.{ℕ, zero, suc, ◌+◌, ◌-◌, ◌==◌, nat_lt, nat_le, Bool, false, not, ◌&&◌, if◌then◌else◌}
-use Rattle.std.specs.Prelude.{max, is_some, Option, Some, None, List, [], ◌∷◌, ◌++◌, length, slice_index}
-use Rattle.std.specs.List.{list_any}
-use Rattle.std.specs.Option.{option_or}
+-- A segment as it came (RFC 9293, section 3.1), and its place in the stream.
+use Rattle.std.specs.Prelude.{ℕ, ◌+◌, ◌-◌, ◌%◌, ◌^◌, ◌==◌, nat_le, Bool, false, not, ◌&&◌, if◌then◌else◌}
+use Rattle.std.specs.Prelude.{max, unwrap_or, Option, Some, List, [], length, drop}
+use Rattle.std.specs.Option.{option_eq}
+use Rattle.std.specs.Prelude.{nat_eq}
+use Rattle.tcp_streams.specs.declared.segment_flags.SegmentFlags.{SegmentFlags}
+use Rattle.tcp_streams.specs.declared.sequence_numbers.Distance.{Distance}
+use Rattle.tcp_streams.specs.declared.sequence_numbers.Distance.TheVariants.{After, Before}
+use Rattle.tcp_streams.specs.SequenceNumbers.{distance}
+use Rattle.tcp_streams.specs.PlacedSegments.{Placed, fin_of, repeats_with, text_of}
 
--- a segment at its place: the position of its first byte, its bytes, whether FIN follows them, and
--- whether it resets the connection
-pub record Placed : Type 0 where
-  pub position : ℕ
-  pub bytes : List ℕ
-  pub fin : Bool
-  pub reset : Bool
+-- its sequence number, flags and payload
+pub record Segment : Type 0 where
+  pub number : ℕ
+  pub flags : SegmentFlags
+  pub payload : List ℕ
 
-abbrev pub placed_segment : ℕ → List ℕ → Bool → Bool → Placed
-placed_segment position bytes fin reset =
-    record { position = position; bytes = bytes; fin = fin; reset = reset }
+abbrev pub segment : ℕ → SegmentFlags → List ℕ → Segment
+segment number flags payload = record { number = number; flags = flags; payload = payload }
 
--- the position after its last byte, which is that of its FIN
-abbrev pub end_of : Placed → ℕ
-end_of s = s.position + length s.bytes
+-- its bytes of the stream: those of a segment with RST are no part of it (RFC 1122, section 4.2.2.12)
+abbrev pub bytes_of : Segment → List ℕ
+bytes_of s = if s.flags.rst then [] else s.payload
 
--- it has no byte
-abbrev pub is_empty : Placed → Bool
-is_empty s = length s.bytes == 0
+-- FIN follows them
+abbrev pub has_fin : SegmentFlags → Bool
+has_fin flags = flags.fin && not flags.rst
 
--- of bytes from a position on, the one at another position
-abbrev pub byte_from : ℕ → List ℕ → ℕ → Option ℕ
-byte_from position bytes p = (if nat_le position p && nat_lt p (position + length bytes)
-    then Some (slice_index bytes (p - position)) else None)
+-- the number of its first byte: SYN has the one before
+abbrev pub first_number : ℕ → SegmentFlags → ℕ
+first_number number flags = (number + (if flags.syn then 1 else 0)) % 2 ^ 32
 
--- the byte at a position: that of the first segment that has one there
-abbrev pub byte_at : List Placed → ℕ → Option ℕ
-byte_at [] p = None
-byte_at (s ∷ ss) p = option_or (byte_from s.position s.bytes p) (byte_at ss p)
+-- the number of position 0: that of the first byte of the first segment
+abbrev pub start_number : Option ℕ → ℕ → SegmentFlags → ℕ
+start_number start number flags = unwrap_or start (first_number number flags)
 
--- the position after the last byte
-abbrev pub last_end : List Placed → ℕ
-last_end [] = 0
-last_end (s ∷ ss) = max (if is_empty s then 0 else end_of s) (last_end ss)
+-- the position that is expected next: that of the first missing byte, or the one after FIN
+abbrev pub next_after : (available_end : ℕ) → (fin : Option ℕ) → ℕ
+next_after end fin = end + (if option_eq nat_eq fin (Some end) then 1 else 0)
 
--- the byte before those that follow it; where it is missing, nothing
-abbrev pub with_byte : Option ℕ → List ℕ → List ℕ
-with_byte None bs = []
-with_byte (Some b) bs = b ∷ bs
+abbrev pub next_position : List Placed → ℕ
+next_position ss = next_after (length (text_of ss)) (fin_of ss)
 
--- bytes from a position on up to the first that is missing, at most so many
-abbrev pub bytes_from : (ℕ → Option ℕ) → (position count : ℕ) → List ℕ
-bytes_from byte p zero = []
-bytes_from byte p (suc n) = with_byte (byte p) (bytes_from byte (p + 1) n)
+-- a segment that begins so far from the position that is expected next, without the bytes before
+-- those that aren't taken yet; its FIN counts unless it is before that position, and RST only at it
+abbrev pub placed_at : Distance → (next taken : ℕ) → Segment → Placed
+placed_at (After n) next taken s = record {
+  position = next + n;
+  bytes = bytes_of s;
+  fin = has_fin s.flags;
+  reset = s.flags.rst && (n == 0);
+}
+placed_at (Before n) next taken s = record {
+  position = max taken (next - n);
+  bytes = drop ((taken + n) - next) (bytes_of s);
+  fin = has_fin s.flags && nat_le n (length (bytes_of s));
+  reset = false;
+}
 
--- the stream: the bytes from position 0 on up to the first gap
-abbrev pub text_of : List Placed → List ℕ
-text_of ss = bytes_from (byte_at ss) 0 (last_end ss)
+-- how far it begins from that position, where position 0 has this number
+abbrev pub distance_from : (next start : ℕ) → Segment → Distance
+distance_from next start s = distance ((start + next) % 2 ^ 32) (first_number s.number s.flags)
 
--- the position of FIN, which is the end of the stream
-abbrev pub fin_of : List Placed → Option ℕ
-fin_of [] = None
-fin_of (s ∷ ss) = (if s.fin then Some (end_of s) else fin_of ss)
+-- a segment at its place after those that were accepted, of whose text so many bytes were taken
+abbrev pub placed : (start : Option ℕ) → (taken : ℕ) → List Placed → Segment → Placed
+placed start taken ss s =
+    let next = next_position ss in
+    placed_at (distance_from next (start_number start s.number s.flags) s) next taken s
 
--- one of them reset the connection
-abbrev pub is_reset : List Placed → Bool
-is_reset ss = list_any (λ s. s.reset) ss
-
--- ---- conflicts
-
--- there is a byte, and it is another one
-abbrev pub differs : Option ℕ → ℕ → Bool
-differs None b = false
-differs (Some a) b = not (a == b)
-
--- of bytes from a position on, the positions of those that differ from one that is there
-abbrev pub clashes : (ℕ → Option ℕ) → (position : ℕ) → List ℕ → List ℕ
-clashes there p [] = []
-clashes there p (b ∷ bs) =
-    (if differs (there p) b then p ∷ clashes there (p + 1) bs else clashes there (p + 1) bs)
-
--- the positions at which a segment has another byte than those before it
-abbrev pub conflicts_with : List Placed → Placed → List ℕ
-conflicts_with ss s = clashes (byte_at ss) s.position s.bytes
-
--- those of each segment with the ones before it
-abbrev pub conflicts_after : List Placed → List Placed → List ℕ
-conflicts_after before [] = []
-conflicts_after before (s ∷ ss) = conflicts_with before s ++ conflicts_after (before ++ s ∷ []) ss
-
-abbrev pub conflicts_of : List Placed → List ℕ
-conflicts_of ss = conflicts_after [] ss
-
--- ---- repeats
-
--- of so many positions from one on, how many have this
-abbrev pub count_from : (ℕ → Bool) → (position count : ℕ) → ℕ
-count_from has p zero = 0
-count_from has p (suc n) = (if has p then 1 else 0) + count_from has (p + 1) n
-
--- at how many of its positions a segment repeats bytes of those before it
-abbrev pub repeats_with : List Placed → Placed → ℕ
-repeats_with ss s = count_from (λ p. is_some (byte_at ss p)) s.position (length s.bytes)
+-- how many of its bytes it repeats, after those that were accepted: bytes that stand before those that aren't taken, and so
+-- are left out at its place, and bytes at positions at which one came
+abbrev pub repeated_of : List Placed → Segment → Placed → ℕ
+repeated_of ss s at = (length (bytes_of s) - length at.bytes) + repeats_with ss at

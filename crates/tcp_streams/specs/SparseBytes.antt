@@ -5,7 +5,7 @@ use Rattle.std.specs.Option.{option_or}
 use Rattle.tcp_streams.specs.declared.gaps.Gap.{Gap}
 use Rattle.tcp_streams.specs.declared.conflicts.Conflicts.{Conflicts}
 use Rattle.tcp_streams.specs.Gaps.{AreGapsIn, first_gap_start, gap_start_after, is_missing}
-use Rattle.tcp_streams.specs.Segments.{byte_from}
+use Rattle.tcp_streams.specs.PlacedSegments.{byte_from}
 
 -- how many bytes of the stream were taken; those after them, with 0 at each position whose byte is
 -- missing; and where bytes are missing

@@ -8,10 +8,10 @@ use Rattle.tcp_streams.specs.declared.stream_buf.Added.{Added}
 use Rattle.tcp_streams.specs.declared.stream_buf.Location.{Location}
 use Rattle.tcp_streams.specs.declared.refusal.Refused.{Refused}
 use Rattle.tcp_streams.specs.declared.refusal.Refused.TheVariants.{OutOfMemory}
-use Rattle.tcp_streams.specs.Placing.{Segment, start_number, next_after, distance_from, placed_at}
+use Rattle.tcp_streams.specs.Segments.{Segment, start_number, next_after, distance_from, placed_at}
 use Rattle.tcp_streams.specs.Refusals.{window_end, refusal_by}
-use Rattle.tcp_streams.specs.Segments.{Placed, end_of, byte_at, last_end, fin_of, is_reset, text_of, clashes}
-use Rattle.tcp_streams.specs.Segments.{conflicts_of}
+use Rattle.tcp_streams.specs.PlacedSegments.{Placed, end_of, byte_at, last_end, fin_of, is_reset, text_of, clashes}
+use Rattle.tcp_streams.specs.PlacedSegments.{conflicts_of}
 use Rattle.tcp_streams.specs.SparseBytes.{Sparse, IsSparse, AddsBytes, byte_in, held_end, available_end, counted}
 
 -- the size of the window; the number of position 0, once a segment came; whether SYN wasn't seen;

@@ -3,7 +3,7 @@
 ghost use Rattle.std.specs.Prelude.{◌≡◌, ◌++◌, ◌+◌, ◌-◌, ◌^◌, ◌<◌, ◌≤◌, List, ℕ, [], length, drop, replicate, take, vec_len, OnOk};
 ghost use Rattle.std.specs.Prelude.{IsOk, OnErr};
 ghost use Rattle.tcp_streams.specs.Gaps.{AreRunsIn, without};
-ghost use Rattle.tcp_streams.specs.Segments.{clashes};
+ghost use Rattle.tcp_streams.specs.PlacedSegments.{clashes};
 ghost use Rattle.tcp_streams.specs.SparseBytes.{sparse, byte_in, AddsBytes, counted};
 
 use super::conflicts::Conflicts;

@@ -1,7 +1,7 @@
 //! Bytes that came twice and weren't the same.
 
 ghost use Rattle.std.specs.Prelude.{◌≡◌, ◌+◌, ◌^◌, ◌≤◌, [], ◌∷◌, ◌++◌, List, ℕ, length};
-ghost use Rattle.tcp_streams.specs.Segments.{byte_from, clashes};
+ghost use Rattle.tcp_streams.specs.PlacedSegments.{byte_from, clashes};
 ghost use Rattle.tcp_streams.specs.SparseBytes.{counted};
 
 /// Positions at which a segment has another byte than one before it. The first byte stays.

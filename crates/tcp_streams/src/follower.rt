@@ -9,7 +9,7 @@ ghost use Rattle.tcp_streams.specs.Following.{connection_of, connection_with_cou
 ghost use Rattle.tcp_streams.specs.Following.{connection_segment, connection_with, control_with, is_of_segment, new_gap, no_connection};
 ghost use Rattle.tcp_streams.specs.Following.{gap_begins, held_size, lost_on, no_side, side_in, side_with, side_without, taken_of, with_side};
 ghost use Rattle.tcp_streams.specs.Following.Step.{Comes, GivesUp};
-ghost use Rattle.tcp_streams.specs.Placing.{Segment, segment};
+ghost use Rattle.tcp_streams.specs.Segments.{Segment, segment};
 ghost use Rattle.tcp_streams.specs.StreamBuf.{Contents, IsBounded, IsGapIn};
 
 use super::conflicts::Conflicts;

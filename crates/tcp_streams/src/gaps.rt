@@ -3,7 +3,7 @@
 ghost use Rattle.std.specs.Prelude.{◌≡◌, ◌-◌, ◌<◌, ◌≤◌, ◌^◌, [], length, false};
 ghost use Rattle.std.specs.Prelude.{drop, slice_get, take, IfSome, IsOk, OnErr, OnOk};
 ghost use Rattle.tcp_streams.specs.Gaps.{AreRunsIn, gap_after, is_missing, crosses_one, missing_from, split_at, with_gap, without};
-ghost use Rattle.tcp_streams.specs.Segments.{count_from};
+ghost use Rattle.tcp_streams.specs.PlacedSegments.{count_from};
 
 use super::gap_tree::GapTree;
 use std::alloc::{AllocError, Global};

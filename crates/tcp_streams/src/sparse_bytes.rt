@@ -5,7 +5,7 @@ ghost use Rattle.std.specs.Prelude.{take, drop};
 ghost use Rattle.std.specs.Prelude.{slice_get, IfOk, IfNone, IfSome, IsOk, OnOk, OnErr};
 ghost use Rattle.std.specs.Prelude.{None, Some, is_some};
 ghost use Rattle.tcp_streams.specs.Gaps.{AreRunsIn, gap_start_after, gap_after, is_missing, without};
-ghost use Rattle.tcp_streams.specs.Segments.{byte_from, clashes, count_from};
+ghost use Rattle.tcp_streams.specs.PlacedSegments.{byte_from, clashes, count_from};
 ghost use Rattle.tcp_streams.specs.SparseBytes.{Sparse, sparse, IsSparse, held_end, available_end, byte_in};
 ghost use Rattle.tcp_streams.specs.SparseBytes.{AddsBytes, AllHeld, CanSkipTo, Fills, Skips, bytes_after_gap, counted, size_of};
 

@@ -9,9 +9,9 @@ ghost use Rattle.tcp_streams.specs.declared.sequence_numbers.Distance.TheVariant
 ghost use Rattle.tcp_streams.specs.Following.{begins_anew_by};
 ghost use Rattle.tcp_streams.specs.Laws.{IsCutOf, IsNear};
 ghost use Rattle.tcp_streams.specs.Losses.{lost_of};
-ghost use Rattle.tcp_streams.specs.Placing.{next_position, placed, segment, start_number};
+ghost use Rattle.tcp_streams.specs.Segments.{next_position, placed, segment, start_number};
 ghost use Rattle.tcp_streams.specs.Refusals.{refusal_of};
-ghost use Rattle.tcp_streams.specs.Segments.{conflicts_of, fin_of, placed_segment, text_of};
+ghost use Rattle.tcp_streams.specs.PlacedSegments.{conflicts_of, fin_of, placed_segment, text_of};
 ghost use Rattle.tcp_streams.specs.SequenceNumbers.{distance};
 ghost use Rattle.tcp_streams.specs.SparseBytes.{counted};
 

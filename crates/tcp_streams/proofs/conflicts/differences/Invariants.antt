@@ -1,5 +1,5 @@
 use Rattle.std.proofs.Common.{◌≡◌, take}
-use Rattle.tcp_streams.specs.Segments.{byte_from, clashes}
+use Rattle.tcp_streams.specs.PlacedSegments.{byte_from, clashes}
 use Rattle.tcp_streams.specs.SparseBytes.{counted}
 use Rattle.tcp_streams.proofs.conflicts.differences.Given as goal
 

@@ -1,5 +1,5 @@
 use Rattle.std.proofs.Common.{◌∙◌, sym}
-use Rattle.tcp_streams.specs.Placing.{segment}
+use Rattle.tcp_streams.specs.Segments.{segment}
 use Rattle.tcp_streams.proofs.FollowLemmas.{kept_with, of_segment, shows_with, shows_without, taken_with, taken_without}
 use Rattle.tcp_streams.proofs.follower.take.Goals as goal
 

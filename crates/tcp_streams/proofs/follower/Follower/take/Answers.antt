@@ -1,4 +1,4 @@
-use Rattle.tcp_streams.specs.Placing.{segment}
+use Rattle.tcp_streams.specs.Segments.{segment}
 use Rattle.tcp_streams.proofs.FollowLemmas.{takes_higher, takes_lower}
 use Rattle.tcp_streams.proofs.follower.Follower.take.Goals as goal
 

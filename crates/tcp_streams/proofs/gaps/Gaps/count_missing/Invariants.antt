@@ -1,6 +1,6 @@
 use Rattle.std.proofs.Common.{◌≡◌, ◌-◌, ◌≤◌}
 use Rattle.tcp_streams.specs.Gaps.{is_missing}
-use Rattle.tcp_streams.specs.Segments.{count_from}
+use Rattle.tcp_streams.specs.PlacedSegments.{count_from}
 use Rattle.tcp_streams.proofs.gaps.Gaps.count_missing.Given as goal
 
 abbrev pub invariant-loop : goal.invariant-loop

@@ -1,7 +1,7 @@
 use Rattle.std.proofs.Common.{◌≡◌, ◌∙◌, ◌≤◌, ap, length, sym, None}
 use Rattle.std.specs.Prelude.{IfOk}
 use Rattle.tcp_streams.specs.declared.stream_buf.Added.{Added}
-use Rattle.tcp_streams.specs.Placing.{segment}
+use Rattle.tcp_streams.specs.Segments.{segment}
 use Rattle.tcp_streams.specs.StreamBuf.{IsAdded, placed_in, refusal_in}
 use Rattle.tcp_streams.proofs.BufLemmas.{bounded, answers_refusal, answers_none, located_after, located_within}
 use Rattle.tcp_streams.proofs.BufLemmas.{all_held, placed_low, refused_not}

@@ -1,6 +1,6 @@
 use Rattle.std.proofs.Common.{◌∙◌, ap, arith, length, refl, sym}
 use Rattle.std.proofs.lemmas.List.{length-drop}
-use Rattle.tcp_streams.specs.Placing.{segment}
+use Rattle.tcp_streams.specs.Segments.{segment}
 use Rattle.tcp_streams.proofs.stream_buf.StreamBuf.locate.Goals as goal
 
 pub without_prefix-requires : goal.without_prefix-requires
