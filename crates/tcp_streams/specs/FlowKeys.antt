@@ -1,8 +1,9 @@
 -- What the segments of a TCP connection have in common, whichever way they go: a pair of endpoints
 -- identifies a connection (RFC 9293, section 4, "connection").
-use Rattle.std.specs.Prelude.{◌≡◌, ◌≢◌, ◌⊎◌, ◌∷◌, ℕ, if◌then◌else◌, List}
+use Rattle.std.specs.Prelude.{◌≡◌, ◌≢◌, ◌⊎◌, ◌∷◌, ◌+◌, ◌*◌, ◌^◌, ℕ, if◌then◌else◌, List}
 use Rattle.std.specs.Cmp.Lexicographic.{slice_cmp}
 use Rattle.std.specs.Hash as fed
+use Rattle.std.specs.Int.{from_be_bytes, w32}
 use Rattle.std.specs.Ordering.{is_gt, nat_cmp, ordering_then}
 use Rattle.std.specs.declared.cmp.Ordering.{Ordering}
 use Rattle.std.specs.declared.cmp.Ordering.TheVariants.{Less, Greater}
@@ -17,9 +18,10 @@ abbrev pub other_direction : Direction → Direction
 other_direction FromLower = FromHigher
 other_direction FromHigher = FromLower
 
--- what a hasher is given of an endpoint: the address in one write, and the port
+-- what a hasher is given of an endpoint: an address over IPv4 and its port as one number, one over IPv6 in one write, and
+-- then its port
 abbrev pub hashed_as : Endpoint → fed.HashWrites
-hashed_as (V4 address port) = address ∷ fed.u16 port
+hashed_as (V4 address port) = fed.u64 (from_be_bytes w32 address * 2 ^ 16 + port)
 hashed_as (V6 address port) = address ∷ fed.u16 port
 
 abbrev pub flow_key : {C : Type 0} → List ℕ → (lower higher : Endpoint) → C → FlowKey C

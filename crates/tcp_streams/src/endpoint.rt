@@ -28,7 +28,7 @@ pub enum Endpoint {
     },
 }
 
-// A derived `Hash` writes an array byte by byte.
+// A derived `Hash` writes an array byte by byte, and each write has its cost.
 impl Hash for Endpoint {
     ghost hash_input = { hashed_as };
 
@@ -37,8 +37,8 @@ impl Hash for Endpoint {
     fn hash<H: Hasher>(&self, state: &mut H) {
         match self {
             Endpoint::V4 { address, port } => {
-                state.write(address);
-                state.write_u16(*port);
+                let address = u64::from(u32::from_be_bytes(*address));
+                state.write_u64(address * (1 << 16) + u64::from(*port));
             }
             Endpoint::V6 { address, port } => {
                 state.write(address);
