@@ -2,7 +2,7 @@
 use Rattle.std.proofs.Common.{◌≡◌, ℕ, ◌≤◌, Bool, false, arith, not, ◌||◌, ◌==◌, if◌then◌else◌, List, slice_range}
 use Rattle.std.proofs.Common.{refl, sym}
 use Rattle.std.proofs.lemmas.Bool.Decides.{nat_tests}
-use Rattle.ep_icmp.proofs.Again.{none_passes}
+use Rattle.ep_icmp.proofs.FieldsEncodedThenParsed.{none_passes}
 use Rattle.ep_base.specs.Bytes.{num}
 use Rattle.ep_icmp.specs.Fields.{echo_in, timestamp_in}
 use Rattle.ep_icmp.specs.Icmpv4.{HasNextHopMtu, HasPointer, has_numbers, header_len, is_listed, is_timestamp, kind_at}

@@ -5,7 +5,7 @@ use Rattle.ep_base.specs.Bytes.{num}
 use Rattle.ep_icmp.specs.Fields.{echo_in}
 use Rattle.ep_icmp.specs.Icmpv6.{has_numbers, is_listed, kind_at, kinds, layout_of, problem_code, time_exceeded_code}
 use Rattle.ep_icmp.specs.Icmpv6.{unreachable_code}
-use Rattle.ep_icmp.proofs.Again.{none_passes}
+use Rattle.ep_icmp.proofs.FieldsEncodedThenParsed.{none_passes}
 use Rattle.ep_icmp.specs.declared.transport.icmpv6.dest_unreachable_code.DestUnreachableCode.{DestUnreachableCode}
 use Rattle.ep_icmp.specs.declared.transport.icmpv6.parameter_problem_code.ParameterProblemCode.{ParameterProblemCode}
 use Rattle.ep_icmp.specs.declared.transport.icmpv6.time_exceeded_code.TimeExceededCode.{TimeExceededCode}

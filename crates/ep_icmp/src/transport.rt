@@ -1,4 +1,5 @@
-//! The headers of ICMP messages.
+//! Messages of ICMPv4, of ICMPv6 with neighbor discovery and multicast listener discovery, and of
+//! IGMP.
 
 mod icmp_echo_header;
 pub mod icmpv4;

@@ -12,8 +12,8 @@ use Rattle.ep_tcpudp.specs.Options.{FitsElements}
 use Rattle.ep_tcpudp.specs.declared.transport.tcp_option_element.TcpOptionElement.{TcpOptionElement}
 use Rattle.ep_tcpudp.specs.declared.transport.tcp_option_read_error.TcpOptionReadError.{TcpOptionReadError}
 use Rattle.ep_tcpudp.proofs.ElementFaults.{element_fault, fault_kind, fault_refused}
-use Rattle.ep_tcpudp.proofs.ElementsRead.{IsRead, element_read}
-use Rattle.ep_tcpudp.proofs.OptionsAgain.{end-cons, item_again}
+use Rattle.ep_tcpudp.proofs.ElementsEncodedThenParsed.{end-cons, item_again}
+use Rattle.ep_tcpudp.proofs.ElementsParsedThenEncoded.{IsRead, element_read}
 use Rattle.ep_tcpudp.proofs.OptionsItems.{element_size, items-end, items-none, items-step, some_left}
 use Rattle.ep_tcpudp.proofs.Words.{drop_fits}
 

@@ -1,8 +1,8 @@
 pub mod ElementFaults
+pub mod ElementsEncodedThenParsed
 pub mod ElementsItems
-pub mod ElementsRead
+pub mod ElementsParsedThenEncoded
 pub mod Guards
-pub mod OptionsAgain
 pub mod OptionsBytes
 pub mod OptionsItems
 pub mod SameValues

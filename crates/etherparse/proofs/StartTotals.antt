@@ -11,7 +11,7 @@ use Rattle.std.specs.List.{AllByRecursion, IsDistinct, cons_option, filter_map, 
 use Rattle.std.specs.Map.{keys_of, lookup}
 use Rattle.etherparse.specs.ReassemblyTable.{Pool, reassembly_at}
 use Rattle.etherparse.specs.Starts.{Tracks, bytes_held, names_in}
-use Rattle.etherparse.specs.StartedBytes.{bytes_if, bytes_of}
+use Rattle.etherparse.specs.StartedBytes.{bytes_held_if, bytes_of}
 use Rattle.etherparse.specs.declared.defrag.reassembly.Reassembly.{Reassembly}
 use Rattle.etherparse.specs.StartOrder.{AreDistinct, IsOrder, has, without}
 
@@ -167,7 +167,7 @@ module _ {K T : Type 0} (eq : K → K → Bool) (laws : IsEquivalence eq) where
     where
       held : (s : Option (Reassembly T))
           → bytes_of eq pool names ≡ of_names bytes_held eq laws pool.reassemblies names
-          → bytes_if s + bytes_of eq pool names
+          → bytes_held_if s + bytes_of eq pool names
           ≡ of_value bytes_held s + of_names bytes_held eq laws pool.reassemblies names
       held None same = omega (arith, same)
       held (Some s) same = ap (λ (n : ℕ). bytes_held s + n) same

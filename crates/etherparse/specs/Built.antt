@@ -202,5 +202,5 @@ abbrev pub ip_refusal : Option TransportHeader → ℕ → IpHeaders → Option 
 ip_refusal transport payload_len ip =
     option_or (len_refusal transport payload_len ip) (option_and_then (seal_refusal ip) transport)
 
-abbrev pub refusal_of : PacketImpl → ℕ → Option BuildWriteError
-refusal_of p payload_len = option_and_then (ip_refusal p.transport_header payload_len) p.ip_headers
+abbrev pub build_refusal : PacketImpl → ℕ → Option BuildWriteError
+build_refusal p payload_len = option_and_then (ip_refusal p.transport_header payload_len) p.ip_headers

@@ -27,7 +27,7 @@ use Rattle.ep_packet.specs.declared.net.ip_headers.IpHeaders.TheVariants.{Ipv4, 
 use Rattle.ep_tag.specs.Vlan as vlan
 use Rattle.ep_tag.specs.declared.link.vlan_header.VlanHeader.{VlanHeader}
 use Rattle.ep_tag.specs.declared.link.vlan_header.VlanHeader.TheVariants as tag
-use Rattle.etherparse.specs.Built.{refusal_of}
+use Rattle.etherparse.specs.Built.{build_refusal}
 use Rattle.etherparse.specs.BuiltSteps.{cooked_link_header}
 use Rattle.etherparse.specs.PacketImpl.{PacketImpl}
 
@@ -110,7 +110,7 @@ pub record Frames (link : Ethernet2Header) (vlan : Option VlanHeader) (ip : IpHe
   pub tags_fit : TagsFit vlan
   pub ip_fits : IpFits ip number
   pub names_none : NamesNone ip number
-  pub written : refusal_of (ethernet_packet link vlan ip) len ≡ None
+  pub written : build_refusal (ethernet_packet link vlan ip) len ≡ None
 
 -- the headers of an IP packet with no link header
 abbrev pub without_link : IpHeaders → PacketImpl
@@ -127,7 +127,7 @@ without_link ip =
 pub record Packets (ip : IpHeaders) (number len : ℕ) : Type 0 where
   pub ip_fits : IpFits ip number
   pub names_none : NamesNone ip number
-  pub written : refusal_of (without_link ip) len ≡ None
+  pub written : build_refusal (without_link ip) len ≡ None
 
 -- the headers of one after the header of a cooked capture
 abbrev pub after_cooked : (packet_type address_len : ℕ) → (address : List ℕ) → Option VlanHeader

@@ -13,12 +13,12 @@ open_in pool = length pool.reassemblies
 
 -- of so many reassemblies, those that there are after a fragment: one more where it starts one, one
 -- fewer where it completes one, or overlaps it
-abbrev pub held_after : {X S : Type 0} → Result (Option X) IpDefragError → Option S → ℕ → ℕ
-held_after (Err error) reassembly n = if is_overlap error then n - 1 else n
-held_after (Ok None) None n = n + 1
-held_after (Ok None) (Some s) n = n
-held_after (Ok (Some whole)) None n = n
-held_after (Ok (Some whole)) (Some s) n = n - 1
+abbrev pub open_after : {X S : Type 0} → Result (Option X) IpDefragError → Option S → ℕ → ℕ
+open_after (Err error) reassembly n = if is_overlap error then n - 1 else n
+open_after (Ok None) None n = n + 1
+open_after (Ok None) (Some s) n = n
+open_after (Ok (Some whole)) None n = n
+open_after (Ok (Some whole)) (Some s) n = n - 1
 
 -- of so many spare buffers, those that are spare after it: one fewer, if there is one, where it
 -- starts a reassembly
@@ -39,7 +39,7 @@ sections_after (Ok (Some whole)) (Some s) n = n + 1
 -- the counts after a fragment of this name
 pub record Counts {K T X : Type 0} (same : K → K → Bool) (old new : Pool K T) (name : K)
     (result : Result (Option X) IpDefragError) : Type 0 where
-  pub open_len : open_in new ≡ held_after result (reassembly_at same old name) (open_in old)
+  pub open_len : open_in new ≡ open_after result (reassembly_at same old name) (open_in old)
   pub spare_len : new.spare ≡ spare_after result (reassembly_at same old name) old.spare
   pub sections : new.spare_sections
       ≡ sections_after result (reassembly_at same old name) old.spare_sections

@@ -1,4 +1,4 @@
--- Refusals of fragments of a datagram whose reassembly was started.
+-- The error of a refused fragment, and whether its reassembly ends by it or stays.
 use Rattle.std.specs.Prelude.{if◌then◌else◌}
 use Rattle.etherparse.specs.declared.defrag.ip_defrag_error.IpDefragError.{IpDefragError}
 use Rattle.etherparse.specs.declared.defrag.reassembly.Refused.{Refused}

@@ -1,5 +1,5 @@
-//! The Internet checksum (RFC 1071), and the sums of pseudo headers, which every transport checksum
-//! over IPv6 includes, and over IPv4 those of UDP and TCP.
+//! The Internet checksum (RFC 1071) of `ep_base`, and the sums of pseudo headers of `ep_ip`, at which
+//! the checksums of UDP, TCP and ICMPv6 start.
 
 pub use ep_base::checksum::{
     Sum16BitWords, message_sum, sum_pieces, u32_16bit_word, u64_16bit_word,

@@ -1,5 +1,5 @@
-//! Laws of the definitions, those of each crate below in a module of its name: the contract of each
-//! function is the law.
+//! Laws of fragments, their reassembly and the packet builder, and those of each crate below in a
+//! module of its name: the contract of each function is the law.
 
 pub mod defrag;
 pub mod fragments;

@@ -3,7 +3,7 @@
 use Rattle.std.specs.Prelude.{ℕ, ◌==◌, Bool, if◌then◌else◌, List, [], take, Option, Some, None}
 use Rattle.std.specs.Option.{option_map, option_map_or, option_or}
 use Rattle.etherparse.specs.BuildWriteError.{is_icmpv6_in_ipv4}
-use Rattle.etherparse.specs.Built.{number_of, packet_with_number, refusal_of}
+use Rattle.etherparse.specs.Built.{build_refusal, number_of, packet_with_number}
 use Rattle.etherparse.specs.BuiltSteps.{cooked_link_header, echo, ethernet_between, icmpv4_of, icmpv6_of, no_headers}
 use Rattle.etherparse.specs.BuiltSteps.{udp_between}
 use Rattle.etherparse.specs.PacketImpl.{PacketImpl}
@@ -187,7 +187,7 @@ field_of e = if is_icmpv6_in_ipv4 e then field.Transport else field.Payload
 -- that names no header, or else one that the builder refuses
 abbrev pub wrong_in_extended : EpPlan → EpPlannedExtensions → List ℕ → ℕ → Option PlanField
 wrong_in_extended p e bytes len = option_or (wrong_lower_headers p e bytes)
-    (option_or (wrong_transport p) (option_map field_of (refusal_of (headers_in p e bytes) len)))
+    (option_or (wrong_transport p) (option_map field_of (build_refusal (headers_in p e bytes) len)))
 
 abbrev pub wrong_in : EpPlan → ℕ → Option PlanField
 wrong_in p len = wrong_in_extended p no_extensions [] len

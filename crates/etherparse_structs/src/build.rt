@@ -2,7 +2,7 @@
 ghost use Rattle.std.specs.Prelude.{◌≡◌, ◌≤◌, ◌<◌, ◌++◌, [], length, drop, IfSome, None, Err, IsOkUnless, MatchOption};
 ghost use Rattle.std.specs.Prelude.{MatchResult, Ok, OnOk};
 ghost use Rattle.std.specs.Option.{option_map, option_or};
-ghost use Rattle.etherparse.specs.Built.{built_arp, number_in, packet_with_number, refusal_of};
+ghost use Rattle.etherparse.specs.Built.{build_refusal, built_arp, number_in, packet_with_number};
 ghost use Rattle.etherparse_structs.specs.Build.{built, error_of, has_no_room, not_built, refused};
 ghost use Rattle.etherparse_structs.specs.Plan.{bytes_in, extended_bytes_in, field_of, headers_in, lower_headers_in};
 ghost use Rattle.etherparse_structs.specs.Plan.{wrong_in, wrong_in_extended, wrong_transport};
@@ -183,7 +183,7 @@ fn append_rest(
 ) -> Result<(), BuildError>
     requires { step ≡ lower_headers_in plan.now extensions.now bytes.now }
     ensures refused { MatchOption (option_or (wrong_transport plan.now) (option_map field_of
-        (refusal_of (headers_in plan.now extensions.now bytes.now) (length payload.now))))
+        (build_refusal (headers_in plan.now extensions.now bytes.now) (length payload.now))))
         (IsOkUnless result Memory) (λ field. result ≡ Err (Field field)) }
     ensures bytes { OnOk result (packet.new.items ≡ packet.old.items
         ++ extended_bytes_in plan.now extensions.now bytes.now payload.now) }
@@ -237,7 +237,7 @@ fn append_message<L: TransportStep>(
     payload: &[u8],
     packet: &mut Vec<u8>,
 ) -> Result<(), BuildError>
-    ensures refused { MatchOption (refusal_of step (length payload.now))
+    ensures refused { MatchOption (build_refusal step (length payload.now))
         (IsOkUnless result Memory) (λ e. result ≡ Err (Field (field_of e))) }
     ensures bytes { OnOk result (packet.new.items ≡ packet.old.items
         ++ packet_with_number step (number_in step.transport_header) payload.now) }

@@ -26,7 +26,7 @@ use Rattle.packets.specs.Started.{ShowsFragments}
 use Rattle.packets.specs.declared.datagrams.Datagrams.{Datagrams}
 use Rattle.packets.specs.declared.datagrams.Finding.{Finding}
 use Rattle.packets.specs.declared.datagrams.Received.{Received}
-use Rattle.etherparse.specs.StartedBytes.{bytes_if}
+use Rattle.etherparse.specs.StartedBytes.{bytes_held_if}
 use Rattle.etherparse.specs.Starts.{ForgetsOldest, change_of, names_after}
 use Rattle.packets.proofs.OrderLemmas.{accepted_there, by_fragment, shown_bytes, shown_waits}
 use Rattle.packets.proofs.StartedLemmas.{last, same}
@@ -76,7 +76,7 @@ module _ {S H : Type 0}
       (lists d.0 d.1).fragments (held_at datagrams lists shows d)
 
   pub bytes_at : (datagrams : Datagrams S H) (lists : Lists) → ShowsFragments datagrams lists → (d : DatagramName)
-      → bytes_if (reassembly_at same datagrams.pool (id_of d)) + 640 ≡ taken_by (lists d.0 d.1).fragments
+      → bytes_held_if (reassembly_at same datagrams.pool (id_of d)) + 640 ≡ taken_by (lists d.0 d.1).fragments
   bytes_at datagrams lists shows d =
       ap (λ (n : ℕ). n + 640) (shown_bytes (rule_over d.0.addresses)
       (reassembly_at same datagrams.pool (id_of d)) (lists d.0 d.1).fragments (held_at datagrams lists shows d))

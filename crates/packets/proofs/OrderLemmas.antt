@@ -14,7 +14,7 @@ use Rattle.etherparse.specs.declared.defrag.ip_frag_id.IpFragId.{IpFragId}
 use Rattle.etherparse.specs.declared.defrag.overlap_rule.OverlapRule.{OverlapRule}
 use Rattle.etherparse.specs.declared.defrag.reassembly.Reassembly.{Reassembly}
 use Rattle.packets.specs.ReassemblyMemory.{DatagramName, Order, id_of, is_same, is_some_fragment, order_by}
-use Rattle.etherparse.specs.StartedBytes.{bytes_if}
+use Rattle.etherparse.specs.StartedBytes.{bytes_held_if}
 use Rattle.etherparse.specs.Starts.{Change, change_of, names_after, names_without}
 use Rattle.etherparse.specs.Starts.Change.{Ends, Stays}
 
@@ -27,7 +27,7 @@ shown_waits rule (Some s) (f ∷ fs) h = refl
 
 -- and as many bytes are there
 pub shown_bytes : {T : Type 0} (rule : OverlapRule) (s : Option (Reassembly T)) (fs : List Fragment)
-    → ShowsReassembly rule s fs → bytes_if s ≡ min 65535 (length (kept_bytes fs))
+    → ShowsReassembly rule s fs → bytes_held_if s ≡ min 65535 (length (kept_bytes fs))
 shown_bytes rule None fs h = rw h refl
 shown_bytes rule (Some s) fs h = rw h.0.kept refl
 

@@ -9,7 +9,7 @@ use Rattle.etherparse.specs.ReassemblyTable.{Pool, reassembly_at}
 use Rattle.etherparse.specs.declared.defrag.ip_frag_id.IpFragId.{IpFragId}
 use Rattle.packets.specs.ReassemblyMemory.{DatagramName, Order, id_of, lists_within, lists_without, order_within, taken}
 use Rattle.packets.specs.ReassemblyMemory.{dropped_within, taken_by, waits, order_of_waiting}
-use Rattle.etherparse.specs.StartedBytes.{bytes_if, bytes_of}
+use Rattle.etherparse.specs.StartedBytes.{bytes_held_if, bytes_of}
 
 -- what is left takes no more than the limit
 pub held_within : (limit : ℕ) (lists : Lists) (order : Order)
@@ -48,7 +48,8 @@ one_more limit lists d ds above =
 -- the bytes that a pool counts, and what is counted for each name
 pub pool_takes : {T : Type 0} (same : IpFragId ℕ → IpFragId ℕ → Bool) (pool : Pool (IpFragId ℕ) T) (lists : Lists)
     (order : Order)
-    → ((d : DatagramName) → bytes_if (reassembly_at same pool (id_of d)) + 640 ≡ taken_by (lists d.0 d.1).fragments)
+    → ((d : DatagramName) → bytes_held_if (reassembly_at same pool (id_of d)) + 640
+    ≡ taken_by (lists d.0 d.1).fragments)
     → bytes_of same pool (map id_of order) + 640 * length (map id_of order) ≡ taken lists order
 pool_takes same pool lists [] each = refl
 pool_takes same pool lists (d ∷ ds) each = omega (arith, each d, pool_takes same pool lists ds each)

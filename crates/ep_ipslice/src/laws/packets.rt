@@ -1,4 +1,5 @@
-//! Laws of the definitions of IP packets.
+//! Laws of the IP packet at the start of bytes: its parts, its extension headers in a row, its
+//! faults, and its fields as a fragment.
 ghost use Rattle.std.specs.Prelude.{◌≡◌, ◌↔◌, ◌<◌, ◌≤◌, ◌+◌, ◌-◌, ◌^◌, ℕ, List, [], ◌∷◌, ◌++◌, length, None, Some, Ok};
 ghost use Rattle.std.specs.Prelude.{Err, IsOkAnd, false, replicate};
 ghost use Rattle.std.specs.Option.{option_map, option_map_or};

@@ -3,7 +3,7 @@
 ghost use Rattle.std.specs.Prelude.{◌≡◌, ◌++◌, ◌∷◌, ◌+◌, ◌≤◌, ℕ, [], List, None, true, false, OnOk, IfErr, IfOk, IfSome};
 ghost use Rattle.std.specs.Prelude.{IsOk, length, option_map, vec_len, vec_capacity};
 ghost use Rattle.indexmap.specs.IndexMap.{IsUnique, get, index_map_len, insert_index, spare as names_room};
-ghost use Rattle.etherparse.specs.Counts.{held_after, sections_after, spare_after};
+ghost use Rattle.etherparse.specs.Counts.{open_after, sections_after, spare_after};
 ghost use Rattle.etherparse.specs.Fragments.{Fragment, IsRepeat, named_end, refusal_at, refusal_of};
 ghost use Rattle.etherparse.specs.IpDefragBuf.{HasRoom, Shows, rule_of, with_room};
 ghost use Rattle.etherparse.specs.IpDefragError.{is_overlap, is_out_of_memory};
@@ -190,7 +190,7 @@ pub(crate) fn add_fragment<K: Eq + Hash + Drop, T: Drop, S: BuildHasher>(
     ensures sections { vec_len spare.new.sections
         ≡ sections_after result (get K.eq reassemblies.old name) (vec_len spare.old.sections) }
     ensures held { index_map_len reassemblies.new
-        ≡ held_after result (get K.eq reassemblies.old name) (index_map_len reassemblies.old) }
+        ≡ open_after result (get K.eq reassemblies.old name) (index_map_len reassemblies.old) }
     ensures order { starts.new.order ≡ order_after (insert_index K.eq reassemblies.old name)
         (change_of result (get K.eq reassemblies.old name)) starts.old.order }
     ensures entries { EntriesAfter (K.eq name) name

@@ -5,7 +5,7 @@ ghost use Rattle.std.specs.Prelude.{IsOk, IsOkUnless, OnOk, OnErr};
 ghost use Rattle.std.specs.Option.{option_and_then, option_map};
 ghost use Rattle.ep_packet.specs.IpHeaders.{ip_headers_len, with_exts};
 ghost use Rattle.ep_packet.specs.Transport.{transport_len};
-ghost use Rattle.etherparse.specs.Built.{len_if, len_refusal, message_len, packet_with_number, refusal_of};
+ghost use Rattle.etherparse.specs.Built.{build_refusal, len_if, len_refusal, message_len, packet_with_number};
 ghost use Rattle.etherparse.specs.Built.{seal_refusal, size_of, with_lengths, with_message_checksum};
 ghost use Rattle.etherparse.specs.PacketState.{packet_over};
 ghost use Rattle.etherparse.specs.declared.err.packet.build_write_error.BuildWriteError.TheVariants.{Memory};
@@ -28,7 +28,7 @@ pub(super) fn write_over<I: IpLayer>(
     payload: &[u8],
     buffer: &mut Vec<u8>,
 ) -> Result<(), BuildWriteError>
-    ensures refusal { MatchOption (refusal_of (packet_over prefix transport_header (I.headers ip))
+    ensures refusal { MatchOption (build_refusal (packet_over prefix transport_header (I.headers ip))
         (length payload.now)) (IsOkUnless result Memory) (λ e. result ≡ Err e) }
     ensures ok { OnOk result (buffer.new.items ≡ buffer.old.items ++ packet_with_number
         (packet_over prefix transport_header (I.headers ip)) number.0 payload.now) }

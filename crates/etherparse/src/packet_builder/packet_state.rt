@@ -5,7 +5,7 @@ ghost use Rattle.std.specs.Prelude.{MatchOption, IsSome, OnOk, OnErr, IsOkUnless
 ghost use Rattle.std.specs.Option.{option_map};
 ghost use Rattle.ep_link.specs.Arp.{packet_len_in};
 ghost use Rattle.ep_packet.specs.IpHeaders.{ip_headers_len};
-ghost use Rattle.etherparse.specs.Built.{arp_size_of, packet_with_number, built_arp, len_if, number_in, refusal_of};
+ghost use Rattle.etherparse.specs.Built.{arp_size_of, packet_with_number, build_refusal, built_arp, len_if, number_in};
 ghost use Rattle.etherparse.specs.Built.{size_of};
 ghost use Rattle.etherparse.specs.BuiltSteps.{no_headers};
 ghost use Rattle.etherparse.specs.PacketState.{chosen, headers_of};
@@ -97,7 +97,7 @@ impl PacketState {
         payload: &[u8],
     ) -> Result<(), BuildWriteError>
         requires { IsSome (chosen self).ip_headers }
-        ensures refusal { MatchOption (refusal_of (chosen self) (length payload.now))
+        ensures refusal { MatchOption (build_refusal (chosen self) (length payload.now))
             (IsOkUnless result Memory) (λ e. result ≡ Err e) }
         ensures ok { OnOk result (buffer.new.items ≡ buffer.old.items
             ++ packet_with_number (chosen self) number.0 payload.now) }

@@ -2,7 +2,7 @@
 
 ghost use Rattle.std.specs.Prelude.{◌≡◌, ◌≢◌, ◌+◌, ◌^◌, ◌<◌, ◌≤◌, ◌++◌, length, vec_len, vec_capacity, Err};
 ghost use Rattle.std.specs.Prelude.{MatchOption, IsOkUnless, OnOk, OnErr};
-ghost use Rattle.etherparse.specs.Built.{arp_size_of, packet_with_number, built_arp, number_in, refusal_of, size_of};
+ghost use Rattle.etherparse.specs.Built.{arp_size_of, packet_with_number, build_refusal, built_arp, number_in, size_of};
 ghost use Rattle.etherparse.specs.declared.err.packet.build_write_error.BuildWriteError.TheVariants.{Memory};
 
 use super::last_step::TransportStep;
@@ -24,7 +24,7 @@ impl PacketBuilderStep<IpHeaders> {
         last_next_header_ip_number: IpNumber,
         payload: &[u8],
     ) -> Result<(), BuildWriteError>
-        ensures refusal { MatchOption (refusal_of self (length payload.now))
+        ensures refusal { MatchOption (build_refusal self (length payload.now))
             (IsOkUnless result Memory) (λ e. result ≡ Err e) }
         ensures ok { OnOk result (buffer.new.items ≡ buffer.old.items
             ++ packet_with_number self last_next_header_ip_number.0 payload.now) }
@@ -56,7 +56,7 @@ impl<L: TransportStep> PacketBuilderStep<L> {
     /// keeps its bytes.
     #[inline(always)]
     pub fn write(self, buffer: &mut Vec<u8>, payload: &[u8]) -> Result<(), BuildWriteError>
-        ensures refusal { MatchOption (refusal_of self (length payload.now))
+        ensures refusal { MatchOption (build_refusal self (length payload.now))
             (IsOkUnless result Memory) (λ e. result ≡ Err e) }
         ensures ok { OnOk result (buffer.new.items ≡ buffer.old.items
             ++ packet_with_number self (number_in self.transport_header) payload.now) }

@@ -1,6 +1,6 @@
 //! The frame with a fragment of a message.
 ghost use Rattle.std.specs.Prelude.{◌≡◌, ◌≤◌, ◌<◌, ◌^◌, length, IfOk, None};
-ghost use Rattle.etherparse.specs.Built.{packet_with_number, refusal_of, size_of};
+ghost use Rattle.etherparse.specs.Built.{build_refusal, packet_with_number, size_of};
 ghost use Rattle.netlines.specs.PostRefusal.{room};
 ghost use Rattle.netlines.specs.Posted.{frame};
 ghost use Rattle.netlines.specs.PostedHeaders.{posted_fragment_header, headers_of, ip_headers_of};
@@ -45,7 +45,7 @@ fn step(
     requires { length text.now ≤ room letter.now.stream is_fragmented }
     ensures frame { packet_with_number result letter.now.number.0 text.now
         ≡ frame letter.now is_fragmented (record { offset = offset; more = more; text = text.now }) }
-    ensures refusal { refusal_of result (length text.now) ≡ None }
+    ensures refusal { build_refusal result (length text.now) ≡ None }
     ensures size { size_of result (length text.now) < 2 ^ 64 }
 {
     headers(

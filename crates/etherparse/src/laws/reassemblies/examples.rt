@@ -5,7 +5,7 @@ ghost use Rattle.std.specs.Prelude.{List};
 ghost use Rattle.etherparse.specs.declared.defrag.ip_defrag_error.IpDefragError.TheVariants.{AllocationFailure};
 ghost use Rattle.etherparse.specs.declared.defrag.ip_defrag_error.IpDefragError.TheVariants.{ConflictingEnd};
 ghost use Rattle.etherparse.specs.declared.defrag.ip_defrag_error.IpDefragError.TheVariants.{OverlappingFragment};
-ghost use Rattle.etherparse.specs.Counts.{Bounded, Counts, held_after, open_in, sections_after, spare_after};
+ghost use Rattle.etherparse.specs.Counts.{Bounded, Counts, open_after, open_in, sections_after, spare_after};
 ghost use Rattle.etherparse.specs.ReassemblyTable.{MayTest, Pool, Retained};
 ghost use Rattle.etherparse.specs.declared.defrag.reassembly.Reassembly.{Reassembly};
 
@@ -13,13 +13,13 @@ ghost use Rattle.etherparse.specs.declared.defrag.reassembly.Reassembly.{Reassem
 /// where it completes one of them or overlaps it, and three where it is added to one of them,
 /// completes its datagram alone, or is refused otherwise.
 pub fn reassemblies_are_counted()
-    ensures begins { held_after {X = ℕ} {S = ℕ} (Ok None) None 3 ≡ 4 }
-    ensures goes_on { held_after {X = ℕ} {S = ℕ} (Ok None) (Some 7) 3 ≡ 3 }
-    ensures alone { held_after {X = ℕ} {S = ℕ} (Ok (Some 5)) None 3 ≡ 3 }
-    ensures completes { held_after {X = ℕ} {S = ℕ} (Ok (Some 5)) (Some 7) 3 ≡ 2 }
-    ensures overlaps { held_after {X = ℕ} {S = ℕ} (Err (OverlappingFragment 1 8)) (Some 7) 3 ≡ 2 }
-    ensures refused { held_after {X = ℕ} {S = ℕ} (Err (ConflictingEnd 16 24)) (Some 7) 3 ≡ 3 }
-    ensures no_memory { held_after {X = ℕ} {S = ℕ} (Err (AllocationFailure 8)) None 3 ≡ 3 }
+    ensures begins { open_after {X = ℕ} {S = ℕ} (Ok None) None 3 ≡ 4 }
+    ensures goes_on { open_after {X = ℕ} {S = ℕ} (Ok None) (Some 7) 3 ≡ 3 }
+    ensures alone { open_after {X = ℕ} {S = ℕ} (Ok (Some 5)) None 3 ≡ 3 }
+    ensures completes { open_after {X = ℕ} {S = ℕ} (Ok (Some 5)) (Some 7) 3 ≡ 2 }
+    ensures overlaps { open_after {X = ℕ} {S = ℕ} (Err (OverlappingFragment 1 8)) (Some 7) 3 ≡ 2 }
+    ensures refused { open_after {X = ℕ} {S = ℕ} (Err (ConflictingEnd 16 24)) (Some 7) 3 ≡ 3 }
+    ensures no_memory { open_after {X = ℕ} {S = ℕ} (Err (AllocationFailure 8)) None 3 ≡ 3 }
 {}
 
 /// Of two buffers of bytes and two of sections that are spare, those that are spare after a

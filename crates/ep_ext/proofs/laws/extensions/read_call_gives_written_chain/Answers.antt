@@ -1,7 +1,7 @@
 use Rattle.std.proofs.Common.{List, ℕ, sym, subst}
 use Rattle.ep_ext.specs.Chain.{Chain}
 use Rattle.ep_ext.specs.Slot.{slot_of}
-use Rattle.ep_ext.proofs.Back.{reads_back}
+use Rattle.ep_ext.proofs.ValueEncodedThenParsed.{reads_back}
 use Rattle.ep_ext.proofs.laws.extensions.read_call_gives_written_chain.Goals as goal
 
 pub returns : goal.returns

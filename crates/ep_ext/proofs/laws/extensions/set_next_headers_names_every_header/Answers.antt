@@ -1,5 +1,5 @@
 use Rattle.ep_ext.specs.Link.{all_slots, pieces_in}
-use Rattle.ep_ext.proofs.Reencoded.{named_ok}
+use Rattle.ep_ext.proofs.ValueParsedThenEncoded.{named_ok}
 use Rattle.ep_ext.proofs.laws.extensions.set_next_headers_names_every_header.Goals as goal
 
 pub returns : goal.returns

@@ -1,4 +1,4 @@
-use Rattle.ep_ext.proofs.Again.{auth_encoded}
+use Rattle.ep_ext.proofs.AuthParsedThenEncoded.{auth_encoded}
 use Rattle.ep_ext.proofs.laws.headers.auth_headers_are_their_bytes.Goals as goal
 
 pub returns-clause-again : goal.returns-clause-again

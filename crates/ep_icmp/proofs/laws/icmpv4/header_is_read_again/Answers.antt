@@ -1,6 +1,6 @@
 use Rattle.std.proofs.Common.{◌∙◌, ap, sym, length, drop}
 use Rattle.ep_icmp.specs.Icmpv4.{header_len, icmpv4_header_of, encoding}
-use Rattle.ep_icmp.proofs.Icmpv4Again.{header_again, message_again}
+use Rattle.ep_icmp.proofs.Icmpv4EncodedThenParsed.{header_again, message_again}
 use Rattle.ep_icmp.proofs.Layouts.{prefix_of}
 use Rattle.ep_icmp.proofs.Outcomes.{ok_and}
 use Rattle.ep_icmp.proofs.laws.icmpv4.header_is_read_again.Goals as goal

@@ -1,6 +1,6 @@
 use Rattle.std.proofs.Common.{◌∙◌, ap, arith, sym, length}
 use Rattle.ep_icmp.specs.Icmpv6.{icmpv6_header_of, encoding}
-use Rattle.ep_icmp.proofs.Icmpv6Again.{header_again}
+use Rattle.ep_icmp.proofs.Icmpv6EncodedThenParsed.{header_again}
 use Rattle.ep_icmp.proofs.Layouts.{prefix_of}
 use Rattle.ep_icmp.proofs.Outcomes.{ok_and}
 use Rattle.ep_icmp.proofs.laws.icmpv6.header_is_read_again.Goals as goal

@@ -1,4 +1,4 @@
-use Rattle.ep_icmp.proofs.Icmpv6Back.{header_back}
+use Rattle.ep_icmp.proofs.Icmpv6ParsedThenEncoded.{header_back}
 use Rattle.ep_icmp.proofs.laws.icmpv6.header_is_written_back.Goals as goal
 
 pub returns : goal.returns

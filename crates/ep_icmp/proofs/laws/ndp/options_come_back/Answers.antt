@@ -1,4 +1,4 @@
-use Rattle.ep_icmp.proofs.NdpAgain.{options_come_back}
+use Rattle.ep_icmp.proofs.NdpEncodedThenParsed.{options_come_back}
 use Rattle.ep_icmp.proofs.laws.ndp.options_come_back.Goals as goal
 
 pub returns : goal.returns

@@ -1,5 +1,5 @@
 use Rattle.std.proofs.Common.{rules}
-use Rattle.ep_icmp.proofs.NdpSame.{same_header, same_message}
+use Rattle.ep_icmp.proofs.SameNdpMessages.{same_header, same_message}
 use Rattle.ep_icmp.proofs.laws.traits.types_are_plain_data.Goals as goal
 
 pub returns-clause-ndp_header : goal.returns-clause-ndp_header

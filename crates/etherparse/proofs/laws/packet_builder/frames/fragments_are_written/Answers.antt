@@ -1,7 +1,7 @@
 use Rattle.std.proofs.Common.{◌≡◌, refl, ℕ, ◌≢◌, Option, Some, None, arith}
 use Rattle.ep_link.specs.Ethernet.{Fits}
 use Rattle.etherparse.proofs.laws.packet_builder.frames.fragments_are_written.Goals as goal
-use Rattle.etherparse.specs.Built.{refusal_of}
+use Rattle.etherparse.specs.Built.{build_refusal}
 use Rattle.etherparse.specs.BuiltFrameExamples.{ipv4_part, ipv6_part, link_at_literals, two_tags}
 use Rattle.etherparse.specs.BuiltFrames.{Frames, IpFits, Packets, TagsFit, ethernet_packet}
 use Rattle.etherparse.specs.declared.err.packet.build_write_error.BuildWriteError.{BuildWriteError}
@@ -34,7 +34,7 @@ ipv4_fits = (
 not_auth : ◌≢◌ {A = ℕ} 17 51
 not_auth e = omega (arith, e)
 
-ipv4_frames : (len : ℕ) → refusal_of (ethernet_packet link_at_literals two_tags ipv4_part) len ≡ None
+ipv4_frames : (len : ℕ) → build_refusal (ethernet_packet link_at_literals two_tags ipv4_part) len ≡ None
     → Frames link_at_literals two_tags ipv4_part 17 len
 ipv4_frames len written =
     record {

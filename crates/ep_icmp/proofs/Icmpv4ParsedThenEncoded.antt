@@ -1,4 +1,4 @@
--- The header of an ICMPv4 message is written back.
+-- A header that is parsed from an ICMPv4 message is encoded by its bytes again, unused ones aside.
 use Rattle.std.proofs.lemmas.Bool.Decides.{nat_tests}
 use Rattle.std.proofs.Common.{◌≡◌, sym, refl, ℕ, ◌≤◌, Bool, if◌then◌else◌, List, length, slice_range, arith}
 use Rattle.ep_base.specs.Bytes.{IsBytes}
@@ -6,7 +6,8 @@ use Rattle.ep_icmp.specs.Icmpv4.{ReadableIcmpv4, has_numbers, header_len, icmpv4
 use Rattle.ep_icmp.specs.Icmpv4.{kinds, layout_of, encoding, type_of}
 use Rattle.ep_icmp.specs.Layout.{with_unused_bytes_zero}
 use Rattle.ep_icmp.specs.declared.transport.icmpv4_type.Icmpv4Type.TheVariants.{Unknown}
-use Rattle.ep_icmp.proofs.Back.{IsFieldIn, echo_back, mtu_back, pointer_back, range_back, timestamp_back, written_back}
+use Rattle.ep_icmp.proofs.FieldsParsedThenEncoded.{IsFieldIn, echo_back, mtu_back, pointer_back, range_back}
+use Rattle.ep_icmp.proofs.FieldsParsedThenEncoded.{timestamp_back, written_back}
 use Rattle.ep_icmp.proofs.Found.{found_among, found_passes}
 use Rattle.ep_icmp.proofs.Icmpv4Kinds.{header_len_at}
 use Rattle.ep_icmp.proofs.Outcomes.{numbers_are}

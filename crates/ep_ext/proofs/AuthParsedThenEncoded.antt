@@ -1,4 +1,4 @@
--- What is read from the bytes of an authentication header is encoded by them, reserved bytes aside.
+-- An authentication header that is parsed from bytes is encoded by them again, reserved bytes aside.
 use Rattle.std.proofs.Common.{◌≡◌, ℕ, ◌+◌, ◌/◌, List, length, drop, get_or, arith}
 use Rattle.std.proofs.lemmas.List.{length-drop}
 use Rattle.ep_base.specs.Bytes.{IsBytes}

@@ -1,4 +1,4 @@
--- What a walk over a slice holds of the headers that it has found.
+-- The borrowed headers that a walk over a slice has found, with one more of them.
 use Rattle.std.proofs.Common.{arith, ◌≡◌, ℕ, List, ◌∷◌, ◌++◌, []}
 use Rattle.ep_ext.specs.Borrowed.{Holds, headers_of, with_slice_at}
 use Rattle.ep_ext.specs.Value.{Piece, slots}

@@ -4,7 +4,7 @@ use Rattle.ep_icmp.specs.Icmpv6.{FieldsFit, HeaderFits, IsCanonical, icmpv6_head
 use Rattle.ep_icmp.specs.Icmpv6.{type_of}
 use Rattle.ep_icmp.specs.Layout.{bytes_of_layout}
 use Rattle.ep_icmp.specs.declared.transport.icmpv6_header.Icmpv6Header.{Icmpv6Header}
-use Rattle.ep_icmp.proofs.Again.{bytes_again, echo_again}
+use Rattle.ep_icmp.proofs.FieldsEncodedThenParsed.{bytes_again, echo_again}
 use Rattle.ep_icmp.proofs.Icmpv6Kinds.{StandsIn, kind_is}
 use Rattle.ep_icmp.proofs.Outcomes.{not_true}
 use Rattle.ep_icmp.specs.declared.transport.icmpv6_type.Icmpv6Type.{Icmpv6Type}

@@ -1,4 +1,4 @@
--- Options of neighbor discovery that are read again from the bytes that encode them.
+-- Options of neighbor discovery are parsed again from the bytes that encode them.
 use Rattle.std.proofs.Common.{◌≡◌, ℕ, ◌+◌, ◌*◌, ◌/◌, ◌%◌, ◌≤◌, List, ◌∷◌, ◌++◌, length}
 use Rattle.std.proofs.Common.{IsTrue, replicate, refl, ap, ◌∙◌, arith}
 use Rattle.std.proofs.lemmas.Bool.Decides.{nat_tests}

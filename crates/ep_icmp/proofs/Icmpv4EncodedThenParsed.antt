@@ -7,7 +7,7 @@ use Rattle.ep_icmp.specs.Icmpv4.{is_listed, layout_of, problem_code, problem_fie
 use Rattle.ep_icmp.specs.Icmpv4.{unreachable_code, unreachable_fields}
 use Rattle.ep_icmp.specs.Layout.{bytes_of_layout, bytes_of_fields}
 use Rattle.ep_icmp.specs.declared.transport.icmpv4_header.Icmpv4Header.{Icmpv4Header}
-use Rattle.ep_icmp.proofs.Again.{bytes_again, echo_again, timestamp_again}
+use Rattle.ep_icmp.proofs.FieldsEncodedThenParsed.{bytes_again, echo_again, timestamp_again}
 use Rattle.ep_icmp.proofs.Outcomes.{not_true}
 use Rattle.ep_icmp.proofs.Icmpv4Kinds.{StandsIn, header_len_at, kind_is}
 use Rattle.ep_icmp.specs.declared.transport.icmpv4.dest_unreachable_header.DestUnreachableHeader.{DestUnreachableHeader}

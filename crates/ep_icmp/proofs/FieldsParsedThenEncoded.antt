@@ -1,4 +1,4 @@
--- Fields that were parsed from bytes are encoded by them.
+-- Fields that are parsed from bytes are encoded by them again.
 use Rattle.std.proofs.Common.{◌≡◌, ◌∙◌, sym, ℕ, ◌+◌, ◌≤◌, List, ◌∷◌, ◌++◌, length, get_or, slice_range, arith, []}
 use Rattle.std.specs.Int.{w16, w32, to_be_bytes}
 use Rattle.ep_base.specs.Bytes.{IsBytes, num}

@@ -1,4 +1,4 @@
--- Fields that are parsed again from the bytes that encode them.
+-- Fields are parsed again from the bytes that encode them.
 use Rattle.std.proofs.Common.{◌≡◌, refl, ℕ, ◌+◌, Bool, false, None, List, [], ◌∷◌, ◌++◌, find}
 use Rattle.std.proofs.Common.{length, slice_range, arith}
 use Rattle.std.proofs.lemmas.List.{append-nil, take_at}

@@ -1,4 +1,4 @@
--- An element that is parsed is encoded by the bytes that it is parsed from.
+-- An element of options that is parsed from bytes is encoded by them again.
 use Rattle.std.proofs.Common.{◌≡◌, ℕ, ◌+◌, ◌<◌, ◌≤◌, true, false, eqb, List, ◌∷◌, ◌++◌, [], length, drop, Option, Some}
 use Rattle.std.proofs.Common.{None, Ok, arith, refl, ap, ◌∙◌, subst, append_assoc}
 use Rattle.std.proofs.lemmas.Bool.{eqb-true, ltb-false, not-false, or_cases}

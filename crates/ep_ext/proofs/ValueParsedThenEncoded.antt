@@ -1,4 +1,4 @@
--- A value that is read from headers in a row names them in that row.
+-- A value that is parsed from headers in a row holds them, encoded again, and names them in that row.
 use Rattle.std.proofs.Common.{◌≡◌, ℕ, Bool, true, false, cond, eqb, is_some, ◌||◌, List, ◌∷◌, [], ◌++◌, Option, Some}
 use Rattle.std.proofs.Common.{None, Result, IsOkAnd, get_or, arith, refl, sym, ap, ◌∙◌, subst}
 use Rattle.std.specs.Prelude.{⊤}
@@ -32,22 +32,22 @@ reencoded Fragment h = fragment_encoding (fragment_header_of h)
 reencoded Authentication h = auth_encoding (auth_of h)
 reencoded FinalDestination h = raw_encoding (raw_of h)
 
-raw_again : (h : List ℕ) → IsRawExt h → IsRawExt (raw_encoding (raw_of h))
-raw_again h piece = record {
+raw_reencoded : (h : List ℕ) → IsRawExt h → IsRawExt (raw_encoding (raw_of h))
+raw_reencoded h piece = record {
   least = omega (arith, length-drop 2 h, piece.least);
   whole = omega (arith, length-drop 2 h, piece.least, piece.whole);
 }
 
 pub reencoded_piece : (p : Ipv6ExtSlot) (h : List ℕ) → IsPiece p h → IsPiece p (reencoded p h)
-reencoded_piece HopByHop h piece = raw_again h piece
-reencoded_piece Destination h piece = raw_again h piece
-reencoded_piece Routing h piece = raw_again h piece
+reencoded_piece HopByHop h piece = raw_reencoded h piece
+reencoded_piece Destination h piece = raw_reencoded h piece
+reencoded_piece Routing h piece = raw_reencoded h piece
 reencoded_piece Fragment h piece = record { whole = refl }
 reencoded_piece Authentication h piece = record {
   least = omega arith;
   whole = omega (arith, length-drop 12 h, piece.least, piece.whole);
 }
-reencoded_piece FinalDestination h piece = raw_again h piece
+reencoded_piece FinalDestination h piece = raw_reencoded h piece
 
 first_same : (p : Ipv6ExtSlot) (h : List ℕ) → get_or (reencoded p h) 0 0 ≡ get_or h 0 0
 first_same p h = grind arith

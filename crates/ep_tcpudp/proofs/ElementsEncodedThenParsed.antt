@@ -1,4 +1,4 @@
--- Elements that were written are read again.
+-- Elements of options are parsed again from the bytes that encode them.
 use Rattle.std.proofs.Common.{◌≡◌, ℕ, ◌-◌, ◌%◌, List, ◌∷◌, ◌++◌, length, map, replicate, Option, Some, None, Ok, arith}
 use Rattle.std.proofs.Common.{refl, append_assoc, false, eqb, []}
 use Rattle.std.proofs.lemmas.Bool.{ne_eqb}

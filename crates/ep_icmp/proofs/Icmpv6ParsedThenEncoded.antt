@@ -1,11 +1,11 @@
--- The header of an ICMPv6 message is written back.
+-- A header that is parsed from an ICMPv6 message is encoded by its bytes again, unused ones aside.
 use Rattle.std.proofs.Common.{◌≡◌, sym, refl, ℕ, ◌≤◌, List, length, slice_range, arith}
 use Rattle.ep_base.specs.Bytes.{IsBytes, num}
 use Rattle.ep_icmp.specs.Icmpv6.{ReadableIcmpv6, has_numbers, icmpv6_header_of, kind_at, kinds, layout_of, encoding}
 use Rattle.ep_icmp.specs.Icmpv6.{type_of}
 use Rattle.ep_icmp.specs.Layout.{with_unused_bytes_zero}
 use Rattle.ep_icmp.specs.declared.transport.icmpv6_type.Icmpv6Type.TheVariants.{Unknown}
-use Rattle.ep_icmp.proofs.Back.{IsFieldIn, echo_back, number_back, range_back, written_back}
+use Rattle.ep_icmp.proofs.FieldsParsedThenEncoded.{IsFieldIn, echo_back, number_back, range_back, written_back}
 use Rattle.ep_icmp.proofs.Found.{found_among, found_passes}
 use Rattle.ep_icmp.proofs.Outcomes.{numbers_are}
 
