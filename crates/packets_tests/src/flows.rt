@@ -9,8 +9,8 @@ use etherparse::{Addresses, IpNumber};
 use fault_devices::UnflushableWriter;
 use packets::program::write_flows;
 use packets::{
-    By, Connection, Conversation, Direction, Dissector, Flags, Flow, FollowedFlows, Listing,
-    NoProgress, Period, Ports, Row, Transfer, count_flows,
+    By, Connection, Conversation, ConversationCounts, DirectionCounts, Dissector, Flags,
+    FollowedFlows, Listing, NoProgress, Period, Ports, Row, Transfer, count_flows,
 };
 use std::alloc::Global;
 use std::hash::{BuildHasherDefault, FoldHasher};
@@ -31,7 +31,7 @@ const SERVER_FIRST: Conversation = Conversation {
 };
 
 // A datagram, and the fragment that completes another one.
-const DATAGRAMS: Direction = Direction {
+const DATAGRAMS: DirectionCounts = DirectionCounts {
     packets: 2,
     bytes: 96,
     flags: Flags {
@@ -69,7 +69,7 @@ fn conversations(rt: HostRuntime) {
         fail(rt, "no row");
     };
     let counts = (row.conversation, row.forward, row.backward);
-    equal(rt, counts, (SERVER_FIRST, DATAGRAMS, Direction::NONE));
+    equal(rt, counts, (SERVER_FIRST, DATAGRAMS, DirectionCounts::NONE));
     equal(
         rt,
         (row.packets(), row.bytes(), row.connection()),
@@ -100,8 +100,8 @@ const CONNECTIONS: &[(u8, u8, Connection, &str)] = &[
     (15, 7, Connection::Reset, "R"),
 ];
 
-fn direction_with(bits: u8) -> Direction {
-    Direction {
+fn direction_with(bits: u8) -> DirectionCounts {
+    DirectionCounts {
         packets: 1,
         bytes: 60,
         flags: flags_of(bits),
@@ -144,7 +144,7 @@ fn directions(rt: HostRuntime) {
     );
     let mut answered = sent;
     answered.ascends = false;
-    let mut flow = Flow::NONE;
+    let mut flow = ConversationCounts::NONE;
     flow.add(&answered);
     flow.add(&sent);
     flow.add(&answered);

@@ -1,6 +1,6 @@
 //! Conversations as a JSON object. The functions have no contracts: tests compare the texts.
 
-use crate::flows::flow::Direction;
+use crate::flows::conversation_counts::DirectionCounts;
 use crate::flows::followed_flows::FollowedFlows;
 use crate::flows::row::Row;
 use crate::flows::stream_row::StreamRow;
@@ -101,7 +101,7 @@ fn ends<S: Serializer>(out: &mut S, row: &Row) -> Result<(), S::Error> {
 fn direction<S: Serializer>(
     out: &mut S,
     name: &str,
-    direction: &Direction,
+    direction: &DirectionCounts,
     counts: Option<StreamCounts>,
 ) -> Result<(), S::Error> {
     begin(out, name)?;

@@ -5,7 +5,7 @@ ghost use Rattle.captures.specs.Numbers.{capped};
 
 use crate::Period;
 use crate::flows::conversation::Conversation;
-use crate::flows::flow::{Direction, Flow};
+use crate::flows::conversation_counts::{ConversationCounts, DirectionCounts};
 use crate::flows::transfer::Flags;
 use ep_base::IpNumber;
 
@@ -15,9 +15,9 @@ pub struct Row {
     /// The ends, in the direction of the first packet, and the protocol.
     pub conversation: Conversation,
     /// The packets that go in this direction.
-    pub forward: Direction,
+    pub forward: DirectionCounts,
     /// Those that go in the other one.
-    pub backward: Direction,
+    pub backward: DirectionCounts,
     /// When they came.
     pub period: Period,
 }
@@ -37,7 +37,7 @@ pub enum Connection {
 
 impl Row {
     /// The row of a conversation from the lower end.
-    pub(crate) fn of(conversation: &Conversation, flow: &Flow) -> Row
+    pub(crate) fn of(conversation: &Conversation, flow: &ConversationCounts) -> Row
         ensures { result ≡ row_of (conversation.now, flow.now) }
     {
         if flow.begins_ascending.unwrap_or(true) {

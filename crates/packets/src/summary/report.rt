@@ -1,6 +1,6 @@
 //! A summary as text.
 
-use crate::flows::flows::Flows;
+use crate::flows::counted_flows::CountedFlows;
 use crate::flows::listing::Greatest;
 use crate::flows::text::FlowTable;
 use crate::summary::bars::{Bar, column, steps_of};
@@ -238,7 +238,7 @@ fn write_reasons<W: fmt::Write, S: BuildHasher>(
 // The greatest conversations, as `packets flows` lists them.
 fn write_conversations<W: fmt::Write, S: BuildHasher>(
     f: &mut fmt::Formatter<W>,
-    flows: &Flows<S>,
+    flows: &CountedFlows<S>,
 ) -> fmt::Result {
     if flows.is_empty() {
         return Ok(());
