@@ -12,9 +12,9 @@ use Rattle.packets.specs.declared.flows.conversation.Conversation.{Conversation}
 use Rattle.packets.specs.declared.flows.conversation_counts.ConversationCounts.{ConversationCounts}
 use Rattle.packets.specs.declared.flows.conversation_counts.DirectionCounts.{DirectionCounts}
 use Rattle.packets.specs.declared.flows.counted_flows.CountedFlows.{CountedFlows}
-use Rattle.packets.specs.declared.flows.row.Connection.{Connection}
-use Rattle.packets.specs.declared.flows.row.Connection.TheVariants as connection
 use Rattle.packets.specs.declared.flows.row.Row.{Row}
+use Rattle.packets.specs.declared.flows.row.TcpColumn.{TcpColumn}
+use Rattle.packets.specs.declared.flows.row.TcpColumn.TheVariants as column
 use Rattle.packets.specs.declared.flows.transfer.Flags.{Flags}
 use Rattle.packets.specs.declared.flows.transfer.Transfer.{Transfer}
 use Rattle.packets.specs.declared.outline.Outline.{Outline}
@@ -101,14 +101,14 @@ abbrev pub duration_of : Period → ℕ
 duration_of period = time_between period.earliest period.latest
 
 -- how far a TCP connection came, by the flags that were seen in each direction
-abbrev pub connection_in : (forward backward : Flags) → Connection
-connection_in forward backward = if forward.rst || backward.rst then connection.Reset
-    else if forward.syn && backward.syn && forward.fin && backward.fin then connection.Ended
-    else if forward.no_syn || backward.no_syn then connection.Open
-    else connection.SynOnly
+abbrev pub tcp_column_by : (forward backward : Flags) → TcpColumn
+tcp_column_by forward backward = if forward.rst || backward.rst then column.Reset
+    else if forward.syn && backward.syn && forward.fin && backward.fin then column.Ended
+    else if forward.no_syn || backward.no_syn then column.Open
+    else column.SynOnly
 
 -- of segments whose ports are known; the protocol number of TCP is 6
-abbrev pub connection_of : Row → Option Connection
-connection_of row =
+abbrev pub tcp_column_of : Row → Option TcpColumn
+tcp_column_of row =
     if (row.conversation.protocol.0 == 6) && is_some row.conversation.ports
-    then Some (connection_in row.forward.flags row.backward.flags) else None
+    then Some (tcp_column_by row.forward.flags row.backward.flags) else None

@@ -36,11 +36,11 @@ pub mod examples;
 
 use crate::program::{Coloring, LineRequest, SizeError};
 use crate::{
-    By, ChecksumTallies, Condition, Connection, ConnectionId, Conversation, ConversationCounts,
+    By, ChecksumTallies, Condition, ConnectionId, Conversation, ConversationCounts,
     DirectionCounts, Ending, Flags, FollowForm, FollowOptions, FragmentState, FragmentTallies,
     GrammarError, Headers, Lengths, Listing, Net, NoProgress, Omitted, Outline, Period, Ports,
-    Reason, Row, Segment, ShowOptions, ShownBytes, Side, Sizes, Starts, Tally, TcpFlag, Transfer,
-    Verified, Way, Word, WordError,
+    Reason, Row, Segment, ShowOptions, ShownBytes, Side, Sizes, Starts, Tally, TcpColumn, TcpFlag,
+    Transfer, Verified, Way, Word, WordError,
 };
 use ep_base::IpNumber;
 use ep_base::err::Layer;
@@ -72,7 +72,7 @@ pub fn types_are_plain_data()
     ensures starts { IsPlainData ⟦<Starts as Value>⟧ }
     ensures shown_bytes { IsPlainData ⟦<ShownBytes as Value>⟧ }
     ensures flags { IsPlainData ⟦<Flags as Value>⟧ }
-    ensures connection { IsPlainData ⟦<Connection as Value>⟧ }
+    ensures tcp_column { IsPlainData ⟦<TcpColumn as Value>⟧ }
     ensures by { IsPlainData ⟦<By as Value>⟧ }
 {}
 

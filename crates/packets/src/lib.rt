@@ -45,7 +45,7 @@ pub use flows::counted_flows::CountedFlows;
 pub use flows::followed_flows::FollowedFlows;
 pub use flows::listing::{By, Listing};
 pub use flows::object::FlowObject;
-pub use flows::row::{Connection, Row};
+pub use flows::row::{Row, TcpColumn};
 pub use flows::stream::{STREAM_WINDOW, Stream};
 pub use flows::stream_text::StreamTable;
 pub use flows::streams::{HELD_SIZE, STREAM_COUNT, Streams};

@@ -61,8 +61,8 @@ fn object<S: Serializer>(
     number(out, "first", row.period.earliest.unwrap_or(0))?;
     number(out, "last", row.period.latest.unwrap_or(0))?;
     number(out, "duration", row.duration())?;
-    if let Some(connection) = row.connection() {
-        text(out, "tcp", connection.name())?;
+    if let Some(column) = row.tcp_column() {
+        text(out, "tcp", column.name())?;
     }
     if let Some(stream) = stream {
         if let Some(state) = stream.state {

@@ -1,6 +1,6 @@
 //! What is reported of a conversation.
 ghost use Rattle.std.specs.Prelude.{◌≡◌, ◌+◌};
-ghost use Rattle.packets.specs.Flows.{connection_in, connection_of, duration_of, row_of};
+ghost use Rattle.packets.specs.Flows.{duration_of, row_of, tcp_column_by, tcp_column_of};
 ghost use Rattle.captures.specs.Numbers.{capped};
 
 use crate::Period;
@@ -22,9 +22,10 @@ pub struct Row {
     pub period: Period,
 }
 
-/// What the flags of all segments of a conversation over TCP show, whatever their order.
+/// The column `TCP`: what the flags of all segments of a conversation over TCP show, whatever their
+/// order.
 #[derive(Clone, Copy, Debug, PartialEq, Eq)]
-pub enum Connection {
+pub enum TcpColumn {
     /// A segment with RST was seen.
     Reset,
     /// Otherwise, SYN and FIN were seen in both directions.
@@ -82,39 +83,39 @@ impl Row {
     }
 
     /// Of TCP segments whose headers are there, how far their connection came.
-    pub fn connection(&self) -> Option<Connection>
-        ensures { result ≡ connection_of self.now }
+    pub fn tcp_column(&self) -> Option<TcpColumn>
+        ensures { result ≡ tcp_column_of self.now }
     {
         if self.conversation.protocol == IpNumber::TCP && self.conversation.ports.is_some() {
-            Some(connection_in(self.forward.flags, self.backward.flags))
+            Some(tcp_column_by(self.forward.flags, self.backward.flags))
         } else {
             None
         }
     }
 }
 
-fn connection_in(forward: Flags, backward: Flags) -> Connection
-    ensures { result ≡ connection_in forward backward }
+fn tcp_column_by(forward: Flags, backward: Flags) -> TcpColumn
+    ensures { result ≡ tcp_column_by forward backward }
 {
     if forward.rst || backward.rst {
-        Connection::Reset
+        TcpColumn::Reset
     } else if forward.syn && backward.syn && forward.fin && backward.fin {
-        Connection::Ended
+        TcpColumn::Ended
     } else if forward.no_syn || backward.no_syn {
-        Connection::Open
+        TcpColumn::Open
     } else {
-        Connection::SynOnly
+        TcpColumn::SynOnly
     }
 }
 
-impl Connection {
+impl TcpColumn {
     /// How it is written. It has no contract: tests compare the texts.
     pub fn name(self) -> &'static str {
         match self {
-            Connection::Reset => "R",
-            Connection::Ended => "SF",
-            Connection::SynOnly => "S",
-            Connection::Open => "open",
+            TcpColumn::Reset => "R",
+            TcpColumn::Ended => "SF",
+            TcpColumn::SynOnly => "S",
+            TcpColumn::Open => "open",
         }
     }
 }

@@ -101,11 +101,11 @@ fn write_row<W: fmt::Write>(f: &mut fmt::Formatter<W>, row: &Row, begin: u64) ->
     write_seconds(f, begin, earliest)?;
     write_seconds(f, begin, latest)?;
     write_seconds(f, earliest, latest)?;
-    let state = match row.connection() {
-        Some(connection) => connection.name(),
+    let column = match row.tcp_column() {
+        Some(column) => column.name(),
         None => "",
     };
-    write!(f, " {state:<4}  ")?;
+    write!(f, " {column:<4}  ")?;
     let ends = Ends {
         conversation: row.conversation,
     };

@@ -73,8 +73,8 @@ fn conversation(page: &mut Page, row: &Row, most: u64) -> Result<(), AllocError>
     let seconds = between(0, row.duration());
     page.number(str::from_utf8(&seconds).unwrap_or(""))?;
     page.markup("<td>")?;
-    page.text(match row.connection() {
-        Some(connection) => connection.name(),
+    page.text(match row.tcp_column() {
+        Some(column) => column.name(),
         None => "",
     })?;
     page.markup("</td>")?;
