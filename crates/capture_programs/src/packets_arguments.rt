@@ -207,7 +207,7 @@ fn flows<'a>(alloc: Global) -> Result<Command<'a>, AllocError> {
 
 fn report<'a>(alloc: Global) -> Result<Command<'a>, AllocError> {
     let command = Command::new(alloc, "report")
-        .about("Writes what summary and flows count as a page for a browser")
+        .about("Writes what summary counts as a page for a browser")
         .after_help(EXAMPLES_OF_REPORT);
     with_input(alloc, command)
 }

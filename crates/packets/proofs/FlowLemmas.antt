@@ -3,7 +3,7 @@ use Rattle.std.proofs.Common.{◌≡◌, ◌∙◌, ◌+◌, ℕ, Bool, true, fa
 use Rattle.std.proofs.Common.{arith, length}
 use Rattle.std.specs.Prelude.{◌||◌, not}
 use Rattle.std.specs.List.{filter, list_any}
-use Rattle.packets.specs.Flows.{direction_of, flow_in, flow_of, joined_flags, outlines}
+use Rattle.packets.specs.Flows.{conversation_counts, conversation_counts_of, direction_counts, joined_flags, outlines}
 use Rattle.captures.specs.Numbers.{capped}
 use Rattle.packets.specs.Outlines.{outline_of}
 use Rattle.packets.specs.Period.{earliest_of, latest_of}
@@ -11,8 +11,8 @@ use Rattle.packets.specs.Transfers.{transfer_by, transfer_of}
 use Rattle.packets.specs.declared.dissection.Dissection.{Dissection}
 use Rattle.packets.specs.declared.flows.conversation.Conversation.{Conversation}
 use Rattle.packets.specs.declared.outline.Outline.{Outline}
-use Rattle.packets.specs.declared.flows.flow.Direction.{Direction}
-use Rattle.packets.specs.declared.flows.flow.Flow.{Flow}
+use Rattle.packets.specs.declared.flows.conversation_counts.ConversationCounts.{ConversationCounts}
+use Rattle.packets.specs.declared.flows.conversation_counts.DirectionCounts.{DirectionCounts}
 use Rattle.packets.specs.declared.flows.transfer.Flags.{Flags}
 use Rattle.packets.specs.declared.flows.transfer.Transfer.{Transfer}
 use Rattle.packets.specs.declared.summary.period.Period.{Period}
@@ -37,46 +37,47 @@ length-end [] x = refl
 length-end (y ∷ xs) x = omega (arith, length-end xs x)
 
 -- what goes one way, with one packet more
-pub direction_of-more : (packets : List Transfer) (packet : Transfer) (old : Direction) (n b : ℕ)
-    (flags : Flags) → old ≡ direction_of packets → n ≡ capped (old.packets + 1)
+pub direction_counts-more : (packets : List Transfer) (packet : Transfer) (old : DirectionCounts) (n b : ℕ)
+    (flags : Flags) → old ≡ direction_counts packets → n ≡ capped (old.packets + 1)
     → b ≡ capped (old.bytes + packet.outline.wire_len) → flags ≡ joined_flags old.flags packet.flags
-    → record { packets = n; bytes = b; flags = flags } ≡ direction_of (packets ++ packet ∷ [])
-direction_of-more packets packet old n b flags e en eb ef =
+    → record { packets = n; bytes = b; flags = flags } ≡ direction_counts (packets ++ packet ∷ [])
+direction_counts-more packets packet old n b flags e en eb ef =
     grind (arith, length-end, sum_by-end, any-end)
 
 -- what goes one way of packets of a kind
-pub direction_of-kind : (kind : Transfer → Bool) (packets : List Transfer) (packet : Transfer)
-    (new : Direction) → kind packet ≡ true
-    → new ≡ direction_of (filter kind packets ++ packet ∷ [])
-    → new ≡ direction_of (filter kind (packets ++ packet ∷ []))
-direction_of-kind kind packets packet new h e =
-    e ∙ ap direction_of (sym (filter-more kind packets packet h))
+pub direction_counts-kind : (kind : Transfer → Bool) (packets : List Transfer) (packet : Transfer)
+    (new : DirectionCounts) → kind packet ≡ true
+    → new ≡ direction_counts (filter kind packets ++ packet ∷ [])
+    → new ≡ direction_counts (filter kind (packets ++ packet ∷ []))
+direction_counts-kind kind packets packet new h e =
+    e ∙ ap direction_counts (sym (filter-more kind packets packet h))
 
-pub direction_of-other : (kind : Transfer → Bool) (packets : List Transfer) (packet : Transfer)
-    (old : Direction) → kind packet ≡ false → old ≡ direction_of (filter kind packets)
-    → old ≡ direction_of (filter kind (packets ++ packet ∷ []))
-direction_of-other kind packets packet old h e =
-    e ∙ ap direction_of (sym (filter-none kind packets packet h))
+pub direction_counts-other : (kind : Transfer → Bool) (packets : List Transfer) (packet : Transfer)
+    (old : DirectionCounts) → kind packet ≡ false → old ≡ direction_counts (filter kind packets)
+    → old ≡ direction_counts (filter kind (packets ++ packet ∷ []))
+direction_counts-other kind packets packet old h e =
+    e ∙ ap direction_counts (sym (filter-none kind packets packet h))
 
 pub outlines-end : (packets : List Transfer) (packet : Transfer)
     → outlines (packets ++ packet ∷ []) ≡ outlines packets ++ packet.outline ∷ []
 outlines-end [] packet = refl
 outlines-end (p ∷ packets) packet = ap (λ ps. p.outline ∷ ps) (outlines-end packets packet)
 
-pub flow_of-other : (kind : Transfer → Bool) (packets : List Transfer) (packet : Transfer)
-    → kind packet ≡ false → flow_of kind packets ≡ flow_of kind (packets ++ packet ∷ [])
-flow_of-other kind packets packet h = ap flow_in (sym (filter-none kind packets packet h))
+pub conversation_counts_of-other : (kind : Transfer → Bool) (packets : List Transfer) (packet : Transfer)
+    → kind packet ≡ false → conversation_counts_of kind packets ≡ conversation_counts_of kind (packets ++ packet ∷ [])
+conversation_counts_of-other kind packets packet h = ap conversation_counts (sym (filter-none kind packets packet h))
 
-pub flow_of-more : (kind : Transfer → Bool) (packets : List Transfer) (packet : Transfer) (new : Flow)
-    → kind packet ≡ true → new ≡ flow_in (filter kind packets ++ packet ∷ [])
-    → new ≡ flow_of kind (packets ++ packet ∷ [])
-flow_of-more kind packets packet new h e = e ∙ ap flow_in (sym (filter-more kind packets packet h))
+pub conversation_counts_of-more : (kind : Transfer → Bool) (packets : List Transfer) (packet : Transfer)
+    (new : ConversationCounts) → kind packet ≡ true → new ≡ conversation_counts (filter kind packets ++ packet ∷ [])
+    → new ≡ conversation_counts_of kind (packets ++ packet ∷ [])
+conversation_counts_of-more kind packets packet new h e =
+    e ∙ ap conversation_counts (sym (filter-more kind packets packet h))
 
 -- what is counted of a conversation, with one packet more
-pub flow_in-more : (packets : List Transfer) (packet : Transfer) (old : Flow)
-    (ascending descending : Direction) (period : Period) (begins : Bool) → old ≡ flow_in packets
-    → ascending ≡ direction_of (filter (λ p. p.ascends) (packets ++ packet ∷ []))
-    → descending ≡ direction_of (filter (λ p. not p.ascends) (packets ++ packet ∷ []))
+pub conversation_counts-more : (packets : List Transfer) (packet : Transfer) (old : ConversationCounts)
+    (ascending descending : DirectionCounts) (period : Period) (begins : Bool) → old ≡ conversation_counts packets
+    → ascending ≡ direction_counts (filter (λ p. p.ascends) (packets ++ packet ∷ []))
+    → descending ≡ direction_counts (filter (λ p. not p.ascends) (packets ++ packet ∷ []))
     → period.earliest ≡ earliest_of (outlines packets ++ packet.outline ∷ [])
     → period.latest ≡ latest_of (outlines packets ++ packet.outline ∷ [])
     → begins ≡ unwrap_or old.begins_ascending packet.ascends
@@ -85,9 +86,9 @@ pub flow_in-more : (packets : List Transfer) (packet : Transfer) (old : Flow)
       descending = descending;
       period = period;
       begins_ascending = Some begins;
-    } ≡ flow_in (packets ++ packet ∷ [])
-flow_in-more packets packet old ascending descending period begins e up down earliest latest first =
-    let first' = first ∙ ap (λ (f : Flow). unwrap_or f.begins_ascending packet.ascends) e in
+    } ≡ conversation_counts (packets ++ packet ∷ [])
+conversation_counts-more packets packet old ascending descending period begins e up down earliest latest first =
+    let first' = first ∙ ap (λ (f : ConversationCounts). unwrap_or f.begins_ascending packet.ascends) e in
     let begin = ap Some first' ∙ sym (find-more (λ (p : Transfer). p.ascends) (λ (p : Transfer). true) packets packet refl) in
     let outline = sym (outlines-end packets packet) in
     let earliest' = earliest ∙ ap earliest_of outline in

@@ -20,7 +20,7 @@ use Rattle.packets.specs.Counts.{Counts}
 use Rattle.packets.specs.Flows.{CountsFlows}
 use Rattle.packets.specs.declared.dissection.Dissection.{Dissection}
 use Rattle.packets.specs.declared.flows.conversation.Conversation.{Conversation}
-use Rattle.packets.specs.declared.flows.flows.Flows.{Flows}
+use Rattle.packets.specs.declared.flows.counted_flows.CountedFlows.{CountedFlows}
 use Rattle.packets.specs.declared.flows.transfer.Transfer.{Transfer}
 use Rattle.packets.specs.declared.filter.Filter.{Filter}
 use Rattle.packets.proofs.EndLemmas.{all_first}
@@ -127,7 +127,7 @@ pub none_more : {X : Type 0} (Holds : List X → Type 0) (counted : List X) → 
     → Holds (counted ++ [])
 none_more Holds counted = subst Holds (sym (append-nil counted))
 
-pub flows_none : {S H : Type 0} (same : Conversation → Conversation → Bool) (flows : Flows S H)
+pub flows_none : {S H : Type 0} (same : Conversation → Conversation → Bool) (flows : CountedFlows S H)
     (counted : List Transfer) → CountsFlows same flows counted
     → CountsFlows same flows (counted ++ [])
 flows_none same flows = none_more (CountsFlows same flows)

@@ -9,12 +9,12 @@ use Rattle.packets.specs.Conversations.{is_left_out, is_without_ip, turned}
 use Rattle.packets.specs.Table.{CountsBy}
 use Rattle.packets.specs.Tally.{tally_of}
 use Rattle.packets.specs.declared.flows.conversation.Conversation.{Conversation}
-use Rattle.packets.specs.declared.flows.flow.Direction.{Direction}
-use Rattle.packets.specs.declared.flows.flow.Flow.{Flow}
-use Rattle.packets.specs.declared.flows.flows.Flows.{Flows}
-use Rattle.packets.specs.declared.flows.row.Connection.{Connection}
-use Rattle.packets.specs.declared.flows.row.Connection.TheVariants as connection
+use Rattle.packets.specs.declared.flows.conversation_counts.ConversationCounts.{ConversationCounts}
+use Rattle.packets.specs.declared.flows.conversation_counts.DirectionCounts.{DirectionCounts}
+use Rattle.packets.specs.declared.flows.counted_flows.CountedFlows.{CountedFlows}
 use Rattle.packets.specs.declared.flows.row.Row.{Row}
+use Rattle.packets.specs.declared.flows.row.TcpColumn.{TcpColumn}
+use Rattle.packets.specs.declared.flows.row.TcpColumn.TheVariants as column
 use Rattle.packets.specs.declared.flows.transfer.Flags.{Flags}
 use Rattle.packets.specs.declared.flows.transfer.Transfer.{Transfer}
 use Rattle.packets.specs.declared.outline.Outline.{Outline}
@@ -30,8 +30,8 @@ joined_flags one other = record {
 
 -- how many packets these are, how many bytes they had on the wire, and the flags that some of them
 -- have
-abbrev pub direction_of : List Transfer → Direction
-direction_of packets = record {
+abbrev pub direction_counts : List Transfer → DirectionCounts
+direction_counts packets = record {
   packets = capped (length packets);
   bytes = capped (sum_by (λ packet. packet.outline.wire_len) packets);
   flags = record {
@@ -47,10 +47,10 @@ outlines packets = map (λ packet. packet.outline) packets
 
 -- of the packets of a conversation: those of each direction, the earliest and the latest time of all,
 -- and the direction of the first
-abbrev pub flow_in : List Transfer → Flow
-flow_in packets = record {
-  ascending = direction_of (filter (λ packet. packet.ascends) packets);
-  descending = direction_of (filter (λ packet. not packet.ascends) packets);
+abbrev pub conversation_counts : List Transfer → ConversationCounts
+conversation_counts packets = record {
+  ascending = direction_counts (filter (λ packet. packet.ascends) packets);
+  descending = direction_counts (filter (λ packet. not packet.ascends) packets);
   period = record {
     earliest = earliest_of (outlines packets);
     latest = latest_of (outlines packets);
@@ -59,21 +59,21 @@ flow_in packets = record {
 }
 
 -- the same of packets of a kind
-abbrev pub flow_of : (Transfer → Bool) → List Transfer → Flow
-flow_of is_of_kind packets = flow_in (filter is_of_kind packets)
+abbrev pub conversation_counts_of : (Transfer → Bool) → List Transfer → ConversationCounts
+conversation_counts_of is_of_kind packets = conversation_counts (filter is_of_kind packets)
 
 -- the conversations are those of the packets, each once, and of each its packets are counted; so are
 -- the packets that are in none
-pub record CountsFlows {S H : Type 0} (same : Conversation → Conversation → Bool) (flows : Flows S H)
+pub record CountsFlows {S H : Type 0} (same : Conversation → Conversation → Bool) (flows : CountedFlows S H)
     (packets : List Transfer) : Type 0 where
   pub all : flows.all ≡ tally_of (λ packet. true) (outlines packets)
   pub refused : flows.refused ≡ tally_of is_left_out (outlines packets)
   pub without_ip : flows.without_ip ≡ tally_of is_without_ip (outlines packets)
-  pub conversations : CountsBy flow_of same (λ packet. packet.conversation) flows.conversations packets
+  pub conversations : CountsBy conversation_counts_of same (λ packet. packet.conversation) flows.conversations packets
 
 -- ---- what is reported of them
 
-abbrev pub row_from : (is_ascending : Bool) → Conversation → Flow → Row
+abbrev pub row_from : (is_ascending : Bool) → Conversation → ConversationCounts → Row
 row_from true conversation flow = record {
   conversation = conversation;
   forward = flow.ascending;
@@ -88,7 +88,7 @@ row_from false conversation flow = record {
 }
 
 -- in the direction of the first packet
-abbrev pub row_of : Conversation × Flow → Row
+abbrev pub row_of : Conversation × ConversationCounts → Row
 row_of entry = row_from (unwrap_or entry.1.begins_ascending true) entry.0 entry.1
 
 -- from the earliest packet to the latest
@@ -101,14 +101,14 @@ abbrev pub duration_of : Period → ℕ
 duration_of period = time_between period.earliest period.latest
 
 -- how far a TCP connection came, by the flags that were seen in each direction
-abbrev pub connection_in : (forward backward : Flags) → Connection
-connection_in forward backward = if forward.rst || backward.rst then connection.Reset
-    else if forward.syn && backward.syn && forward.fin && backward.fin then connection.Ended
-    else if forward.no_syn || backward.no_syn then connection.Open
-    else connection.SynOnly
+abbrev pub tcp_column_by : (forward backward : Flags) → TcpColumn
+tcp_column_by forward backward = if forward.rst || backward.rst then column.Reset
+    else if forward.syn && backward.syn && forward.fin && backward.fin then column.Ended
+    else if forward.no_syn || backward.no_syn then column.Open
+    else column.SynOnly
 
 -- of segments whose ports are known; the protocol number of TCP is 6
-abbrev pub connection_of : Row → Option Connection
-connection_of row =
+abbrev pub tcp_column_of : Row → Option TcpColumn
+tcp_column_of row =
     if (row.conversation.protocol.0 == 6) && is_some row.conversation.ports
-    then Some (connection_in row.forward.flags row.backward.flags) else None
+    then Some (tcp_column_by row.forward.flags row.backward.flags) else None

@@ -52,14 +52,15 @@ completed_segment (Ok (Icmpv6 message)) = None
 completed_segment (Ok (Raw bytes)) = None
 completed_segment (Err e) = None
 
-abbrev pub segment_in : Result SlicedPacket SliceError → Option Fragment → Option (List ℕ)
-segment_in layers None = layers_segment layers
-segment_in layers (Some (fragment.Waits started)) = layers_segment layers
-segment_in layers (Some (fragment.Completes started message)) =
+-- the segment of a packet, or of the message that it completes
+abbrev pub packet_segment : Result SlicedPacket SliceError → Option Fragment → Option (List ℕ)
+packet_segment layers None = layers_segment layers
+packet_segment layers (Some (fragment.Waits started)) = layers_segment layers
+packet_segment layers (Some (fragment.Completes started message)) =
     completed_segment (message_at message.ip_number.0 message.payload.items)
-segment_in layers (Some (fragment.Refused started error)) = layers_segment layers
+packet_segment layers (Some (fragment.Refused started error)) = layers_segment layers
 
--- the segment of a packet, or of the message that it completes, if its IP packet is whole
+-- the same, if its IP packet is whole
 abbrev pub whole_segment : Dissection → Option (List ℕ)
 whole_segment packet = if is_whole packet.captured_len packet.wire_len packet.layers
-    then segment_in packet.layers packet.fragment else None
+    then packet_segment packet.layers packet.fragment else None

@@ -43,8 +43,8 @@ abbrev pub pointer_of : List ℕ → ℕ
 pointer_of route = num route 2 1
 
 -- the bytes that the length counts are there, and the first three among them
-abbrev pub is_whole : List ℕ → Bool
-is_whole route = nat_le 3 (route_len route) && nat_le (route_len route) (length route)
+abbrev pub is_whole_route : List ℕ → Bool
+is_whole_route route = nat_le 3 (route_len route) && nat_le (route_len route) (length route)
 
 -- the pointer points to one of a row of whole addresses
 abbrev pub points_to_address : List ℕ → Bool
@@ -55,7 +55,7 @@ points_to_address route = (route_len route % 4 == 3) && (pointer_of route % 4 ==
 -- that breaks the format
 abbrev pub end_of_route : (destination route : List ℕ) → Option (List ℕ)
 end_of_route destination route =
-    if is_whole route then (
+    if is_whole_route route then (
     if nat_lt (route_len route) (pointer_of route) then Some destination else (
     if points_to_address route
     then Some (slice_range route (route_len route - 4) (route_len route)) else None)) else None

@@ -16,7 +16,7 @@ use Rattle.tcp_streams.specs.declared.segment_flags.SegmentFlags.{SegmentFlags}
 use Rattle.tcp_streams.specs.declared.stream_counter.StreamCounter.{StreamCounter}
 use Rattle.tcp_streams.specs.declared.stream_counter.StreamCounts.{StreamCounts}
 use Rattle.packets.specs.Conversations.{ascends, from_lower}
-use Rattle.packets.specs.Flows.{connection_of}
+use Rattle.packets.specs.Flows.{tcp_column_of}
 use Rattle.packets.specs.Followed.{whole_segment}
 use Rattle.packets.specs.LaxLayers.{lax_layers_of}
 use Rattle.packets.specs.MessageHeaders.{message_header}
@@ -251,4 +251,4 @@ stream_row conversation (Some stream) = record {
 -- of a row of TCP whose ports are known; streams are those of conversations from the lower end
 abbrev pub stream_row_of : (of : Conversation → Option Stream) → Row → Option StreamRow
 stream_row_of of row =
-    if is_some (connection_of row) then Some (stream_row row.conversation (of (from_lower row.conversation))) else None
+    if is_some (tcp_column_of row) then Some (stream_row row.conversation (of (from_lower row.conversation))) else None

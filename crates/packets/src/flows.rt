@@ -1,8 +1,8 @@
 //! Conversations, counted.
 
 pub(crate) mod conversation;
-pub(crate) mod flow;
-pub(crate) mod flows;
+pub(crate) mod conversation_counts;
+pub(crate) mod counted_flows;
 pub(crate) mod followed_flows;
 pub(crate) mod listing;
 pub(crate) mod object;

@@ -36,11 +36,11 @@ pub mod examples;
 
 use crate::program::{Coloring, LineRequest, SizeError};
 use crate::{
-    By, ChecksumTallies, Condition, Connection, ConnectionId, Conversation, Direction, Ending,
-    Flags, Flow, FollowForm, FollowOptions, FragmentState, FragmentTallies, GrammarError, Headers,
-    Lengths, Listing, Net, NoProgress, Omitted, Outline, Period, Ports, Reason, Row, Segment,
-    ShowOptions, ShownBytes, Side, Sizes, Starts, Tally, TcpFlag, Transfer, Verified, Way, Word,
-    WordError,
+    By, ChecksumTallies, Condition, ConnectionId, Conversation, ConversationCounts,
+    DirectionCounts, Ending, Flags, FollowForm, FollowOptions, FragmentState, FragmentTallies,
+    GrammarError, Headers, Lengths, Listing, Net, NoProgress, Omitted, Outline, Period, Ports,
+    Reason, Row, Segment, ShowOptions, ShownBytes, Side, Sizes, Starts, Tally, TcpColumn, TcpFlag,
+    Transfer, Verified, Way, Word, WordError,
 };
 use ep_base::IpNumber;
 use ep_base::err::Layer;
@@ -72,7 +72,7 @@ pub fn types_are_plain_data()
     ensures starts { IsPlainData ⟦<Starts as Value>⟧ }
     ensures shown_bytes { IsPlainData ⟦<ShownBytes as Value>⟧ }
     ensures flags { IsPlainData ⟦<Flags as Value>⟧ }
-    ensures connection { IsPlainData ⟦<Connection as Value>⟧ }
+    ensures tcp_column { IsPlainData ⟦<TcpColumn as Value>⟧ }
     ensures by { IsPlainData ⟦<By as Value>⟧ }
 {}
 
@@ -87,7 +87,7 @@ pub fn holders_are_plain_data()
     ensures ending { IsPlainData ⟦<Ending as Value>⟧ }
     ensures omitted { IsPlainData ⟦<Omitted as Value>⟧ }
     ensures conversation { IsPlainData ⟦<Conversation as Value>⟧ }
-    ensures direction { IsPlainData ⟦<Direction as Value>⟧ }
+    ensures direction_counts { IsPlainData ⟦<DirectionCounts as Value>⟧ }
     ensures listing { IsPlainData ⟦<Listing as Value>⟧ }
 {
     types_are_plain_data();
@@ -118,7 +118,7 @@ pub fn outlines_are_plain_data()
 pub fn flows_are_plain_data()
     ensures transfer { IsPlainData ⟦<Transfer as Value>⟧ }
     ensures segment { IsPlainData ⟦<Segment as Value>⟧ }
-    ensures flow { IsPlainData ⟦<Flow as Value>⟧ }
+    ensures conversation_counts { IsPlainData ⟦<ConversationCounts as Value>⟧ }
     ensures row { IsPlainData ⟦<Row as Value>⟧ }
 {
     types_are_plain_data();

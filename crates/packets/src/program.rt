@@ -9,6 +9,6 @@ pub use capture_programs::packets_arguments::command;
 pub use ending::{exit_code, goes_on, report_dropped};
 pub use outputs::{
     write_capture_flushed, write_flows, write_flushed, write_follow_end, write_followed_flushed,
-    write_page, write_records_flushed, write_report,
+    write_page, write_records_flushed, write_summary,
 };
 pub use words::{Coloring, LineRequest, Output, RequestError, Requested, SizeError, requested_by};

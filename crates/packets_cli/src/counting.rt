@@ -3,10 +3,10 @@ use crate::{FileEnd, Task, end_of, take_files};
 use capture_programs::packets_arguments::PROGRAM;
 use capture_programs::{ClosableWriter, Input, Look, ProgressLine, ProgressReader, Subject};
 use captures::RunError;
-use packets::program::{Requested, exit_code, goes_on, write_flows, write_page, write_report};
+use packets::program::{Requested, exit_code, goes_on, write_flows, write_page, write_summary};
 use packets::{
-    Ending, FollowedFlows, Listing, NoProgress, Omitted, Overview, Report, Rules, Summary, WebPage,
-    count_flows, count_overview, summarize,
+    Ending, FollowedFlows, Listing, NoProgress, Omitted, Overview, Rules, Summary, SummaryText,
+    WebPage, count_flows, count_overview, summarize,
 };
 use std::hash::RandomState;
 use std::io::{Read, Write};
@@ -68,13 +68,13 @@ impl Counts for SummaryCounts {
         _failed: bool,
         output: &mut W,
     ) -> Result<(), RunError> {
-        let report = Report {
+        let text = SummaryText {
             summary: &self.summary,
             open,
             dropped: omitted.dropped,
             skipped: omitted.skipped,
         };
-        write_report(rt.alloc(), &report, output)
+        write_summary(rt.alloc(), &text, output)
     }
 }
 

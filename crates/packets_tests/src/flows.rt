@@ -9,8 +9,8 @@ use etherparse::{Addresses, IpNumber};
 use fault_devices::UnflushableWriter;
 use packets::program::write_flows;
 use packets::{
-    By, Connection, Conversation, Direction, Dissector, Flags, Flow, FollowedFlows, Listing,
-    NoProgress, Period, Ports, Row, Transfer, count_flows,
+    By, Conversation, ConversationCounts, DirectionCounts, Dissector, Flags, FollowedFlows,
+    Listing, NoProgress, Period, Ports, Row, TcpColumn, Transfer, count_flows,
 };
 use std::alloc::Global;
 use std::hash::{BuildHasherDefault, FoldHasher};
@@ -31,7 +31,7 @@ const SERVER_FIRST: Conversation = Conversation {
 };
 
 // A datagram, and the fragment that completes another one.
-const DATAGRAMS: Direction = Direction {
+const DATAGRAMS: DirectionCounts = DirectionCounts {
     packets: 2,
     bytes: 96,
     flags: Flags {
@@ -69,10 +69,10 @@ fn conversations(rt: HostRuntime) {
         fail(rt, "no row");
     };
     let counts = (row.conversation, row.forward, row.backward);
-    equal(rt, counts, (SERVER_FIRST, DATAGRAMS, Direction::NONE));
+    equal(rt, counts, (SERVER_FIRST, DATAGRAMS, DirectionCounts::NONE));
     equal(
         rt,
-        (row.packets(), row.bytes(), row.connection()),
+        (row.packets(), row.bytes(), row.tcp_column()),
         (2, 96, None),
     );
     let times = (row.period.earliest, row.period.latest);
@@ -89,19 +89,19 @@ fn flags_of(bits: u8) -> Flags {
 }
 
 // SYN, no SYN, FIN and RST as bits, forward and backward.
-const CONNECTIONS: &[(u8, u8, Connection, &str)] = &[
-    (1, 0, Connection::SynOnly, "S"),
-    (1, 1, Connection::SynOnly, "S"),
-    (3, 3, Connection::Open, "open"),
-    (7, 3, Connection::Open, "open"),
-    (7, 7, Connection::Ended, "SF"),
-    (7, 6, Connection::Open, "open"),
-    (1, 10, Connection::Reset, "R"),
-    (15, 7, Connection::Reset, "R"),
+const TCP_COLUMNS: &[(u8, u8, TcpColumn, &str)] = &[
+    (1, 0, TcpColumn::SynOnly, "S"),
+    (1, 1, TcpColumn::SynOnly, "S"),
+    (3, 3, TcpColumn::Open, "open"),
+    (7, 3, TcpColumn::Open, "open"),
+    (7, 7, TcpColumn::Ended, "SF"),
+    (7, 6, TcpColumn::Open, "open"),
+    (1, 10, TcpColumn::Reset, "R"),
+    (15, 7, TcpColumn::Reset, "R"),
 ];
 
-fn direction_with(bits: u8) -> Direction {
-    Direction {
+fn direction_with(bits: u8) -> DirectionCounts {
+    DirectionCounts {
         packets: 1,
         bytes: 60,
         flags: flags_of(bits),
@@ -123,12 +123,12 @@ fn row_with(forward: u8, backward: u8, ports: Option<Ports>) -> Row {
 
 #[test]
 fn connections(rt: HostRuntime) {
-    for (forward, backward, wanted, name) in CONNECTIONS {
+    for (forward, backward, wanted, name) in TCP_COLUMNS {
         let row = row_with(*forward, *backward, SERVER_FIRST.ports);
-        equal(rt, row.connection(), Some(*wanted));
+        equal(rt, row.tcp_column(), Some(*wanted));
         is_text(rt, wanted.name().as_bytes(), *name);
     }
-    equal(rt, row_with(7, 7, None).connection(), None);
+    equal(rt, row_with(7, 7, None).tcp_column(), None);
 }
 
 // A datagram goes from the lower end, and one with its ends turned from the higher one.
@@ -144,7 +144,7 @@ fn directions(rt: HostRuntime) {
     );
     let mut answered = sent;
     answered.ascends = false;
-    let mut flow = Flow::NONE;
+    let mut flow = ConversationCounts::NONE;
     flow.add(&answered);
     flow.add(&sent);
     flow.add(&answered);

@@ -6,8 +6,8 @@ use capture_programs::packets_arguments::PROGRAM;
 use capture_programs::{ClosableWriter, Look, Subject};
 use captures::{CaptureError, Position, RunError, Skipped};
 use fault_devices::{Fault, FaultWriter, UnflushableWriter};
-use packets::program::{exit_code, goes_on, write_flushed, write_report};
-use packets::{JsonLines, Omitted, Report, Summary};
+use packets::program::{exit_code, goes_on, write_flushed, write_summary};
+use packets::{JsonLines, Omitted, Summary, SummaryText};
 use std::alloc::Global;
 use std::hash::{BuildHasherDefault, FoldHasher};
 use std::io::{ErrorKind, Write};
@@ -44,15 +44,15 @@ fn a_flush_that_fails_is_a_failed_write(rt: HostRuntime) {
     is_unflushed(rt, rt.alloc(), b"text", refusal);
 }
 
-// Writes the report of no packet.
+// Writes the summary of no packet.
 fn reported<W: Write>(alloc: Global, skipped: Skipped, writer: &mut W) -> Result<(), RunError> {
-    let report = Report {
+    let text = SummaryText {
         summary: &Summary::new(alloc),
         open: 0,
         dropped: 0,
         skipped,
     };
-    write_report(alloc, &report, writer)
+    write_summary(alloc, &text, writer)
 }
 
 // The text has 11 bytes.

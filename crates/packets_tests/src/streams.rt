@@ -3,7 +3,7 @@
 use crate::captured::{captured, dissected, first};
 use crate::checks::{equal, fail, holds};
 use crate::frames::FRAMES;
-use packets::{Dissector, Flows, FollowedFlows, Streams, Transfer};
+use packets::{CountedFlows, Dissector, FollowedFlows, Streams, Transfer};
 use std::hash::{BuildHasherDefault, FoldHasher};
 use tcp_streams::{
     ConnectionState, Direction, Follower, SegmentFlags, StreamBuf, StreamCounter, StreamCounts,
@@ -73,7 +73,7 @@ fn streams_of_conversations(rt: HostRuntime) {
         fail(rt, "no conversation");
     };
     let state: BuildHasherDefault<FoldHasher> = BuildHasherDefault::new();
-    equal(rt, Flows::with_hasher(rt.alloc(), state).len(), 0);
+    equal(rt, CountedFlows::with_hasher(rt.alloc(), state).len(), 0);
     holds(
         rt,
         Streams::with_hasher(rt.alloc(), state)

@@ -9,7 +9,7 @@ use etherparse::err::Layer;
 use etherparse::{Addresses, IpNumber};
 use packets::{
     Condition, Dissection, Dissector, Ending, Filter, Fragment, FragmentState, Headers, Lengths,
-    Net, NoProgress, Outline, Period, Protocol, Rate, Reason, Report, Sizes, Summary, Tally,
+    Net, NoProgress, Outline, Period, Protocol, Rate, Reason, Sizes, Summary, SummaryText, Tally,
     Verified, Words, summarize,
 };
 use std::alloc::Global;
@@ -391,13 +391,13 @@ fn add_numbered(
 }
 
 fn reports(rt: impl Abort + Copy, alloc: Global, summary: &Summary, wanted: &str) {
-    let report = Report {
+    let summary_text = SummaryText {
         summary,
         open: 0,
         dropped: 0,
         skipped: Skipped::NONE,
     };
-    let Ok(text) = format!(in alloc; "{report}") else {
+    let Ok(text) = format!(in alloc; "{summary_text}") else {
         fail(rt, "no memory");
     };
     holds(rt, text.as_str().contains(wanted));

@@ -5,7 +5,7 @@ ghost use Rattle.packets.specs.declared.dissection.Dissection.{Dissection};
 ghost use Rattle.packets.specs.declared.flows.transfer.Transfer.{Transfer};
 
 use crate::flows::conversation::Conversation;
-use crate::flows::flows::Flows;
+use crate::flows::counted_flows::CountedFlows;
 use crate::flows::streams::Streams;
 use crate::flows::tcp_packet::tcp_packet;
 use crate::flows::transfer::transfer_with;
@@ -18,7 +18,7 @@ use std::hash::BuildHasher;
 #[derive(Drop)]
 pub struct FollowedFlows<S: BuildHasher> {
     /// The conversations.
-    pub flows: Flows<S>,
+    pub flows: CountedFlows<S>,
     /// Those over TCP, followed.
     pub streams: Streams<S>,
 }
@@ -35,7 +35,7 @@ impl<S: BuildHasher> FollowedFlows<S> {
         ensures none { hash_map_len result.streams.streams ≡ 0 }
     {
         FollowedFlows {
-            flows: Flows::with_hasher(alloc, conversations),
+            flows: CountedFlows::with_hasher(alloc, conversations),
             streams: Streams::with_hasher(alloc, streams),
         }
     }

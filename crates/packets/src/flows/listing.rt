@@ -1,6 +1,6 @@
 //! In which order conversations are listed.
 
-use crate::flows::flows::Flows;
+use crate::flows::counted_flows::CountedFlows;
 use crate::flows::row::Row;
 use std::alloc::{AllocError, Global};
 use std::hash::BuildHasher;
@@ -38,7 +38,7 @@ impl Listing {
     pub(crate) fn indices<S: BuildHasher>(
         &self,
         alloc: Global,
-        flows: &Flows<S>,
+        flows: &CountedFlows<S>,
     ) -> Result<Vec<usize>, AllocError> {
         let mut ranks = Vec::with_capacity(alloc, flows.len())?;
         for index in 0..flows.len() {
@@ -81,7 +81,7 @@ pub(crate) struct Greatest {
 impl Greatest {
     /// Those of these, in the order of [`By::Bytes`]. It takes no memory. It has no contract, nor has
     /// the next, since the reports that are made of them have none: tests compare those.
-    pub(crate) fn of<S: BuildHasher>(flows: &Flows<S>) -> Greatest {
+    pub(crate) fn of<S: BuildHasher>(flows: &CountedFlows<S>) -> Greatest {
         let mut greatest = Greatest {
             indices: [0; GREATEST_COUNT],
             count: 0,
@@ -109,7 +109,10 @@ impl Greatest {
 }
 
 // The least of the ranks after this one, or of all.
-fn next_rank<S: BuildHasher>(flows: &Flows<S>, last: Option<(u64, usize)>) -> Option<(u64, usize)> {
+fn next_rank<S: BuildHasher>(
+    flows: &CountedFlows<S>,
+    last: Option<(u64, usize)>,
+) -> Option<(u64, usize)> {
     let mut next: Option<(u64, usize)> = None;
     for index in 0..flows.len() {
         if let Some(row) = flows.row(index) {

@@ -1,6 +1,6 @@
 //! Conversations as a JSON object. The functions have no contracts: tests compare the texts.
 
-use crate::flows::flow::Direction;
+use crate::flows::conversation_counts::DirectionCounts;
 use crate::flows::followed_flows::FollowedFlows;
 use crate::flows::row::Row;
 use crate::flows::stream_row::StreamRow;
@@ -61,8 +61,8 @@ fn object<S: Serializer>(
     number(out, "first", row.period.earliest.unwrap_or(0))?;
     number(out, "last", row.period.latest.unwrap_or(0))?;
     number(out, "duration", row.duration())?;
-    if let Some(connection) = row.connection() {
-        text(out, "tcp", connection.name())?;
+    if let Some(column) = row.tcp_column() {
+        text(out, "tcp", column.name())?;
     }
     if let Some(stream) = stream {
         if let Some(state) = stream.state {
@@ -101,7 +101,7 @@ fn ends<S: Serializer>(out: &mut S, row: &Row) -> Result<(), S::Error> {
 fn direction<S: Serializer>(
     out: &mut S,
     name: &str,
-    direction: &Direction,
+    direction: &DirectionCounts,
     counts: Option<StreamCounts>,
 ) -> Result<(), S::Error> {
     begin(out, name)?;

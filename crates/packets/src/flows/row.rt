@@ -1,11 +1,11 @@
 //! What is reported of a conversation.
 ghost use Rattle.std.specs.Prelude.{◌≡◌, ◌+◌};
-ghost use Rattle.packets.specs.Flows.{connection_in, connection_of, duration_of, row_of};
+ghost use Rattle.packets.specs.Flows.{duration_of, row_of, tcp_column_by, tcp_column_of};
 ghost use Rattle.captures.specs.Numbers.{capped};
 
 use crate::Period;
 use crate::flows::conversation::Conversation;
-use crate::flows::flow::{Direction, Flow};
+use crate::flows::conversation_counts::{ConversationCounts, DirectionCounts};
 use crate::flows::transfer::Flags;
 use ep_base::IpNumber;
 
@@ -15,16 +15,17 @@ pub struct Row {
     /// The ends, in the direction of the first packet, and the protocol.
     pub conversation: Conversation,
     /// The packets that go in this direction.
-    pub forward: Direction,
+    pub forward: DirectionCounts,
     /// Those that go in the other one.
-    pub backward: Direction,
+    pub backward: DirectionCounts,
     /// When they came.
     pub period: Period,
 }
 
-/// What the flags of all segments of a conversation over TCP show, whatever their order.
+/// The column `TCP`: what the flags of all segments of a conversation over TCP show, whatever their
+/// order.
 #[derive(Clone, Copy, Debug, PartialEq, Eq)]
-pub enum Connection {
+pub enum TcpColumn {
     /// A segment with RST was seen.
     Reset,
     /// Otherwise, SYN and FIN were seen in both directions.
@@ -37,7 +38,7 @@ pub enum Connection {
 
 impl Row {
     /// The row of a conversation from the lower end.
-    pub(crate) fn of(conversation: &Conversation, flow: &Flow) -> Row
+    pub(crate) fn of(conversation: &Conversation, flow: &ConversationCounts) -> Row
         ensures { result ≡ row_of (conversation.now, flow.now) }
     {
         if flow.begins_ascending.unwrap_or(true) {
@@ -82,39 +83,39 @@ impl Row {
     }
 
     /// Of TCP segments whose headers are there, how far their connection came.
-    pub fn connection(&self) -> Option<Connection>
-        ensures { result ≡ connection_of self.now }
+    pub fn tcp_column(&self) -> Option<TcpColumn>
+        ensures { result ≡ tcp_column_of self.now }
     {
         if self.conversation.protocol == IpNumber::TCP && self.conversation.ports.is_some() {
-            Some(connection_in(self.forward.flags, self.backward.flags))
+            Some(tcp_column_by(self.forward.flags, self.backward.flags))
         } else {
             None
         }
     }
 }
 
-fn connection_in(forward: Flags, backward: Flags) -> Connection
-    ensures { result ≡ connection_in forward backward }
+fn tcp_column_by(forward: Flags, backward: Flags) -> TcpColumn
+    ensures { result ≡ tcp_column_by forward backward }
 {
     if forward.rst || backward.rst {
-        Connection::Reset
+        TcpColumn::Reset
     } else if forward.syn && backward.syn && forward.fin && backward.fin {
-        Connection::Ended
+        TcpColumn::Ended
     } else if forward.no_syn || backward.no_syn {
-        Connection::Open
+        TcpColumn::Open
     } else {
-        Connection::SynOnly
+        TcpColumn::SynOnly
     }
 }
 
-impl Connection {
+impl TcpColumn {
     /// How it is written. It has no contract: tests compare the texts.
     pub fn name(self) -> &'static str {
         match self {
-            Connection::Reset => "R",
-            Connection::Ended => "SF",
-            Connection::SynOnly => "S",
-            Connection::Open => "open",
+            TcpColumn::Reset => "R",
+            TcpColumn::Ended => "SF",
+            TcpColumn::SynOnly => "S",
+            TcpColumn::Open => "open",
         }
     }
 }

@@ -30,7 +30,7 @@ impl StreamRow {
     pub(crate) fn of<S: BuildHasher>(row: &Row, streams: &Streams<S>) -> Option<StreamRow>
         ensures { result ≡ stream_row_of (get ⟦<Conversation as PartialEq>⟧.eq streams.now.streams) row.now }
     {
-        if row.connection().is_none() {
+        if row.tcp_column().is_none() {
             return None;
         }
         let conversation = row.conversation;

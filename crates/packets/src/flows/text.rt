@@ -2,7 +2,7 @@
 
 use crate::Protocol;
 use crate::flows::conversation::Conversation;
-use crate::flows::flows::Flows;
+use crate::flows::counted_flows::CountedFlows;
 use crate::flows::row::Row;
 use crate::show::endpoints::Ports;
 use captures::Skipped;
@@ -21,7 +21,7 @@ const TITLES: &str =
 #[derive(Drop)]
 pub struct FlowTable<'f, S: BuildHasher> {
     /// The conversations.
-    pub flows: &'f Flows<S>,
+    pub flows: &'f CountedFlows<S>,
     /// The indices of those that are listed.
     pub indices: &'f [usize],
     /// How many packets were passed over.
@@ -74,7 +74,7 @@ impl<S: BuildHasher> FlowTable<'_, S> {
 }
 
 // The time of the earliest packet of all.
-fn earliest<S: BuildHasher>(flows: &Flows<S>) -> Option<u64> {
+fn earliest<S: BuildHasher>(flows: &CountedFlows<S>) -> Option<u64> {
     let mut earliest: Option<u64> = None;
     for index in 0..flows.len() {
         if let Some(row) = flows.row(index) {
@@ -101,11 +101,11 @@ fn write_row<W: fmt::Write>(f: &mut fmt::Formatter<W>, row: &Row, begin: u64) ->
     write_seconds(f, begin, earliest)?;
     write_seconds(f, begin, latest)?;
     write_seconds(f, earliest, latest)?;
-    let state = match row.connection() {
-        Some(connection) => connection.name(),
+    let column = match row.tcp_column() {
+        Some(column) => column.name(),
         None => "",
     };
-    write!(f, " {state:<4}  ")?;
+    write!(f, " {column:<4}  ")?;
     let ends = Ends {
         conversation: row.conversation,
     };

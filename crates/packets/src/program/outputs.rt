@@ -7,8 +7,8 @@ ghost use Rattle.packets.specs.WrittenCaptures.{WritesCapture, WritesRecords};
 ghost use Rattle.packets.specs.declared.dissection.Dissection.{Dissection};
 
 use crate::{
-    FlowObject, FlowTable, FollowedFlows, Following, LineWriter, Listing, Omitted, Report, Rules,
-    StreamTable, WebPage, write_capture, write_followed, write_lines, write_records,
+    FlowObject, FlowTable, FollowedFlows, Following, LineWriter, Listing, Omitted, Rules,
+    StreamTable, SummaryText, WebPage, write_capture, write_followed, write_lines, write_records,
 };
 use captures::{RunError, Skipped};
 use device_runs::flush_after;
@@ -100,13 +100,13 @@ pub fn write_follow_end<W: Write>(
     }
 }
 
-/// Writes the report on a capture at its end. It has no contract: tests compare the texts.
-pub fn write_report<S: BuildHasher, W: Write>(
+/// Writes what is in a capture, counted, as text. It has no contract: tests compare the texts.
+pub fn write_summary<S: BuildHasher, W: Write>(
     alloc: Global,
-    report: &Report<'_, S>,
+    summary: &SummaryText<'_, S>,
     writer: &mut W,
 ) -> Result<(), RunError> {
-    let Ok(text) = format!(in alloc; "{report}") else {
+    let Ok(text) = format!(in alloc; "{summary}") else {
         return Err(RunError::Memory);
     };
     write_whole_flushed(text.as_bytes(), writer)

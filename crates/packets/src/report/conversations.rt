@@ -1,6 +1,6 @@
 //! The greatest conversations. The functions have no contracts: tests compare the texts.
 
-use crate::flows::flows::Flows;
+use crate::flows::counted_flows::CountedFlows;
 use crate::flows::listing::Greatest;
 use crate::flows::row::Row;
 use crate::flows::text::Ends;
@@ -12,7 +12,10 @@ use std::hash::BuildHasher;
 use std::str;
 
 /// The section.
-pub(crate) fn write<S: BuildHasher>(page: &mut Page, flows: &Flows<S>) -> Result<(), AllocError> {
+pub(crate) fn write<S: BuildHasher>(
+    page: &mut Page,
+    flows: &CountedFlows<S>,
+) -> Result<(), AllocError> {
     page.begin_section("conversations", "Greatest conversations, by bytes")?;
     if flows.is_empty() {
         page.markup("<p>no conversations</p>\n")?;
@@ -47,7 +50,7 @@ pub(crate) fn write<S: BuildHasher>(page: &mut Page, flows: &Flows<S>) -> Result
 }
 
 // The most bytes in one direction.
-fn most_bytes<S: BuildHasher>(flows: &Flows<S>, greatest: &Greatest) -> u64 {
+fn most_bytes<S: BuildHasher>(flows: &CountedFlows<S>, greatest: &Greatest) -> u64 {
     let mut most = 0;
     for index in greatest.indices() {
         if let Some(row) = flows.row(*index) {
@@ -70,8 +73,8 @@ fn conversation(page: &mut Page, row: &Row, most: u64) -> Result<(), AllocError>
     let seconds = between(0, row.duration());
     page.number(str::from_utf8(&seconds).unwrap_or(""))?;
     page.markup("<td>")?;
-    page.text(match row.connection() {
-        Some(connection) => connection.name(),
+    page.text(match row.tcp_column() {
+        Some(column) => column.name(),
         None => "",
     })?;
     page.markup("</td>")?;

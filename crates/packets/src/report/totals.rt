@@ -3,7 +3,7 @@
 
 use crate::report::page::Page;
 use crate::report::web_page::WebPage;
-use crate::summary::report::a_second;
+use crate::summary::text::a_second;
 use header_descriptions::show::seconds::between;
 use header_descriptions::show::time::utc_text;
 use std::alloc::AllocError;

@@ -3,7 +3,7 @@ ghost use Rattle.std.specs.Prelude.{◌≡◌, ◌<◌, ◌++◌, ◌∷◌, [],
 ghost use Rattle.packets.specs.declared.flows.transfer.Transfer.{Transfer};
 ghost use Rattle.packets.specs.declared.outline.Outline.{Outline};
 
-use crate::flows::flows::Flows;
+use crate::flows::counted_flows::CountedFlows;
 use crate::flows::transfer::Transfer;
 use crate::outline::FragmentState;
 use crate::summary::lengths::Lengths;
@@ -45,7 +45,7 @@ pub struct Summary<S: BuildHasher = BuildHasherDefault<FoldHasher>> {
     /// Those that are refused, by the reason.
     pub reasons: Table<Reason, S>,
     /// By their conversations.
-    pub flows: Flows<S>,
+    pub flows: CountedFlows<S>,
     /// Those with a good or a bad checksum, by the sender and which it is.
     pub senders: Table<Verified, S>,
     recent: Recent,
@@ -127,7 +127,7 @@ impl<S: BuildHasher> Summary<S> {
             period: Period::NONE,
             lengths: Lengths::NONE,
             reasons: Table::with_hasher(alloc, reasons),
-            flows: Flows::with_hasher(alloc, conversations),
+            flows: CountedFlows::with_hasher(alloc, conversations),
             senders: Table::with_hasher(alloc, senders),
             recent: Recent::new(),
         }

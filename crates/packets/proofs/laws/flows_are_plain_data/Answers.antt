@@ -23,9 +23,9 @@ returns-clause-transfer c = record {
       });
 }
 
-pub returns-clause-flow : goal.returns-clause-flow
-returns-clause-flow c =
-    let direction = c.holders_are_plain_data.ensures.direction.equals in record {
+pub returns-clause-conversation_counts : goal.returns-clause-conversation_counts
+returns-clause-conversation_counts c =
+    let direction = c.holders_are_plain_data.ensures.direction_counts.equals in record {
       copies = grind (arith, common_steps, elements);
       never_fails = grind (arith, common_steps);
       equals = λ a b. record_same
@@ -43,7 +43,7 @@ returns-clause-flow c =
 
 pub returns-clause-row : goal.returns-clause-row
 returns-clause-row c =
-    let direction = c.holders_are_plain_data.ensures.direction.equals in record {
+    let direction = c.holders_are_plain_data.ensures.direction_counts.equals in record {
       copies = grind (arith, common_steps, elements);
       never_fails = grind (arith, common_steps);
       equals = λ a b. record_same

@@ -5,7 +5,7 @@ ghost use Rattle.packets.specs.declared.flows.transfer.Transfer.{Transfer};
 
 use crate::Dissection;
 use crate::flows::conversation::Conversation;
-use crate::flows::flow::Flow;
+use crate::flows::conversation_counts::ConversationCounts;
 use crate::flows::row::Row;
 use crate::flows::transfer::Transfer;
 use crate::summary::recent::{BUCKET_COUNT, conversation_bucket};
@@ -16,38 +16,38 @@ use std::hash::{BuildHasher, BuildHasherDefault, FoldHasher};
 
 /// The conversations in a capture. Their memory grows with their number, and with nothing else.
 #[derive(Drop)]
-pub struct Flows<S: BuildHasher = BuildHasherDefault<FoldHasher>> {
+pub struct CountedFlows<S: BuildHasher = BuildHasherDefault<FoldHasher>> {
     /// All packets.
     pub all: Tally,
     /// Those that are refused, unless they were cut. They are in no conversation.
     pub refused: Tally,
     /// The others without an IP header. They are in none, too.
     pub without_ip: Tally,
-    pub(crate) conversations: Table<Conversation, S, Flow>,
+    pub(crate) conversations: Table<Conversation, S, ConversationCounts>,
     // By buckets of conversations, the index of that which was counted last.
     recent: [usize; BUCKET_COUNT],
 }
 
-impl Flows<BuildHasherDefault<FoldHasher>> {
+impl CountedFlows<BuildHasherDefault<FoldHasher>> {
     ghost use Rattle.packets.specs.Flows.{CountsFlows};
 
-    /// [`Flows::with_hasher`] with std's state of a fixed seed.
-    pub fn new(alloc: Global) -> Flows
+    /// [`CountedFlows::with_hasher`] with std's state of a fixed seed.
+    pub fn new(alloc: Global) -> CountedFlows
         ensures { CountsFlows ⟦<Conversation as PartialEq>⟧.eq result [] }
     {
-        Flows::with_hasher(alloc, BuildHasherDefault::new())
+        CountedFlows::with_hasher(alloc, BuildHasherDefault::new())
     }
 }
 
-impl<S: BuildHasher> Flows<S> {
+impl<S: BuildHasher> CountedFlows<S> {
     ghost use Rattle.packets.specs.Flows.{CountsFlows, row_of};
     ghost use Rattle.packets.specs.Transfers.{transfer_of};
 
     /// No packet. Conversations are hashed by this state. It takes no memory.
-    pub fn with_hasher(alloc: Global, state: S) -> Flows<S>
+    pub fn with_hasher(alloc: Global, state: S) -> CountedFlows<S>
         ensures { CountsFlows ⟦<Conversation as PartialEq>⟧.eq result [] }
     {
-        Flows {
+        CountedFlows {
             all: Tally::NONE,
             refused: Tally::NONE,
             without_ip: Tally::NONE,

@@ -1,4 +1,4 @@
-use Rattle.packets.proofs.flows.flows.Flows.add.Goals as goal
+use Rattle.packets.proofs.flows.counted_flows.CountedFlows.add.Goals as goal
 
 pub returns-clause-ok : goal.returns-clause-ok
 returns-clause-ok g c = λ packets old.

@@ -1,6 +1,6 @@
 use Rattle.std.proofs.Common.{refl}
 use Rattle.packets.proofs.TableLemmas.{keys-none}
-use Rattle.packets.proofs.flows.flows.Flows.with_hasher.Goals as goal
+use Rattle.packets.proofs.flows.counted_flows.CountedFlows.with_hasher.Goals as goal
 
 pub returns : goal.returns
 returns g c = record {

@@ -1,6 +1,6 @@
 //! A summary as text.
 
-use crate::flows::flows::Flows;
+use crate::flows::counted_flows::CountedFlows;
 use crate::flows::listing::Greatest;
 use crate::flows::text::FlowTable;
 use crate::summary::bars::{Bar, column, steps_of};
@@ -27,9 +27,9 @@ const TITLES: &str = "   packets   share           bytes   share     first  ";
 // The longest bar has so many columns.
 const BAR_COLUMNS: u32 = 32;
 
-/// The report on a capture at its end. It has no contract: tests compare the texts.
+/// What is in a capture, counted, as text. It has no contract: tests compare the texts.
 #[derive(Drop)]
-pub struct Report<'s, S: BuildHasher> {
+pub struct SummaryText<'s, S: BuildHasher> {
     /// Its packets, counted.
     pub summary: &'s Summary<S>,
     /// How many datagrams were not complete.
@@ -40,14 +40,14 @@ pub struct Report<'s, S: BuildHasher> {
     pub skipped: Skipped,
 }
 
-impl<S: BuildHasher> fmt::Display for Report<'_, S> {
+impl<S: BuildHasher> fmt::Display for SummaryText<'_, S> {
     fn fmt<W: fmt::Write>(&self, f: &mut fmt::Formatter<W>) -> fmt::Result {
         self.write_counts(f)?;
         self.write_skipped(f)
     }
 }
 
-impl<S: BuildHasher> Report<'_, S> {
+impl<S: BuildHasher> SummaryText<'_, S> {
     fn write_counts<W: fmt::Write>(&self, f: &mut fmt::Formatter<W>) -> fmt::Result {
         let summary = self.summary;
         if summary.all.packets == 0 {
@@ -238,7 +238,7 @@ fn write_reasons<W: fmt::Write, S: BuildHasher>(
 // The greatest conversations, as `packets flows` lists them.
 fn write_conversations<W: fmt::Write, S: BuildHasher>(
     f: &mut fmt::Formatter<W>,
-    flows: &Flows<S>,
+    flows: &CountedFlows<S>,
 ) -> fmt::Result {
     if flows.is_empty() {
         return Ok(());

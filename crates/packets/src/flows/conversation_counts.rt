@@ -1,6 +1,6 @@
 //! What is counted of a conversation.
 ghost use Rattle.std.specs.Prelude.{◌≡◌, ◌++◌, ◌∷◌, [], Bool, List, filter};
-ghost use Rattle.packets.specs.Flows.{direction_of, flow_in, flow_of};
+ghost use Rattle.packets.specs.Flows.{conversation_counts, conversation_counts_of, direction_counts};
 ghost use Rattle.packets.specs.declared.flows.transfer.Transfer.{Transfer};
 
 use crate::Period;
@@ -10,7 +10,7 @@ use crate::summary::count::Count;
 /// How many packets go one way in a conversation, how many bytes they had on the wire, and which
 /// TCP flags they have. Counts stop at the greatest number of 64 bits.
 #[derive(Clone, Copy, Debug, PartialEq, Eq)]
-pub struct Direction {
+pub struct DirectionCounts {
     /// The packets.
     pub packets: u64,
     /// Their bytes on the wire.
@@ -21,28 +21,28 @@ pub struct Direction {
 
 /// What is counted of a conversation.
 #[derive(Clone, Copy, Debug, PartialEq, Eq)]
-pub struct Flow {
+pub struct ConversationCounts {
     /// From the lower end.
-    pub ascending: Direction,
+    pub ascending: DirectionCounts,
     /// From the higher end.
-    pub descending: Direction,
+    pub descending: DirectionCounts,
     /// When its packets came.
     pub period: Period,
     /// Whether its first packet goes from the lower end.
     pub begins_ascending: Option<bool>,
 }
 
-impl Direction {
+impl DirectionCounts {
     /// No packet.
-    pub const NONE: Direction = Direction {
+    pub const NONE: DirectionCounts = DirectionCounts {
         packets: 0,
         bytes: 0,
         flags: Flags::NONE,
     };
 
     fn add(&mut self, packet: &Transfer)
-        ensures { (packets : List Transfer) → self.old ≡ direction_of packets
-            → self.new ≡ direction_of (packets ++ packet.now ∷ []) }
+        ensures { (packets : List Transfer) → self.old ≡ direction_counts packets
+            → self.new ≡ direction_counts (packets ++ packet.now ∷ []) }
     {
         self.packets = self.packets.saturating_add(1);
         self.bytes = self
@@ -53,8 +53,8 @@ impl Direction {
 
     fn add_if(&mut self, is_of_kind: bool, packet: &Transfer)
         ensures { (kind : Transfer → Bool) (packets : List Transfer)
-            → self.old ≡ direction_of (filter kind packets) → kind packet.now ≡ is_of_kind
-            → self.new ≡ direction_of (filter kind (packets ++ packet.now ∷ [])) }
+            → self.old ≡ direction_counts (filter kind packets) → kind packet.now ≡ is_of_kind
+            → self.new ≡ direction_counts (filter kind (packets ++ packet.now ∷ [])) }
     {
         if is_of_kind {
             self.add(packet);
@@ -62,19 +62,19 @@ impl Direction {
     }
 }
 
-impl Flow {
+impl ConversationCounts {
     /// No packet.
-    pub const NONE: Flow = Flow {
-        ascending: Direction::NONE,
-        descending: Direction::NONE,
+    pub const NONE: ConversationCounts = ConversationCounts {
+        ascending: DirectionCounts::NONE,
+        descending: DirectionCounts::NONE,
         period: Period::NONE,
         begins_ascending: None,
     };
 
     /// Counts one packet more.
     pub fn add(&mut self, packet: &Transfer)
-        ensures { (packets : List Transfer) → self.old ≡ flow_in packets
-            → self.new ≡ flow_in (packets ++ packet.now ∷ []) }
+        ensures { (packets : List Transfer) → self.old ≡ conversation_counts packets
+            → self.new ≡ conversation_counts (packets ++ packet.now ∷ []) }
     {
         self.ascending.add_if(packet.ascends, packet);
         self.descending.add_if(!packet.ascends, packet);
@@ -83,11 +83,11 @@ impl Flow {
     }
 }
 
-impl Count<Transfer> for Flow {
-    ghost of = { flow_of };
+impl Count<Transfer> for ConversationCounts {
+    ghost of = { conversation_counts_of };
 
-    fn nothing() -> Flow {
-        Flow::NONE
+    fn nothing() -> ConversationCounts {
+        ConversationCounts::NONE
     }
 
     fn count(&mut self, packet: &Transfer) {

@@ -1,5 +1,5 @@
 use Rattle.packets.proofs.TableLemmas.{keys-moved}
-use Rattle.packets.proofs.flows.flows.Flows.reserve.Goals as goal
+use Rattle.packets.proofs.flows.counted_flows.CountedFlows.reserve.Goals as goal
 
 pub returns-clause-same : goal.returns-clause-same
 returns-clause-same g c = λ packets old. record {

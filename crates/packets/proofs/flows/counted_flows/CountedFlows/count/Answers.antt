@@ -5,7 +5,7 @@ use Rattle.packets.specs.Tally.{tally_of}
 use Rattle.packets.specs.declared.flows.transfer.Transfer.{Transfer}
 use Rattle.packets.specs.declared.outline.Outline.{Outline}
 use Rattle.packets.proofs.FlowLemmas.{outlines-end}
-use Rattle.packets.proofs.flows.flows.Flows.count.Goals as goal
+use Rattle.packets.proofs.flows.counted_flows.CountedFlows.count.Goals as goal
 
 pub returns : goal.returns
 returns g c = λ packets old.
