@@ -3,10 +3,10 @@ use Rattle.std.specs.Prelude.{ℕ, ◌+◌, List, Result, Ok, Err}
 use Rattle.captures.specs.Framed.{reported_of}
 use Rattle.captures.specs.Numbers.{capped}
 use Rattle.captures.specs.declared.link.kind.Link.{Link}
-use Rattle.captures.specs.declared.translation.skipped.Passing.{Passing}
-use Rattle.captures.specs.declared.translation.skipped.Reason.{Reason}
-use Rattle.captures.specs.declared.translation.skipped.Reason.TheVariants.{OtherLink, TooLong, NoFrame}
-use Rattle.captures.specs.declared.translation.skipped.Skipped.{Skipped}
+use Rattle.captures.specs.declared.skipped.Passing.{Passing}
+use Rattle.captures.specs.declared.skipped.Reason.{Reason}
+use Rattle.captures.specs.declared.skipped.Reason.TheVariants.{OtherLink, TooLong, NoFrame}
+use Rattle.captures.specs.declared.skipped.Skipped.{Skipped}
 use Rattle.captures.specs.declared.unfit.Unfit.{Unfit}
 
 abbrev pub none_skipped : Skipped

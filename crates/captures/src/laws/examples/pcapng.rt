@@ -23,8 +23,8 @@ ghost use Rattle.captures.specs.declared.capture_error.CaptureError.TheVariants.
 ghost use Rattle.captures.specs.declared.link.kind.Link.TheVariants.{Ethernet, Ip, Other, Sll2};
 ghost use Rattle.captures.specs.declared.origin.Origin.{Origin};
 ghost use Rattle.captures.specs.declared.pcapng.section.Section.{Section};
-ghost use Rattle.captures.specs.declared.translation.state.State.{State};
-ghost use Rattle.captures.specs.declared.translation.state.State.TheVariants.{Start};
+ghost use Rattle.captures.specs.declared.state.State.{State};
+ghost use Rattle.captures.specs.declared.state.State.TheVariants.{Start};
 ghost use Rattle.captures.specs.declared.unfit.Unfit.TheVariants.{Refuse, Skip};
 
 /// The types of blocks, and the magic number that gives the byte order (sections 4.1 to 4.4 and

@@ -8,9 +8,9 @@ use Rattle.captures.specs.declared.byte_order.ByteOrder.{ByteOrder}
 use Rattle.captures.specs.declared.link.kind.Link.TheVariants.{Ethernet}
 use Rattle.captures.specs.declared.origin.Origin.{Origin}
 use Rattle.captures.specs.declared.pcapng.section.Section.{Section}
-use Rattle.captures.specs.declared.translation.skipped.Passing.{Passing}
-use Rattle.captures.specs.declared.translation.skipped.Reason.{Reason}
-use Rattle.captures.specs.declared.translation.skipped.Reason.TheVariants.{TooLong}
+use Rattle.captures.specs.declared.skipped.Passing.{Passing}
+use Rattle.captures.specs.declared.skipped.Reason.{Reason}
+use Rattle.captures.specs.declared.skipped.Reason.TheVariants.{TooLong}
 use Rattle.captures.specs.declared.unfit.Unfit.TheVariants.{Skip}
 use Rattle.captures.proofs.laws.examples.pcapng.long_packets_are_passed_over.Goals as goal
 
