@@ -5,7 +5,7 @@ ghost use Rattle.captures.specs.Lines.{Packet, lines_of};
 ghost use Rattle.captures.specs.CaptureRuns.{IsCapture};
 ghost use Rattle.captures.specs.Texts.{with_line_ends};
 ghost use Rattle.captures.specs.declared.extra.Extra.TheVariants.{Forget, Nothing};
-ghost use Rattle.captures.specs.declared.translation.skipped.Skipped.{Skipped};
+ghost use Rattle.captures.specs.declared.skipped.Skipped.{Skipped};
 ghost use Rattle.captures.specs.declared.unfit.Unfit.{Unfit};
 ghost use Rattle.netlines.specs.Answers.{answers_of};
 ghost use Rattle.capture_answers.specs.PacketAnswers.{packet_answers, spanned_answers};

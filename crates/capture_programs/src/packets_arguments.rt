@@ -6,6 +6,9 @@ use std::alloc::{AllocError, Global};
 /// The program's name, as it is installed.
 pub const PROGRAM: &str = "packets";
 
+/// The greatest memory of incomplete messages, as a word, where none is given.
+pub const REASSEMBLY_MEMORY: &str = "64M";
+
 const CONDITIONS: &str = "\
 Only packets that meet WHAT, in upper or lower case. Given several times, a packet has to meet all.
 WHAT is one of these, or some of them joined by not, and, or and parentheses. The word not binds
@@ -330,7 +333,7 @@ fn reassembly_memory<'a>(alloc: Global) -> Arg<'a> {
         .help(
             "Drops the oldest messages while the incomplete ones take more than SIZE bytes, or K, M, G",
         )
-        .default_value("64M")
+        .default_value(REASSEMBLY_MEMORY)
 }
 
 fn only<'a>(alloc: Global) -> Arg<'a> {

@@ -13,7 +13,7 @@ use Rattle.captures.specs.declared.pcapng.long_block.LongBlock.{LongBlock}
 use Rattle.captures.specs.declared.reading.packet_reader.PacketReader.{PacketReader}
 use Rattle.captures.specs.declared.reading.read_error.ReadError.{ReadError}
 use Rattle.captures.specs.declared.reading.read_error.ReadError.TheVariants.{Read, Capture, TooManyReads}
-use Rattle.captures.specs.declared.translation.state.State.{State}
+use Rattle.captures.specs.declared.state.State.{State}
 use Rattle.captures.specs.declared.unfit.Unfit.{Unfit}
 use Rattle.captures.proofs.ReadLemmas.{ends_whole, refused_end, refused_next}
 

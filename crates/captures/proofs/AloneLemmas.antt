@@ -10,9 +10,9 @@ use Rattle.captures.specs.Framed.{reported_frame, wire_len_on}
 use Rattle.captures.specs.Lines.{packets_of}
 use Rattle.captures.specs.Numbers.{half, word}
 use Rattle.captures.specs.Pcap.{is_magic}
-use Rattle.captures.specs.Pcapng.{Content, HasOrder, Says, Becomes, captured_len, section_header, is_read_version}
+use Rattle.captures.specs.Pcapng.{Content, HasOrder, Says, Becomes, section_header, is_read_version}
 use Rattle.captures.specs.Pcapng.{enhanced_packet, interface_description, obsolete_packet, simple_packet, link_at}
-use Rattle.captures.specs.Pcapng.{clock_at, clocks_with}
+use Rattle.captures.specs.Pcapng.{clock_at, clocks_with, simple_packet_captured_len}
 use Rattle.captures.specs.Times.{clock_of, clock_time}
 use Rattle.captures.specs.Units.{record_origin, IsUnit, IsBlockUnit, IsRecordUnit, OpensFile, no_section}
 use Rattle.captures.specs.Pcapng.Content.{Opens, OpensOther, Describes, Holds, Nothing}
@@ -20,10 +20,10 @@ use Rattle.captures.specs.declared.byte_order.ByteOrder.{ByteOrder}
 use Rattle.captures.specs.declared.byte_order.ByteOrder.TheVariants.{Big}
 use Rattle.captures.specs.declared.link.kind.Link.{Link}
 use Rattle.captures.specs.declared.pcapng.section.Section.{Section}
-use Rattle.captures.specs.declared.translation.skipped.Passing.{Passing}
-use Rattle.captures.specs.declared.translation.state.State.{State}
+use Rattle.captures.specs.declared.skipped.Passing.{Passing}
+use Rattle.captures.specs.declared.state.State.{State}
 use Rattle.captures.specs.declared.unfit.Unfit.{Unfit}
-use Rattle.captures.specs.declared.translation.state.State.TheVariants.{Start, Classic, Pcapng}
+use Rattle.captures.specs.declared.state.State.TheVariants.{Start, Classic, Pcapng}
 use Rattle.captures.proofs.BlockLemmas.{word_of}
 use Rattle.captures.specs.declared.origin.Origin.{Origin}
 use Rattle.captures.specs.declared.time.time_unit.TimeUnit.{TimeUnit}
@@ -93,7 +93,7 @@ abbrev pub untimed_origin : Section → ByteOrder → List ℕ → Origin
 untimed_origin section order block = record {
   channel = section.first;
   time = 0;
-  wire_len = wire_len_on (link_at section 0) (captured_len section.snap_len (word order block 8))
+  wire_len = wire_len_on (link_at section 0) (simple_packet_captured_len section.snap_len (word order block 8))
       (word order block 8);
 }
 
@@ -115,7 +115,7 @@ content_at section order block kind =
     else (if kind == obsolete_packet then Holds (timed_origin section order block (half order block 8))
     (link_at section (half order block 8)) (take (word order block 20) (drop 28 block))
     else (if kind == simple_packet then Holds (untimed_origin section order block) (link_at section 0)
-    (take (captured_len section.snap_len (word order block 8)) (drop 12 block)) else Nothing))))
+    (take (simple_packet_captured_len section.snap_len (word order block 8)) (drop 12 block)) else Nothing))))
 
 pub content_is : (section : Section) (order : ByteOrder) (block : List ℕ) (content : Content)
     → Says section order block content

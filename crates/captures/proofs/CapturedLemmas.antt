@@ -19,8 +19,8 @@ use Rattle.line_grammar.specs.declared.frame_limits.TheConstants.{FRAME_LIMIT}
 use Rattle.captures.specs.Times.{moved, nanoseconds_in, nanoseconds_of}
 use Rattle.captures.specs.declared.link.kind.Link.{Link}
 use Rattle.captures.specs.declared.pcapng.section.Section.{Section}
-use Rattle.captures.specs.declared.translation.state.State.{State}
-use Rattle.captures.specs.declared.translation.state.State.TheVariants.{Start, Classic, Pcapng}
+use Rattle.captures.specs.declared.state.State.{State}
+use Rattle.captures.specs.declared.state.State.TheVariants.{Start, Classic, Pcapng}
 use Rattle.captures.specs.declared.origin.Origin.{Origin}
 
 most_time : (n : ℕ) → min n TIME_LIMIT ≤ TIME_LIMIT

@@ -7,9 +7,9 @@ use Rattle.std.specs.Option.{option_map}
 use Rattle.captures.specs.Framed.{frame_bytes, own_frame, refused_type, reported_by, reported_of, taken_limit}
 use Rattle.captures.specs.Numbers.{capped}
 use Rattle.captures.specs.Skipping.{none_skipped, passing_from}
-use Rattle.captures.specs.declared.translation.skipped.Passing.{Passing}
-use Rattle.captures.specs.declared.translation.skipped.Reason.TheVariants.{NoFrame}
-use Rattle.captures.specs.declared.translation.state.State.{State}
+use Rattle.captures.specs.declared.skipped.Passing.{Passing}
+use Rattle.captures.specs.declared.skipped.Reason.TheVariants.{NoFrame}
+use Rattle.captures.specs.declared.state.State.{State}
 use Rattle.captures.specs.declared.unfit.Unfit.{Unfit}
 use Rattle.captures.specs.Pcap.{IsPacketRecord}
 use Rattle.captures.specs.CaptureRuns.{IsCapture}
@@ -21,7 +21,7 @@ use Rattle.captures.specs.Units.{Row, in_a_row, IsRecordUnit, OpensFile, record_
 use Rattle.captures.specs.declared.byte_order.ByteOrder.TheVariants.{Little}
 use Rattle.line_grammar.specs.declared.frame_limits.TheConstants.{FRAME_LIMIT}
 use Rattle.captures.specs.declared.link.kind.Link.TheVariants.{Ethernet}
-use Rattle.captures.specs.declared.translation.state.State.TheVariants.{Classic}
+use Rattle.captures.specs.declared.state.State.TheVariants.{Classic}
 use Rattle.captures.specs.declared.time.time_unit.TimeUnit.{TimeUnit}
 use Rattle.captures.specs.declared.origin.Origin.{Origin}
 

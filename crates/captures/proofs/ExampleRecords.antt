@@ -7,8 +7,8 @@ use Rattle.captures.specs.Skipping.{passing_from}
 use Rattle.captures.specs.Units.{IsRecordUnit, IsUnit, Passes}
 use Rattle.captures.specs.declared.byte_order.ByteOrder.TheVariants.{Big}
 use Rattle.captures.specs.declared.link.kind.Link.TheVariants.{Sll2}
+use Rattle.captures.specs.declared.state.State.TheVariants.{Start}
 use Rattle.captures.specs.declared.time.time_unit.TimeUnit.TheVariants.{Nanoseconds}
-use Rattle.captures.specs.declared.translation.state.State.TheVariants.{Start}
 use Rattle.captures.specs.declared.unfit.Unfit.TheVariants.{Refuse}
 
 pub opens_file : IsUnit (Start Refuse) file_header (file_after 0) (origin_at 0 0) []

@@ -16,9 +16,9 @@ use Rattle.captures.specs.declared.link.kind.Link.{Link}
 use Rattle.captures.specs.declared.origin.Origin.{Origin}
 use Rattle.captures.specs.declared.packet.Packet.{Packet}
 use Rattle.captures.specs.declared.pcapng.section.Section.{Section}
+use Rattle.captures.specs.declared.state.State.{State}
+use Rattle.captures.specs.declared.state.State.TheVariants.{Start, Classic, Pcapng}
 use Rattle.captures.specs.declared.text.ledger.Ledger.{Ledger}
-use Rattle.captures.specs.declared.translation.state.State.{State}
-use Rattle.captures.specs.declared.translation.state.State.TheVariants.{Start, Classic, Pcapng}
 use Rattle.captures.proofs.BlockLemmas.{word_prefix}
 use Rattle.captures.proofs.FrameLengthLemmas.{captured_of, frame_len_is}
 use Rattle.captures.proofs.UnitLemmas.{Reported, lines_from-append, no_packets_of, noted_all-append, one_packet}

@@ -19,8 +19,8 @@ use Rattle.captures.specs.declared.byte_order.ByteOrder.TheVariants.{Big}
 use Rattle.line_grammar.specs.declared.frame_limits.TheConstants.{FRAME_LIMIT}
 use Rattle.captures.specs.declared.link.kind.Link.{Link}
 use Rattle.captures.specs.declared.link.kind.Link.TheVariants.{Ethernet, Ip, Null, Loop, Sll, Sll2, Other}
-use Rattle.captures.specs.declared.translation.skipped.Reason.{Reason}
-use Rattle.captures.specs.declared.translation.skipped.Reason.TheVariants.{NoFrame, TooLong}
+use Rattle.captures.specs.declared.skipped.Reason.{Reason}
+use Rattle.captures.specs.declared.skipped.Reason.TheVariants.{NoFrame, TooLong}
 use Rattle.captures.specs.declared.unfit.Unfit.{Unfit}
 use Rattle.captures.proofs.ByteLemmas.{Bytes}
 

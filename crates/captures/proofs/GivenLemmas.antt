@@ -10,7 +10,7 @@ use Rattle.captures.specs.Units.{Passes, in_a_row}
 use Rattle.captures.specs.declared.capture_error.CaptureError.{CaptureError}
 use Rattle.captures.specs.declared.link.header.Header.{Header}
 use Rattle.captures.specs.declared.packet.Packet.{Packet}
-use Rattle.captures.specs.declared.translation.state.State.{State}
+use Rattle.captures.specs.declared.state.State.{State}
 use Rattle.captures.proofs.FirstPacketLemmas.{passes_first}
 use Rattle.captures.proofs.SkipLemmas.{last_is}
 use Rattle.captures.proofs.UnitLemmas.{passes_none, passes_on, passes_start}

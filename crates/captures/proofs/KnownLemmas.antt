@@ -6,8 +6,8 @@ use Rattle.device_runs.specs.Known.{Known, KnownCall, known_of}
 use Rattle.device_runs.specs.Calls.{bytes_read}
 use Rattle.device_runs.specs.declared.device.ReaderWriter.{ReaderWriter}
 use Rattle.device_runs.proofs.KnownLemmas.{Makes-map, goes_ok, known_read}
+use Rattle.captures.specs.declared.skipped.Skipped.{Skipped}
 use Rattle.captures.specs.declared.translation.run_error.RunError.{RunError}
-use Rattle.captures.specs.declared.translation.skipped.Skipped.{Skipped}
 use Rattle.captures.specs.declared.unfit.Unfit.{Unfit}
 use Rattle.captures.specs.Endings.{cause}
 use Rattle.captures.specs.Lines.{Packet, lines_of}

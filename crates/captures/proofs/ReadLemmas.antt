@@ -19,8 +19,8 @@ use Rattle.captures.specs.declared.packet.Packet.{Packet}
 use Rattle.captures.specs.declared.pcapng.long_block.LongBlock.{LongBlock}
 use Rattle.captures.specs.declared.position.Position.{Position}
 use Rattle.captures.specs.declared.reading.packet_reader.PacketReader.{PacketReader}
-use Rattle.captures.specs.declared.translation.state.State.{State}
-use Rattle.captures.specs.declared.translation.state.State.TheVariants.{Start, Classic, Pcapng}
+use Rattle.captures.specs.declared.state.State.{State}
+use Rattle.captures.specs.declared.state.State.TheVariants.{Start, Classic, Pcapng}
 use Rattle.captures.specs.declared.unfit.Unfit.{Unfit}
 use Rattle.captures.proofs.CountLemmas.{capped_more}
 use Rattle.captures.proofs.GivenLemmas.{gives_first, gives_none, gives_passes, gives_wide}

@@ -9,11 +9,11 @@ use Rattle.captures.specs.declared.capture_error.CaptureError.TheVariants.{Block
 use Rattle.captures.specs.declared.limits.TheConstants.{FIRST_UNIT_LEN}
 use Rattle.captures.specs.declared.pcapng.long_block.LongBlock.{LongBlock}
 use Rattle.captures.specs.declared.position.Position.{Position}
+use Rattle.captures.specs.declared.state.State.{State}
 use Rattle.captures.specs.declared.translation.refusal.Refusal.{Refusal}
 use Rattle.captures.specs.declared.translation.refusal.Refusal.TheVariants.{InCapture}
-use Rattle.captures.specs.declared.translation.state.State.{State}
 use Rattle.captures.specs.declared.unfit.Unfit.{Unfit}
-use Rattle.captures.specs.declared.translation.state.State.TheVariants.{Start, Classic, Pcapng}
+use Rattle.captures.specs.declared.state.State.TheVariants.{Start, Classic, Pcapng}
 use Rattle.captures.specs.Dropped.{IsDropped, Leaves, dropped_len}
 use Rattle.captures.specs.Lines.{blank}
 use Rattle.captures.specs.Numbers.{capped}
@@ -26,8 +26,8 @@ use Rattle.captures.proofs.CountLemmas.{capped_more}
 use Rattle.captures.proofs.SkipLemmas.{takes_chunk, dropped_size}
 use Rattle.captures.proofs.UnitLemmas.{takes_more, passes_to_start, no_capture_by_length}
 use Rattle.captures.specs.declared.extra.Extra.{Extra}
+use Rattle.captures.specs.declared.skipped.Skipped.{Skipped}
 use Rattle.captures.specs.declared.text.ledger.Ledger.{Ledger}
-use Rattle.captures.specs.declared.translation.skipped.Skipped.{Skipped}
 use Rattle.device_runs.specs.Calls.{Call}
 use Rattle.device_runs.specs.Endings.{Ending}
 use Rattle.device_runs.specs.Runs.{Goes}

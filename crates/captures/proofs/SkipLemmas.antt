@@ -11,8 +11,8 @@ use Rattle.captures.specs.declared.capture_error.CaptureError.{CaptureError}
 use Rattle.captures.specs.declared.capture_error.CaptureError.TheVariants.{BadBlock}
 use Rattle.captures.specs.declared.pcapng.long_block.LongBlock.{LongBlock}
 use Rattle.captures.specs.declared.pcapng.section.Section.{Section}
-use Rattle.captures.specs.declared.translation.state.State.{State}
-use Rattle.captures.specs.declared.translation.state.State.TheVariants.{Pcapng}
+use Rattle.captures.specs.declared.state.State.{State}
+use Rattle.captures.specs.declared.state.State.TheVariants.{Pcapng}
 use Rattle.captures.proofs.BlockLemmas.{word_of, word_back, skipped_prefix}
 use Rattle.captures.specs.declared.origin.Origin.{Origin}
 use Rattle.captures.specs.declared.text.ledger.Ledger.{Ledger}

@@ -18,11 +18,11 @@ use Rattle.captures.specs.declared.capture_error.CaptureError.TheVariants.{NotCa
 use Rattle.captures.specs.declared.capture_error.CaptureError.TheVariants.{BlockTooLong, BadBlock, InterfaceLimit, NoFrame, Version}
 use Rattle.captures.specs.declared.link.kind.Link.{Link}
 use Rattle.captures.specs.declared.pcapng.section.Section.{Section}
-use Rattle.captures.specs.declared.translation.skipped.Passing.{Passing}
-use Rattle.captures.specs.declared.translation.skipped.Skipped.{Skipped}
-use Rattle.captures.specs.declared.translation.state.State.{State}
+use Rattle.captures.specs.declared.skipped.Passing.{Passing}
+use Rattle.captures.specs.declared.skipped.Skipped.{Skipped}
+use Rattle.captures.specs.declared.state.State.{State}
 use Rattle.captures.specs.declared.unfit.Unfit.{Unfit}
-use Rattle.captures.specs.declared.translation.state.State.TheVariants.{Start, Classic, Pcapng}
+use Rattle.captures.specs.declared.state.State.TheVariants.{Start, Classic, Pcapng}
 use Rattle.captures.proofs.AloneLemmas.{prefix_same, rest_same, bytes_after, order_alone, order_more}
 use Rattle.captures.proofs.AloneLemmas.{no_section_in, unit_alone}
 use Rattle.captures.proofs.BlockLemmas.{word_of, skipped_prefix}

@@ -5,9 +5,9 @@ use Rattle.std.proofs.Math.Seq.{take-append_seam}
 use Rattle.captures.specs.Lines.{Packet, packets_of, noted, lines_from, noted_all}
 use Rattle.captures.specs.Units.{IsUnit, Row, in_a_row, Passes, HasUnit, IsNoCapture, Takes}
 use Rattle.captures.specs.declared.capture_error.CaptureError.{CaptureError}
-use Rattle.captures.specs.declared.translation.state.State.{State}
+use Rattle.captures.specs.declared.state.State.{State}
 use Rattle.captures.specs.declared.unfit.Unfit.{Unfit}
-use Rattle.captures.specs.declared.translation.state.State.TheVariants.{Start}
+use Rattle.captures.specs.declared.state.State.TheVariants.{Start}
 use Rattle.captures.specs.declared.limits.TheConstants.{FIRST_UNIT_LEN}
 use Rattle.captures.specs.declared.origin.Origin.{Origin}
 use Rattle.captures.specs.declared.text.ledger.Ledger.{Ledger}

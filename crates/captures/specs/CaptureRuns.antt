@@ -11,8 +11,8 @@ use Rattle.captures.specs.declared.translation.run_error.RunError.{RunError}
 use Rattle.captures.specs.declared.translation.refusal.Refusal.{Refusal}
 use Rattle.captures.specs.declared.translation.refusal.Refusal.TheVariants.{InCapture, InLine}
 use Rattle.captures.specs.declared.limits.TheConstants.{FIRST_UNIT_LEN, INPUT_CAPACITY}
-use Rattle.captures.specs.declared.translation.state.State.{State}
-use Rattle.captures.specs.declared.translation.state.State.TheVariants.{Start, Classic, Pcapng}
+use Rattle.captures.specs.declared.state.State.{State}
+use Rattle.captures.specs.declared.state.State.TheVariants.{Start, Classic, Pcapng}
 use Rattle.captures.specs.Endings.{ending_of}
 use Rattle.captures.specs.Lines.{Packet, blank, lines_of}
 use Rattle.captures.specs.Positions.{IsPosition}
@@ -20,8 +20,8 @@ use Rattle.captures.specs.Skipping.{none_skipped}
 use Rattle.captures.specs.Units.{IsLeft, Passes, Takes, IsNoCapture, skipped_in}
 use Rattle.captures.specs.declared.extra.Extra.{Extra}
 use Rattle.captures.specs.declared.position.Position.{Position}
+use Rattle.captures.specs.declared.skipped.Skipped.{Skipped}
 use Rattle.captures.specs.declared.text.ledger.Ledger.{Ledger}
-use Rattle.captures.specs.declared.translation.skipped.Skipped.{Skipped}
 use Rattle.captures.specs.declared.unfit.Unfit.{Unfit}
 
 -- the bytes are a whole capture, of which these packets are reported and this many passed over

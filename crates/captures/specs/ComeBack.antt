@@ -13,8 +13,8 @@ use Rattle.captures.specs.Times.{nanoseconds_in}
 use Rattle.captures.specs.declared.extra.Extra.TheVariants.{Nothing, Times}
 use Rattle.captures.specs.declared.limits.TheConstants.{TIME_LIMIT}
 use Rattle.line_grammar.specs.declared.frame_limits.TheConstants.{FRAME_LIMIT}
+use Rattle.captures.specs.declared.skipped.Skipped.{Skipped}
 use Rattle.captures.specs.declared.time.time_unit.TimeUnit.{TimeUnit}
-use Rattle.captures.specs.declared.translation.skipped.Skipped.{Skipped}
 use Rattle.captures.specs.declared.unfit.Unfit.{Unfit}
 
 -- a packet that has a line: its frame is bytes, one at least and no more than a line can hold, its

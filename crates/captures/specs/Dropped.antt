@@ -11,9 +11,9 @@ use Rattle.captures.specs.declared.pcapng.long_block.Following.{Following}
 use Rattle.captures.specs.declared.pcapng.long_block.Following.TheVariants.{Held, Refused, Passed}
 use Rattle.captures.specs.declared.pcapng.long_block.LongBlock.{LongBlock}
 use Rattle.captures.specs.declared.pcapng.section.Section.{Section}
+use Rattle.captures.specs.declared.state.State.{State}
+use Rattle.captures.specs.declared.state.State.TheVariants.{Pcapng}
 use Rattle.captures.specs.declared.text.ledger.Ledger.{Ledger}
-use Rattle.captures.specs.declared.translation.state.State.{State}
-use Rattle.captures.specs.declared.translation.state.State.TheVariants.{Pcapng}
 
 -- a prefix of such a block in a section, which ends before its second length
 pub record IsPrefixOfBlock (block : LongBlock) (section : Section) (dropped : List ℕ) : Type 0 where

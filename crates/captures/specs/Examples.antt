@@ -9,9 +9,9 @@ use Rattle.captures.specs.declared.link.kind.Link.TheVariants.{Ethernet, Sll2}
 use Rattle.captures.specs.declared.origin.Origin.{Origin}
 use Rattle.captures.specs.declared.packet.Packet.{Packet as NumberedPacket}
 use Rattle.captures.specs.declared.pcapng.section.Section.{Section}
+use Rattle.captures.specs.declared.state.State.{State}
+use Rattle.captures.specs.declared.state.State.TheVariants.{Classic}
 use Rattle.captures.specs.declared.time.time_unit.TimeUnit.TheVariants.{Nanoseconds}
-use Rattle.captures.specs.declared.translation.state.State.{State}
-use Rattle.captures.specs.declared.translation.state.State.TheVariants.{Classic}
 use Rattle.captures.specs.declared.unfit.Unfit.TheVariants.{Refuse}
 
 -- ---- a classic capture (draft-ietf-opsawg-pcap, sections 4 and 5)

@@ -11,8 +11,8 @@ use Rattle.line_grammar.specs.declared.frame_limits.TheConstants.{FRAME_LIMIT}
 use Rattle.captures.specs.declared.link.header.Header.{Header}
 use Rattle.captures.specs.declared.link.kind.Link.{Link}
 use Rattle.captures.specs.declared.link.kind.Link.TheVariants.{Ethernet, Ip, Null, Loop, Sll, Sll2, Other}
-use Rattle.captures.specs.declared.translation.skipped.Reason.{Reason}
-use Rattle.captures.specs.declared.translation.skipped.Reason.TheVariants.{OtherLink, TooLong, NoFrame}
+use Rattle.captures.specs.declared.skipped.Reason.{Reason}
+use Rattle.captures.specs.declared.skipped.Reason.TheVariants.{OtherLink, TooLong, NoFrame}
 use Rattle.captures.specs.declared.unfit.Unfit.{Unfit}
 use Rattle.captures.specs.declared.unfit.Unfit.TheVariants.{Refuse, Skip}
 

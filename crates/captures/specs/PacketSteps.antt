@@ -8,7 +8,7 @@ use Rattle.captures.specs.declared.origin.Origin.{Origin}
 use Rattle.captures.specs.declared.packet.Packet.{Packet}
 use Rattle.captures.specs.declared.reading.prefix.FirstPacket.{FirstPacket}
 use Rattle.captures.specs.declared.reading.packets.Packets.{Packets}
-use Rattle.captures.specs.declared.translation.state.State.{State}
+use Rattle.captures.specs.declared.state.State.{State}
 
 abbrev pub origin_of : Packet → Origin
 origin_of packet = record {

@@ -17,9 +17,9 @@ use Rattle.captures.specs.declared.reading.packet_parser.PacketParser.{PacketPar
 use Rattle.captures.specs.declared.reading.parsed.ParsedPacket.{ParsedPacket}
 use Rattle.captures.specs.declared.reading.parsed.Parsed.{Parsed}
 use Rattle.captures.specs.declared.reading.refused_at.RefusedAt.{RefusedAt}
-use Rattle.captures.specs.declared.translation.skipped.Skipped.{Skipped}
-use Rattle.captures.specs.declared.translation.state.State.{State}
-use Rattle.captures.specs.declared.translation.state.State.TheVariants.{Start}
+use Rattle.captures.specs.declared.skipped.Skipped.{Skipped}
+use Rattle.captures.specs.declared.state.State.{State}
+use Rattle.captures.specs.declared.state.State.TheVariants.{Start}
 use Rattle.captures.specs.declared.unfit.Unfit.{Unfit}
 
 -- the packet whose frame ends with the bytes there

@@ -71,8 +71,8 @@ pub data Content : Type 0 where
 
 -- the bytes of a packet that a simple packet block holds, where this is the snap length of the
 -- first interface, 0 for no limit
-abbrev pub captured_len : ℕ → ℕ → ℕ
-captured_len snap_len original = if snap_len == 0 then original else min snap_len original
+abbrev pub simple_packet_captured_len : ℕ → ℕ → ℕ
+simple_packet_captured_len snap_len original = if snap_len == 0 then original else min snap_len original
 
 -- the link of an interface that is described: Ethernet after the first ones
 abbrev pub link_at : Section → ℕ → Link
@@ -131,7 +131,7 @@ pub record IsSimplePacket (section : Section) (order : ByteOrder) (block : List 
   pub time : 0 ≡ origin.time
   pub over : link_at section 0 ≡ link
   pub wire : wire_len_on link (length packet) (word order block 8) ≡ origin.wire_len
-  pub captured : captured_len section.snap_len (word order block 8) ≡ length packet
+  pub captured : simple_packet_captured_len section.snap_len (word order block 8) ≡ length packet
   pub bytes : packet ≡ take (length packet) (drop 12 block)
 
 -- a block of a kind that holds a packet

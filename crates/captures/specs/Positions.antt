@@ -5,8 +5,8 @@ use Rattle.captures.specs.Pcapng.{section_header}
 use Rattle.captures.specs.Units.{seen_in}
 use Rattle.captures.specs.declared.byte_order.ByteOrder.TheVariants.{Big}
 use Rattle.captures.specs.declared.position.Position.{Position}
-use Rattle.captures.specs.declared.translation.state.State.{State}
-use Rattle.captures.specs.declared.translation.state.State.TheVariants.{Start, Classic, Pcapng}
+use Rattle.captures.specs.declared.state.State.{State}
+use Rattle.captures.specs.declared.state.State.TheVariants.{Start, Classic, Pcapng}
 
 -- the type of the block that bytes begin, where it is known: nothing has one in a classic capture,
 -- and a section header has the same in both byte orders

@@ -18,9 +18,9 @@ use Rattle.captures.specs.declared.reading.ahead.Found.{Found}
 use Rattle.captures.specs.declared.reading.packet_reader.PacketReader.{PacketReader}
 use Rattle.captures.specs.declared.reading.read_error.ReadError.{ReadError}
 use Rattle.captures.specs.declared.reading.read_error.ReadError.TheVariants.{Read, Capture, TooManyReads}
-use Rattle.captures.specs.declared.translation.skipped.Skipped.{Skipped}
-use Rattle.captures.specs.declared.translation.state.State.{State}
-use Rattle.captures.specs.declared.translation.state.State.TheVariants.{Start}
+use Rattle.captures.specs.declared.skipped.Skipped.{Skipped}
+use Rattle.captures.specs.declared.state.State.{State}
+use Rattle.captures.specs.declared.state.State.TheVariants.{Start}
 use Rattle.captures.specs.declared.unfit.Unfit.{Unfit}
 
 -- a packet that was found, whose frame ends with these bytes

@@ -16,16 +16,16 @@ use Rattle.captures.specs.declared.capture_error.CaptureError.TheVariants.{Block
 use Rattle.captures.specs.declared.limits.TheConstants.{FIRST_UNIT_LEN}
 use Rattle.captures.specs.declared.link.kind.Link.{Link}
 use Rattle.captures.specs.declared.link.kind.Link.TheVariants.{Ethernet}
-use Rattle.captures.specs.declared.translation.skipped.Passing.{Passing}
-use Rattle.captures.specs.declared.translation.skipped.Skipped.{Skipped}
-use Rattle.captures.specs.declared.translation.state.State.{State}
+use Rattle.captures.specs.declared.skipped.Passing.{Passing}
+use Rattle.captures.specs.declared.skipped.Skipped.{Skipped}
+use Rattle.captures.specs.declared.state.State.{State}
 use Rattle.captures.specs.declared.pcapng.section.Section.{Section}
 use Rattle.captures.specs.declared.pcapng.section.TheConstants.{CLOCK_COUNT, LINKED_INTERFACES}
 use Rattle.captures.specs.declared.origin.Origin.{Origin}
 use Rattle.captures.specs.declared.text.ledger.Ledger.{Ledger}
 use Rattle.captures.specs.declared.time.time_unit.TimeUnit.{TimeUnit}
 use Rattle.captures.specs.Times.{record_time, unit_of, usual_clock}
-use Rattle.captures.specs.declared.translation.state.State.TheVariants.{Start, Classic, Pcapng}
+use Rattle.captures.specs.declared.state.State.TheVariants.{Start, Classic, Pcapng}
 use Rattle.captures.specs.Pcapng.{HasOrder, IsBlock, IsTaken, Reads, RefusesBlock, section_header, Says}
 use Rattle.captures.specs.Pcapng.{block_wire_len, byte_order_magic}
 use Rattle.captures.specs.Pcapng.Content.{Holds}

@@ -24,9 +24,9 @@ ghost use Rattle.captures.specs.declared.capture_error.CaptureError.TheVariants.
 ghost use Rattle.captures.specs.declared.capture_error.CaptureError.TheVariants.{BlockTooLong, Version};
 ghost use Rattle.captures.specs.declared.link.kind.Link.{Link};
 ghost use Rattle.captures.specs.declared.pcapng.section.Section.{Section};
-ghost use Rattle.captures.specs.declared.translation.state.State.{State};
-ghost use Rattle.captures.specs.declared.translation.state.State.TheVariants.{Start};
-ghost use Rattle.captures.specs.declared.translation.skipped.Skipped.{Skipped};
+ghost use Rattle.captures.specs.declared.state.State.{State};
+ghost use Rattle.captures.specs.declared.state.State.TheVariants.{Start};
+ghost use Rattle.captures.specs.declared.skipped.Skipped.{Skipped};
 ghost use Rattle.captures.specs.declared.unfit.Unfit.{Unfit};
 ghost use Rattle.captures.specs.declared.unfit.Unfit.TheVariants.{Refuse, Skip};
 ghost use Rattle.captures.specs.Encoding.{IsWritable, capture_of, packets_in};

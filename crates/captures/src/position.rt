@@ -8,7 +8,7 @@ ghost use Rattle.captures.specs.Units.{seen_in};
 use crate::byte_order::ByteOrder;
 use crate::pcapng::block::SECTION_HEADER;
 use crate::pcapng::long_block::LongBlock;
-use crate::translation::state::State;
+use crate::state::State;
 use std::fmt;
 
 /// Where in a capture it is refused. Counts stop at the greatest number of 64 bits.

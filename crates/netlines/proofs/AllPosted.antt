@@ -108,7 +108,7 @@ one_frame letter message bytes posted = grind arith
 module _ (letter : Letter) (whole : WholeIsRead) (refused : RefusedIsRead)
     (message bytes : List ℕ) (posted : IsPostedFrame letter message [] bytes) where
   pub uncut_is_whole : (read : ReadMessage) → message_at letter.number.0 message ≡ Ok read
-      → class_of bytes ≡ Whole (addresses_of letter.stream) letter.number.0 message read
+      → class_of bytes ≡ Whole (addresses_of letter.version_id) letter.number.0 message read
   uncut_is_whole read is = ap class_of (sym (one_frame letter message bytes posted))
       ∙ frame_is_whole letter whole posted.fits message read
       (carried_whole letter message posted.posted) is
@@ -283,7 +283,7 @@ module _ (sent : FragmentName → ℕ → List ℕ) where
     uncut_agrees =
         elim (message_at letter.number.0 message) as
         (λ (r : Result ReadMessage SliceError). message_at letter.number.0 message ≡ r
-        → AnswersAgree (completed_answer (addresses_of letter.stream) letter.number.0 message r)
+        → AnswersAgree (completed_answer (addresses_of letter.version_id) letter.number.0 message r)
         (answer_after others line)) [
           | Ok read ↦ λ is. inl (sym (class_answered others line channel bytes _ frame_is
               (uncut_is_whole letter whole refused message bytes posted read is)))

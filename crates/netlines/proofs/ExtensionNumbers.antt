@@ -27,18 +27,18 @@ named : (n : ℕ) → Contains (0 ∷ 43 ∷ 44 ∷ 51 ∷ 60 ∷ []) n
     → ((n == 0) || (n == 43) || (n == 44) || (n == 51) || (n == 60)) ≡ true
 named n h = grind arith
 
-pub v4_names : (stream : IpFragVersionSpecId) (number : ℕ) (source destination : List ℕ)
-    (identification : ℕ) → stream ≡ Ipv4 source destination identification
-    → (names_extension stream number ≡ true) ↔ (number ≡ 51)
-v4_names stream number source destination identification is = grind arith
+pub v4_names : (version_id : IpFragVersionSpecId) (number : ℕ) (source destination : List ℕ)
+    (identification : ℕ) → version_id ≡ Ipv4 source destination identification
+    → (names_extension version_id number ≡ true) ↔ (number ≡ 51)
+v4_names version_id number source destination identification is = grind arith
 
-pub v6_names : (stream : IpFragVersionSpecId) (number : ℕ) (source destination : List ℕ)
-    (identification : ℕ) → stream ≡ Ipv6 source destination identification
-    → (names_extension stream number ≡ true) ↔ Contains (0 ∷ 43 ∷ 44 ∷ 51 ∷ 60 ∷ []) number
-v6_names stream number source destination identification is = grind (arith, among, named)
+pub v6_names : (version_id : IpFragVersionSpecId) (number : ℕ) (source destination : List ℕ)
+    (identification : ℕ) → version_id ≡ Ipv6 source destination identification
+    → (names_extension version_id number ≡ true) ↔ Contains (0 ∷ 43 ∷ 44 ∷ 51 ∷ 60 ∷ []) number
+v6_names version_id number source destination identification is = grind (arith, among, named)
 
 pub extension_is_refused : (letter : Letter) (message cuts : List ℕ)
     → bad_cut (length message) cuts ≡ None → length message ≤ 65535
     → (post_refusal letter message cuts ≡ Some ExtensionNumber)
-    ↔ (names_extension letter.stream letter.number.0 ≡ true)
+    ↔ (names_extension letter.version_id letter.number.0 ≡ true)
 extension_is_refused letter message cuts good short = grind arith

@@ -27,7 +27,7 @@ pub record HeadersFit (letter : Letter) (cut : Bool) (offset : ℕ) (more : Bool
   pub link : Fits (ethernet_of letter)
   pub tags : TagsFit (tags_of letter.vlans.items)
   pub few : length letter.vlans.items ≤ 2
-  pub ip : IpFits (ip_headers_of letter.stream cut offset more) letter.number.0
+  pub ip : IpFits (ip_headers_of letter.version_id cut offset more) letter.number.0
 
 tag_fits : (id : ℕ) → id ≤ 4095 → vlan.Fits (tag_of id)
 tag_fits id small = grind arith
@@ -55,10 +55,10 @@ identification_is : (n : ℕ) → n < 2 ^ 32
     → 256 * (256 * (256 * (n / 16777216 % 256) + n / 65536 % 256) + n / 256 % 256) + n % 256 ≡ n
 identification_is n small = omega arith
 
-ip_fits : (stream : IpFragVersionSpecId) (number offset : ℕ) (cut more : Bool) → offset < 8192
-    → AddressesFit (addresses_of stream) → IdentificationFits stream
-    → IpFits (ip_headers_of stream cut offset more) number
-ip_fits stream number offset cut more small addresses fits = grind arith
+ip_fits : (version_id : IpFragVersionSpecId) (number offset : ℕ) (cut more : Bool) → offset < 8192
+    → AddressesFit (addresses_of version_id) → IdentificationFits version_id
+    → IpFits (ip_headers_of version_id cut offset more) number
+ip_fits version_id number offset cut more small addresses fits = grind arith
 
 -- so they are at every offset in a message
 pub headers_fit : (letter : Letter) (cut : Bool) (offset : ℕ) (more : Bool) → offset < 8192

@@ -43,7 +43,7 @@ module _ (sent : FragmentName → ℕ → List ℕ) (as_fragment : FragmentIsRea
       (posted : IsPostedOn sent channel bytes) where
     reported : (read : ReadMessage) → message_at posted.letter.number.0 posted.message ≡ Ok read
         → answer ≡ message_answer posted.letter.number.0
-        (verdict_of (addresses_of posted.letter.stream) read) posted.message
+        (verdict_of (addresses_of posted.letter.version_id) read) posted.message
         → ReturnsPosted sent line answer
     reported read is same_answer = record {
       channel = channel;
@@ -87,7 +87,7 @@ module _ (sent : FragmentName → ℕ → List ℕ) (as_fragment : FragmentIsRea
         ∙ ap (line_of_message (name_of letter)) (posted.one cut) in
         elim (message_at letter.number.0 posted.message) as
         (λ (r : Result ReadMessage SliceError). message_at letter.number.0 posted.message ≡ r
-        → answer ≡ completed_answer (addresses_of letter.stream) letter.number.0 posted.message r
+        → answer ≡ completed_answer (addresses_of letter.version_id) letter.number.0 posted.message r
         → ReturnsPosted sent line answer) [
           | Ok read ↦ λ is same_answer. reported read is same_answer
           | Err e ↦ grind arith

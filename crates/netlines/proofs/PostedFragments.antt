@@ -82,12 +82,12 @@ module _ (room len start : ℕ) where
 
 pub goes_from_start : (letter : Letter) (message cuts : List ℕ)
     → post_refusal letter message cuts ≡ None → is_fragmented cuts ≡ true
-    → Goes (room letter.stream true) (length message) 0 cuts message
+    → Goes (room letter.version_id true) (length message) 0 cuts message
 goes_from_start letter message cuts sent cut = grind arith
 
 module _ (letter : Letter) (law : FragmentIsRead) (fit : LetterFits letter)
-    (number : names_extension letter.stream letter.number.0 ≡ false) where
-  pub fragment_is_read : (posted_fragment : PostedFragment) → length posted_fragment.text ≤ room letter.stream true
+    (number : names_extension letter.version_id letter.number.0 ≡ false) where
+  pub fragment_is_read : (posted_fragment : PostedFragment) → length posted_fragment.text ≤ room letter.version_id true
       → posted_fragment.offset < 8192 → (posted_fragment.more ≡ false → 0 < posted_fragment.offset)
       → class_of (frame letter true posted_fragment) ≡ fragment_class letter posted_fragment
   fragment_is_read posted_fragment short small some =
@@ -96,13 +96,13 @@ module _ (letter : Letter) (law : FragmentIsRead) (fit : LetterFits letter)
       (record { number = number; fits = short }) (fragmenting posted_fragment.more posted_fragment.offset some)
 
   pub last_is_read : (len start : ℕ) (rest : List ℕ)
-      → Goes (room letter.stream true) len start [] rest
+      → Goes (room letter.version_id true) len start [] rest
       → class_of (frame letter true (record { offset = start / 8; more = false; text = rest }))
       ≡ fragment_class letter (record { offset = start / 8; more = false; text = rest })
   last_is_read len start rest goes = grind (arith, nat_tests, fragment_is_read, last_fits)
 
   pub first_is_read : (len start cut : ℕ) (later rest : List ℕ)
-      → Goes (room letter.stream true) len start (cut ∷ later) rest
+      → Goes (room letter.version_id true) len start (cut ∷ later) rest
       → class_of (frame letter true
       (record { offset = start / 8; more = true; text = take (cut - start) rest }))
       ≡ fragment_class letter
@@ -111,7 +111,7 @@ module _ (letter : Letter) (law : FragmentIsRead) (fit : LetterFits letter)
       grind (arith, nat_tests, fragment_is_read, text_fits)
 
   classes_from : (len start : ℕ) (later rest : List ℕ)
-      → Goes (room letter.stream true) len start later rest
+      → Goes (room letter.version_id true) len start later rest
       → map class_of (map (frame letter true) (fragments_from start later rest))
       ≡ map (fragment_class letter) (fragments_from start later rest)
   classes_from len start [] rest goes = ap (λ class. class ∷ []) (last_is_read len start rest goes)

@@ -29,8 +29,8 @@ use Rattle.netlines.proofs.PostLemmas.{framed, unrefused_fragment}
 -- a letter's number names no extension header, and a message or a fragment of these bytes fits a
 -- packet
 pub record CanCarry (letter : Letter) (cut : Bool) (text : List ℕ) : Type 0 where
-  pub number : names_extension letter.stream letter.number.0 ≡ false
-  pub fits : length text ≤ room letter.stream cut
+  pub number : names_extension letter.version_id letter.number.0 ≡ false
+  pub fits : length text ≤ room letter.version_id cut
 
 no_one : (a b c d e : Bool) → (a || b || c || d || e) ≡ false
     → (a || (b || (c || (d || (e || false))))) ≡ false
@@ -41,23 +41,23 @@ no_slot : (n : ℕ) → ((n == 0) || (n == 43) || (n == 44) || (n == 51) || (n =
 no_slot n is = no_one (n == 0) (n == 43) (n == 44) (n == 51) (n == 60) is
 
 -- a number that names no extension header
-names_none : (stream : IpFragVersionSpecId) (cut : Bool) (offset : ℕ) (more : Bool) (number : ℕ)
-    → names_extension stream number ≡ false
-    → NamesNone (ip_headers_of stream cut offset more) number
-names_none stream cut offset more number is = grind arith
+names_none : (version_id : IpFragVersionSpecId) (cut : Bool) (offset : ℕ) (more : Bool) (number : ℕ)
+    → names_extension version_id number ≡ false
+    → NamesNone (ip_headers_of version_id cut offset more) number
+names_none version_id cut offset more number is = grind arith
 
 -- the frame is one that the builder writes
 module _ (letter : Letter) (cut : Bool) (offset : ℕ) (more : Bool) (text : List ℕ)
     (fit : HeadersFit letter cut offset more) (carries : CanCarry letter cut text) where
   abbrev ip : IpHeaders
-  ip = ip_headers_of letter.stream cut offset more
+  ip = ip_headers_of letter.version_id cut offset more
 
   frames : Frames (ethernet_of letter) (tags_of letter.vlans.items) ip letter.number.0 (length text)
   frames = record {
     link_fits = fit.link;
     tags_fit = fit.tags;
     ip_fits = fit.ip;
-    names_none = names_none letter.stream cut offset more letter.number.0 carries.number;
+    names_none = names_none letter.version_id cut offset more letter.number.0 carries.number;
     written = unrefused_fragment letter cut offset more (length text) carries.fits;
   }
 
@@ -68,9 +68,9 @@ module _ (letter : Letter) (cut : Bool) (offset : ℕ) (more : Bool) (text : Lis
   as_built = ap class_of
       (sym (framed letter cut (record { offset = offset; more = more; text = text })))
 
-addresses_are : (stream : IpFragVersionSpecId) (cut : Bool) (offset : ℕ) (more : Bool)
-    → addresses_in (ip_headers_of stream cut offset more) ≡ addresses_of stream
-addresses_are stream cut offset more = grind arith
+addresses_are : (version_id : IpFragVersionSpecId) (cut : Bool) (offset : ℕ) (more : Bool)
+    → addresses_in (ip_headers_of version_id cut offset more) ≡ addresses_of version_id
+addresses_are version_id cut offset more = grind arith
 
 tags_again : (ids : List ℕ) → length ids ≤ 2 → ids_in (tags_of ids) ≡ ids
 tags_again [] few = refl
@@ -78,18 +78,18 @@ tags_again (id ∷ []) few = refl
 tags_again (outer ∷ inner ∷ []) few = refl
 tags_again (outer ∷ inner ∷ third ∷ others) few = absurd (omega arith)
 
-uncut_headers : (stream : IpFragVersionSpecId)
-    → fragments (ip_headers_of stream false 0 false) ≡ false
-uncut_headers stream = grind arith
+uncut_headers : (version_id : IpFragVersionSpecId)
+    → fragments (ip_headers_of version_id false 0 false) ≡ false
+uncut_headers version_id = grind arith
 
-fragment_headers : (stream : IpFragVersionSpecId) (offset : ℕ) (more : Bool)
-    → is_fragmenting more offset ≡ true → fragments (ip_headers_of stream true offset more) ≡ true
-fragment_headers stream offset more is = grind arith
+fragment_headers : (version_id : IpFragVersionSpecId) (offset : ℕ) (more : Bool)
+    → is_fragmenting more offset ≡ true → fragments (ip_headers_of version_id true offset more) ≡ true
+fragment_headers version_id offset more is = grind arith
 
-fragment_fields : (stream : IpFragVersionSpecId) (offset : ℕ) (more : Bool)
-    → fields_in (ip_headers_of stream true offset more)
-    ≡ Some (record { identification = identification_of stream; offset = offset; more = more })
-fragment_fields stream offset more = grind arith
+fragment_fields : (version_id : IpFragVersionSpecId) (offset : ℕ) (more : Bool)
+    → fields_in (ip_headers_of version_id true offset more)
+    ≡ Some (record { identification = identification_of version_id; offset = offset; more = more })
+fragment_fields version_id offset more = grind arith
 
 -- what is said of built frames
 abbrev pub WholeIsRead : Type 0
@@ -117,16 +117,16 @@ module _ (letter : Letter) where
       → (message : List ℕ) (read : ReadMessage) → CanCarry letter false message
       → message_at letter.number.0 message ≡ Ok read
       → class_of (frame letter false (record { offset = 0; more = false; text = message }))
-      ≡ Whole (addresses_of letter.stream) letter.number.0 message read
+      ≡ Whole (addresses_of letter.version_id) letter.number.0 message read
   frame_is_whole law fit message read carries is =
       as_built letter false 0 false message
       (headers_fit letter false 0 false (omega arith) fit) carries
       ∙ law (ethernet_of letter) (tags_of letter.vlans.items)
-      (ip_headers_of letter.stream false 0 false) letter.number.0 message
+      (ip_headers_of letter.version_id false 0 false) letter.number.0 message
       (frames letter false 0 false message
       (headers_fit letter false 0 false (omega arith) fit) carries) read
-      (uncut_headers letter.stream) is
-      ∙ ap (λ a. Whole a letter.number.0 message read) (addresses_are letter.stream false 0 false)
+      (uncut_headers letter.version_id) is
+      ∙ ap (λ a. Whole a letter.number.0 message read) (addresses_are letter.version_id false 0 false)
 
   pub frame_is_refused : RefusedIsRead → LetterFits letter
       → (message : List ℕ) (e : SliceError) → CanCarry letter false message
@@ -137,9 +137,9 @@ module _ (letter : Letter) where
       as_built letter false 0 false message
       (headers_fit letter false 0 false (omega arith) fit) carries
       ∙ law (ethernet_of letter) (tags_of letter.vlans.items)
-      (ip_headers_of letter.stream false 0 false) letter.number.0 message
+      (ip_headers_of letter.version_id false 0 false) letter.number.0 message
       (frames letter false 0 false message
-      (headers_fit letter false 0 false (omega arith) fit) carries) e (uncut_headers letter.stream) is
+      (headers_fit letter false 0 false (omega arith) fit) carries) e (uncut_headers letter.version_id) is
 
   pub frame_is_fragment : FragmentIsRead → (offset : ℕ) (more : Bool) → HeadersFit letter true offset more
       → (text : List ℕ) → CanCarry letter true text → is_fragmenting more offset ≡ true
@@ -148,12 +148,12 @@ module _ (letter : Letter) where
   frame_is_fragment law offset more fit text carries is =
       as_built letter true offset more text fit carries
       ∙ law (ethernet_of letter) (tags_of letter.vlans.items)
-      (ip_headers_of letter.stream true offset more) letter.number.0 text
-      (frames letter true offset more text fit carries) _ (fragment_headers letter.stream offset more is)
-      (fragment_fields letter.stream offset more)
+      (ip_headers_of letter.version_id true offset more) letter.number.0 text
+      (frames letter true offset more text fit carries) _ (fragment_headers letter.version_id offset more is)
+      (fragment_fields letter.version_id offset more)
       ∙ (λ i. Cut (record {
         vlan_ids = tags_again letter.vlans.items fit.few i;
-        addresses = addresses_are letter.stream true offset more i;
-        identification = identification_of letter.stream;
+        addresses = addresses_are letter.version_id true offset more i;
+        identification = identification_of letter.version_id;
         number = letter.number.0;
       }) offset more text)

@@ -178,16 +178,16 @@ pub long_where : (other : Bool) (len : ℕ)
     → (refusal other (nat_lt 65535 len) ≡ Some TooLong) ↔ ((other ≡ false) × (65535 < len))
 long_where other len = grind arith
 
-pub unrefused : (stream : IpFragVersionSpecId) (h : TransportHeader) (payload : List ℕ)
-    → AddressesFit (addresses_of stream) → HeaderFits h → seal_refusal stream h payload ≡ None
-    → IsSealable stream h payload
-unrefused stream h payload addresses fits is = grind arith
+pub unrefused : (version_id : IpFragVersionSpecId) (h : TransportHeader) (payload : List ℕ)
+    → AddressesFit (addresses_of version_id) → HeaderFits h → seal_refusal version_id h payload ≡ None
+    → IsSealable version_id h payload
+unrefused version_id h payload addresses fits is = grind arith
 
-pub sealed_good : Laws → (stream : IpFragVersionSpecId) (h : TransportHeader) (payload : List ℕ)
-    (read : ReadMessage) → IsSealable stream h payload
-    → message_at (number_of h) (sealed_message_bytes stream h payload) ≡ Ok read
-    → verdict_of (addresses_of stream) read ≡ verdict.Good
-sealed_good laws stream h payload read sealable is =
+pub sealed_good : Laws → (version_id : IpFragVersionSpecId) (h : TransportHeader) (payload : List ℕ)
+    (read : ReadMessage) → IsSealable version_id h payload
+    → message_at (number_of h) (sealed_message_bytes version_id h payload) ≡ Ok read
+    → verdict_of (addresses_of version_id) read ≡ verdict.Good
+sealed_good laws version_id h payload read sealable is =
     grind (arith, udp_is_good, tcp_is_good, icmpv4_is_good, icmpv6_is_good)
 
 -- what the builder writes is the same

@@ -16,8 +16,8 @@ identification_of (Ipv6 source destination identification) = identification
 abbrev pub name_of : Letter → FragmentName
 name_of letter = record {
   vlan_ids = letter.vlans.items;
-  addresses = addresses_of letter.stream;
-  identification = identification_of letter.stream;
+  addresses = addresses_of letter.version_id;
+  identification = identification_of letter.version_id;
   number = letter.number.0;
 }
 
@@ -37,5 +37,5 @@ pub record LetterFits (letter : Letter) : Type 0 where
   pub destination : length letter.ethernet_destination ≡ 6
   pub ids : All (λ id. id ≤ 4095) letter.vlans.items
   pub few : length letter.vlans.items ≤ 2
-  pub addresses : AddressesFit (addresses_of letter.stream)
-  pub identification : IdentificationFits letter.stream
+  pub addresses : AddressesFit (addresses_of letter.version_id)
+  pub identification : IdentificationFits letter.version_id

@@ -51,7 +51,7 @@ long_fragment_from room index (posted_fragment ∷ fragments) =
     if nat_lt room (length posted_fragment.text) then Some index else long_fragment_from room (index + 1) fragments
 
 abbrev pub long_fragment : IpFragVersionSpecId → List ℕ → List ℕ → Option ℕ
-long_fragment stream message cuts = long_fragment_from (room stream (is_fragmented cuts)) 0
+long_fragment version_id message cuts = long_fragment_from (room version_id (is_fragmented cuts)) 0
     (fragments_from 0 cuts message)
 
 -- the first refusal, out of memory aside
@@ -60,7 +60,7 @@ post_refusal letter message cuts =
     option_or (option_map Cuts (bad_cut (length message) cuts))
     (option_or (first_refusal (
     (nat_lt 65535 (length message), MessageTooLong)
-    ∷ (names_extension letter.stream letter.number.0, ExtensionNumber)
-    ∷ (is_icmp_of_other_version letter.stream letter.number.0, IcmpOfOtherVersion)
+    ∷ (names_extension letter.version_id letter.number.0, ExtensionNumber)
+    ∷ (is_icmp_of_other_version letter.version_id letter.number.0, IcmpOfOtherVersion)
     ∷ []))
-    (option_map PieceTooLong (long_fragment letter.stream message cuts)))
+    (option_map PieceTooLong (long_fragment letter.version_id message cuts)))

@@ -46,7 +46,7 @@ pub record ReturnsPosted (sent : FragmentName → (channel : ℕ) → List ℕ)
   pub read : ReadMessage
   pub readable : message_at posted.letter.number.0 posted.message ≡ Ok read
   pub same : answer ≡ message_answer posted.letter.number.0
-      (verdict_of (addresses_of posted.letter.stream) read) posted.message
+      (verdict_of (addresses_of posted.letter.version_id) read) posted.message
 
 -- a message that came in fragments and its uncut frame have the same answer, unless the message
 -- can't be read

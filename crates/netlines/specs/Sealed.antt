@@ -73,26 +73,26 @@ sealed_header addresses (Icmpv6 h) payload = sealed_icmpv6 addresses (Icmpv6 h) 
 
 -- the message's bytes
 abbrev pub sealed_message_bytes : IpFragVersionSpecId → TransportHeader → List ℕ → List ℕ
-sealed_message_bytes stream header payload = transport_encoding
-    (sealed_header (addresses_of stream) header payload) ++ payload
+sealed_message_bytes version_id header payload = transport_encoding
+    (sealed_header (addresses_of version_id) header payload) ++ payload
 
 -- ICMP over the version that it isn't made for
 abbrev pub is_icmp_of_other_version : IpFragVersionSpecId → TransportHeader → Bool
 is_icmp_of_other_version (Ipv4 source destination identification) (Icmpv6 h) = true
 is_icmp_of_other_version (Ipv6 source destination identification) (Icmpv4 h) = true
-is_icmp_of_other_version stream header = false
+is_icmp_of_other_version version_id header = false
 
 -- there is such a message: between addresses of their length, ICMP over its own version, and UDP of
 -- a length that fits 16 bits
-pub record IsSealable (stream : IpFragVersionSpecId) (header : TransportHeader)
+pub record IsSealable (version_id : IpFragVersionSpecId) (header : TransportHeader)
     (payload : List ℕ) : Type 0 where
-  pub addresses : AddressesFit (addresses_of stream)
+  pub addresses : AddressesFit (addresses_of version_id)
   pub fits : HeaderFits header
-  pub version : is_icmp_of_other_version stream header ≡ false
+  pub version : is_icmp_of_other_version version_id header ≡ false
   pub reported : number_of header ≡ udp → 8 + length payload ≤ 65535
 
 -- the first refusal, out of memory aside
 abbrev pub seal_refusal : IpFragVersionSpecId → TransportHeader → List ℕ → Option SealError
-seal_refusal stream header payload = first_refusal (
-    (is_icmp_of_other_version stream header, IcmpOfOtherVersion)
+seal_refusal version_id header payload = first_refusal (
+    (is_icmp_of_other_version version_id header, IcmpOfOtherVersion)
     ∷ (nat_lt 65535 (transport_len header + length payload), TooLong) ∷ [])

@@ -2,7 +2,7 @@
 //! refuses that one: then a call returns this error and no other, what it changes is as before, and
 //! the same call succeeds after it. All growths are those of the calls.
 use crate::checks::{equal, holds};
-use crate::messages::post::{FRAME, MESSAGE, MESSAGE_V6, SEGMENT, letter, stream};
+use crate::messages::post::{FRAME, MESSAGE, MESSAGE_V6, SEGMENT, letter, version_id};
 use crate::messages::sealing::{Header, transport};
 use crate::runs::rows::{TWO_ANSWERS, TWO_FRAGMENTS};
 use crate::runs::texts::{TWO_ROUNDS, TWO_ROUNDS_ANSWERS};
@@ -176,7 +176,7 @@ fn seals(rt: impl Abort + AllocGlobal + Copy, version: u8, message: &[u8]) -> bo
     let payload = message.get(8..).unwrap_or(&[]);
     match seal_message(
         rt.alloc(),
-        &stream(version),
+        &version_id(version),
         transport(Header::Udp(0)),
         payload,
     ) {

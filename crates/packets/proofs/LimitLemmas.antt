@@ -4,8 +4,8 @@ use Rattle.std.proofs.Common.{Result, Err, inl, inr, true}
 use Rattle.std.specs.List.{AllByRecursion}
 use Rattle.std.specs.Prelude.{unwrap_or}
 use Rattle.captures.specs.declared.packet.Packet.{Packet}
+use Rattle.captures.specs.declared.skipped.Skipped.{Skipped}
 use Rattle.captures.specs.declared.translation.run_error.RunError.{RunError}
-use Rattle.captures.specs.declared.translation.skipped.Skipped.{Skipped}
 use Rattle.packets.specs.Courses.{Course, course_after, first_at, next_course, no_course}
 use Rattle.packets.specs.Limits.{AreFewer, AreInTime, first_time, is_late}
 use Rattle.packets.specs.PacketRuns.{BreaksBy, EndsWithin}

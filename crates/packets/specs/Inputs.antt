@@ -1,7 +1,7 @@
 -- The inputs of a program, one after the other.
 use Rattle.std.specs.Prelude.{ℕ, ◌+◌, Bool, true, false}
 use Rattle.captures.specs.Numbers.{capped}
-use Rattle.captures.specs.declared.translation.skipped.Skipped.{Skipped}
+use Rattle.captures.specs.declared.skipped.Skipped.{Skipped}
 use Rattle.captures.specs.declared.translation.run_error.RunError.{RunError}
 use Rattle.captures.specs.declared.translation.run_error.RunError.TheVariants.{Capture, BadLine, Read, Write, WriteZero}
 use Rattle.captures.specs.declared.translation.run_error.RunError.TheVariants.{Memory, TooManyReads}

@@ -11,8 +11,8 @@ ghost use Rattle.captures.specs.declared.link.kind.Link.TheVariants.{Null, Loop,
 use crate::byte_order::ByteOrder;
 use crate::link::header::Header;
 use crate::link::kind::Link;
+use crate::skipped::{Passing, Reason};
 use crate::text::line::append_hex;
-use crate::translation::skipped::{Passing, Reason};
 use crate::unfit::Unfit;
 use std::marker::Model;
 

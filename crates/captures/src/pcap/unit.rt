@@ -4,7 +4,7 @@ ghost use Rattle.captures.specs.Pcap.{IsFileHeader, is_magic};
 ghost use Rattle.captures.specs.Framed.{frame_bytes};
 ghost use Rattle.captures.specs.Units.{IsIncomplete, Refuses, HasPacket, BeginsSection, StandsAt, record_origin};
 ghost use Rattle.captures.specs.declared.byte_order.ByteOrder.{ByteOrder};
-ghost use Rattle.captures.specs.declared.translation.state.State.TheVariants.{Start, Classic};
+ghost use Rattle.captures.specs.declared.state.State.TheVariants.{Start, Classic};
 
 use crate::CaptureError;
 use crate::byte_order::ByteOrder;
@@ -15,9 +15,9 @@ use crate::origin::Origin;
 use crate::pcapng::block::{BYTE_ORDER_MAGIC, SECTION_HEADER};
 use crate::pcapng::section::no_section;
 use crate::pcapng::section_unit::section_unit;
+use crate::skipped::Passing;
+use crate::state::State;
 use crate::time::time_unit::TimeUnit;
-use crate::translation::skipped::Passing;
-use crate::translation::state::State;
 use crate::unfit::Unfit;
 
 const RECORD_HEAD_LEN: usize = 16;

@@ -3,10 +3,10 @@ ghost use Rattle.std.specs.Prelude.{◌<◌, ◌≡◌, ◌≤◌, ◌+◌, ◌*
 ghost use Rattle.std.specs.Prelude.{IfOk, IfErr, IfSome, MatchOption};
 ghost use Rattle.captures.specs.Framed.{frame_bytes, own_frame};
 ghost use Rattle.captures.specs.Numbers.{word};
-ghost use Rattle.captures.specs.Pcapng.{section_header, interface_description, simple_packet, captured_len};
+ghost use Rattle.captures.specs.Pcapng.{section_header, interface_description, simple_packet};
 ghost use Rattle.captures.specs.Pcapng.{is_read_version, IsOther, IsSkipped, HoldsPacket, Content, Says, IsTimedPacket};
 ghost use Rattle.captures.specs.Pcapng.{IsSimplePacket, Reads, RefusesBlock, clock_at, clocks_with, link_at};
-ghost use Rattle.captures.specs.Pcapng.{block_wire_len, links_with, later_links};
+ghost use Rattle.captures.specs.Pcapng.{block_wire_len, links_with, later_links, simple_packet_captured_len};
 ghost use Rattle.captures.specs.Pcapng.Content.{Holds};
 ghost use Rattle.captures.specs.Units.{IsHeldOn, StandsAt};
 ghost use Rattle.captures.specs.declared.origin.Origin.{Origin};
@@ -370,7 +370,7 @@ fn simple_packet<'a>(section: &Section, order: ByteOrder, block: &'a [u8]) -> Op
         return None;
     }
     let wire_len = order.word(block, 8);
-    let captured = captured_len(section.snap_len, wire_len);
+    let captured = simple_packet_captured_len(section.snap_len, wire_len);
     if captured as usize > block.len() - 16 {
         return None;
     }
@@ -389,8 +389,8 @@ fn simple_packet<'a>(section: &Section, order: ByteOrder, block: &'a [u8]) -> Op
     })
 }
 
-fn captured_len(snap_len: u32, original: u32) -> u32
-    ensures { result ≡ captured_len snap_len original }
+fn simple_packet_captured_len(snap_len: u32, original: u32) -> u32
+    ensures { result ≡ simple_packet_captured_len snap_len original }
 {
     if snap_len == 0 {
         original

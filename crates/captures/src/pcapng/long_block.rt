@@ -2,13 +2,13 @@
 ghost use Rattle.std.specs.Prelude.{◌≡◌, ◌≤◌, ◌<◌, List, ℕ, length, MatchOption, Some};
 ghost use Rattle.captures.specs.Dropped.{ComesAfter, IsDropped, IsWithin};
 ghost use Rattle.captures.specs.Units.{IsIncomplete};
-ghost use Rattle.captures.specs.declared.translation.state.State.{State};
+ghost use Rattle.captures.specs.declared.state.State.{State};
 
 use crate::byte_order::ByteOrder;
 use crate::limits::{BLOCK_LIMIT, INPUT_CAPACITY};
 use crate::pcapng::block::is_skipped;
 use crate::pcapng::section_unit::BLOCK_MIN_LEN;
-use crate::translation::state::State;
+use crate::state::State;
 
 /// The bytes of a block's second length.
 const SECOND_LEN: usize = 4;

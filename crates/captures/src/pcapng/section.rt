@@ -4,8 +4,8 @@ ghost use Rattle.captures.specs.Units.{no_section};
 
 use crate::byte_order::ByteOrder;
 use crate::link::kind::Link;
+use crate::skipped::Passing;
 use crate::time::clock::Clock;
-use crate::translation::skipped::Passing;
 use crate::unfit::Unfit;
 
 /// The link type of Ethernet frames.

@@ -4,7 +4,7 @@ ghost use Rattle.captures.specs.Pcapng.{HasOrder, IsTaken};
 ghost use Rattle.captures.specs.Framed.{frame_bytes};
 ghost use Rattle.captures.specs.Units.{IsIncomplete, RefusesAt, HasPacket, StandsAt};
 ghost use Rattle.captures.specs.declared.byte_order.ByteOrder.{ByteOrder};
-ghost use Rattle.captures.specs.declared.translation.state.State.TheVariants.{Pcapng};
+ghost use Rattle.captures.specs.declared.state.State.TheVariants.{Pcapng};
 
 use crate::CaptureError;
 use crate::byte_order::ByteOrder;

@@ -6,7 +6,7 @@ use crate::CaptureError;
 use crate::link::header::Header;
 use crate::link::kind::Link;
 use crate::reading::prefix::{FirstPacket, first_packet};
-use crate::translation::state::State;
+use crate::state::State;
 
 /// A packet but for the bytes after its header.
 #[derive(Clone, Copy)]

@@ -9,15 +9,15 @@ ghost use Rattle.captures.specs.declared.packet.Packet.{Packet};
 ghost use Rattle.captures.specs.declared.reading.refused_at.RefusedAt.{RefusedAt};
 ghost use Rattle.captures.specs.declared.unfit.Unfit.{Unfit};
 
+use crate::end::end;
 use crate::limits::BLOCK_LIMIT;
 use crate::pcapng::long_block::{Following, LongBlock, long_block};
 use crate::position::position_of;
 use crate::reading::ahead::{Ahead, look_ahead};
 use crate::reading::parsed::{Parsed, ParsedPacket};
 use crate::reading::refused_at::RefusedAt;
-use crate::translation::end::end;
+use crate::state::State;
 use crate::translation::progress::last;
-use crate::translation::state::State;
 use crate::{CaptureError, Skipped, Unfit};
 
 /// Says where the packets of a capture lie in bytes that a caller passes, which reads and allocates

@@ -13,6 +13,7 @@ ghost use Rattle.captures.specs.declared.packet.Packet.{Packet};
 ghost use Rattle.captures.specs.declared.reading.read_error.ReadError.{ReadError};
 ghost use Rattle.captures.specs.declared.unfit.Unfit.{Unfit};
 
+use crate::end::end;
 use crate::link::frame::Frame;
 use crate::packet::Packet;
 use crate::pcapng::long_block::{Following, LongBlock, long_block};
@@ -20,8 +21,7 @@ use crate::position::{Position, position_of};
 use crate::reading::ahead::{Found, look_ahead};
 use crate::reading::read_error::ReadError;
 use crate::reading::window::Window;
-use crate::translation::end::end;
-use crate::translation::state::State;
+use crate::state::State;
 use crate::{CaptureError, READ_COUNT_LIMIT, Skipped, Unfit};
 use std::alloc::{AllocError, Global};
 use std::io::Read;

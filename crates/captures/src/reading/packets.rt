@@ -4,11 +4,11 @@ ghost use Rattle.std.specs.Iterator.{at_most};
 ghost use Rattle.captures.specs.Framed.{frame_bytes};
 ghost use Rattle.captures.specs.PacketSteps.{StepsTo};
 ghost use Rattle.captures.specs.Units.{skipped_in};
-ghost use Rattle.captures.specs.declared.translation.state.State.TheVariants.{Start};
+ghost use Rattle.captures.specs.declared.state.State.TheVariants.{Start};
 
 use crate::packet::Packet;
 use crate::reading::prefix::first_packet;
-use crate::translation::state::State;
+use crate::state::State;
 use crate::{CaptureError, Skipped, Unfit};
 
 /// An iterator over the whole packets at the start of some bytes of a capture, which reads and

@@ -6,7 +6,7 @@ ghost use Rattle.captures.specs.PacketSteps.{IsFirstPacket};
 use crate::CaptureError;
 use crate::packet::Packet;
 use crate::pcap::unit::next_unit;
-use crate::translation::state::State;
+use crate::state::State;
 
 /// What some bytes of a capture begin with: whole units that hold no packet, and what follows them.
 #[derive(Drop)]

@@ -5,8 +5,8 @@ ghost use Rattle.captures.specs.Dropped.{IsDropped, Leaves, dropped_len, last_of
 use crate::CaptureError;
 use crate::limits::INPUT_CAPACITY;
 use crate::pcapng::long_block::{Following, LongBlock, long_block};
+use crate::state::State;
 use crate::text::ledger::Ledger;
-use crate::translation::state::State;
 use crate::translation::units::take_units;
 
 /// What is known after all whole units of what was read.

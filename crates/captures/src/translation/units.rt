@@ -4,8 +4,8 @@ ghost use Rattle.captures.specs.Units.{Takes};
 
 use crate::CaptureError;
 use crate::reading::packets::Packets;
+use crate::state::State;
 use crate::text::ledger::Ledger;
-use crate::translation::state::State;
 
 /// What is known after all whole units of some bytes.
 #[derive(Drop)]

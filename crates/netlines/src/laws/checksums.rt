@@ -33,27 +33,27 @@ use etherparse::laws::tcpudp::{tcp, udp};
 /// long it is. No message can be sealed of ICMP over the other IP version, and none of UDP that is
 /// longer than 65535 bytes, since its field for the length has 16 bits.
 pub fn sealed_is_good()
-    ensures good { (stream : IpFragVersionSpecId) (header : TransportHeader) (payload : List ℕ)
-        (message : ReadMessage) → IsSealable stream header payload
-        → message_at (number_of header) (sealed_message_bytes stream header payload) ≡ Ok message
-        → verdict_of (addresses_of stream) message ≡ verdict.Good }
+    ensures good { (version_id : IpFragVersionSpecId) (header : TransportHeader) (payload : List ℕ)
+        (message : ReadMessage) → IsSealable version_id header payload
+        → message_at (number_of header) (sealed_message_bytes version_id header payload) ≡ Ok message
+        → verdict_of (addresses_of version_id) message ≡ verdict.Good }
     // Whatever `seal_message` doesn't refuse can be sealed.
-    ensures unrefused { (stream : IpFragVersionSpecId) (header : TransportHeader)
-        (payload : List ℕ) → AddressesFit (addresses_of stream) → HeaderFits header
-        → seal_refusal stream header payload ≡ None → IsSealable stream header payload }
+    ensures unrefused { (version_id : IpFragVersionSpecId) (header : TransportHeader)
+        (payload : List ℕ) → AddressesFit (addresses_of version_id) → HeaderFits header
+        → seal_refusal version_id header payload ≡ None → IsSealable version_id header payload }
     // It refuses ICMP over the other version, and else all that is longer than 65535 bytes, of any
     // protocol.
-    ensures sealed { (stream : IpFragVersionSpecId) (header : TransportHeader) (payload : List ℕ)
-        → (seal_refusal stream header payload ≡ None)
-        ↔ ((is_icmp_of_other_version stream header ≡ false)
+    ensures sealed { (version_id : IpFragVersionSpecId) (header : TransportHeader) (payload : List ℕ)
+        → (seal_refusal version_id header payload ≡ None)
+        ↔ ((is_icmp_of_other_version version_id header ≡ false)
         × (transport_len header + length payload ≤ 65535)) }
-    ensures other_version { (stream : IpFragVersionSpecId) (header : TransportHeader)
+    ensures other_version { (version_id : IpFragVersionSpecId) (header : TransportHeader)
         (payload : List ℕ)
-        → (seal_refusal stream header payload ≡ Some IcmpOfOtherVersion)
-        ↔ (is_icmp_of_other_version stream header ≡ true) }
-    ensures too_long { (stream : IpFragVersionSpecId) (header : TransportHeader) (payload : List ℕ)
-        → (seal_refusal stream header payload ≡ Some TooLong)
-        ↔ ((is_icmp_of_other_version stream header ≡ false)
+        → (seal_refusal version_id header payload ≡ Some IcmpOfOtherVersion)
+        ↔ (is_icmp_of_other_version version_id header ≡ true) }
+    ensures too_long { (version_id : IpFragVersionSpecId) (header : TransportHeader) (payload : List ℕ)
+        → (seal_refusal version_id header payload ≡ Some TooLong)
+        ↔ ((is_icmp_of_other_version version_id header ≡ false)
         × (65535 < transport_len header + length payload)) }
 {
     icmpv4::checksums_sum_to_all_ones();

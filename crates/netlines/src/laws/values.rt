@@ -32,11 +32,11 @@ pub fn addresses_fit(addresses: &Addresses)
 
 /// So have those of a letter or of a sealed message. The identification has 16 bits over IPv4, and
 /// 32 over IPv6.
-pub fn version_id_fits(stream: &IpFragVersionSpecId)
-    ensures addresses { AddressesFit (addresses_of stream.now) }
-    ensures identification { IdentificationFits stream.now }
+pub fn version_id_fits(version_id: &IpFragVersionSpecId)
+    ensures addresses { AddressesFit (addresses_of version_id.now) }
+    ensures identification { IdentificationFits version_id.now }
 {
-    match stream {
+    match version_id {
         IpFragVersionSpecId::Ipv4 {
             source,
             destination,
@@ -96,7 +96,7 @@ pub fn letter_fits(letter: &Letter)
 {
     let _source: &[u8] = &letter.ethernet_source;
     let _destination: &[u8] = &letter.ethernet_destination;
-    version_id_fits(&letter.stream);
+    version_id_fits(&letter.version_id);
     ids_fit(letter.vlans.as_slice());
 }
 

@@ -40,7 +40,7 @@ fn refuse(letter: &Letter, message: &[u8], cuts: &[u32]) -> Result<(), PostError
         (λ e. result ≡ Err e) }
     ensures cuts { OnOk result (bad_cut (length message.now) cuts.now ≡ None) }
     ensures short { OnOk result (length message.now ≤ 65535) }
-    ensures fits { OnOk result (long_fragment letter.now.stream message.now cuts.now ≡ None) }
+    ensures fits { OnOk result (long_fragment letter.now.version_id message.now cuts.now ≡ None) }
 {
     if let Some(index) = bad_cut(message.len(), cuts) {
         return Err(PostError::Cuts { index });
@@ -48,13 +48,13 @@ fn refuse(letter: &Letter, message: &[u8], cuts: &[u32]) -> Result<(), PostError
     if message.len() > MESSAGE_LIMIT {
         return Err(PostError::MessageTooLong);
     }
-    if names_extension(&letter.stream, letter.number) {
+    if names_extension(&letter.version_id, letter.number) {
         return Err(PostError::ExtensionNumber);
     }
-    if is_icmp_of_other_version(&letter.stream, letter.number) {
+    if is_icmp_of_other_version(&letter.version_id, letter.number) {
         return Err(PostError::IcmpOfOtherVersion);
     }
-    let room = room(&letter.stream, is_fragmented(cuts));
+    let room = room(&letter.version_id, is_fragmented(cuts));
     if let Some(index) = long_fragment(room, message, cuts) {
         return Err(PostError::PieceTooLong { index });
     }
@@ -105,10 +105,10 @@ fn long_fragment(room: usize, message: &[u8], cuts: &[u32]) -> Option<usize>
     if rest.len() > room { Some(index) } else { None }
 }
 
-fn names_extension(stream: &IpFragVersionSpecId, number: IpNumber) -> bool
-    ensures { result ≡ names_extension stream.now number.0 }
+fn names_extension(version_id: &IpFragVersionSpecId, number: IpNumber) -> bool
+    ensures { result ≡ names_extension version_id.now number.0 }
 {
-    match stream {
+    match version_id {
         IpFragVersionSpecId::Ipv4 { .. } => number == IpNumber::AUTHENTICATION_HEADER,
         IpFragVersionSpecId::Ipv6 { .. } => matches!(
             number,
@@ -121,20 +121,20 @@ fn names_extension(stream: &IpFragVersionSpecId, number: IpNumber) -> bool
     }
 }
 
-fn is_icmp_of_other_version(stream: &IpFragVersionSpecId, number: IpNumber) -> bool
-    ensures { result ≡ is_icmp_of_other_version stream.now number.0 }
+fn is_icmp_of_other_version(version_id: &IpFragVersionSpecId, number: IpNumber) -> bool
+    ensures { result ≡ is_icmp_of_other_version version_id.now number.0 }
 {
-    match stream {
+    match version_id {
         IpFragVersionSpecId::Ipv4 { .. } => number == IpNumber::IPV6_ICMP,
         IpFragVersionSpecId::Ipv6 { .. } => number == IpNumber::ICMP,
     }
 }
 
 // The greatest number of bytes that fit a packet after its headers.
-fn room(stream: &IpFragVersionSpecId, is_fragmented: bool) -> usize
-    ensures { result ≡ room stream.now is_fragmented }
+fn room(version_id: &IpFragVersionSpecId, is_fragmented: bool) -> usize
+    ensures { result ≡ room version_id.now is_fragmented }
 {
-    match stream {
+    match version_id {
         IpFragVersionSpecId::Ipv4 { .. } => 65515,
         IpFragVersionSpecId::Ipv6 { .. } if is_fragmented => 65527,
         IpFragVersionSpecId::Ipv6 { .. } => 65535,
@@ -156,7 +156,7 @@ fn frames(
 ) -> Result<Vec<Vec<u8>>, AllocError>
     requires short { length message.now ≤ 65535 }
     requires cuts { bad_cut (length message.now) cuts.now ≡ None }
-    requires fits { long_fragment letter.now.stream message.now cuts.now ≡ None }
+    requires fits { long_fragment letter.now.version_id message.now cuts.now ≡ None }
     ensures { IfOk result (λ frames. map (λ frame. frame.items) frames.items
         ≡ posted_frames letter.now message.now cuts.now) }
 {

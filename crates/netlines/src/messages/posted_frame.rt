@@ -24,7 +24,7 @@ pub(crate) fn frame(
     more: bool,
     text: &[u8],
 ) -> Result<Vec<u8>, AllocError>
-    requires { length text.now ≤ room letter.now.stream is_fragmented }
+    requires { length text.now ≤ room letter.now.version_id is_fragmented }
     ensures { IfOk result (λ bytes. bytes.items
         ≡ frame letter.now is_fragmented (record { offset = offset; more = more; text = text.now })) }
 {
@@ -42,7 +42,7 @@ fn step(
     more: bool,
     text: &[u8],
 ) -> PacketBuilderStep<IpHeaders>
-    requires { length text.now ≤ room letter.now.stream is_fragmented }
+    requires { length text.now ≤ room letter.now.version_id is_fragmented }
     ensures frame { packet_with_number result letter.now.number.0 text.now
         ≡ frame letter.now is_fragmented (record { offset = offset; more = more; text = text.now }) }
     ensures refusal { build_refusal result (length text.now) ≡ None }
@@ -50,7 +50,7 @@ fn step(
 {
     headers(
         letter,
-        ip_headers(&letter.stream, is_fragmented, offset, more),
+        ip_headers(&letter.version_id, is_fragmented, offset, more),
     )
 }
 
@@ -69,14 +69,14 @@ fn headers(letter: &Letter, ip: IpHeaders) -> PacketBuilderStep<IpHeaders>
 // The IP headers of a fragment. Their lengths, numbers and checksum are set when the packet is
 // written.
 fn ip_headers(
-    stream: &IpFragVersionSpecId,
+    version_id: &IpFragVersionSpecId,
     is_fragmented: bool,
     offset: IpFragOffset,
     more: bool,
 ) -> IpHeaders
-    ensures { result ≡ ip_headers_of stream.now is_fragmented offset more }
+    ensures { result ≡ ip_headers_of version_id.now is_fragmented offset more }
 {
-    match stream {
+    match version_id {
         IpFragVersionSpecId::Ipv4 {
             source,
             destination,

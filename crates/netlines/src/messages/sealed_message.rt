@@ -18,17 +18,17 @@ const MESSAGE_LIMIT: usize = 65535;
 /// Where several refusals apply, the first one in the order of [`SealError`] is returned.
 pub fn seal_message(
     alloc: Global,
-    stream: &IpFragVersionSpecId,
+    version_id: &IpFragVersionSpecId,
     header: TransportHeader,
     payload: &[u8],
 ) -> Result<Vec<u8>, SealError>
     // Refused where a refusal applies, and else only where it is out of memory.
-    ensures refusal { MatchOption (seal_refusal stream.now header payload.now)
+    ensures refusal { MatchOption (seal_refusal version_id.now header payload.now)
         (IsOkUnless result SealError.Memory) (λ e. result ≡ Err e) }
     ensures message { IfOk result (λ message. message.items
-        ≡ sealed_message_bytes stream.now header payload.now) }
+        ≡ sealed_message_bytes version_id.now header payload.now) }
 {
-    let header = sealed_with(stream, header, payload)?;
+    let header = sealed_with(version_id, header, payload)?;
     let mut message = Vec::with_capacity(alloc, header.header_len() + payload.len())?;
     header.write(&mut message).unwrap();
     message.extend_from_slice(payload).unwrap();
@@ -37,16 +37,16 @@ pub fn seal_message(
 
 // The header with its length and checksum, where no refusal applies.
 fn sealed_with(
-    stream: &IpFragVersionSpecId,
+    version_id: &IpFragVersionSpecId,
     mut header: TransportHeader,
     payload: &[u8],
 ) -> Result<TransportHeader, SealError>
-    ensures refusal { MatchOption (seal_refusal stream.now header payload.now) (IsOk result)
+    ensures refusal { MatchOption (seal_refusal version_id.now header payload.now) (IsOk result)
         (λ e. result ≡ Err e) }
     ensures header { IfOk result (λ sealed. sealed
-        ≡ sealed_header (addresses_of stream.now) header payload.now) }
+        ≡ sealed_header (addresses_of version_id.now) header payload.now) }
 {
-    match (stream, &header) {
+    match (version_id, &header) {
         (IpFragVersionSpecId::Ipv4 { .. }, TransportHeader::Icmpv6(_))
         | (IpFragVersionSpecId::Ipv6 { .. }, TransportHeader::Icmpv4(_)) => {
             return Err(SealError::IcmpOfOtherVersion);
@@ -60,7 +60,7 @@ fn sealed_with(
     if let TransportHeader::Udp(udp) = &mut header {
         udp.length = len as u16;
     }
-    match stream {
+    match version_id {
         IpFragVersionSpecId::Ipv4 {
             source,
             destination,

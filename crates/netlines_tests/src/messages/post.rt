@@ -28,7 +28,7 @@ pub(crate) const SEGMENT: &[u8] = &[
     0, 1, 0, 2, 0, 0, 0, 3, 0, 0, 0, 0, 0x50, 2, 4, 0, 0x97, 0xda, 0, 0,
 ];
 
-pub(crate) fn stream(version: u8) -> IpFragVersionSpecId {
+pub(crate) fn version_id(version: u8) -> IpFragVersionSpecId {
     if version == 6 {
         return IpFragVersionSpecId::Ipv6 {
             source: [0xfd, 0, 0, 0, 0, 0, 0, 0, 0, 0, 0, 0, 0, 0, 0, 1],
@@ -55,7 +55,7 @@ pub(crate) fn letter(rt: impl Abort + Copy, version: u8, number: u8, tags: &[u16
         ethernet_source: [2, 0, 0, 0, 0, 1],
         ethernet_destination: [2, 0, 0, 0, 0, 2],
         vlans,
-        stream: stream(version),
+        version_id: version_id(version),
         number: IpNumber(number),
     }
 }

@@ -2,7 +2,7 @@
 //! separate program after RFC 768, 792, 1071, 4443 and 9293.
 //! Calls have no contracts: tests alone make them, and are run.
 use crate::checks::equal;
-use crate::messages::post::stream;
+use crate::messages::post::version_id;
 use ep_icmp::{IcmpEchoHeader, Icmpv4Header, Icmpv4Type, Icmpv6Header, Icmpv6Type};
 use ep_packet::TransportHeader;
 use ep_tcpudp::{TcpHeader, UdpHeader};
@@ -74,7 +74,7 @@ fn is_sealed(
     wanted: Result<usize, SealError>,
     prefix: &[u8],
 ) {
-    let sealed = seal_message(rt.alloc(), &stream(version), transport(header), payload);
+    let sealed = seal_message(rt.alloc(), &version_id(version), transport(header), payload);
     let (actual, bytes) = match &sealed {
         Ok(message) => (
             Ok(message.len()),

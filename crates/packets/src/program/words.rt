@@ -3,6 +3,7 @@ use crate::{
     By, Condition, ConnectionId, Expression, ExpressionError, Filter, FollowForm, FollowOptions,
     Listing, Rules, ShownBytes, TimeForm, Way, Words,
 };
+use capture_programs::packets_arguments::REASSEMBLY_MEMORY;
 use captures::Unfit;
 use clap::ArgMatches;
 use std::alloc::{AllocError, Global};
@@ -272,7 +273,7 @@ fn refused(alloc: Global, text: &str, error: ExpressionError<'_>) -> RequestErro
 }
 
 fn reassembly_memory(alloc: Global, words: &ArgMatches) -> Result<u64, RequestError> {
-    let word = words.get_str("reassembly-memory").unwrap_or("64M");
+    let word = words.get_str("reassembly-memory").unwrap_or(REASSEMBLY_MEMORY);
     match size_of(word) {
         Ok(size) => Ok(size),
         Err(error) => {

@@ -8,7 +8,7 @@ ghost use Rattle.captures.specs.Framed.{family_type, frame_bytes, frame_parts, f
 ghost use Rattle.captures.specs.Framed.{link_of, own_frame, refused_type, reported_frame, reported_of, taken_limit};
 ghost use Rattle.captures.specs.PacketSteps.{is_cut};
 ghost use Rattle.captures.specs.declared.link.kind.Link.TheVariants.{Ethernet, Ip, Null, Loop, Other, Sll, Sll2};
-ghost use Rattle.captures.specs.declared.translation.skipped.Reason.TheVariants.{NoFrame, TooLong, OtherLink};
+ghost use Rattle.captures.specs.declared.skipped.Reason.TheVariants.{NoFrame, TooLong, OtherLink};
 ghost use Rattle.captures.specs.declared.unfit.Unfit.TheVariants.{Refuse, Skip};
 
 /// The numbers of the links that are read, among them DLT_RAW of BSD (12 and 14) and each IP version

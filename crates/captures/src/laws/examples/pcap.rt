@@ -16,7 +16,7 @@ ghost use Rattle.captures.specs.Units.{HasLongFrame, HasNoFrame, HasOtherLink, I
 ghost use Rattle.captures.specs.declared.byte_order.ByteOrder.TheVariants.{Big, Little};
 ghost use Rattle.captures.specs.declared.extra.Extra.TheVariants.{Nothing};
 ghost use Rattle.captures.specs.declared.link.kind.Link.TheVariants.{Ethernet, Ip};
-ghost use Rattle.captures.specs.declared.translation.state.State.TheVariants.{Start};
+ghost use Rattle.captures.specs.declared.state.State.TheVariants.{Start};
 ghost use Rattle.captures.specs.declared.unfit.Unfit.TheVariants.{Refuse};
 
 /// Numbers in both byte orders.

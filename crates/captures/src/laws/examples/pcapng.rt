@@ -7,9 +7,9 @@ ghost use Rattle.captures.specs.Examples.{enhanced_block, interface_block, longe
 ghost use Rattle.captures.specs.Examples.{origin_at, other_block, other_interface, packet_at, section_block, simple_block};
 ghost use Rattle.captures.specs.Numbers.{word};
 ghost use Rattle.captures.specs.Pcapng.{Becomes, IsEnhancedPacket, IsObsoletePacket, IsSimplePacket, IsTaken};
-ghost use Rattle.captures.specs.Pcapng.{IsTimedPacket, Says, byte_order_magic, captured_len, enhanced_packet};
+ghost use Rattle.captures.specs.Pcapng.{IsTimedPacket, Says, byte_order_magic, enhanced_packet};
 ghost use Rattle.captures.specs.Pcapng.{interface_description, is_read_version, links_with, obsolete_packet};
-ghost use Rattle.captures.specs.Pcapng.{block_wire_len, section_header, simple_packet};
+ghost use Rattle.captures.specs.Pcapng.{block_wire_len, section_header, simple_packet, simple_packet_captured_len};
 ghost use Rattle.captures.specs.Pcapng.Content.{Describes, Holds};
 ghost use Rattle.captures.specs.CaptureRuns.{IsCapture};
 ghost use Rattle.captures.specs.PacketSteps.{Gives};
@@ -23,8 +23,8 @@ ghost use Rattle.captures.specs.declared.capture_error.CaptureError.TheVariants.
 ghost use Rattle.captures.specs.declared.link.kind.Link.TheVariants.{Ethernet, Ip, Other, Sll2};
 ghost use Rattle.captures.specs.declared.origin.Origin.{Origin};
 ghost use Rattle.captures.specs.declared.pcapng.section.Section.{Section};
-ghost use Rattle.captures.specs.declared.translation.state.State.{State};
-ghost use Rattle.captures.specs.declared.translation.state.State.TheVariants.{Start};
+ghost use Rattle.captures.specs.declared.state.State.{State};
+ghost use Rattle.captures.specs.declared.state.State.TheVariants.{Start};
 ghost use Rattle.captures.specs.declared.unfit.Unfit.TheVariants.{Refuse, Skip};
 
 /// The types of blocks, and the magic number that gives the byte order (sections 4.1 to 4.4 and
@@ -48,10 +48,10 @@ pub fn versions()
 /// Of a simple packet the lesser of its length and of the snap length is there, and all of it where
 /// the snap length is 0.
 pub fn simple_packet_lengths()
-    ensures whole { captured_len 96 60 ≡ 60 }
-    ensures same { captured_len 96 96 ≡ 96 }
-    ensures cut { captured_len 96 1500 ≡ 96 }
-    ensures no_limit { captured_len 0 1500 ≡ 1500 }
+    ensures whole { simple_packet_captured_len 96 60 ≡ 60 }
+    ensures same { simple_packet_captured_len 96 96 ≡ 96 }
+    ensures cut { simple_packet_captured_len 96 1500 ≡ 96 }
+    ensures no_limit { simple_packet_captured_len 0 1500 ≡ 1500 }
 {}
 
 /// The description of an interface of LINUX_SLL2 (276) that cuts packets at 262,144 bytes.

@@ -1,7 +1,7 @@
 use Rattle.std.proofs.Common.{◌∙◌, ◌+◌, ◌-◌, ◌++◌, length, sym, ap, refl, arith, append_assoc, List, ℕ}
 use Rattle.captures.specs.Pcap.{IsPacketRecord}
 use Rattle.captures.specs.Units.{StandsAt}
-use Rattle.captures.specs.declared.translation.state.State.TheVariants.{Classic}
+use Rattle.captures.specs.declared.state.State.TheVariants.{Classic}
 use Rattle.captures.proofs.BlockLemmas.{origin_prefix, word_prefix}
 use Rattle.captures.proofs.OffsetLemmas.{stands_back}
 use Rattle.captures.proofs.pcap.unit.packet_record.Goals as goal

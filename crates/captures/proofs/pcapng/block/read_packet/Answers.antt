@@ -1,6 +1,6 @@
 use Rattle.std.proofs.Common.{◌∙◌, sym, arith, refl, ap, ◌+◌, ◌-◌, length, List, ℕ}
 use Rattle.captures.specs.Pcapng.Content.{Holds}
-use Rattle.captures.specs.declared.translation.skipped.Passing.{Passing}
+use Rattle.captures.specs.declared.skipped.Passing.{Passing}
 use Rattle.captures.proofs.OffsetLemmas.{stands_back}
 use Rattle.captures.proofs.pcapng.block.read_packet.Goals as goal
 

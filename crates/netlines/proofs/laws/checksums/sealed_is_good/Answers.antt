@@ -19,16 +19,16 @@ returns-clause-unrefused c = unrefused
 
 pub returns-clause-sealed : goal.returns-clause-sealed
 returns-clause-sealed c =
-    λ stream header payload.
-    sealed_where (is_icmp_of_other_version stream header) (transport_len header + length payload)
+    λ version_id header payload.
+    sealed_where (is_icmp_of_other_version version_id header) (transport_len header + length payload)
 
 pub returns-clause-other_version : goal.returns-clause-other_version
 returns-clause-other_version c =
-    λ stream header payload.
-    other_where (is_icmp_of_other_version stream header)
+    λ version_id header payload.
+    other_where (is_icmp_of_other_version version_id header)
     (nat_lt 65535 (transport_len header + length payload))
 
 pub returns-clause-too_long : goal.returns-clause-too_long
 returns-clause-too_long c =
-    λ stream header payload.
-    long_where (is_icmp_of_other_version stream header) (transport_len header + length payload)
+    λ version_id header payload.
+    long_where (is_icmp_of_other_version version_id header) (transport_len header + length payload)

@@ -18,13 +18,13 @@ returns-clause-letter c = record {
       (field bytes_decides (λ letter. letter.ethernet_source)
       (field bytes_decides (λ letter. letter.ethernet_destination)
       (field tags_same (λ letter. letter.vlans)
-      (field c.types_are_plain_data-3.ensures.ip_frag_version_spec_id.equals (λ letter. letter.stream)
+      (field c.types_are_plain_data-3.ensures.ip_frag_version_spec_id.equals (λ letter. letter.version_id)
       (last_field c.types_are_plain_data.ensures.ip_number.equals (λ letter. letter.number))))))
-      (λ source destination vlans stream number i. record {
+      (λ source destination vlans version_id number i. record {
         ethernet_source = source i;
         ethernet_destination = destination i;
         vlans = vlans i;
-        stream = stream i;
+        version_id = version_id i;
         number = number i;
       });
 }

@@ -10,7 +10,7 @@ invariant-loop-cut l = record {
   capacity : length l.cuts + 1 ≤ vec_capacity l.frames;
   rest : length l.rest + l.start ≡ length l.message;
   good : bad_cut_from (length l.message) l.start l.cut-index (drop l.cut-index l.cuts) ≡ None;
-  fits : long_fragment_from (room l.letter.stream l.in_fragments) l.cut-index
+  fits : long_fragment_from (room l.letter.version_id l.in_fragments) l.cut-index
       (fragments_from l.start (drop l.cut-index l.cuts) l.rest) ≡ None;
   so_far : map (λ frame. frame.items) l.frames.items
       ++ map (frame l.letter l.in_fragments) (fragments_from l.start (drop l.cut-index l.cuts) l.rest)

@@ -12,7 +12,7 @@ use Rattle.captures.specs.declared.byte_order.ByteOrder.TheVariants.{Little}
 use Rattle.captures.specs.declared.link.kind.Link.TheVariants.{Ethernet, Sll2}
 use Rattle.captures.specs.declared.origin.Origin.{Origin}
 use Rattle.captures.specs.declared.pcapng.section.Section.{Section}
-use Rattle.captures.specs.declared.translation.state.State.TheVariants.{Pcapng}
+use Rattle.captures.specs.declared.state.State.TheVariants.{Pcapng}
 use Rattle.captures.specs.declared.unfit.Unfit.TheVariants.{Refuse}
 use Rattle.captures.proofs.ExampleBlocks.{cut_simple, enhanced, section_after, simple}
 use Rattle.captures.proofs.laws.examples.pcapng.captures_of_blocks.Goals as goal

@@ -3,14 +3,14 @@ use Rattle.std.specs.Prelude.{Result, Err}
 use Rattle.captures.specs.Framed.{frame_by, refused_type, reported_frame, reported_of, taken_limit}
 use Rattle.captures.specs.Pcapng.{Becomes}
 use Rattle.captures.specs.Pcapng.Content.{Holds}
-use Rattle.captures.specs.Skipping.{counted, counted_by, passing_from}
+use Rattle.captures.specs.Skipping.{counted, passing_from, passing_with}
 use Rattle.captures.specs.declared.byte_order.ByteOrder.{ByteOrder}
 use Rattle.captures.specs.declared.link.kind.Link.TheVariants.{Ethernet}
 use Rattle.captures.specs.declared.origin.Origin.{Origin}
 use Rattle.captures.specs.declared.pcapng.section.Section.{Section}
-use Rattle.captures.specs.declared.translation.skipped.Passing.{Passing}
-use Rattle.captures.specs.declared.translation.skipped.Reason.{Reason}
-use Rattle.captures.specs.declared.translation.skipped.Reason.TheVariants.{TooLong}
+use Rattle.captures.specs.declared.skipped.Passing.{Passing}
+use Rattle.captures.specs.declared.skipped.Reason.{Reason}
+use Rattle.captures.specs.declared.skipped.Reason.TheVariants.{TooLong}
 use Rattle.captures.specs.declared.unfit.Unfit.TheVariants.{Skip}
 use Rattle.captures.proofs.laws.examples.pcapng.long_packets_are_passed_over.Goals as goal
 
@@ -28,7 +28,7 @@ passed_over : (section : Section) (order : ByteOrder) (origin : Origin) (packet 
 passed_over section order origin packet is reported few =
     let counts : counted section.passing Ethernet packet ≡ one =
     ap (λ (p : Passing). counted p Ethernet packet) is
-    ∙ ap (λ (r : Result (List ℕ) Reason). counted_by (passing_from Skip) r) reported in (
+    ∙ ap (λ (r : Result (List ℕ) Reason). passing_with (passing_from Skip) r) reported in (
       ap (λ (p : Passing). record section { passing = p }) (sym counts),
       refl,
       ap (λ (p : Passing). reported_frame p.unfit Ethernet packet) is

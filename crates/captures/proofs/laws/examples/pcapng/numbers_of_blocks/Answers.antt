@@ -13,7 +13,7 @@ use Rattle.captures.specs.declared.link.kind.Link.{Link}
 use Rattle.captures.specs.declared.link.kind.Link.TheVariants.{Ethernet, Other, Sll2}
 use Rattle.captures.specs.declared.origin.Origin.{Origin}
 use Rattle.captures.specs.declared.pcapng.section.Section.{Section}
-use Rattle.captures.specs.declared.translation.state.State.TheVariants.{Pcapng}
+use Rattle.captures.specs.declared.state.State.TheVariants.{Pcapng}
 use Rattle.captures.specs.declared.unfit.Unfit.TheVariants.{Skip}
 use Rattle.captures.proofs.UnitLemmas.{passes_start}
 use Rattle.captures.proofs.laws.examples.pcapng.numbers_of_blocks.Goals as goal

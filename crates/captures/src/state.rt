@@ -5,8 +5,8 @@ ghost use Rattle.captures.specs.Units.{seen_in, skipped_in};
 use crate::byte_order::ByteOrder;
 use crate::link::kind::Link;
 use crate::pcapng::section::Section;
+use crate::skipped::{Passing, Skipped};
 use crate::time::time_unit::TimeUnit;
-use crate::translation::skipped::{Passing, Skipped};
 use crate::unfit::Unfit;
 
 /// What a capture is known to be.

@@ -6,7 +6,7 @@ ghost use Rattle.captures.specs.CaptureRuns.{fault_at_end};
 use crate::CaptureError;
 use crate::limits::FIRST_UNIT_LEN;
 use crate::pcapng::long_block::LongBlock;
-use crate::translation::state::State;
+use crate::state::State;
 
 /// How a capture ends with this many bytes held.
 pub(crate) fn end(state: State, started: Option<LongBlock>, left: usize) -> Result<(), CaptureError>
