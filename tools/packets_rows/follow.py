@@ -239,6 +239,8 @@ def rows():
     yield ["follow", "--window", "1K", "--only", "frame=1..14", ID], lines(EVENTS[:12], text)
     yield ["follow", "10.0.0.1.5000-10.0.0.2.80"], lines(EVENTS, text)
     yield ["follow", "--raw", "--direction", "2", "10.0.0.1.5000-10.0.0.2:80"], ["abcdefghihell"]
+    yield ["follow", "10.0.0.1.5000 > 10.0.0.2.80"], lines(EVENTS, text)
+    yield ["follow", "10.0.0.2.80 > 10.0.0.1.5000 TCP"], lines(turned(), text)
     yield ["follow", "10.0.0.1:5000-10.0.0.2:81"], ["no segments"]
     yield ["follow", "--hex", "--direction", "1", "10.0.0.1:5000-10.0.0.2:81"], ["no segments"]
     yield ["follow", "--json", "10.0.0.1:5000-10.0.0.2:81"], ['{"event":"NoSegments"}']

@@ -120,6 +120,15 @@ fn an_end_that_cannot_be_written(rt: HostRuntime) {
 const NAMES: &[(&str, bool)] = &[
     ("10.0.0.1:5-10.0.0.2:80", true),
     ("[2001:db8::1]:0-[::]:65535", true),
+    ("10.0.0.1.5 > 10.0.0.2.80", true),
+    ("10.0.0.1.5 > 10.0.0.2.80 TCP", true),
+    ("2001:db8::1.5 > 2001:db8::2.80 TCP", true),
+    ("10.0.0.1:5-10.0.0.2:80 TCP", true),
+    ("10.0.0.1.5 > 10.0.0.2.80 UDP", false),
+    ("10.0.0.1.5 > 10.0.0.2.80 > 10.0.0.3.80", false),
+    ("10.0.0.1.5>10.0.0.2.80", false),
+    (" > ", false),
+    (" TCP", false),
     ("10.0.0.1:5-10.0.0.2:65536", false),
     ("10.0.0.1:5-10.0.0.2:", false),
     ("10.0.0.1:+5-10.0.0.2:80", false),
@@ -136,8 +145,10 @@ fn texts_that_name_a_connection(rt: HostRuntime) {
     for (text, is_named) in NAMES {
         equal(&rt, ConnectionId::of(*text).is_some(), *is_named);
     }
-    let turned = ConnectionId::of("10.0.0.2:80-10.0.0.1:5");
     let conversation = id(&rt).conversation;
+    let listed = ConnectionId::of("10.0.0.1.5 > 10.0.0.2.80 TCP");
+    equal(&rt, listed.map(|id| id.conversation), Some(conversation));
+    let turned = ConnectionId::of("10.0.0.2:80-10.0.0.1:5");
     equal(
         &rt,
         turned.map(|id| id.conversation.turned()),
