@@ -73,6 +73,7 @@ fn streams_of_conversations(rt: HostRuntime) {
         fail(rt, "no conversation");
     };
     let state: BuildHasherDefault<FoldHasher> = BuildHasherDefault::new();
+    equal(rt, CountedFlows::new(rt.alloc()).len(), 0);
     equal(rt, CountedFlows::with_hasher(rt.alloc(), state).len(), 0);
     holds(
         rt,

@@ -2,6 +2,7 @@
 
 use crate::checks::{equal, fail, holds_in};
 use std::alloc::Global;
+use std::hash::RandomState;
 use std::num::NonZeroUsize;
 use std::process::Abort;
 use tcp_streams::{ConnectionState, Control, Direction, Flow, FlowPacket, Flows, Traffic};
@@ -69,6 +70,19 @@ fn packets_are_counted_by_direction(rt: HostRuntime) {
     holds_in(&rt, "no other", table.get(&8).is_none());
     equal(&rt, table.remove(&7), Some(wanted));
     equal(&rt, table.len(), 0);
+}
+
+#[test]
+fn flows_by_a_random_state(rt: HostRuntime) {
+    let (Some(two), Ok(state)) = (NonZeroUsize::new(2), RandomState::new(&rt)) else {
+        fail(&rt, "no state");
+    };
+    let Ok(mut table) = Flows::with_hasher(rt.alloc(), two, state) else {
+        fail(&rt, "no memory");
+    };
+    holds_in(&rt, "first", table.add(7_u32, SYN, 1_u8).is_ok());
+    equal(&rt, table.count(&7, ANSWER), Some(1));
+    equal(&rt, table.count(&8, ANSWER), None);
 }
 
 #[test]
