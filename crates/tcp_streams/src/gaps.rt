@@ -22,7 +22,7 @@ pub struct Gap {
 /// out is logarithmic in their number. Where there is no memory for a call, nothing changes.
 #[derive(Debug, Drop)]
 pub(crate) struct Gaps {
-    // Beside the tree, so that the only gap takes no memory.
+    // Beside the tree, so that a gap takes no memory where there was none.
     first: Option<Gap>,
     // The others: all of them where it is `None`.
     rest: GapTree,
