@@ -230,7 +230,9 @@ fn follow<'a>(alloc: Global) -> Result<Command<'a>, AllocError> {
 
 fn id<'a>(alloc: Global) -> Arg<'a> {
     Arg::new(alloc, "ID")
-        .help("The endpoints, HOST:PORT-HOST:PORT, with IPv6 addresses in brackets; or as flows lists them")
+        .help(
+            "The endpoints, HOST:PORT-HOST:PORT, with IPv6 addresses in brackets; or as flows lists them",
+        )
         .required(true)
 }
 

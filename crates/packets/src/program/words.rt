@@ -273,7 +273,9 @@ fn refused(alloc: Global, text: &str, error: ExpressionError<'_>) -> RequestErro
 }
 
 fn reassembly_memory(alloc: Global, words: &ArgMatches) -> Result<u64, RequestError> {
-    let word = words.get_str("reassembly-memory").unwrap_or(REASSEMBLY_MEMORY);
+    let word = words
+        .get_str("reassembly-memory")
+        .unwrap_or(REASSEMBLY_MEMORY);
     match size_of(word) {
         Ok(size) => Ok(size),
         Err(error) => {

@@ -8,9 +8,9 @@ use Rattle.packets.proofs.flows.conversation_counts.ConversationCounts.add.Goals
 pub returns : goal.returns
 returns c = λ packets old.
     let up = c.add_if.ensures (λ (p : Transfer). p.ascends) packets
-        (ap (λ (f : ConversationCounts). f.ascending) old) refl in
+    (ap (λ (f : ConversationCounts). f.ascending) old) refl in
     let down = c.add_if-2.ensures (λ (p : Transfer). not p.ascends) packets
-        (ap (λ (f : ConversationCounts). f.descending) old) refl in
+    (ap (λ (f : ConversationCounts). f.descending) old) refl in
     let period = c.add.ensures (outlines packets) (record {
       earliest = ap (λ (f : ConversationCounts). f.period.earliest) old;
       latest = ap (λ (f : ConversationCounts). f.period.latest) old;
