@@ -1,8 +1,9 @@
 //! What `Clone`, `PartialEq` and `Default` of the types here mean, each clause about the relation that
 //! the type's own impl names.
 
-ghost use Rattle.std.specs.Prelude.{◌≡◌, ◌++◌, ◌∷◌, ℕ, List, false, None};
+ghost use Rattle.std.specs.Prelude.{◌≡◌, ◌+◌, ◌*◌, ◌^◌, ◌++◌, ◌∷◌, ℕ, List, false, None};
 ghost use Rattle.std.specs.Hash as fed;
+ghost use Rattle.std.specs.Int.{from_be_bytes, w32};
 ghost use Rattle.ep_base.specs.Traits.{CopyIsValue, CopyNeverFails, DefaultIs, EqualIsSame, HashIsOf, HashIsOfIndex};
 ghost use Rattle.ep_base.specs.Traits.{IsPlainData};
 ghost use Rattle.tcp_streams.specs.ConnectionStates.{by_direction};
@@ -62,13 +63,14 @@ pub fn flows_are_plain_data<T: Clone + PartialEq>()
     types_are_plain_data();
 }
 
-/// A hasher is fed the index of a direction, of an endpoint the address in one write and the port; of a
-/// key the identifiers of its VLAN tags, both endpoints and the channel.
+/// A hasher is fed the index of a direction; of an endpoint over IPv4 the number that its address and
+/// its port are, of one over IPv6 the address in one write and the port; of a key the identifiers of
+/// its VLAN tags, both endpoints and the channel.
 pub fn keys_are_hashed_by_all_fields<C: Hash>()
     ensures direction { HashIsOfIndex (λ d. by_direction d FromLower 0 1)
         ⟦<Direction as Hash>⟧.hash_input }
     ensures v4 { (address : List ℕ) (port : ℕ) → ⟦<Endpoint as Hash>⟧.hash_input (V4 address port)
-        ≡ address ∷ fed.u16 port }
+        ≡ fed.u64 (from_be_bytes w32 address * 2 ^ 16 + port) }
     ensures v6 { (address : List ℕ) (port : ℕ) → ⟦<Endpoint as Hash>⟧.hash_input (V6 address port)
         ≡ address ∷ fed.u16 port }
     ensures key { HashIsOf (λ (k : Key C). fed.slice fed.u16 k.vlan_ids.items
