@@ -122,7 +122,7 @@ fn row_with(forward: u8, backward: u8, ports: Option<Ports>) -> Row {
 }
 
 #[test]
-fn connections(rt: HostRuntime) {
+fn tcp_columns(rt: HostRuntime) {
     for (forward, backward, wanted, name) in TCP_COLUMNS {
         let row = row_with(*forward, *backward, SERVER_FIRST.ports);
         equal(rt, row.tcp_column(), Some(*wanted));

@@ -125,6 +125,8 @@ const NAMES: &[(&str, bool)] = &[
     ("2001:db8::1.5 > 2001:db8::2.80 TCP", true),
     ("10.0.0.1:5-10.0.0.2:80 TCP", true),
     ("10.0.0.1.5 > 10.0.0.2.80 UDP", false),
+    ("10.0.0.1.5 > 10.0.0.2.80 TCP TCP", false),
+    ("10.0.0.1.5 > 2001:db8::2.80", false),
     ("10.0.0.1.5 > 10.0.0.2.80 > 10.0.0.3.80", false),
     ("10.0.0.1.5>10.0.0.2.80", false),
     (" > ", false),
@@ -148,6 +150,13 @@ fn texts_that_name_a_connection(rt: HostRuntime) {
     let conversation = id(&rt).conversation;
     let listed = ConnectionId::of("10.0.0.1.5 > 10.0.0.2.80 TCP");
     equal(&rt, listed.map(|id| id.conversation), Some(conversation));
+    let listed = ConnectionId::of("2001:db8::1.5 > 2001:db8::2.80 TCP");
+    let named = ConnectionId::of("[2001:db8::1]:5-[2001:db8::2]:80");
+    equal(
+        &rt,
+        listed.map(|id| id.conversation),
+        named.map(|id| id.conversation),
+    );
     let turned = ConnectionId::of("10.0.0.2:80-10.0.0.1:5");
     equal(
         &rt,

@@ -45,7 +45,7 @@ fn a_flush_that_fails_is_a_failed_write(rt: HostRuntime) {
 }
 
 // Writes the summary of no packet.
-fn reported<W: Write>(alloc: Global, skipped: Skipped, writer: &mut W) -> Result<(), RunError> {
+fn summarized<W: Write>(alloc: Global, skipped: Skipped, writer: &mut W) -> Result<(), RunError> {
     let text = SummaryText {
         summary: &Summary::new(alloc),
         open: 0,
@@ -59,10 +59,10 @@ fn reported<W: Write>(alloc: Global, skipped: Skipped, writer: &mut W) -> Result
 #[test]
 fn reports_that_cannot_be_written(rt: HostRuntime) {
     let mut full = UnflushableWriter::new(rt.alloc(), 10);
-    let written = reported(rt.alloc(), Skipped::NONE, &mut full);
+    let written = summarized(rt.alloc(), Skipped::NONE, &mut full);
     equal(rt, written, Err(RunError::WriteZero));
     let mut roomy = UnflushableWriter::new(rt.alloc(), 11);
-    let written = reported(rt.alloc(), Skipped::NONE, &mut roomy);
+    let written = summarized(rt.alloc(), Skipped::NONE, &mut roomy);
     equal(rt, written, Err(RunError::Write));
 }
 
@@ -77,7 +77,7 @@ const REPORT: &str = "no packets\n\npassed over: 1 of other links, 2 too long, 3
 #[test]
 fn an_empty_report(rt: HostRuntime) {
     let mut text = Vec::new(rt.alloc());
-    let written = reported(rt.alloc(), SKIPPED, &mut text);
+    let written = summarized(rt.alloc(), SKIPPED, &mut text);
     equal(rt, written, Ok(()));
     is_text(rt, text.as_slice(), REPORT);
 }
@@ -116,7 +116,7 @@ fn reports_to_a_closed_pipe(rt: HostRuntime) {
     ] {
         let writer = FaultWriter::failing(rt.alloc(), 5, 1, Fault::Fails(kind));
         let mut output = ClosableWriter::new(writer);
-        let written = reported(rt.alloc(), Skipped::NONE, &mut output);
+        let written = summarized(rt.alloc(), Skipped::NONE, &mut output);
         equal(rt, written, Err(RunError::Write));
         let closed = output.is_closed();
         equal(

@@ -4,9 +4,10 @@ use crate::captured::{captured, dissected, first};
 use crate::checks::{equal, fail, holds};
 use crate::frames::FRAMES;
 use packets::{CountedFlows, Dissector, FollowedFlows, Streams, Transfer};
-use std::hash::{BuildHasherDefault, FoldHasher};
+use std::hash::{BuildHasher, BuildHasherDefault, FoldHasher};
 use tcp_streams::{
-    ConnectionState, Direction, Follower, SegmentFlags, StreamBuf, StreamCounter, StreamCounts,
+    ConnectionState, Direction, Endpoint, Follower, SegmentFlags, StreamBuf, StreamCounter,
+    StreamCounts,
 };
 
 const NO_FLAGS: SegmentFlags = SegmentFlags {
@@ -60,6 +61,21 @@ fn sizes(rt: HostRuntime) {
     holds(rt, buf.add(105, NO_FLAGS, b"c").is_ok());
     equal(rt, buf.size(), 6 + 16);
     equal(rt, Follower::new(rt.alloc(), 16).size(), 0);
+}
+
+// The number of 10.0.0.1 and port 80, in six bytes.
+#[test]
+fn hash_of_an_endpoint(rt: HostRuntime) {
+    let state: BuildHasherDefault<FoldHasher> = BuildHasherDefault::new();
+    let endpoint = Endpoint::V4 {
+        address: [10, 0, 0, 1],
+        port: 80,
+    };
+    equal(
+        rt,
+        state.hash_one(endpoint),
+        state.hash_one(0x0a00_0001_0050_u64),
+    );
 }
 
 // A SYN from the lower end.

@@ -390,7 +390,7 @@ fn add_numbered(
     }
 }
 
-fn reports(rt: impl Abort + Copy, alloc: Global, summary: &Summary, wanted: &str) {
+fn has_text(rt: impl Abort + Copy, alloc: Global, summary: &Summary, wanted: &str) {
     let summary_text = SummaryText {
         summary,
         open: 0,
@@ -430,5 +430,5 @@ fn a_share_of_all_but_one(rt: HostRuntime) {
         &mut dissector,
         &mut summary,
     );
-    reports(rt, rt.alloc(), &summary, SHARES);
+    has_text(rt, rt.alloc(), &summary, SHARES);
 }

@@ -80,7 +80,10 @@ fn flows_by_a_random_state(rt: HostRuntime) {
     let Ok(mut table) = Flows::with_hasher(rt.alloc(), two, state) else {
         fail(&rt, "no memory");
     };
-    holds_in(&rt, "first", table.add(7_u32, SYN, 1_u8).is_ok());
+    match table.add(7_u32, SYN, 1_u8) {
+        Ok(dropped) => holds_in(&rt, "none dropped", dropped.is_none()),
+        Err(_) => fail(&rt, "no memory"),
+    }
     equal(&rt, table.count(&7, ANSWER), Some(1));
     equal(&rt, table.count(&8, ANSWER), None);
 }
