@@ -12,9 +12,9 @@ mod ip_frag_range;
 mod ip_frag_version_spec_id;
 mod overlap_rule;
 mod pool_calls;
-mod reassemblies;
 mod reassembly;
 mod reassembly_buf;
+mod reassembly_table;
 mod renewed_timestamps;
 mod retain_reassemblies;
 mod sections;
@@ -31,8 +31,8 @@ pub use ip_frag_range::IpFragRange;
 pub use ip_frag_version_spec_id::IpFragVersionSpecId;
 pub use overlap_rule::OverlapRule;
 pub use pool_calls::{PoolAnswer, PoolCall, run_calls};
-pub use reassemblies::ReassemblyTable;
 pub use reassembly::Reassembly;
+pub use reassembly_table::ReassemblyTable;
 
 /// The greatest length of a datagram's payload, in bytes.
 pub const MAX_IP_DEFRAG_LEN: usize = 65535;

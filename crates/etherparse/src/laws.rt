@@ -1,5 +1,5 @@
-//! Laws of fragments, their reassembly and the packet builder, and those of each crate below in a
-//! module of its name: the contract of each function is the law.
+//! Laws of fragments, their reassembly and the packet builder. Those of a crate below are in the
+//! module of its name without `ep_`. The contract of each function is the law.
 
 pub mod defrag;
 pub mod fragments;

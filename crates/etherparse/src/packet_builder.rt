@@ -1,20 +1,20 @@
 //! The steps by which a packet is put together.
 
-mod append;
-mod begin;
+mod appended_headers;
 mod chosen_ip;
+mod first_step;
 mod ip_layer;
 mod last_step;
 mod link_steps;
-mod over;
+mod packet_over_ip;
 mod packet_state;
 mod prefix;
-mod seal;
 mod step;
 mod tcp_steps;
+mod transport_checksums;
 mod transport_steps;
 mod write;
 
-pub use begin::PacketBuilder;
+pub use first_step::PacketBuilder;
 pub use last_step::{LastStep, LinkStep, TransportStep};
 pub use step::PacketBuilderStep;

@@ -1,16 +1,16 @@
 //! A TCP connection, followed.
 
-ghost use Rattle.std.specs.Prelude.{◌≡◌, ◌≤◌, ◌++◌, ◌∷◌, ◌*◌, ℕ, [], List, IfOk, IfSome, MatchResult, OnErr, OnOk};
+ghost use Rattle.std.specs.Prelude.{◌≡◌, ◌≤◌, ◌++◌, ◌∷◌, ◌*◌, [], List, IfOk, IfSome, MatchResult, OnErr, OnOk};
 ghost use Rattle.std.specs.Prelude.{Bool, Option};
 ghost use Rattle.tcp_streams.specs.declared.gaps.Gap.{Gap};
 ghost use Rattle.tcp_streams.specs.Following.{Connection, DoesNothing, Follows, IsCounted, IsFollowed, IsTaken, ShowsSide, Side, Step};
 ghost use Rattle.tcp_streams.specs.Following.{begins_anew, begins_anew_by, begins_elsewhere, buf_in, connection_after, connection_for};
-ghost use Rattle.tcp_streams.specs.Following.{connection_of, connection_with_counted, connection_without, counts, is_ended, opens};
-ghost use Rattle.tcp_streams.specs.Following.{connection_segment, connection_with, control_with, is_of_segment, new_gap, no_connection};
-ghost use Rattle.tcp_streams.specs.Following.{gap_begins, held_size, lost_on, no_side, side_in, side_with, side_without, taken_of, with_side};
+ghost use Rattle.tcp_streams.specs.Following.{connection_with_counted, connection_without, counts, is_ended, opens};
+ghost use Rattle.tcp_streams.specs.Following.{connection_segment, connection_with, control_with, is_of_segment, new_gap};
+ghost use Rattle.tcp_streams.specs.Following.{gap_begins, held_size, lost_on, side_in, side_with, side_without, taken_of, with_side};
 ghost use Rattle.tcp_streams.specs.Following.Step.{Comes, GivesUp};
-ghost use Rattle.tcp_streams.specs.Segments.{Segment, segment};
-ghost use Rattle.tcp_streams.specs.StreamBuf.{Contents, IsBounded, IsGapIn};
+ghost use Rattle.tcp_streams.specs.Segments.{segment};
+ghost use Rattle.tcp_streams.specs.StreamBuf.{IsGapIn};
 
 use super::conflicts::Conflicts;
 use super::connection_state::{ConnectionState, Control};

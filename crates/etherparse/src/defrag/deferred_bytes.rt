@@ -1,6 +1,6 @@
 //! Bytes of a datagram that are written late where they come far after those that are there.
 
-ghost use Rattle.std.specs.Prelude.{◌≡◌, ◌+◌, ◌-◌, ◌*◌, ◌<◌, ◌≤◌, ◌↔◌, ℕ, List, [], ◌++◌, ◌∷◌, false, true, length, min, slice_index, vec_capacity, IfSome, IsTrue};
+ghost use Rattle.std.specs.Prelude.{◌≡◌, ◌+◌, ◌-◌, ◌*◌, ◌<◌, ◌≤◌, ◌↔◌, ℕ, List, [], ◌∷◌, false, true, length, min, slice_index, vec_capacity, IfSome, IsTrue};
 ghost use Rattle.etherparse.specs.IpDefragBuf.{Writes};
 ghost use Rattle.etherparse.specs.StoredFragment.{HasBytes};
 ghost use Rattle.etherparse.specs.DeferredBytes.{AreInRoom, BytesInRoom, HasBytesAfter, Late, Write, byte_after, bytes_after};

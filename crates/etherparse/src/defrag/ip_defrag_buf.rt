@@ -1,7 +1,7 @@
 //! The buffer in which one datagram is reassembled.
 
 ghost use Rattle.std.specs.Prelude.{◌≡◌, ◌+◌, ◌*◌, ◌<◌, ◌≤◌, ◌↔◌, ◌&&◌, List, [], ◌++◌, ◌∷◌, if◌then◌else◌, length};
-ghost use Rattle.std.specs.Prelude.{map, max, nat_eq, vec_len, vec_capacity, is_some, not, false, None, Some, Ok, Err};
+ghost use Rattle.std.specs.Prelude.{map, max, nat_eq, vec_capacity, is_some, not, false, None, Some, Ok, Err};
 ghost use Rattle.std.specs.Prelude.{OnOk, OnErr, IfOk, IfErr, IfSome, IsOk, IsTrue};
 ghost use Rattle.std.specs.Cmp.Lexicographic.{pointwise};
 ghost use Rattle.std.specs.Cmp.Rules.{comparing};

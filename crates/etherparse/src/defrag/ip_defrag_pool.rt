@@ -19,7 +19,7 @@ ghost use Rattle.etherparse.specs.ReassemblyTable.{MayTest, OthersStay, Retained
 ghost use Rattle.etherparse.specs.ReassemblyTable.{reassembly_at};
 
 use super::fragment::named;
-use super::{IpDefragError, IpDefragPayloadVec, IpFragId, OverlapRule, ReassemblyTable};
+use super::{IpDefragError, IpDefragPayloadVec, IpFragId, ReassemblyTable};
 use ep_packet::{Class, IpFragment, SlicedFragment, SlicedPacket};
 use std::alloc::{AllocError, Global};
 use std::hash::{BuildHasher, BuildHasherDefault, FoldHasher, Hash};

@@ -8,9 +8,9 @@ ghost use Rattle.ep_packet.specs.declared.net.ip_headers.IpHeaders.{IpHeaders};
 ghost use Rattle.etherparse.specs.Built.{ip_bytes, seal_refusal, with_last_number, with_message_checksum};
 ghost use Rattle.etherparse.specs.PacketState.{alone};
 
-use super::append::{append_ipv4, append_ipv6};
+use super::appended_headers::{append_ipv4, append_ipv6};
 use super::chosen_ip::IpHeader;
-use super::seal::{seal_over_ipv4, seal_over_ipv6};
+use super::transport_checksums::{seal_over_ipv4, seal_over_ipv6};
 use crate::err::packet::BuildWriteError;
 use ep_base::err::ValueTooBigError;
 use ep_base::{EtherType, IpNumber};

@@ -11,11 +11,11 @@ ghost use Rattle.etherparse.specs.BuiltSteps.{no_headers};
 ghost use Rattle.etherparse.specs.PacketState.{chosen, headers_of};
 ghost use Rattle.etherparse.specs.declared.err.packet.build_write_error.BuildWriteError.TheVariants.{Memory};
 
-use super::append::{append_link, append_vlan};
+use super::appended_headers::{append_link, append_vlan};
 use super::chosen_ip::ChosenIp;
 use super::ip_layer::IpLayer;
 use super::last_step::LastStep;
-use super::over::{transport_len, write_over};
+use super::packet_over_ip::{transport_len, write_over};
 use super::prefix::Prefix;
 use crate::err::packet::BuildWriteError;
 use ep_base::{EtherType, IpNumber};

@@ -1,5 +1,5 @@
 //! Answers to lines by their frames and those of the lines before them.
-ghost use Rattle.std.specs.Prelude.{◌≡◌, ◌≤◌, ◌<◌, ◌*◌, ◌+◌, ℕ, List, [], vec_len, length, take, IfOk, vec_capacity};
+ghost use Rattle.std.specs.Prelude.{◌≡◌, ◌≤◌, ◌<◌, ◌*◌, ◌+◌, ℕ, List, [], length, take, IfOk, vec_capacity};
 ghost use Rattle.etherparse.specs.Outcome.Outcome.{Completed};
 ghost use Rattle.etherparse.specs.PoolCalls.{ShowsLists};
 ghost use Rattle.etherparse.specs.packet.Class.{IdentificationFits, as_class, class_of, packet_parsed};

@@ -1,5 +1,5 @@
 //! Laws of the list of accepted fragments that each message has after lines.
-ghost use Rattle.std.specs.Prelude.{◌≡◌, ◌≢◌, ◌<◌, ◌≤◌, ◌+◌, ◌-◌, ◌^◌, ℕ, Bool, false, List, [], ◌∷◌, ◌++◌, None, Err};
+ghost use Rattle.std.specs.Prelude.{◌≡◌, ◌≢◌, ◌<◌, ◌≤◌, ◌+◌, ℕ, Bool, false, List, [], ◌∷◌, ◌++◌, Err};
 ghost use Rattle.etherparse.specs.Fragments.{Fragment};
 ghost use Rattle.etherparse.specs.Outcome.{held_after};
 ghost use Rattle.etherparse.specs.PoolCalls.{no_lists, outcome_at};

@@ -2,7 +2,6 @@
 ghost use Rattle.std.specs.Prelude.{◌≡◌, ℕ, List, Option, Result};
 ghost use Rattle.ep_packet.specs.Class.{Class};
 ghost use Rattle.ep_packet.specs.Class.Class.{Refused};
-ghost use Rattle.ep_packet.specs.declared.err.packet.slice_error.SliceError.{SliceError};
 ghost use Rattle.etherparse.specs.declared.defrag.ip_defrag_error.IpDefragError.{IpDefragError};
 ghost use Rattle.etherparse.specs.ReassemblyTable.{Pool};
 ghost use Rattle.etherparse.specs.JoinedCalls.{AreAccepted, JoinAnswers, JoinsFrame};

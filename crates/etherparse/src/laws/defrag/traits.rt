@@ -1,6 +1,6 @@
 //! What `Clone`, `PartialEq` and `Hash` of the types here mean, each clause about the relation that
 //! the type's own impl names.
-ghost use Rattle.std.specs.Prelude.{◌≡◌, ◌↔◌, ◌++◌, IsTrue, ℕ, List, [], ◌∷◌};
+ghost use Rattle.std.specs.Prelude.{◌≡◌, ◌↔◌, ◌++◌, IsTrue, ℕ, List, ◌∷◌};
 ghost use Rattle.std.specs.Hash as fed;
 ghost use Rattle.ep_base.specs.Traits.{CopyIsValue, CopyNeverFails, HashIsOf, IsPlainData};
 ghost use Rattle.etherparse.specs.IpDefragPool.{payload_parsed};

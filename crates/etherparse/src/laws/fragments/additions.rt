@@ -1,5 +1,5 @@
 //! Where adding fragments in a row stops since no memory is left, at literal values.
-ghost use Rattle.std.specs.Prelude.{◌≡◌, ℕ, true, false, [], ◌∷◌, List, replicate};
+ghost use Rattle.std.specs.Prelude.{true, false, [], ◌∷◌, List, replicate};
 ghost use Rattle.ep_base.specs.declared.net.ip_number.IpNumber.{IpNumber};
 ghost use Rattle.etherparse.specs.Fragments.{Fragment, fragment};
 ghost use Rattle.etherparse.specs.IpDefragBuf.{Contents, Shows, Stops};

@@ -1,5 +1,5 @@
 //! The definitions at literal fragments.
-ghost use Rattle.std.specs.Prelude.{◌≡◌, ◌≤◌, ℕ, true, false, [], ◌∷◌, ◌++◌, None, Some, replicate};
+ghost use Rattle.std.specs.Prelude.{◌≡◌, true, false, [], ◌∷◌, ◌++◌, None, Some, replicate};
 ghost use Rattle.std.specs.List.{range_with_len};
 ghost use Rattle.etherparse.specs.Fragments.{accepted_count, fragment, with_all_accepted, greatest_end, is_complete};
 ghost use Rattle.etherparse.specs.Fragments.{named_end, refusal_of, Covered};

@@ -5,7 +5,7 @@ ghost use Rattle.std.specs.Prelude.{◌≡◌, ℕ, true, false, [], ◌∷◌, 
 ghost use Rattle.etherparse.specs.Fragments.{AreDisjoint, Fragment, IsAccepted, fragment};
 ghost use Rattle.etherparse.specs.Joined.{AreInRow, IsJoined};
 ghost use Rattle.etherparse.specs.Outcome.{Held, held_after, outcome};
-ghost use Rattle.etherparse.specs.Outcome.Outcome.{Completed, Waiting};
+ghost use Rattle.etherparse.specs.Outcome.Outcome.{Completed};
 ghost use Rattle.etherparse.specs.declared.defrag.overlap_rule.OverlapRule.{OverlapRule};
 ghost use Rattle.etherparse.specs.declared.defrag.overlap_rule.OverlapRule.TheVariants.{Refuses};
 

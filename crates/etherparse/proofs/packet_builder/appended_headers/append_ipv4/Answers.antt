@@ -1,6 +1,6 @@
 use Rattle.std.proofs.Common.{arith}
 use Rattle.etherparse.proofs.AppendIp.{ipv4_appended, ipv4_len}
-use Rattle.etherparse.proofs.packet_builder.append.append_ipv4.Goals as goal
+use Rattle.etherparse.proofs.packet_builder.appended_headers.append_ipv4.Goals as goal
 
 pub returns-clause-items : goal.returns-clause-items
 returns-clause-items c =

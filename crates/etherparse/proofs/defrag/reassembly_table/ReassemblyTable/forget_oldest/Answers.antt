@@ -4,7 +4,7 @@ use Rattle.std.specs.Prelude.{slice_get}
 use Rattle.std.specs.Map.{keys_of}
 use Rattle.etherparse.proofs.NamesAfter.{names_forgotten}
 use Rattle.etherparse.proofs.Tracked.{if_none, no_names, part_at, some_at, tracks_removed}
-use Rattle.etherparse.proofs.defrag.reassemblies.ReassemblyTable.forget_oldest.Goals as goal
+use Rattle.etherparse.proofs.defrag.reassembly_table.ReassemblyTable.forget_oldest.Goals as goal
 
 pub returns-in_err-slot-clause-none : goal.returns-in_err-slot-clause-none
 returns-in_err-slot-clause-none g c =

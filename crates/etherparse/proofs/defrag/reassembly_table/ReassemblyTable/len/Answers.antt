@@ -1,7 +1,7 @@
 use Rattle.std.proofs.Common.{◌≡◌, ◌∙◌, ap, length}
 use Rattle.etherparse.specs.ReassemblyTable.{Pool}
 use Rattle.etherparse.proofs.StartTotals.{starts_count}
-use Rattle.etherparse.proofs.defrag.reassemblies.ReassemblyTable.len.Goals as goal
+use Rattle.etherparse.proofs.defrag.reassembly_table.ReassemblyTable.len.Goals as goal
 
 pub returns-clause-starts : goal.returns-clause-starts
 returns-clause-starts g c =

@@ -1,5 +1,5 @@
 use Rattle.std.proofs.Common.{◌≡◌}
-use Rattle.etherparse.proofs.defrag.reassemblies.ReassemblyTable.free_spare.Goals as goal
+use Rattle.etherparse.proofs.defrag.reassembly_table.ReassemblyTable.free_spare.Goals as goal
 
 pub invariant_of-self : goal.invariant_of-self
 invariant_of-self g c = record {

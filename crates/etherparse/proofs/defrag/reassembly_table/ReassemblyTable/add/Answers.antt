@@ -1,6 +1,6 @@
 use Rattle.std.proofs.Common.{refl}
 use Rattle.etherparse.proofs.NamesAfter.{change_ends, names_changed}
-use Rattle.etherparse.proofs.defrag.reassemblies.ReassemblyTable.add.Goals as goal
+use Rattle.etherparse.proofs.defrag.reassembly_table.ReassemblyTable.add.Goals as goal
 
 pub invariant_of-self : goal.invariant_of-self
 invariant_of-self g c =

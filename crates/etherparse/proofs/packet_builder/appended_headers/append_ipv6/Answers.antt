@@ -3,7 +3,7 @@ use Rattle.ep_ext.specs.Follow.{header_len}
 use Rattle.ep_ext.specs.Link.{all_slots, pieces_in}
 use Rattle.etherparse.proofs.AppendIp.{appended, ipv6_appended, ipv6_len}
 use Rattle.etherparse.proofs.LinkedExts.{linked_len}
-use Rattle.etherparse.proofs.packet_builder.append.append_ipv6.Goals as goal
+use Rattle.etherparse.proofs.packet_builder.appended_headers.append_ipv6.Goals as goal
 
 pub unwrap-requires-2 : goal.unwrap-requires-2
 unwrap-requires-2 c =

@@ -4,7 +4,7 @@ use Rattle.ep_packet.specs.declared.net.ip_headers.IpHeaders.{IpHeaders}
 use Rattle.etherparse.specs.Built.{too_long}
 use Rattle.etherparse.specs.declared.err.packet.build_write_error.BuildWriteError.{BuildWriteError}
 use Rattle.etherparse.specs.declared.err.packet.build_write_error.BuildWriteError.TheVariants.{PayloadLen}
-use Rattle.etherparse.proofs.packet_builder.over.measure.Goals as goal
+use Rattle.etherparse.proofs.packet_builder.packet_over_ip.measure.Goals as goal
 
 no_ok : (r : Result Unit (ValueTooBigError ℕ)) (x : ValueTooBigError ℕ) → r ≡ Ok tt → r ≡ Err x → ⊥
 no_ok r x ok err = cc

@@ -1,7 +1,7 @@
 use Rattle.std.proofs.Common.{◌≡◌, ap, sym}
 use Rattle.etherparse.specs.ReassemblyTable.{Pool}
 use Rattle.etherparse.proofs.StartTotals.{starts_hold}
-use Rattle.etherparse.proofs.defrag.reassemblies.ReassemblyTable.open_bytes.Goals as goal
+use Rattle.etherparse.proofs.defrag.reassembly_table.ReassemblyTable.open_bytes.Goals as goal
 
 pub returns-clause-starts : goal.returns-clause-starts
 returns-clause-starts g c =

@@ -1,4 +1,4 @@
-//! The parts of a packet, appended one after the other.
+//! Headers appended to a packet, with the ether types and IP numbers that name what follows each.
 
 ghost use Rattle.std.specs.Prelude.{◌≡◌, ◌+◌, ◌≤◌, ◌++◌, length, vec_len, vec_capacity};
 ghost use Rattle.ep_link.specs.Link.{link_len, link_encoding};

@@ -1,6 +1,6 @@
 use Rattle.std.proofs.Common.{arith}
 use Rattle.etherparse.proofs.WrittenOver.{written_over}
-use Rattle.etherparse.proofs.packet_builder.over.write_over.Goals as goal
+use Rattle.etherparse.proofs.packet_builder.packet_over_ip.write_over.Goals as goal
 
 pub returns-clause-len : goal.returns-clause-len
 returns-clause-len g c =

@@ -1,6 +1,6 @@
 use Rattle.std.proofs.Common.{ap}
 use Rattle.etherparse.specs.ReassemblyTable.{Pool}
-use Rattle.etherparse.proofs.defrag.reassemblies.ReassemblyTable.retain.Goals as goal
+use Rattle.etherparse.proofs.defrag.reassembly_table.ReassemblyTable.retain.Goals as goal
 
 pub retain_reassemblies-requires-clause-tested : goal.retain_reassemblies-requires-clause-tested
 retain_reassemblies-requires-clause-tested g c =

@@ -1,4 +1,4 @@
-//! Transport headers with the lengths and checksums that belong to a payload.
+//! The checksums, and the length of UDP, in the transport header of a packet that is built.
 
 ghost use Rattle.std.specs.Prelude.{◌≡◌, ◌+◌, ◌≤◌, length, MatchOption, IsOk, OnOk, Err};
 ghost use Rattle.ep_ext.specs.declared.net.ipv4_extensions.Ipv4Extensions.{Ipv4Extensions};

@@ -1,4 +1,4 @@
-//! A packet over IP headers, written whole.
+//! A packet over IP headers, written whole, with the lengths in its IP headers.
 
 ghost use Rattle.std.specs.Prelude.{◌≡◌, ◌≢◌, ◌+◌, ◌≤◌, ◌++◌, length, vec_len, vec_capacity, Err, MatchOption, IfOk};
 ghost use Rattle.std.specs.Prelude.{IsOk, IsOkUnless, OnOk, OnErr};
@@ -10,7 +10,7 @@ ghost use Rattle.etherparse.specs.Built.{seal_refusal, size_of, with_lengths, wi
 ghost use Rattle.etherparse.specs.PacketState.{packet_over};
 ghost use Rattle.etherparse.specs.declared.err.packet.build_write_error.BuildWriteError.TheVariants.{Memory};
 
-use super::append::{append_link, append_transport, append_vlan};
+use super::appended_headers::{append_link, append_transport, append_vlan};
 use super::ip_layer::IpLayer;
 use super::prefix::Prefix;
 use crate::err::packet::BuildWriteError;

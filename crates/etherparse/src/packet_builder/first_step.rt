@@ -1,4 +1,4 @@
-//! Where a packet starts: a link header, or an IP header alone.
+//! The first header of a packet: a link header, or an IP header alone.
 
 ghost use Rattle.std.specs.Prelude.{◌≡◌, Some};
 ghost use Rattle.etherparse.specs.BuiltSteps.{cooked_link_header, ethernet_between, ipv4_between, ipv6_between};
