@@ -82,7 +82,8 @@ impl Row {
         }
     }
 
-    /// Of TCP segments whose headers are there, how far their connection came.
+    /// How far the connection came, as the flags of its segments say. There is none for packets that
+    /// aren't TCP, and for those without ports.
     pub fn tcp_column(&self) -> Option<TcpColumn>
         ensures { result ≡ tcp_column_of self.now }
     {

@@ -15,10 +15,10 @@ pub struct ConnectionId {
 
 impl ConnectionId {
     /// The endpoints that a text names: `HOST:PORT-HOST:PORT`, where an IPv6 address has brackets
-    /// around it, or `HOST.PORT-HOST.PORT`, as tcpdump prints them. Between them may stand ` > `, and
-    /// ` TCP` after them, as in the list of conversations. There are none where it is no such text,
-    /// and where the addresses have different versions. It has no contract: tests compare what texts
-    /// name.
+    /// around it, or `HOST.PORT-HOST.PORT`, as tcpdump prints them. In place of `-` there may be
+    /// ` > `, and ` TCP` after the second one, as `packets flows` lists them. There are none where it
+    /// is no such text, and where the addresses have different versions. It has no contract: tests
+    /// compare what texts name.
     pub fn of(text: &str) -> Option<ConnectionId> {
         let endpoints = text.strip_suffix(" TCP").unwrap_or(text);
         let named = match endpoints.split_once(" > ") {

@@ -1,4 +1,4 @@
-//! What the words of the command line request.
+//! Values of the command line's arguments: sizes, times, conditions, and what else they request.
 use crate::{
     By, Condition, ConnectionId, Expression, ExpressionError, Filter, FollowForm, FollowOptions,
     Listing, Rules, ShownBytes, TimeForm, Way, Words,
