@@ -2,6 +2,8 @@
 // frames ten times: `read` reads each, `reassemble` puts fragments together too. Writes how many frames there are, how many
 // UDP messages stood in one frame or were put together, and the nanoseconds of the fastest turn over all frames. Decoding is
 // not timed.
+#pragma once
+
 #include <algorithm>
 #include <chrono>
 #include <cstdint>
